@@ -1,0 +1,113 @@
+// The machine's types. They hold no code: what they mean is in specs/, and the crates above work with them.
+
+// The four arithmetic opcodes, and the four orderings: families that share a rule.
+pub enum Arith {
+    Add,
+    Subtract,
+    Multiply,
+    Divide,
+}
+
+pub enum Order {
+    LessThan,
+    GreaterThan,
+    LessOrEqual,
+    GreatorOrEqual,
+}
+
+// The carried opcodes.
+pub enum Op {
+    LoadConstant,
+    GetLocal,
+    GetUpvalue,
+    GetLastResult,
+    Negate,
+    Arithmetic(Arith),
+    Ordering(Order),
+    Equal,
+    NotEqual,
+    LogicalAnd,
+    LogicalOr,
+    LogicalNeg,
+    JumpIfFalse,
+    Jump,
+    Call,
+    CallCallable,
+    BuildStructInstance,
+    AccessStructField,
+    BuildList,
+    Return,
+}
+
+// What an opcode byte is: carried, known but not carried, or unknown.
+pub enum Decoded {
+    Carried(Op),
+    NotCarried,
+    Unknown,
+}
+
+// A value. A string and a function reference name the offset and the length of their text, a list and a struct their header's cell.
+pub enum Value {
+    Scalar(f64),
+    Boolean(bool),
+    String(u32, u32),
+    FunctionReference(u32, u32),
+    List(u32),
+    StructInstance(u32),
+}
+
+// The first cell of a list or a struct: how many elements follow, the struct's number (0 of a list), and the depth.
+pub struct Header {
+    pub count: usize,
+    pub number: usize,
+    pub depth: usize,
+}
+
+// The last result.
+pub enum Last {
+    Nothing,
+    Is(Value),
+}
+
+// Why a step did not complete. WrongKind holds the popped value.
+pub enum Fault {
+    UnknownOpcode,
+    NotCarried,
+    CodeEnds,
+    TooFewValues,
+    WrongKind(Value),
+    OutOfRange,
+    NoLastResult,
+    ZeroDivisor,
+    StackFull,
+    FramesFull,
+    CellsFull,
+    TooDeep,
+    UnitsSpent,
+    NoFunction,
+}
+
+// A value that was popped, or read out of the constants or a struct; or the fault.
+pub enum Found {
+    Got(Value),
+    Bad(Fault),
+}
+
+// Two popped scalars, the left one first, or the fault.
+pub enum Scalars {
+    Two(f64, f64),
+    Bad(Fault),
+}
+
+// Two popped booleans, the left one first, or the fault.
+pub enum Booleans {
+    Two(bool, bool),
+    Bad(Fault),
+}
+
+// A call frame.
+pub struct Frame {
+    pub function: usize,
+    pub position: usize,
+    pub base: usize,
+}
