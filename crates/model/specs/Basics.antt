@@ -1,7 +1,7 @@
 -- Small words that every rule uses.
-use mathlib.Core.Bool.{Bool, true, false}
+use mathlib.Core.Bool.{Bool, true, false, _&&_}
 use mathlib.Core.List.{List, [], _∷_}
-use Prim.Native.Nat.{ℕ}
+use Prim.Native.Nat.{ℕ, zero, suc}
 use Prim.Native.Char.{code}
 use Prim.Native.String.{String, [] as end, _∷_ as _then_}
 
@@ -14,3 +14,8 @@ if false then a else b = b
 unfoldable pub ascii : String → List ℕ
 ascii end = []
 ascii (_then_ c s) = code c ∷ ascii s
+
+-- the test holds at i to i + n - 1
+unfoldable pub everyFrom : ℕ → ℕ → (ℕ → Bool) → Bool
+everyFrom zero i t = true
+everyFrom (suc n) i t = t i && everyFrom n (suc i) t

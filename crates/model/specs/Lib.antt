@@ -1,4 +1,6 @@
+-- What a reader must believe, from the bottom up.
 pub mod Basics
+-- the leaves: opcodes, the image's numbers, values and their words, arithmetic, the heap, equality, meaning
 pub mod Opcodes
 pub mod Numbers
 pub mod Values
@@ -6,3 +8,17 @@ pub mod Scalars
 pub mod Heap
 pub mod Equality
 pub mod Trees
+-- programs, their one image, their listing
+pub mod Programs
+pub mod Images
+pub mod Listings
+-- the machine: a step; a run with its recovery and backtrace
+pub mod Steps
+pub mod Runs
+-- what is lent: how a program lies in stores, good order, emission, loading and saving
+pub mod Stores
+pub mod Orders
+pub mod Emission
+pub mod Loading
+-- the examples to hold
+pub mod Examples

@@ -111,3 +111,39 @@ pub struct Frame {
     pub position: usize,
     pub base: usize,
 }
+
+// A constant as it is emitted. A string's or a reference's text is lent beside it. A scalar keeps its 64 bits.
+pub enum Constant {
+    Scalar(u64),
+    Boolean(bool),
+    String,
+    FunctionReference,
+}
+
+// How much of each program store is taken, and the function that is being emitted: function 0, main, or the newest.
+pub struct Counts {
+    pub constants: usize,
+    pub structs: usize,
+    pub functions: usize,
+    pub text: usize,
+    pub current: usize,
+}
+
+// What an emission entry answers: the counts as they then are with the number that vm.rs returns (0 where it returns none), or a refusal.
+pub enum Emitted {
+    Done(Counts, usize),
+    Refused(u8),
+}
+
+// What loading answers: the counts, or a refusal; Broken is refusal 20 with the offset of the first item that breaks a rule.
+pub enum Loaded {
+    Done(Counts),
+    Broken(usize),
+    Refused(u8),
+}
+
+// What an entry that only looks answers: a number, or a refusal.
+pub enum Told {
+    Number(usize),
+    Refused(u8),
+}

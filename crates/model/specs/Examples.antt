@@ -1,0 +1,183 @@
+-- [examples] The examples to hold, P1 to P9: one table, one claim.
+use mathlib.Core.Path.{_≡_, refl}
+use mathlib.Core.Bool.{Bool, true, false}
+use mathlib.Core.List.{List, [], _∷_, map}
+use Prim.Native.Nat.{ℕ, zero, suc}
+use lib.Count.{trailingZeros}
+use lib.Ieee as Ieee
+use lib.Ieee.{binary64, ofBits}
+use lib.ListN.{length, replicate}
+use Rattle.model.specs.declared.Value.{Value}
+use Rattle.model.specs.declared.Value.the-variants as v
+use Rattle.model.specs.declared.Last.{Last}
+use Rattle.model.specs.declared.Last.the-variants.{Nothing, Is}
+use Rattle.model.specs.declared.Frame.{Frame}
+use Rattle.model.specs.Basics.{ascii}
+use Rattle.model.specs.Numbers.{Step, got, bad, digits, number}
+use Rattle.model.specs.Programs.{Constant, scalar, Function, Program, mainName}
+use Rattle.model.specs.Images.{imageOf, Judged, fine, broken, judge}
+use Rattle.model.specs.Listings.{Listed, text, unlisted, listingOf}
+use Rattle.model.specs.Steps.{World}
+use Rattle.model.specs.Runs.{Machine, Entry, entry, Traced, trace, untraced, backtraceOf, root, Reply, value, continue, fault, Ran, runOf}
+use Rattle.model.specs.Loading.{loadedWorld}
+use Rattle.model.specs.Basics as basics
+use Rattle.model.specs.Opcodes as opcodes
+use Rattle.model.specs.Numbers as numbers
+use Rattle.model.specs.Values as values
+use Rattle.model.specs.Scalars as scalars
+use Rattle.model.specs.Heap as heap
+use Rattle.model.specs.Equality as equality
+use Rattle.model.specs.Programs as programs
+use Rattle.model.specs.Images as images
+use Rattle.model.specs.Listings as listings
+use Rattle.model.specs.Steps as steps
+use Rattle.model.specs.Runs as runs
+use Rattle.model.specs.Stores as stores
+use Rattle.model.specs.Loading as loading
+
+-- ---- what an example shows
+
+pub data Shown : Type 0 where
+  bytes : List ℕ → Shown
+  judged : Judged → Shown
+  listed : Listed → Shown
+  read : Step ℕ → Shown
+  -- the reply, and the machine's stack, frames (innermost first) and last result
+  ran : Reply → List Value → List Frame → Last → Shown
+  traced : Traced → Shown
+
+-- what the rules give, and what they are said to give
+pub record Example : Type 0 where
+  pub gives : Shown
+  pub says : Shown
+
+-- ---- programs: two constants, and functions whose byte i has place i
+
+abbrev pub n42 : ℕ
+n42 = 0x4045_0000_0000_0000
+
+abbrev pub n43 : ℕ
+n43 = 0x4045_8000_0000_0000
+
+abbrev pub n1 : ℕ
+n1 = 0x3FF0_0000_0000_0000
+
+abbrev pub n0 : ℕ
+n0 = 0
+
+unfoldable pub from : ℕ → List ℕ → List ℕ
+from i [] = []
+from i (x ∷ xs) = i ∷ from (suc i) xs
+
+unfoldable pub coded : List ℕ → List ℕ → Function
+coded name code = record { name = name; code = code; places = from 0 code }
+
+unfoldable pub program : ℕ → ℕ → List Function → Program
+program a b fs = record { constants = scalar a ∷ scalar b ∷ []; structs = []; functions = fs }
+
+unfoldable pub alone : ℕ → ℕ → List ℕ → Program
+alone a b code = program a b (coded mainName code ∷ [])
+
+unfoldable pub p1 : Program
+p1 = alone n42 n1 (0x00 ∷ 0x00 ∷ 0x00 ∷ 0x00 ∷ 0x01 ∷ 0x00 ∷ 0x08 ∷ 0x25 ∷ [])
+
+-- P1 with all places 0
+unfoldable pub p1-flat : Program
+p1-flat = program n42 n1 (record { name = mainName; code = 0x00 ∷ 0x00 ∷ 0x00 ∷ 0x00 ∷ 0x01 ∷ 0x00 ∷ 0x08 ∷ 0x25 ∷ []; places = replicate 8 0 } ∷ [])
+
+unfoldable pub p1-image : List ℕ
+p1-image =
+    0x02 ∷ 0x00 ∷ 0x00 ∷ 0x00 ∷ 0x00 ∷ 0x00 ∷ 0x00 ∷ 0x00 ∷ 0x45 ∷ 0x40 ∷ 0x00 ∷ 0x00 ∷ 0x00
+    ∷ 0x00 ∷ 0x00 ∷ 0x00 ∷ 0x00 ∷ 0xF0 ∷ 0x3F ∷ 0x00 ∷ 0x01 ∷ 0x06 ∷ 0x3C ∷ 0x6D ∷ 0x61 ∷ 0x69
+    ∷ 0x6E ∷ 0x3E ∷ 0x08 ∷ 0x00 ∷ 0x00 ∷ 0x00 ∷ 0x00 ∷ 0x01 ∷ 0x00 ∷ 0x08 ∷ 0x25 ∷ 0x08 ∷ 0x00 ∷ []
+
+unfoldable pub p1-listing : List ℕ
+p1-listing = ascii ".CODE 0 (<main>)\n  0000 LoadConstant  0\n  0003 LoadConstant  1\n  0006 Add           \n  0007 Return        \n"
+
+unfoldable pub p3 : Program
+p3 = alone n1 n0 (0x00 ∷ 0x00 ∷ 0x00 ∷ 0x00 ∷ 0x01 ∷ 0x00 ∷ 0x0B ∷ 0x25 ∷ [])
+
+unfoldable pub p4 : Program
+p4 = alone n1 n0 (0x00 ∷ 0x00 ∷ 0x00 ∷ 0x25 ∷ 0x00 ∷ 0x00 ∷ 0x00 ∷ 0x00 ∷ 0x01 ∷ 0x00 ∷ 0x0B ∷ 0x25 ∷ [])
+
+unfoldable pub p5 : Program
+p5 = alone n42 n1
+    (0x00 ∷ 0x00 ∷ 0x00 ∷ 0x00 ∷ 0x01 ∷ 0x00 ∷ 0x24 ∷ 0x02 ∷ 0x00
+    ∷ 0x00 ∷ 0x00 ∷ 0x00 ∷ 0x00 ∷ 0x01 ∷ 0x00 ∷ 0x24 ∷ 0x02 ∷ 0x00 ∷ 0x12 ∷ 0x25 ∷ [])
+
+unfoldable pub p6 : Program
+p6 = program n42 n1 (coded mainName (0x1C ∷ 0x01 ∷ 0x00 ∷ 0x00 ∷ 0x00 ∷ []) ∷ coded (ascii "f") [] ∷ [])
+
+unfoldable pub p7 : Program
+p7 = alone n42 n1 (0x1B ∷ 0x05 ∷ 0x00 ∷ [])
+
+unfoldable pub p8 : Program
+p8 = program n42 n1
+    (coded mainName (0x00 ∷ 0x00 ∷ 0x00 ∷ 0x00 ∷ 0x01 ∷ 0x00 ∷ 0x1C ∷ 0x01 ∷ 0x00 ∷ 0x00 ∷ 0x00 ∷ 0x25 ∷ [])
+    ∷ coded (ascii "f") (0x08 ∷ 0x25 ∷ []) ∷ [])
+
+-- ---- running them in the runner's rooms, on a machine as it is loaded
+
+unfoldable pub world : Program → World
+world p = loadedWorld p 1024 256 2048
+
+unfoldable pub loaded : Machine
+loaded = record { stack = []; frame = root 0; callers = []; heap = []; last = Nothing }
+
+unfoldable pub shown : Ran → Shown
+shown r = ran (r .reply) (r .machine .stack) (r .machine .frame ∷ r .machine .callers) (r .machine .last)
+
+unfoldable pub run : Program → ℕ → Ran
+run p u = runOf (world p) loaded u
+
+-- run, and run again on the machine that is left
+unfoldable pub again : Program → ℕ → Ran
+again p u = runOf (world p) (run p u .machine) u
+
+abbrev frame : ℕ → ℕ → ℕ → Frame
+frame f i b = record { function = f; position = i; base = b }
+
+unfoldable pub scalarOf : ℕ → Value
+scalarOf w = v.Scalar (ofBits binary64 w)
+
+abbrev pub _shows_ : Shown → Shown → Example
+a shows b = record { gives = a; says = b }
+
+infix 4 _shows_
+-- ---- the table
+
+unfoldable pub examples : List Example
+examples =
+    -- P1
+    (shown (run p1 1000000) shows ran (value (scalarOf n43) 4) [] (frame 0 8 0 ∷ []) (Is (scalarOf n43)))
+    ∷ (bytes (imageOf p1-flat) shows bytes p1-image)
+    ∷ (judged (judge p1-image) shows judged (fine p1-flat))
+    ∷ (listed (listingOf p1) shows listed (text p1-listing))
+    -- P2: 3 units
+    ∷ (shown (run p1 3) shows ran (fault 13 3 (entry 0 6 ∷ [])) [] (frame 0 8 0 ∷ []) Nothing)
+    -- P3
+    ∷ (shown (run p3 1000000) shows ran (fault 8 3 (entry 0 6 ∷ [])) [] (frame 0 8 0 ∷ []) Nothing)
+    -- P4: the last result stays
+    ∷ (shown (run p4 1000000) shows ran (fault 8 5 (entry 0 10 ∷ [])) [] (frame 0 12 0 ∷ []) (Is (scalarOf n1)))
+    -- P5
+    ∷ (shown (run p5 1000000) shows ran (value (v.Boolean true) 10) [] (frame 0 20 0 ∷ []) (Is (v.Boolean true)))
+    -- P6: both runs
+    ∷ (shown (run p6 1000000) shows ran (continue 1) [] (frame 1 0 0 ∷ frame 0 5 0 ∷ []) Nothing)
+    ∷ (shown (again p6 1000000) shows ran (continue 0) [] (frame 1 0 0 ∷ frame 0 5 0 ∷ []) Nothing)
+    -- P7: position 8, and the backtrace
+    ∷ (shown (run p7 1000000) shows ran (continue 1) [] (frame 0 8 0 ∷ []) Nothing)
+    ∷ (traced (backtraceOf (world p7) (run p7 1000000 .machine)) shows traced (untraced 16))
+    -- P8
+    ∷ (shown (run p8 1000000) shows ran (value (scalarOf n43) 6) [] (frame 0 12 0 ∷ []) (Is (scalarOf n43)))
+    -- P9
+    ∷ (bytes (digits 127) shows bytes (0x7F ∷ []))
+    ∷ (bytes (digits 128) shows bytes (0x80 ∷ 0x01 ∷ []))
+    ∷ (bytes (digits 4294967295) shows bytes (0xFF ∷ 0xFF ∷ 0xFF ∷ 0xFF ∷ 0x0F ∷ []))
+    ∷ (read (number (0x80 ∷ 0x00 ∷ [])) shows read (bad 2))
+    ∷ (read (number (0xFF ∷ 0xFF ∷ 0xFF ∷ 0xFF ∷ 0x1F ∷ [])) shows read (bad 5))
+    ∷ []
+
+-- P1 to P9, together: the rules give what document 01 says
+pub examples-hold : map (λ e. e .gives) examples ≡ map (λ e. e .says) examples
+unfolding from coded program alone p1 p1-flat p1-image p1-listing p3 p4 p5 p6 p7 p8 world loaded shown run again scalarOf examples basics.ascii basics.everyFrom opcodes.opcodes opcodes.opcodeAt numbers.andThen numbers.item numbers.checked numbers.groupsOf numbers.digits numbers.more numbers.groups numbers.number values.ifScalar values.ifBoolean values.ifString values.ifReference values.ifList values.ifStruct values.faultNumber values.popOf values.popping values.poppingScalar values.poppingBoolean values.places values.valueOf values.kindAt values.payloadAt values.valueAt values.putWords values.putValue values.vals values.valuesFrom values.exactValue values.textAt scalars.arithOf scalars.zeroDivisor scalars.orderOf scalars.scalarsOf scalars.booleansOf heap.headerOf heap.cellOf heap.cellAt heap.putCell heap.cellsFrom heap.heapOf heap.cellIn heap.itemIn heap.headIn heap.items heap.elementsIn heap.fieldOf heap.depthIn heap.deepest heap.listElements heap.structFields heap.blockOf heap.buildOf heap.wholeBelow heap.placedBelow heap.elementBelow heap.elementsBelow heap.blockOk heap.blocksFrom heap.heapOk heap.exactCell heap.exactCells equality.sameBytes equality.andNext equality.sameElements equality.sameBlocks equality.samePair equality.sameTo equality.sameOf programs.mainName programs.functionAt programs.orElse programs.newestFrom programs.functionNamed programs.firstFrom programs.among programs.codesWithin programs.withinLimits programs.wordAt programs.behind images.joined images.counted images.bytesOf images.textImage images.constantImage images.joinRun images.runsOf images.runImage images.functionImage images.imageOf images.series images.takes images.readText images.wordOf images.readFlag images.readKind images.readBody images.readConstant images.readConstants images.readName images.readStructs images.readRunBytes images.readRunPlace images.readRuns images.mainFirst images.readFunction images.readFunctions images.readEnd images.parse images.judgedStep images.judge listings.decimalFor listings.decimal listings.digitsOrMore listings.paddedTo listings.operandsFrom listings.lineOf listings.headerLine listings.inFront listings.knownThen listings.opcodeThen listings.lineThen listings.linesFor listings.andListed listings.listingFrom listings.listingOf steps.codeOf steps.pushing steps.onFound steps.constantOf steps.slotOf steps.lastOf steps.loadStep steps.slotStep steps.lastStep steps.negateStep steps.arithmeticStep steps.orderingStep steps.onSame steps.equalStep steps.logicStep steps.notStep steps.jumpStep steps.jumpIfFalseStep steps.enter steps.callStep steps.enterNamed steps.callCallableStep steps.onBuilt steps.buildStep steps.structStep steps.fieldStep steps.cut steps.returnTo steps.returnStep steps.execOf steps.operandsThen steps.decodedThen steps.fetched steps.stepOf runs.over runs.next runs.turn runs.runFor runs.endOf runs.traceOf runs.traceable runs.backtraceOf runs.recovered runs.answered runs.settle runs.runOf stores.codeHere stores.placesHere stores.withCode stores.start stores.size stores.pack stores.part stores.structWord stores.nameWord stores.codeWord stores.codeEnd stores.constantIn stores.constantsFrom stores.structsFrom stores.functionIn stores.functionsFrom stores.programIn stores.worldIn loading.constantText loading.constantWords loading.constantsLaid loading.structsLaid loading.othersLaid loading.functionsLaid loading.constantTexts loading.structTexts loading.textsOf loading.mainOf loading.othersOf loading.laid loading.countsFor loading.roomFor loading.loadJudged loading.loadOf loading.loadedWorld loading.putOut loading.saveOf loading.putListing loading.listOf Ieee.ofBits Ieee.ofFields Ieee.odd Ieee.add Ieee.sum Ieee.round Ieee.units Ieee.size Ieee.span Ieee.climb Ieee.div Ieee.eq Ieee.toBits trailingZeros
+examples-hold = refl

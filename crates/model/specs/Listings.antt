@@ -1,0 +1,82 @@
+-- [listing] The `.CODE` part of disassemble, as bytes.
+use mathlib.Core.Bool.{Bool, true, false}
+use mathlib.Core.List.{List, [], _∷_, _++_}
+use Prim.Native.Nat.{ℕ, zero, suc, _+_, _-_, _/_, _%_}
+use lib.Dec.{ltb, leb}
+use lib.ListN.{length, getD, replicate}
+use Rattle.model.specs.declared.Op.{Op}
+use Rattle.model.specs.declared.Decoded.{Decoded}
+use Rattle.model.specs.declared.Decoded.the-variants as d
+use Rattle.model.specs.Basics.{if_then_else_, ascii}
+use Rattle.model.specs.Opcodes.{Opcode, opcodeAt}
+use Rattle.model.specs.Programs.{Function, Program, wordAt, behind}
+
+-- n in decimal, f + 1 digits at most
+unfoldable pub decimalFor : ℕ → ℕ → List ℕ
+decimalFor zero n = (48 + n) ∷ []
+decimalFor (suc f) n = if ltb n 10 then (48 + n) ∷ [] else decimalFor f (n / 10) ++ ((48 + n % 10) ∷ [])
+
+-- a number below 2 ^ 64 has at most 20 digits
+unfoldable pub decimal : ℕ → List ℕ
+decimal n = decimalFor 19 n
+
+-- with zeros in front, w digits or more
+unfoldable pub digitsOrMore : ℕ → ℕ → List ℕ
+digitsOrMore w n = replicate (w - length (decimal n)) 48 ++ decimal n
+
+-- padded with spaces to w
+unfoldable pub paddedTo : ℕ → List ℕ → List ℕ
+paddedTo w t = t ++ replicate (w - length t) 32
+
+-- the n operands from position i on, with a space between
+unfoldable pub operandsFrom : ℕ → List ℕ → ℕ → List ℕ
+operandsFrom zero code i = []
+operandsFrom (suc zero) code i = decimal (wordAt code i)
+operandsFrom (suc (suc n)) code i = decimal (wordAt code i) ++ (32 ∷ operandsFrom (suc n) code (i + 2))
+
+-- two spaces, the offset in four digits or more, a space, the name padded to 13, a space, the operands
+unfoldable pub lineOf : List ℕ → ℕ → Opcode → List ℕ
+lineOf code i c =
+    ascii "  " ++ digitsOrMore 4 i ++ (32 ∷ paddedTo 13 (c .name)) ++ (32 ∷ operandsFrom (c .listed) code (suc i)) ++ ascii "\n"
+
+unfoldable pub headerLine : ℕ → List ℕ → List ℕ
+headerLine i name = ascii ".CODE " ++ decimal i ++ ascii " (" ++ name ++ ascii ")\n"
+
+-- the text, or a refusal
+pub data Listed : Type 0 where
+  text : List ℕ → Listed
+  unlisted : ℕ → Listed
+
+unfoldable pub inFront : List ℕ → Listed → Listed
+inFront l (text r) = text (l ++ r)
+inFront l (unlisted n) = unlisted n
+
+-- an opcode at i whose operands are all there, and the lines behind it; 3 where the code ends inside
+unfoldable pub knownThen : (ℕ → Listed) → List ℕ → ℕ → Opcode → Listed
+knownThen k code i c = if leb (behind i (c .listed)) (length code) then inFront (lineOf code i c) (k (behind i (c .listed))) else unlisted 3
+
+unfoldable pub opcodeThen : (ℕ → Listed) → List ℕ → ℕ → Opcode → Decoded → Listed
+opcodeThen k code i c (d.Carried p) = knownThen k code i c
+opcodeThen k code i c d.NotCarried = knownThen k code i c
+opcodeThen k code i c d.Unknown = unlisted 1
+
+unfoldable pub lineThen : (ℕ → Listed) → List ℕ → ℕ → Bool → Listed
+lineThen k code i true = opcodeThen k code i (opcodeAt (getD code i 0)) (opcodeAt (getD code i 0) .what)
+lineThen k code i false = text []
+
+-- the lines from position i on, f instructions at most: 1 or 3 as met first
+unfoldable pub linesFor : ℕ → List ℕ → ℕ → Listed
+linesFor zero code i = text []
+linesFor (suc f) code i = lineThen (linesFor f code) code i (ltb i (length code))
+
+unfoldable pub andListed : Listed → Listed → Listed
+andListed (text l) r = inFront l r
+andListed (unlisted n) r = unlisted n
+
+-- function i and those after it
+unfoldable pub listingFrom : ℕ → List Function → Listed
+listingFrom i [] = text []
+listingFrom i (f ∷ fs) = inFront (headerLine i (f .name)) (andListed (linesFor (length (f .code)) (f .code) 0) (listingFrom (suc i) fs))
+
+unfoldable pub listingOf : Program → Listed
+listingOf p = listingFrom 0 (p .functions)
