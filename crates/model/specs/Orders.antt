@@ -11,7 +11,7 @@ use Rattle.model.specs.declared.Last.{Last}
 use Rattle.model.specs.declared.Last.the-variants.{Nothing, Is}
 use Rattle.model.specs.declared.Frame.{Frame}
 use Rattle.model.specs.Basics.{if_then_else_, everyFrom}
-use Rattle.model.specs.Values.{places, kindAt, payloadAt, valueAt, exactValue}
+use Rattle.model.specs.Values.{places, mostPlaces, kindAt, payloadAt, valueAt, exactValue}
 use Rattle.model.specs.Heap.{Cell, heapOf, heapOk, exactCells, placedBelow}
 use Rattle.model.specs.Equality.{sameBytes}
 use Rattle.model.specs.Programs.{Function, functionAt, mainName, among, codeLimit, constantLimit, nameLimit}
@@ -26,6 +26,7 @@ countsOk c =
     && leb (c .structs) nameLimit
     && leb 1 (c .functions)
     && leb (c .functions) nameLimit
+    && leb (c .text) mostPlaces
     && (eqb (c .current) 0 || eqb (suc (c .current)) (c .functions))
 
 unfoldable pub textOk : Counts → List ℕ → Bool
@@ -63,7 +64,10 @@ codeStart fs (suc (suc i)) = codeEnd fs (suc i)
 
 unfoldable pub functionOk : Counts → List ℕ → ℕ → Bool
 functionOk c fs i =
-    insideText c (nameWord fs i) && eqb (start (codeWord fs i)) (codeStart fs i) && leb (size (codeWord fs i)) codeLimit
+    insideText c (nameWord fs i)
+    && eqb (start (codeWord fs i)) (codeStart fs i)
+    && leb (size (codeWord fs i)) codeLimit
+    && leb (codeEnd fs i) mostPlaces
 
 unfoldable pub functionsOk : Counts → List ℕ → Bool
 functionsOk c fs = leb (c .functions) (places 2 fs) && everyFrom (c .functions) 0 (functionOk c fs)
@@ -128,4 +132,4 @@ framesOk fs room (r ∷ rs) = eqb (r .function) 0 && eqb (r .base) 0 && framesFr
 
 -- n frames in a lent slice
 unfoldable pub frameStoreOk : List Function → ℕ → ℕ → List Frame → Bool
-frameStoreOk fs room n frames = leb n (min (length frames) 0xFFFF_FFFF) && framesOk fs room (take n frames)
+frameStoreOk fs room n frames = leb n (min (length frames) mostPlaces) && framesOk fs room (take n frames)

@@ -102,10 +102,14 @@ poppingBoolean vs e k = popping vs e (λ v r. ifBoolean v (λ x. k x r) (e (f.Wr
 
 -- ---- [stores] values in words
 
--- the places of a store with w words to a place: of any store 4,294,967,295 count
+-- of any store 4,294,967,295 places count
+abbrev pub mostPlaces : ℕ
+mostPlaces = 0xFFFF_FFFF
+
+-- the places of a store with w words to a place
 unfoldable pub places : ℕ → List ℕ → ℕ
 places zero s = 0
-places (suc w) s = min (length s / suc w) 0xFFFF_FFFF
+places (suc w) s = min (length s / suc w) mostPlaces
 
 -- what a kind and a payload stand for
 unfoldable pub valueOf : ℕ → ℕ → Value
