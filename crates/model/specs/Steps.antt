@@ -130,7 +130,7 @@ orderingStep c s =
     poppingScalar (s .stack) (λ n. faulted n s) (λ y r.
     poppingScalar r (λ n. faulted n s) (λ x q. went (withStack (v.Boolean (orderOf c x y) ∷ q) s)))
 
--- ---- [equal] one more unit for each pair visited below the top pair
+-- ---- [equal], [units] one more unit for each pair visited below the top pair
 
 -- the verdict becomes a value by t; too few units spend all
 unfoldable pub onSame : (Bool → Bool) → List Value → State → Same → Outcome
@@ -251,7 +251,7 @@ decodedThen w (d.Carried p) n s = operandsThen w p n s
 decodedThen w d.NotCarried n s = faulted f.NotCarried s
 decodedThen w d.Unknown n s = faulted f.UnknownOpcode s
 
--- the opcode is fetched for one unit; the position is then after it
+-- [units] the opcode is fetched for one unit; the position is then after it
 unfoldable pub fetched : World → Opcode → State → Outcome
 fetched w c s = decodedThen w (c .what) (c .read) (at (suc (position s)) (withUnits (s .units - 1) s))
 
