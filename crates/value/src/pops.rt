@@ -1,0 +1,1 @@
+// Operands from the top of a stack.

@@ -1,0 +1,1 @@
+// One binary64 operation each.
