@@ -1,5 +1,5 @@
 -- What a kind and a payload stand for, and the words of a value.
-use mathlib.Core.Path.{_≡_, refl, sym, ap, subst, _∙_}
+use mathlib.Core.Path.{_≡_, refl, sym, ap, subst}
 use mathlib.Core.Bool.{Bool, true, false, not, _&&_}
 use Prim.Native.Nat.{ℕ, _+_, _*_, _%_, _/_, _<_, _^_}
 use native.Mathlib.Nat.{mod-eq-of-lt}
@@ -17,9 +17,6 @@ use Rattle.model.specs.Heap.{Cell, item, head, headerOf, cellOf, cellKind, cell
 use Rattle.value.specs.Links.{FineCell, PayloadOf}
 
 -- ---- the arms of `value_of` and `payload_of`
-
-pub as-kind : (k n a : ℕ) {x : Value} → k ≡ n → x ≡ valueOf n a → x ≡ valueOf k a
-as-kind k n a e f = f ∙ ap (λ (m : ℕ). valueOf m a) (sym e)
 
 -- none of the kinds 0 to 4
 abbrev pub Other : ℕ → Type 0

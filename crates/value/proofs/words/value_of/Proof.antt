@@ -1,8 +1,8 @@
-use mathlib.Core.Path.{refl, ap}
+use mathlib.Core.Path.{ap}
 use borrow.Author.Needs.{needs}
 use Rattle.model.specs.declared.Value.the-variants as v
 use Rattle.model.specs.Values.{valueOf}
-use Rattle.value.proofs.Coding.{as-kind, other-kind}
+use Rattle.value.proofs.Coding.{other-kind}
 use Rattle.value.proofs.words.value_of.Statement.{statement}
 use Rattle.value.proofs.words.value_of.Tie as tie
 
@@ -17,23 +17,23 @@ of-word-requires c κs = search needs
 
 returns : tie.Need-returns
 unfolding valueOf
-returns c = as-kind _ 0 _ (c .before .match .keys1) (ap v.Scalar (c .of-word .ensures))
+returns c = rw (c .before .match .keys1) (ap v.Scalar (c .of-word .ensures))
 
 returns-2 : tie.Need-returns-2
 unfolding valueOf
-returns-2 c = as-kind _ 1 _ (c .match .keys2) refl
+returns-2 c = rw (c .match .keys2)
 
 returns-3 : tie.Need-returns-3
 unfolding valueOf
-returns-3 c = as-kind _ 2 _ (c .match .keys3) refl
+returns-3 c = rw (c .match .keys3)
 
 returns-4 : tie.Need-returns-4
 unfolding valueOf
-returns-4 c = as-kind _ 3 _ (c .match .keys4) refl
+returns-4 c = rw (c .match .keys4)
 
 returns-5 : tie.Need-returns-5
 unfolding valueOf
-returns-5 c = as-kind _ 4 _ (c .match .keys5) refl
+returns-5 c = rw (c .match .keys5)
 
 returns-6 : tie.Need-returns-6
 returns-6 c = other-kind _ _ (c .match .rest)
