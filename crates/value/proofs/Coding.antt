@@ -1,12 +1,12 @@
--- What a kind and a payload stand for, and the words of a value.
+-- What a kind and a payload stand for, the words of a value and of a cell, and which words are exact.
 use mathlib.Core.Path.{_≡_, refl, sym, ap, subst}
-use mathlib.Core.Bool.{Bool, true, false, not, _&&_}
+use mathlib.Core.Bool.{Bool, true, false, _&&_}
 use Prim.Native.Nat.{ℕ, _+_, _*_, _%_, _/_, _<_, _^_}
 use native.Mathlib.Nat.{mod-eq-of-lt}
 use native.Mathlib.Omega.{arith}
 use borrow.Author.Tests.{eq-eqb, ne-eqb, eqb-true}
 use lib.Dec.{T, eqb}
-use lib.Ieee.{Float, binary64, toBits, ofBits, fits}
+use lib.Ieee.{binary64}
 use lib.Ieee.Bits.{ofBits-toBits, ofBits-fits}
 use Rattle.model.specs.declared.Value.{Value}
 use Rattle.model.specs.declared.Value.the-variants as v
@@ -33,7 +33,7 @@ payload-is e p f = record { is = rw e p; fine = rw e f }
 pub told : {b : Bool} → b ≡ true → T b
 told e = subst T (sym e) tt
 
--- ---- the words of a value stand for it, and are exact
+-- ---- the words of a value stand for it
 
 low : (o n : ℕ) → o < 2 ^ 32 → (o + 0x1_0000_0000 * n) % 0x1_0000_0000 ≡ o
 low o n h = omega arith
@@ -65,13 +65,13 @@ value-fine k a h =
     (fine-if (eqb k 3) _ _ (omega arith, omega arith)
     (fine-if (eqb k 4) _ _ (omega arith) (omega arith)))))
 
--- ---- exact words
+-- ---- exact words of a value
 
-and-left : (a b : Bool) → a && b ≡ true → a ≡ true
+pub and-left : (a b : Bool) → a && b ≡ true → a ≡ true
 and-left true b e = refl
 and-left false b e = e
 
-and-right : (a b : Bool) → a && b ≡ true → b ≡ true
+pub and-right : (a b : Bool) → a && b ≡ true → b ≡ true
 and-right true b e = e
 and-right false b e = cc
 
@@ -99,7 +99,7 @@ module _ (k a : ℕ) {x : Value} {n : ℕ} (e : x ≡ valueOf k a) (f : n ≡ ki
   unfolding exactValue
   exact-differs h = rw (← e, ← f, ne-eqb k n h)
 
--- ---- the words of a cell stand for it, and are exact
+-- ---- the words of a cell stand for it
 
 no-header : (x : Value) → eqb (kind x) 6 ≡ false
 no-header (v.Scalar x) = refl
@@ -119,7 +119,7 @@ module _ (c n d : ℕ) (hc : c < 0x1_0000) (hn : n < 0x1_0000) where
   depth-part : (c + 0x1_0000 * n + 0x1_0000_0000 * d) / 0x1_0000_0000 ≡ d
   depth-part = omega arith
 
-words-header : (h : Header) → FineCell (head h) → headerOf (cellPayload (head h)) ≡ h
+pub words-header : (h : Header) → FineCell (head h) → headerOf (cellPayload (head h)) ≡ h
 unfolding headerOf
 words-header h f =
     let c = h .count in let n = h .number in let d = h .depth in
@@ -130,10 +130,32 @@ unfolding cellOf
 words-cell (item x) f = rw (no-header x, words-value x f)
 words-cell (head h) f = ap head (words-header h f)
 
+-- ---- exact words of a cell
+
 pub cell-exact : (x : Cell) → FineCell x → exactCell (cellKind x) (cellPayload x) ≡ true
 unfolding exactCell
 cell-exact (item x) f = rw (no-header x) (words-exact x f)
 cell-exact (head h) f = refl
+
+-- a header's words are always exact
+header-words : (a : ℕ) → a ≡ cellPayload (head (headerOf a))
+unfolding headerOf
+header-words a = omega arith
+
+-- exact words are those of their cell
+exact-if : (k a : ℕ) (b : Bool) → eqb k 6 ≡ b → (if b then true else exactValue k a) ≡ true
+    → (k ≡ cellKind (if b then head (headerOf a) else item (valueOf k a))) × (a ≡ cellPayload (if b then head (headerOf a) else item (valueOf k a)))
+exact-if k a true h e = (eqb-true k 6 h, header-words a)
+exact-if k a false h e = (exact-kind k a e, exact-payload k a e)
+
+module _ (k a : ℕ) (e : exactCell k a ≡ true) where
+  pub exact-cell-kind : k ≡ cellKind (cellOf k a)
+  unfolding exactCell cellOf
+  exact-cell-kind = exact-if k a (eqb k 6) refl e .0
+
+  pub exact-cell-payload : a ≡ cellPayload (cellOf k a)
+  unfolding exactCell cellOf
+  exact-cell-payload = exact-if k a (eqb k 6) refl e .1
 
 -- the two ways out of `exact_cell`
 module _ (k a : ℕ) {b : Bool} (e : b ≡ eqb k 6) where

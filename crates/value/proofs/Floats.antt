@@ -1,6 +1,6 @@
 -- A float as a word: `nan` is 7FF8000000000000, and every NaN's bits are read as `nan`.
 use mathlib.Core.Path.{_≡_, refl, sym, subst, _∙_}
-use mathlib.Core.Bool.{Bool, true, false, not}
+use mathlib.Core.Bool.{true, false, not}
 use mathlib.Core.List.{[], _∷_}
 use Prim.Native.Nat.{ℕ, _<_, _≤_, _%_}
 use lib.Dec.{T}

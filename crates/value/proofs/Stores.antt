@@ -1,17 +1,18 @@
 -- What stands in a store after a write, and the lists of values and cells that stand there.
 use mathlib.Core.Path.{_≡_, refl, sym, ap, _∙_}
-use mathlib.Core.Logic.{⊎-elim}
-use mathlib.Core.List.{List, [], _∷_, _++_}
+use mathlib.Core.Bool.{true, false}
+use mathlib.Core.List.{List, [], _∷_, _++_, reverse, reverse-cons}
 use Prim.Native.Nat.{ℕ, zero, suc, _+_, _-_, _*_, _<_, _≤_}
-use native.Mathlib.Nat.{eq-or-lt-of-le}
 use native.Mathlib.Omega.{arith}
-use lib.ListN.{length, getD, set, drop, length-set}
+use lib.Dec.{eqb}
+use lib.ListN.{length, getD, set, take, drop, length-set}
 use lib.Seq.{getD-set-same, getD-set-other}
 use Rattle.model.specs.declared.Value.{Value}
+use Rattle.model.specs.declared.Header.{Header}
 use Rattle.model.specs.Values.{kind, payload, kindAt, payloadAt, valueAt, putWords, putValue, vals, valuesFrom, Fine}
-use Rattle.model.specs.Heap.{Cell, item, head, cellKind, cellPayload, cellAt, putCell, cellsFrom, heapOf}
+use Rattle.model.specs.Heap.{Cell, item, head, headerOf, cellOf, cellKind, cellPayload, cellAt, putCell, cellsFrom, heapOf}
 use Rattle.value.specs.Links.{FineCell, PayloadOf, Written}
-use Rattle.value.proofs.Coding.{words-value, words-cell}
+use Rattle.value.proofs.Coding.{words-value, words-header, words-cell}
 
 -- ---- two words are written
 
@@ -63,6 +64,20 @@ module _ (s : List ℕ) (i : ℕ) (h : 2 * i + 2 ≤ length s) where
   unfolding cellAt putCell
   cell-same x f =
       rw (kind-same s i (cellKind x) (cellPayload x) h, payload-same s i (cellKind x) (cellPayload x) h) (words-cell x f)
+
+  pub header-same : (x : Header) → FineCell (head x) → headerOf (payloadAt (putCell s i (head x)) i) ≡ x
+  unfolding putCell
+  header-same x f = rw (payload-same s i 6 (cellPayload (head x)) h) (words-header x f)
+
+-- a cell by its kind
+module _ (s : List ℕ) (i : ℕ) where
+  pub cell-header : eqb (kindAt s i) 6 ≡ true → cellAt s i ≡ head (headerOf (payloadAt s i))
+  unfolding cellAt cellOf
+  cell-header e = rw e
+
+  pub cell-item : eqb (kindAt s i) 6 ≡ false → cellAt s i ≡ item (valueAt s i)
+  unfolding cellAt cellOf valueAt
+  cell-item e = rw e
 
 -- what `write_value` stores
 pub wrote : {s : List ℕ} {i : ℕ} {x : Value} {t : List ℕ} (k a : ℕ) → k ≡ kind x → PayloadOf x a → t ≡ putWords s i k a → Written s i (item x) t
@@ -154,14 +169,27 @@ vals-drop zero n s = let z : n - 0 ≡ n = omega arith in rw z
 vals-drop (suc k) zero s = let z : 0 - suc k ≡ 0 = omega arith in rw z
 vals-drop (suc k) (suc n) s = let z : suc n - suc k ≡ n - k = omega arith in rw z (vals-drop k n s)
 
+-- the value at j, counted from the top
+pub vals-at : (n : ℕ) (s : List ℕ) (j : ℕ) (d : Value) → j < n → getD (vals n s) j d ≡ valueAt s (n - suc j)
+unfolding vals
+vals-at zero s j d h = absurd (let z : ⊥ = omega arith in z)
+vals-at (suc n) s zero d h = let z : suc n - 1 ≡ n = omega arith in rw z
+vals-at (suc n) s (suc j) d h = let z : suc n - suc (suc j) ≡ n - suc j = omega arith in rw z (vals-at n s j d (omega arith))
+
 -- slot i, counted from the bottom
 pub vals-slot : (n : ℕ) (s : List ℕ) (i : ℕ) (d : Value) → i < n → getD (vals n s) (n - suc i) d ≡ valueAt s i
-unfolding vals
-vals-slot zero s i d h = absurd (let z : ⊥ = omega arith in z)
-vals-slot (suc n) s i d h =
-    ⊎-elim (λ e. let z : suc n - suc i ≡ 0 = omega arith in rw z (ap (valueAt s) (sym e)))
-    (λ l. let z : suc n - suc i ≡ suc (n - suc i) = omega arith in rw z (vals-slot n s i d l))
-    (eq-or-lt-of-le {n = i} {m = n} (omega arith))
+vals-slot n s i d h = vals-at n s (n - suc i) d (omega arith) ∙ ap (valueAt s) (let z : n - suc (n - suc i) ≡ i = omega arith in z)
+
+-- the k values on top, the lowest first
+pub vals-upward : (k n : ℕ) (s : List ℕ) → k ≤ n → reverse (take k (vals n s)) ≡ valuesFrom k (n - k) s
+unfolding vals valuesFrom
+vals-upward zero n s h = refl
+vals-upward (suc k) zero s h = absurd (let z : ⊥ = omega arith in z)
+vals-upward (suc k) (suc n) s h =
+    let z : suc n - suc k ≡ n - k = omega arith in
+    let e : n - k + k ≡ n = omega arith in
+    reverse-cons (valueAt s n) (take k (vals n s))
+    ∙ rw (vals-upward k n s (omega arith), z, values-more k (n - k) s, e)
 
 -- a write above the stack does not change it
 pub vals-below : (n : ℕ) (s : List ℕ) (i k a : ℕ) → n ≤ i → vals n (putWords s i k a) ≡ vals n s
