@@ -1,0 +1,4 @@
+pub mod Floats
+pub mod Coding
+pub mod Stores
+pub mod Operands

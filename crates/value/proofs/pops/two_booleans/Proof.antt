@@ -1,0 +1,73 @@
+use borrow.Author.Needs.{needs}
+use Rattle.model.specs.declared.Booleans.the-variants as s
+use Rattle.model.specs.Values.{ifBoolean, poppingBoolean}
+use Rattle.model.specs.Scalars.{booleansOf}
+use Rattle.value.proofs.Operands.{none, got-top, got-some, no-right, wrong-right, no-left, wrong-left, two-got, is-boolean, no-boolean}
+use Rattle.value.proofs.pops.two_booleans.Statement.{statement}
+use Rattle.value.proofs.pops.two_booleans.Tie as tie
+
+pop-requires : tie.Need-pop-requires
+pop-requires c κs = search needs
+
+enum-known-right : tie.Need-enum-known-right
+enum-known-right c = search needs
+
+enum-told : tie.Need-enum-told
+enum-told c = search needs
+
+returns : tie.Need-returns
+unfolding booleansOf poppingBoolean
+returns c = no-right ifBoolean s.Bad s.Two (none (c .before .before .pop .ensures) (c .enum-told .given .1))
+
+enum-known-right-2 : tie.Need-enum-known-right-2
+enum-known-right-2 c = search needs
+
+returns-2 : tie.Need-returns-2
+unfolding booleansOf poppingBoolean
+returns-2 c = wrong-right ifBoolean s.Bad s.Two (got-top _ _ (c .before .before .before .before .pop .ensures) (c .before .before .right .given .1)) (no-boolean _ (c .match2 .keys2))
+
+sub-pop : tie.Need-sub-pop
+sub-pop c = got-some _ _ (c .before .before .before .before .before .before .pop .ensures) (c .before .before .before .before .right .given .1)
+
+pop-requires-2 : tie.Need-pop-requires-2
+pop-requires-2 c κs = search needs
+
+enum-known-left : tie.Need-enum-known-left
+enum-known-left c = search needs
+
+enum-told-2 : tie.Need-enum-told-2
+enum-told-2 c = search needs
+
+returns-3 : tie.Need-returns-3
+unfolding booleansOf poppingBoolean
+returns-3 c = no-left ifBoolean s.Bad s.Two (got-top _ _ (c .before .before .before .before .before .before .before .before .before .pop .ensures) (c .before .before .before .before .before .before .before .right .given .1)) (is-boolean (c .before .before .before .before .right2 .given .1)) (none (c .before .before .pop2 .ensures) (c .enum-told2 .given .1))
+
+enum-known-left-2 : tie.Need-enum-known-left-2
+enum-known-left-2 c = search needs
+
+returns-4 : tie.Need-returns-4
+unfolding booleansOf poppingBoolean
+returns-4 c = wrong-left ifBoolean s.Bad s.Two (got-top _ _ (c .before .before .before .before .before .before .before .before .before .before .before .pop .ensures) (c .before .before .before .before .before .before .before .before .before .right .given .1)) (is-boolean (c .before .before .before .before .before .before .right2 .given .1)) (got-top _ _ (c .before .before .before .before .pop2 .ensures) (c .before .before .left .given .1)) (no-boolean _ (c .match4 .keys2))
+
+returns-5 : tie.Need-returns-5
+unfolding booleansOf poppingBoolean
+returns-5 c = two-got ifBoolean s.Bad s.Two (got-top _ _ (c .before .before .before .before .before .before .before .before .before .before .before .before .before .pop .ensures) (c .before .before .before .before .before .before .before .before .before .before .before .right .given .1)) (is-boolean (c .before .before .before .before .before .before .before .before .right2 .given .1)) (got-top _ _ (c .before .before .before .before .before .before .pop2 .ensures) (c .before .before .before .before .left .given .1)) (is-boolean (c .before .left2 .given .1))
+
+pub two-booleans-spec : {M : Type 1} → statement M
+two-booleans-spec =
+    tie.close
+    (tie.spec
+    pop-requires
+    enum-known-right
+    enum-told
+    returns
+    enum-known-right-2
+    returns-2
+    sub-pop
+    pop-requires-2
+    enum-known-left
+    enum-told-2
+    returns-3
+    enum-known-left-2
+    returns-4
+    returns-5)

@@ -1,0 +1,38 @@
+use borrow.Author.Needs.{needs}
+use Rattle.model.specs.Heap.{putCell}
+use Rattle.value.proofs.words.write_header.Statement.{statement}
+use Rattle.value.proofs.words.write_header.Tie as tie
+
+mul-payload : tie.Need-mul-payload
+mul-payload c = search needs
+
+add-payload : tie.Need-add-payload
+add-payload c = search needs
+
+mul-payload-2 : tie.Need-mul-payload-2
+mul-payload-2 c = search needs
+
+add-payload-2 : tie.Need-add-payload-2
+add-payload-2 c = search needs
+
+write-words-requires : tie.Need-write-words-requires
+write-words-requires c κs = search needs
+
+same-length : tie.Need-same-length
+same-length c = search needs
+
+returns : tie.Need-returns
+unfolding putCell
+returns c = record { stored = c .before .before .write-words .ensures; fine = (c .before .before .before .before .before .pre .1, c .before .before .before .before .before .pre .2, c .before .before .before .before .before .pre .3) }
+
+pub write-header-spec : {M : Type 1} → statement M
+write-header-spec =
+    tie.close
+    (tie.spec
+    mul-payload
+    add-payload
+    mul-payload-2
+    add-payload-2
+    write-words-requires
+    same-length
+    returns)

@@ -1,0 +1,24 @@
+use borrow.Author.Needs.{needs}
+use Rattle.value.proofs.Stores.{wrote}
+use Rattle.value.proofs.words.write_value.Statement.{statement}
+use Rattle.value.proofs.words.write_value.Tie as tie
+
+kind-of-requires : tie.Need-kind-of-requires
+kind-of-requires c κs = search needs
+
+payload-of-requires : tie.Need-payload-of-requires
+payload-of-requires c κs = search needs
+
+write-words-requires : tie.Need-write-words-requires
+write-words-requires c κs = search needs
+
+same-length : tie.Need-same-length
+same-length c = search needs
+
+returns : tie.Need-returns
+returns c = wrote _ _ (c .before .before .before .before .kind-of .ensures) (c .before .before .before .payload-of .ensures) (c .before .before .write-words .ensures)
+
+pub write-value-spec : {M : Type 1} → statement M
+write-value-spec =
+    tie.close
+    (tie.spec kind-of-requires payload-of-requires write-words-requires same-length returns)

@@ -1,0 +1,45 @@
+-- What the answers of the code stand for.
+use mathlib.Core.Path.{_≡_}
+use mathlib.Core.Bool.{Bool}
+use mathlib.Core.List.{List}
+use Prim.Native.Nat.{ℕ, _<_}
+use lib.Ieee.{Float}
+use Rattle.model.specs.declared.Value.{Value}
+use Rattle.model.specs.declared.Fault.{Fault}
+use Rattle.model.specs.declared.Found.{Found}
+use Rattle.model.specs.declared.Found.the-variants as g
+use Rattle.model.specs.declared.Scalars.{Scalars}
+use Rattle.model.specs.declared.Scalars.the-variants as s
+use Rattle.model.specs.declared.Booleans.{Booleans}
+use Rattle.model.specs.declared.Booleans.the-variants as b
+use Rattle.model.specs.Values.{payload, Fine}
+use Rattle.model.specs.Heap.{Cell, item, head, putCell}
+
+-- r is the payload of v, and v fits a store: the types of the code say so
+pub record PayloadOf (v : Value) (r : ℕ) : Type 0 where
+  pub is : r ≡ payload v
+  pub fine : Fine v
+
+-- a cell that a store can hold
+abbrev pub FineCell : Cell → Type 0
+FineCell (item v) = Fine v
+FineCell (head h) = (h .count < 0x1_0000) × (h .number < 0x1_0000) × (h .depth < 0x1_0000)
+
+-- the store s' is s with the cell x at place i, and x fits
+pub record Written (s : List ℕ) (i : ℕ) (x : Cell) (s' : List ℕ) : Type 0 where
+  pub stored : s' ≡ putCell s i x
+  pub fine : FineCell x
+
+-- ---- what an arm does with its operands, and what with the fault
+
+abbrev pub onFound : {A : Type 0} → Found → (Fault → A) → (Value → A) → A
+onFound (g.Got x) e k = k x
+onFound (g.Bad t) e k = e t
+
+abbrev pub onScalars : {A : Type 0} → Scalars → (Fault → A) → (Float → Float → A) → A
+onScalars (s.Two x y) e k = k x y
+onScalars (s.Bad t) e k = e t
+
+abbrev pub onBooleans : {A : Type 0} → Booleans → (Fault → A) → (Bool → Bool → A) → A
+onBooleans (b.Two x y) e k = k x y
+onBooleans (b.Bad t) e k = e t

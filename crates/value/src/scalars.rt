@@ -1,0 +1,47 @@
+// The arithmetic and the orderings of scalars: one binary64 operation each, rounded once.
+use model::Arith;
+use model::Order;
+ghost use mathlib.Core.Path.{_≡_};
+ghost use lib.Ieee as Ieee;
+ghost use Rattle.model.specs.Scalars.{arithOf, zeroDivisor, orderOf};
+
+// The result of the operation, of whichever the machine asks.
+pub fn arithmetic(which: Arith, x: f64, y: f64) -> f64
+    ensures { λ r. ⌜ r ≡ arithOf which x y ⌝ }
+{
+    match which {
+        Arith::Add => x + y,
+        Arith::Subtract => x - y,
+        Arith::Multiply => x * y,
+        Arith::Divide => x / y,
+    }
+}
+
+// Whether the operation is a division by zero, of either sign.
+pub fn zero_divisor(which: Arith, y: f64) -> bool
+    ensures { λ r. ⌜ r ≡ zeroDivisor which y ⌝ }
+{
+    match which {
+        Arith::Divide => y == 0.0,
+        _ => false,
+    }
+}
+
+// Whether the ordering holds; with a NaN none does.
+pub fn ordering(which: Order, x: f64, y: f64) -> bool
+    ensures { λ r. ⌜ r ≡ orderOf which x y ⌝ }
+{
+    match which {
+        Order::LessThan => x < y,
+        Order::GreaterThan => x > y,
+        Order::LessOrEqual => x <= y,
+        Order::GreatorOrEqual => x >= y,
+    }
+}
+
+// The scalar with its sign changed.
+pub fn negate(x: f64) -> f64
+    ensures { λ r. ⌜ r ≡ Ieee.neg x ⌝ }
+{
+    -x
+}
