@@ -1,0 +1,21 @@
+//! The oracle of Chaffwheel.
+//!
+//! Two machines stand side by side here:
+//!
+//! - [`vm::Vm`] is source document 000 (numbat's `vm.rs`) with an `f64` where
+//!   it has a quantity. Only the carried arms are there, written line by line
+//!   as they stand in 000, panics included.
+//! - [`limits::Machine`] is the machine of document 01: the same steps, but
+//!   with lent stores, units, cells, depth, and a number for every fault.
+//!
+//! Both read programs from the rule image ([`image`]). [`print`] holds what
+//! the runner and the lister print, [`generate`] makes images to compare on.
+
+pub mod generate;
+pub mod image;
+pub mod limits;
+pub mod op;
+pub mod plain;
+pub mod print;
+pub mod value;
+pub mod vm;

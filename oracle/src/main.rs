@@ -1,0 +1,169 @@
+//! The oracle's command line.
+
+use std::collections::BTreeMap;
+use std::io::{Read, Write};
+use std::process::ExitCode;
+
+use oracle::limits::Answer;
+use oracle::plain::{self, Ending};
+use oracle::print::{self, value_text};
+use oracle::vm::Vm;
+use oracle::{generate, image};
+
+const HELP: &str = "\
+oracle: source document 000 over f64, and document 01's machine on top of it
+
+  oracle run FILE               what the runner prints
+  oracle list FILE              what the lister prints
+  oracle judge FILE             `ok`, or `refused 20 OFFSET`; also checks that
+                                the image of what was read is FILE again
+  oracle rust FILE              what the plain Rust does: its answer, error or
+                                panic, and stack, frames and last result after
+  oracle generate SEED COUNT DIR
+                                writes images DIR/000000.img and so on
+  oracle sample SEED COUNT      runs generated images, counts their endings
+  oracle batch SEED COUNT       for each generated image, on standard output:
+                                its length (u32, low byte first) and bytes,
+                                the same for the runner's text, the same for
+                                the lister's text
+
+FILE may be - for standard input. The plain Rust is stopped after 2,000,000
+steps or at a nesting of 1,000, which it would not be by itself.
+";
+
+fn main() -> ExitCode {
+    let arguments: Vec<String> = std::env::args().skip(1).collect();
+    let arguments: Vec<&str> = arguments.iter().map(String::as_str).collect();
+    let done = match arguments.as_slice() {
+        ["run", file] => read(file).and_then(|bytes| put(print::runner(&bytes).as_bytes())),
+        ["list", file] => read(file).and_then(|bytes| put(&print::lister(&bytes))),
+        ["judge", file] => read(file).and_then(|bytes| judge(&bytes)),
+        ["rust", file] => read(file).and_then(|bytes| rust(&bytes)),
+        ["generate", seed, count, dir] => numbers(seed, count).and_then(|(s, c)| write(s, c, dir)),
+        ["sample", seed, count] => numbers(seed, count).and_then(|(s, c)| sample(s, c)),
+        ["batch", seed, count] => numbers(seed, count).and_then(|(s, c)| batch(s, c)),
+        [] | ["help" | "--help" | "-h"] => put(HELP.as_bytes()),
+        _ => Err(format!("not understood\n\n{HELP}")),
+    };
+    match done {
+        Ok(()) => ExitCode::SUCCESS,
+        Err(words) => {
+            eprintln!("oracle: {words}");
+            ExitCode::FAILURE
+        }
+    }
+}
+
+type Done = Result<(), String>;
+
+fn read(file: &str) -> Result<Vec<u8>, String> {
+    if file == "-" {
+        let mut bytes = vec![];
+        let read = std::io::stdin().lock().read_to_end(&mut bytes);
+        read.map(|_| bytes)
+            .map_err(|e| format!("standard input: {e}"))
+    } else {
+        std::fs::read(file).map_err(|e| format!("{file}: {e}"))
+    }
+}
+
+fn put(bytes: &[u8]) -> Done {
+    let mut out = std::io::stdout().lock();
+    out.write_all(bytes)
+        .and_then(|()| out.flush())
+        .map_err(|e| format!("standard output: {e}"))
+}
+
+fn numbers(seed: &str, count: &str) -> Result<(u64, u64), String> {
+    let number = |text: &str| text.parse().map_err(|_| format!("{text}: not a number"));
+    Ok((number(seed)?, number(count)?))
+}
+
+fn judge(bytes: &[u8]) -> Done {
+    match image::parse(bytes) {
+        Err(offset) => put(format!("refused 20 {offset}\n").as_bytes()),
+        Ok(program) if image::image(&program) == bytes => put(b"ok\n"),
+        Ok(_) => Err("the image of what was read differs from what was read".to_owned()),
+    }
+}
+
+fn rust(bytes: &[u8]) -> Done {
+    let program = match image::parse(bytes) {
+        Ok(program) => program,
+        Err(offset) => return put(format!("refused 20 {offset}\n").as_bytes()),
+    };
+    let mut vm = Vm::from_program(&program);
+    let ending = plain::run(&mut vm);
+    let mut out = match &ending {
+        Ending::Value(value) => format!("value {}\n", value_text(value)),
+        Ending::Continue => "continue\n".to_owned(),
+        Ending::Error(error) => format!("error: {:?}\n", error.kind),
+        Ending::Panicked(words) => format!("panicked: {words}\n"),
+        Ending::UndefinedCast(byte) => format!("undefined cast: byte {byte}\n"),
+        Ending::NotCarried(op) => format!("not carried: {}\n", op.to_string()),
+        Ending::Bound(which) => format!("stopped: too many {which}\n"),
+    };
+    if let Ending::Error(error) = &ending {
+        for (name, place) in &error.backtrace {
+            out += &format!("at {} {place}\n", name.escape_ascii());
+        }
+    }
+    if !matches!(
+        ending,
+        Ending::Value(_) | Ending::Continue | Ending::Error(_)
+    ) {
+        let (function, offset) = vm.instruction;
+        out += &format!("in function {function} at byte {offset}\n");
+    }
+    out += &format!("stack {}\nframes {}\n", vm.stack.len(), vm.frames.len());
+    out += &match &vm.last_result {
+        Some(value) => format!("last {}\n", value_text(value)),
+        None => "last none\n".to_owned(),
+    };
+    put(out.as_bytes())
+}
+
+fn write(seed: u64, count: u64, dir: &str) -> Done {
+    std::fs::create_dir_all(dir).map_err(|e| format!("{dir}: {e}"))?;
+    for index in 0..count {
+        let path = format!("{dir}/{index:06}.img");
+        std::fs::write(&path, generate::case(seed, index)).map_err(|e| format!("{path}: {e}"))?;
+    }
+    Ok(())
+}
+
+fn sample(seed: u64, count: u64) -> Done {
+    let mut endings: BTreeMap<(u32, String), u64> = BTreeMap::new();
+    for index in 0..count {
+        let ending = match print::run(&generate::case(seed, index)) {
+            Ok(ran) => match ran.report.answer {
+                Answer::Value(_) => (0, "value".to_owned()),
+                Answer::Continue => (0, "continue".to_owned()),
+                Answer::Fault(number) => (number, format!("fault {number}")),
+            },
+            Err(refused) => (refused.number(), format!("refused {}", refused.number())),
+        };
+        *endings.entry(ending).or_default() += 1;
+    }
+    let mut out = String::new();
+    for ((_, ending), count) in endings {
+        out += &format!("{ending}: {count}\n");
+    }
+    put(out.as_bytes())
+}
+
+fn batch(seed: u64, count: u64) -> Done {
+    let mut out = std::io::BufWriter::new(std::io::stdout().lock());
+    for index in 0..count {
+        let image = generate::case(seed, index);
+        let runner = print::runner(&image);
+        let lister = print::lister(&image);
+        for part in [image.as_slice(), runner.as_bytes(), &lister] {
+            let length = part.len() as u32;
+            out.write_all(&length.to_le_bytes())
+                .and_then(|()| out.write_all(part))
+                .map_err(|e| format!("standard output: {e}"))?;
+        }
+    }
+    out.flush().map_err(|e| format!("standard output: {e}"))
+}

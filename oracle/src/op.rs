@@ -1,0 +1,277 @@
+//! The opcodes: the order of `Op` in 000 gives each its number.
+
+#[derive(Debug, Clone, Copy, PartialEq, Eq)]
+#[repr(u8)]
+pub enum Op {
+    LoadConstant,
+    ApplyPrefix,
+    SetUnitConstant,
+    GetLocal,
+    GetUpvalue,
+    GetLastResult,
+    Negate,
+    Factorial,
+    Add,
+    Subtract,
+    Multiply,
+    Divide,
+    Power,
+    ConvertTo,
+    LessThan,
+    GreaterThan,
+    LessOrEqual,
+    GreatorOrEqual,
+    Equal,
+    NotEqual,
+    LogicalAnd,
+    LogicalOr,
+    LogicalNeg,
+    AddToDateTime,
+    SubFromDateTime,
+    DiffDateTime,
+    JumpIfFalse,
+    Jump,
+    Call,
+    FFICallFunction,
+    FFICallProcedure,
+    CallCallable,
+    PrintString,
+    JoinString,
+    BuildStructInstance,
+    AccessStructField,
+    BuildList,
+    Return,
+}
+
+/// All opcodes, each at the index that is its number.
+pub const OPS: [Op; 38] = [
+    Op::LoadConstant,
+    Op::ApplyPrefix,
+    Op::SetUnitConstant,
+    Op::GetLocal,
+    Op::GetUpvalue,
+    Op::GetLastResult,
+    Op::Negate,
+    Op::Factorial,
+    Op::Add,
+    Op::Subtract,
+    Op::Multiply,
+    Op::Divide,
+    Op::Power,
+    Op::ConvertTo,
+    Op::LessThan,
+    Op::GreaterThan,
+    Op::LessOrEqual,
+    Op::GreatorOrEqual,
+    Op::Equal,
+    Op::NotEqual,
+    Op::LogicalAnd,
+    Op::LogicalOr,
+    Op::LogicalNeg,
+    Op::AddToDateTime,
+    Op::SubFromDateTime,
+    Op::DiffDateTime,
+    Op::JumpIfFalse,
+    Op::Jump,
+    Op::Call,
+    Op::FFICallFunction,
+    Op::FFICallProcedure,
+    Op::CallCallable,
+    Op::PrintString,
+    Op::JoinString,
+    Op::BuildStructInstance,
+    Op::AccessStructField,
+    Op::BuildList,
+    Op::Return,
+];
+
+impl Op {
+    /// The opcode of a byte; none for 38 and above. 000 casts the byte
+    /// without looking, which is undefined for those.
+    pub fn from_byte(byte: u8) -> Option<Op> {
+        OPS.get(byte as usize).copied()
+    }
+
+    /// The operand counts that the listing uses, as in 000. They differ from
+    /// what the machine reads for CallCallable (two), Factorial (one) and
+    /// FFICallFunction (three).
+    pub fn num_operands(self) -> usize {
+        match self {
+            Op::FFICallProcedure => 3,
+            Op::SetUnitConstant | Op::Call | Op::FFICallFunction | Op::BuildStructInstance => 2,
+            Op::LoadConstant
+            | Op::ApplyPrefix
+            | Op::GetLocal
+            | Op::GetUpvalue
+            | Op::PrintString
+            | Op::JoinString
+            | Op::JumpIfFalse
+            | Op::Jump
+            | Op::CallCallable
+            | Op::AccessStructField
+            | Op::BuildList => 1,
+            Op::Negate
+            | Op::Factorial
+            | Op::Add
+            | Op::AddToDateTime
+            | Op::Subtract
+            | Op::SubFromDateTime
+            | Op::DiffDateTime
+            | Op::Multiply
+            | Op::Divide
+            | Op::Power
+            | Op::ConvertTo
+            | Op::LessThan
+            | Op::GreaterThan
+            | Op::LessOrEqual
+            | Op::GreatorOrEqual
+            | Op::Equal
+            | Op::NotEqual
+            | Op::LogicalAnd
+            | Op::LogicalOr
+            | Op::LogicalNeg
+            | Op::Return
+            | Op::GetLastResult => 0,
+        }
+    }
+
+    /// How many operands the running machine reads.
+    pub fn operands_read(self) -> usize {
+        match self {
+            Op::CallCallable => 2,
+            Op::Factorial => 1,
+            Op::FFICallFunction => 3,
+            other => other.num_operands(),
+        }
+    }
+
+    #[allow(clippy::inherent_to_string)]
+    pub fn to_string(self) -> &'static str {
+        match self {
+            Op::LoadConstant => "LoadConstant",
+            Op::ApplyPrefix => "ApplyPrefix",
+            Op::SetUnitConstant => "SetUnitConstant",
+            Op::GetLocal => "GetLocal",
+            Op::GetUpvalue => "GetUpvalue",
+            Op::GetLastResult => "GetLastResult",
+            Op::Negate => "Negate",
+            Op::Factorial => "Factorial",
+            Op::Add => "Add",
+            Op::AddToDateTime => "AddDateTime",
+            Op::Subtract => "Subtract",
+            Op::SubFromDateTime => "SubDateTime",
+            Op::DiffDateTime => "DiffDateTime",
+            Op::Multiply => "Multiply",
+            Op::Divide => "Divide",
+            Op::Power => "Power",
+            Op::ConvertTo => "ConvertTo",
+            Op::LessThan => "LessThan",
+            Op::GreaterThan => "GreaterThan",
+            Op::LessOrEqual => "LessOrEqual",
+            Op::GreatorOrEqual => "GreatorOrEqual",
+            Op::Equal => "Equal",
+            Op::NotEqual => "NotEqual",
+            Op::LogicalAnd => "LogicalAnd",
+            Op::LogicalOr => "LogicalOr",
+            Op::LogicalNeg => "LogicalNeg",
+            Op::JumpIfFalse => "JumpIfFalse",
+            Op::Jump => "Jump",
+            Op::Call => "Call",
+            Op::FFICallFunction => "FFICallFunction",
+            Op::FFICallProcedure => "FFICallProcedure",
+            Op::CallCallable => "CallCallable",
+            Op::PrintString => "PrintString",
+            Op::JoinString => "JoinString",
+            Op::Return => "Return",
+            Op::BuildStructInstance => "BuildStructInstance",
+            Op::AccessStructField => "AccessStructField",
+            Op::BuildList => "BuildList",
+        }
+    }
+
+    /// The 26 opcodes that document 01 carries. The others are known and
+    /// not carried.
+    pub fn is_carried(self) -> bool {
+        match self {
+            Op::LoadConstant
+            | Op::GetLocal
+            | Op::GetUpvalue
+            | Op::GetLastResult
+            | Op::Negate
+            | Op::Add
+            | Op::Subtract
+            | Op::Multiply
+            | Op::Divide
+            | Op::LessThan
+            | Op::GreaterThan
+            | Op::LessOrEqual
+            | Op::GreatorOrEqual
+            | Op::Equal
+            | Op::NotEqual
+            | Op::LogicalAnd
+            | Op::LogicalOr
+            | Op::LogicalNeg
+            | Op::JumpIfFalse
+            | Op::Jump
+            | Op::Call
+            | Op::CallCallable
+            | Op::BuildStructInstance
+            | Op::AccessStructField
+            | Op::BuildList
+            | Op::Return => true,
+            Op::ApplyPrefix
+            | Op::SetUnitConstant
+            | Op::Factorial
+            | Op::Power
+            | Op::ConvertTo
+            | Op::AddToDateTime
+            | Op::SubFromDateTime
+            | Op::DiffDateTime
+            | Op::FFICallFunction
+            | Op::FFICallProcedure
+            | Op::PrintString
+            | Op::JoinString => false,
+        }
+    }
+}
+
+#[cfg(test)]
+mod tests {
+    use super::*;
+
+    #[test]
+    fn numbers_follow_the_order_of_op() {
+        for (number, op) in OPS.iter().enumerate() {
+            assert_eq!(*op as usize, number);
+            assert_eq!(Op::from_byte(number as u8), Some(*op));
+        }
+        assert_eq!(Op::from_byte(38), None);
+        assert_eq!(Op::from_byte(255), None);
+    }
+
+    #[test]
+    fn the_carried_numbers_are_those_of_document_01() {
+        let carried: Vec<usize> = (0..38).filter(|n| OPS[*n].is_carried()).collect();
+        assert_eq!(
+            carried,
+            [
+                0, 3, 4, 5, 6, 8, 9, 10, 11, 14, 15, 16, 17, 18, 19, 20, 21, 22, 26, 27, 28, 31,
+                34, 35, 36, 37
+            ]
+        );
+        assert_eq!(carried.len(), 26);
+    }
+
+    #[test]
+    fn listing_and_machine_disagree_on_three_opcodes() {
+        let disagree: Vec<Op> = OPS
+            .iter()
+            .copied()
+            .filter(|op| op.num_operands() != op.operands_read())
+            .collect();
+        assert_eq!(
+            disagree,
+            [Op::Factorial, Op::FFICallFunction, Op::CallCallable]
+        );
+    }
+}

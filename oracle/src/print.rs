@@ -1,0 +1,110 @@
+//! What the runner and the lister print.
+
+use crate::limits::{Answer, Machine, Refused, Report, Stores};
+use crate::op::Op;
+use crate::value::{shown_bits, Value};
+
+/// The longest image that the runner and the lister read.
+pub const MAX_IMAGE: usize = 16_384;
+/// The units of the runner.
+pub const UNITS: u64 = 1_000_000;
+
+/// What the runner did with an image.
+pub struct Ran {
+    pub report: Report,
+    pub machine: Machine,
+}
+
+fn load(image: &[u8]) -> Result<Machine, Refused> {
+    if image.len() > MAX_IMAGE {
+        return Err(Refused::Limit);
+    }
+    Machine::load(image, Stores::RUNNER)
+}
+
+pub fn run(image: &[u8]) -> Result<Ran, Refused> {
+    let mut machine = load(image)?;
+    let report = machine.run(UNITS);
+    Ok(Ran { report, machine })
+}
+
+/// The text of the runner.
+pub fn runner(image: &[u8]) -> String {
+    match run(image) {
+        Ok(ran) => ran_text(&ran),
+        Err(refused) => refused_text(refused),
+    }
+}
+
+pub fn refused_text(refused: Refused) -> String {
+    format!("refused {}\n", refused.number())
+}
+
+pub fn ran_text(ran: &Ran) -> String {
+    let mut out = match &ran.report.answer {
+        Answer::Value(value) => format!("value {}\n", value_text(value)),
+        Answer::Continue => "continue\n".to_owned(),
+        Answer::Fault(number) => format!("fault {number}\n"),
+    };
+    out += &format!("spent {}\n", ran.report.spent);
+    out += &format!("stack {}\n", ran.machine.stack.len());
+    for (function, place) in &ran.report.backtrace {
+        out += &format!("at {function} {place}\n");
+    }
+    out
+}
+
+pub fn value_text(value: &Value) -> String {
+    match value {
+        Value::Scalar(scalar) => format!("scalar {:016X}", shown_bits(*scalar)),
+        Value::Boolean(boolean) => boolean.to_string(),
+        Value::String(text) => format!("string {}", text.len()),
+        Value::FunctionReference(name) => format!("function {}", name.len()),
+        Value::List(elements) => format!("list {}", elements.items().len()),
+        Value::StructInstance(number, fields) => {
+            format!("struct {number} {}", fields.items().len())
+        }
+    }
+}
+
+/// The text of the lister. It is bytes, as function names are.
+pub fn lister(image: &[u8]) -> Vec<u8> {
+    match load(image) {
+        Ok(machine) => match listing(&machine) {
+            Ok(out) => out,
+            Err(number) => format!("refused {number}\n").into_bytes(),
+        },
+        Err(refused) => refused_text(refused).into_bytes(),
+    }
+}
+
+/// The listing of all functions in order, or 1 or 3 as met first.
+fn listing(machine: &Machine) -> Result<Vec<u8>, u32> {
+    let mut out = vec![];
+    for (number, function) in machine.program.functions.iter().enumerate() {
+        out.extend_from_slice(format!(".CODE {number} (").as_bytes());
+        out.extend_from_slice(&function.name);
+        out.extend_from_slice(b")\n");
+        let mut offset = 0;
+        while offset < function.code.len() {
+            let op = Op::from_byte(function.code[offset]).ok_or(1u32)?;
+            let end = offset + 1 + 2 * op.num_operands();
+            let operands = function.code.get(offset + 1..end).ok_or(3u32)?;
+            let operands: Vec<String> = operands
+                .chunks_exact(2)
+                .map(|pair| u16::from_le_bytes([pair[0], pair[1]]).to_string())
+                .collect();
+            out.extend_from_slice(
+                format!(
+                    "  {:04} {:<13} {}\n",
+                    offset,
+                    op.to_string(),
+                    operands.join(" ")
+                )
+                .as_bytes(),
+            );
+            offset = end;
+        }
+    }
+    Ok(out)
+}
