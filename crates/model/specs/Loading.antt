@@ -16,7 +16,7 @@ use Rattle.model.specs.Images.{joined, imageOf, Judged, fine, broken, ju
 use Rattle.model.specs.Listings.{Listed, text, unlisted, listingOf}
 use Rattle.model.specs.Steps.{World}
 use Rattle.model.specs.Stores.{Stores, pack, programIn}
-use Rattle.model.specs.Orders.{programOk}
+use Rattle.model.specs.Orders.{countsOk, textOk, functionsOk, mainOk, insideCodes, programOk}
 use Rattle.model.specs.Emission.{written, counts}
 
 -- ---- [layout] where a loaded program lies: its texts in the image's order, each store filled from its start
@@ -140,5 +140,14 @@ unfoldable pub putListing : Listed → List ℕ → OutRes
 putListing (text bytes) out = putOut bytes out
 putListing (unlisted n) out = record { answer = t.Refused n; out = out }
 
+-- the listing is lent functions, text and code
+unfoldable pub listOrder : Counts → Stores → Bool
+listOrder c s =
+    countsOk c
+    && textOk c (s .text)
+    && functionsOk c (s .functions)
+    && mainOk (s .functions) (s .text)
+    && insideCodes c (s .functions) (s .main) (s .other)
+
 unfoldable pub listOf : Counts → Stores → List ℕ → OutRes
-listOf c s out = if programOk c s then putListing (listingOf (programIn c s)) out else record { answer = t.Refused 19; out = out }
+listOf c s out = if listOrder c s then putListing (listingOf (programIn c s)) out else record { answer = t.Refused 19; out = out }
