@@ -28,7 +28,7 @@ numOf s i r = stepOf (length s - i) s r
 
 -- a number is below m, and its bytes lie in s, at least one from place i on
 abbrev pub Ahead : ℕ → List ℕ → ℕ → Num → Type 0
-Ahead m s i (Number v next) = (i < next) × ((next ≤ length s) × (v < m))
+Ahead m s i (Number v next) = (i < next) × (next ≤ length s) × (v < m)
 Ahead m s i Broken = Unit
 
 pub record GroupsPost (f : ℕ) (s : List ℕ) (i : ℕ) (r : Num) : Type 0 where

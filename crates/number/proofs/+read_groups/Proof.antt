@@ -1,157 +1,42 @@
-use Prim.Native.Nat.{ℕ, _<_}
+-- `read_groups`: each way through it answers as the rule does, and the call reads one group fewer.
+use Prim.Native.Nat.{ℕ, _<_, _^_}
+use native.Mathlib.Omega.{arith}
+use native.Mathlib.Nat.{pos-of-ne-zero}
+use borrow.Author.Needs.{needs}
 use borrow.Fn.Kinds.{In}
 use borrow.Fn.PlainCycle.{Measures, is, falls, and}
-use Rattle.number.proofs.read_groups.Reads as read-groups
-use Rattle.number.proofs.read_groups.Kinds as read-groups-kinds
-use Rattle.number.proofs.+read_groups.Lts-read_groups as read-groups-lts
+use Rattle.number.proofs.Reading.{no-byte, end-small, end-large, last, broken, padded, joined, sum}
+use Rattle.number.proofs.read_groups.Reads as reads
+use Rattle.number.proofs.read_groups.Kinds as kinds
+use Rattle.number.proofs.+read_groups.Lts-read_groups as lts
 use Rattle.number.proofs.+read_groups.{statement}
 use Rattle.number.proofs.+read_groups.Tie.{close}
 
-abbrev μ-read-groups : Measures 1 read-groups-kinds.ps ℕ
-μ-read-groups κs a = ?
+abbrev μ : Measures 1 kinds.ps ℕ
+μ κs a = a .1 .1 .0
 
-abbrev read-groups-at : ℕ → In 1 read-groups-kinds.ps
-read-groups-at t =
-    and 1 read-groups-kinds.ps (is 1 read-groups-kinds.ps μ-read-groups t) read-groups.Pre
+abbrev here : ℕ → In 1 kinds.ps
+here t = and 1 kinds.ps (is 1 kinds.ps μ t) reads.Pre
 
-abbrev read-groups-below : ℕ → In 1 read-groups-kinds.ps
-read-groups-below t =
-    and 1 read-groups-kinds.ps (falls 1 read-groups-kinds.ps _<_ μ-read-groups t) read-groups.Pre
-
--- src/lib.rt:20:9
-read-groups-returns : (t : ℕ) → read-groups-lts.Need-returns (
-  read-groups-below t,
-  read-groups.Post,
-) (read-groups-at t) read-groups.Post
-read-groups-returns t c = ?
-
--- src/lib.rt:22:13
-read-groups-shared-slice-read-x : (t : ℕ) → read-groups-lts.Need-shared-slice-read-x (
-  read-groups-below t,
-  read-groups.Post,
-) (read-groups-at t) read-groups.Post
-read-groups-shared-slice-read-x t c = ?
-
--- src/lib.rt:22:13
-read-groups-cast-x :
-    (t : ℕ) →
-    read-groups-lts.Need-cast-x
-    (read-groups-below t, read-groups.Post)
-    (read-groups-at t)
-    read-groups.Post
-read-groups-cast-x t c = ?
-
--- src/lib.rt:23:18
-read-groups-add-behind : (t : ℕ) → read-groups-lts.Need-add-behind (
-  read-groups-below t,
-  read-groups.Post,
-) (read-groups-at t) read-groups.Post
-read-groups-add-behind t c = ?
-
--- src/lib.rt:26:13
-read-groups-returns-2 : (t : ℕ) → read-groups-lts.Need-returns-2 (
-  read-groups-below t,
-  read-groups.Post,
-) (read-groups-at t) read-groups.Post
-read-groups-returns-2 t c = ?
-
--- src/lib.rt:28:9
-read-groups-returns-3 : (t : ℕ) → read-groups-lts.Need-returns-3 (
-  read-groups-below t,
-  read-groups.Post,
-) (read-groups-at t) read-groups.Post
-read-groups-returns-3 t c = ?
-
--- src/lib.rt:31:9
-read-groups-returns-4 : (t : ℕ) → read-groups-lts.Need-returns-4 (
-  read-groups-below t,
-  read-groups.Post,
-) (read-groups-at t) read-groups.Post
-read-groups-returns-4 t c = ?
-
--- src/lib.rt:33:43
-read-groups-sub-read-groups : (t : ℕ) → read-groups-lts.Need-sub-read-groups (
-  read-groups-below t,
-  read-groups.Post,
-) (read-groups-at t) read-groups.Post
-read-groups-sub-read-groups t c = ?
-
--- src/lib.rt:33:9
-read-groups-read-groups-requires : (t : ℕ) → read-groups-lts.Need-read-groups-requires (
-  read-groups-below t,
-  read-groups.Post,
-) (read-groups-at t) read-groups.Post
-read-groups-read-groups-requires t c κs = ?
-
--- src/lib.rt:34:21
-read-groups-enum-known-others : (t : ℕ) → read-groups-lts.Need-enum-known-others (
-  read-groups-below t,
-  read-groups.Post,
-) (read-groups-at t) read-groups.Post
-read-groups-enum-known-others t c = ?
-
--- src/lib.rt:35:9
-read-groups-enum-told : (t : ℕ) → read-groups-lts.Need-enum-told (
-  read-groups-below t,
-  read-groups.Post,
-) (read-groups-at t) read-groups.Post
-read-groups-enum-told t c = ?
-
--- src/lib.rt:35:9
-read-groups-returns-5 : (t : ℕ) → read-groups-lts.Need-returns-5 (
-  read-groups-below t,
-  read-groups.Post,
-) (read-groups-at t) read-groups.Post
-read-groups-returns-5 t c = ?
-
--- src/lib.rt:38:38
-read-groups-mul-t16 : (t : ℕ) → read-groups-lts.Need-mul-t16 (
-  read-groups-below t,
-  read-groups.Post,
-) (read-groups-at t) read-groups.Post
-read-groups-mul-t16 t c = ?
-
--- src/lib.rt:38:28
-read-groups-add-t17 : (t : ℕ) → read-groups-lts.Need-add-t17 (
-  read-groups-below t,
-  read-groups.Post,
-) (read-groups-at t) read-groups.Post
-read-groups-add-t17 t c = ?
-
--- src/lib.rt:38:9
-read-groups-returns-6 : (t : ℕ) → read-groups-lts.Need-returns-6 (
-  read-groups-below t,
-  read-groups.Post,
-) (read-groups-at t) read-groups.Post
-read-groups-returns-6 t c = ?
-
--- src/lib.rt:15:1
-read-groups-returns-7 : (t : ℕ) → read-groups-lts.Need-returns-7 (
-  read-groups-below t,
-  read-groups.Post,
-) (read-groups-at t) read-groups.Post
-read-groups-returns-7 t c = ?
+abbrev below : ℕ → In 1 kinds.ps
+below t = and 1 kinds.ps (falls 1 kinds.ps _<_ μ t) reads.Pre
 
 pub +read-groups-spec : {M : Type 1} → statement M
-+read-groups-spec = close μ-read-groups λ t. read-groups-lts.spec (
-  read-groups-below t,
-  read-groups.Post,
-)
-    (read-groups-at t)
-    read-groups.Post
-    (read-groups-returns t)
-    (read-groups-shared-slice-read-x t)
-    (read-groups-cast-x t)
-    (read-groups-add-behind t)
-    (read-groups-returns-2 t)
-    (read-groups-returns-3 t)
-    (read-groups-returns-4 t)
-    (read-groups-sub-read-groups t)
-    (read-groups-read-groups-requires t)
-    (read-groups-enum-known-others t)
-    (read-groups-enum-told t)
-    (read-groups-returns-5 t)
-    (read-groups-mul-t16 t)
-    (read-groups-add-t17 t)
-    (read-groups-returns-6 t)
-    (read-groups-returns-7 t)
++read-groups-spec =
+    close μ λ t. lts.spec (below t, reads.Post) (here t) reads.Post
+    (λ c. no-byte _ _ _ (c .if1 .taken))
+    (λ c. search needs)
+    (λ c. omega (arith, c .shared-slice-known2 .given (c .before .before .before .args .at)))
+    (λ c. search needs)
+    (λ c. end-small _ _ _ (c .before .before .before .if1 .left) (c .before .if2 .taken) (c .if3 .taken))
+    (λ c. end-large _ _ _ (c .before .before .before .if1 .left) (c .before .if2 .taken) (c .if3 .left))
+    (λ c. last _ _ _ (c .before .before .before .if1 .left) (c .before .if2 .left) (c .if4 .taken))
+    (λ c. pos-of-ne-zero (c .before .if2 .left))
+    (λ c κs. let h : 0 < _ = pos-of-ne-zero (c .before .if2 .left) in (omega arith, omega arith))
+    (λ c. search needs)
+    (λ c. search needs)
+    (λ c. broken _ _ _ (c .before .before .before .before .before .before .if1 .left) (c .before .before .before .before .if2 .left) (c .before .before .before .if4 .left) _ (c .before .before .read-groups .ensures) (c .enum-told .given .1))
+    (λ c. let h : _ < 2 ^ 32 = sum _ _ _ (c .before .before .before .before .before .before .before .before .if1 .left) (c .before .before .before .before .before .before .if2 .left) (c .before .before .before .before .before .if4 .left) _ (c .before .before .before .before .read-groups .ensures) _ _ (c .before .before .others .given .1) (omega (arith, c .before .before .before .before .before .before .before .shared-slice-known2 .given (c .before .before .before .before .before .before .before .before .before .before .args .at))) (c .if5 .taken) (c .before .before .before .before .before .before .before .before .before .before .pre .1) in omega arith)
+    (λ c. let h : _ < 2 ^ 32 = sum _ _ _ (c .before .before .before .before .before .before .before .before .if1 .left) (c .before .before .before .before .before .before .if2 .left) (c .before .before .before .before .before .if4 .left) _ (c .before .before .before .before .read-groups .ensures) _ _ (c .before .before .others .given .1) (omega (arith, c .before .before .before .before .before .before .before .shared-slice-known2 .given (c .before .before .before .before .before .before .before .before .before .before .args .at))) (c .if5 .taken) (c .before .before .before .before .before .before .before .before .before .before .pre .1) in omega arith)
+    (λ c. joined _ _ _ (c .before .before .before .before .before .before .before .before .if1 .left) (c .before .before .before .before .before .before .if2 .left) (c .before .before .before .before .before .if4 .left) _ (c .before .before .before .before .read-groups .ensures) _ _ (c .before .before .others .given .1) (omega (arith, c .before .before .before .before .before .before .before .shared-slice-known2 .given (c .before .before .before .before .before .before .before .before .before .before .args .at))) (c .if5 .taken))
+    (λ c. padded _ _ _ (c .before .before .before .before .before .before .before .before .if1 .left) (c .before .before .before .before .before .before .if2 .left) (c .before .before .before .before .before .if4 .left) _ (c .before .before .before .before .read-groups .ensures) _ _ (c .before .before .others .given .1) (c .if5 .left))
