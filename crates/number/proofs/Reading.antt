@@ -25,12 +25,13 @@ unfolding limit
 grows zero f = rw zero-add (le-refl (limit f))
 grows (suc k) f = rw suc-add (let z : limit f ≤ limit (k + f) = grows k f in omega arith)
 
--- four groups and a last one hold the numbers below 2 ^ 32
-fits : (f v : ℕ) → f ≤ 4 → v < limit f → v < 2 ^ 32
-fits f v h l =
+-- four groups and a last one below 16 stay below 2 ^ 32
+pub fits : (s : List ℕ) (i f v next : ℕ) → f ≤ 4 → GroupsPost f s i (Number v next) → v < 2 ^ 32
+fits s i f v next h p =
     let e : 4 - f + f ≡ 4 = omega arith in
     let g : limit f ≤ limit 4 = rw e at (grows (4 - f) f) in
     let z : limit 4 ≡ 2 ^ 32 = limit-4 in
+    let l : v < limit f = p .ahead .2 in
     omega arith
 
 module _ (s : List ℕ) (i f : ℕ) where
@@ -84,10 +85,6 @@ module _ (s : List ℕ) (i f : ℕ) where
                 means = front ∙ rw e (more-some _ q _ z);
                 ahead = (omega arith, omega arith, rw one-more (omega arith));
               }
-
-          -- the sum fits
-          pub sum : getD s i 0 < 256 → 0 < q → f ≤ 4 → getD s i 0 - 128 + 128 * q < 2 ^ 32
-          sum b z l = fits f _ l (joined b z .ahead .2)
 
 -- what five groups at most stand for
 pub whole : (s : List ℕ) (i : ℕ) (r : Num) → GroupsPost 4 s i r → NumPost s i r

@@ -5,7 +5,7 @@ use native.Mathlib.Nat.{pos-of-ne-zero}
 use borrow.Author.Needs.{needs}
 use borrow.Fn.Kinds.{In}
 use borrow.Fn.PlainCycle.{Measures, is, falls, and}
-use Rattle.number.proofs.Reading.{no-byte, end-small, end-large, last, broken, padded, joined, sum}
+use Rattle.number.proofs.Reading.{no-byte, end-small, end-large, last, broken, padded, joined, fits}
 use Rattle.number.proofs.read_groups.Reads as reads
 use Rattle.number.proofs.read_groups.Kinds as kinds
 use Rattle.number.proofs.+read_groups.Lts-read_groups as lts
@@ -20,6 +20,10 @@ here t = and 1 kinds.ps (is 1 kinds.ps μ t) reads.Pre
 
 abbrev below : ℕ → In 1 kinds.ps
 below t = and 1 kinds.ps (falls 1 kinds.ps _<_ μ t) reads.Pre
+
+-- a group in front of others, which the sum's bounds use too
+joins : (t : ℕ) → lts.Need-returns-6 (below t, reads.Post) (here t) reads.Post
+joins t c = joined _ _ _ (c .before .before .before .before .before .before .before .before .if1 .left) (c .before .before .before .before .before .before .if2 .left) (c .before .before .before .before .before .if4 .left) _ (c .before .before .before .before .read-groups .ensures) _ _ (c .before .before .others .given .1) (omega (arith, c .before .before .before .before .before .before .before .shared-slice-known2 .given (c .before .before .before .before .before .before .before .before .before .before .args .at))) (c .if5 .taken)
 
 pub +read-groups-spec : {M : Type 1} → statement M
 +read-groups-spec =
@@ -36,7 +40,7 @@ pub +read-groups-spec : {M : Type 1} → statement M
     (λ c. search needs)
     (λ c. search needs)
     (λ c. broken _ _ _ (c .before .before .before .before .before .before .if1 .left) (c .before .before .before .before .if2 .left) (c .before .before .before .if4 .left) _ (c .before .before .read-groups .ensures) (c .enum-told .given .1))
-    (λ c. let h : _ < 2 ^ 32 = sum _ _ _ (c .before .before .before .before .before .before .before .before .if1 .left) (c .before .before .before .before .before .before .if2 .left) (c .before .before .before .before .before .if4 .left) _ (c .before .before .before .before .read-groups .ensures) _ _ (c .before .before .others .given .1) (omega (arith, c .before .before .before .before .before .before .before .shared-slice-known2 .given (c .before .before .before .before .before .before .before .before .before .before .args .at))) (c .if5 .taken) (c .before .before .before .before .before .before .before .before .before .before .pre .1) in omega arith)
-    (λ c. let h : _ < 2 ^ 32 = sum _ _ _ (c .before .before .before .before .before .before .before .before .if1 .left) (c .before .before .before .before .before .before .if2 .left) (c .before .before .before .before .before .if4 .left) _ (c .before .before .before .before .read-groups .ensures) _ _ (c .before .before .others .given .1) (omega (arith, c .before .before .before .before .before .before .before .shared-slice-known2 .given (c .before .before .before .before .before .before .before .before .before .before .args .at))) (c .if5 .taken) (c .before .before .before .before .before .before .before .before .before .before .pre .1) in omega arith)
-    (λ c. joined _ _ _ (c .before .before .before .before .before .before .before .before .if1 .left) (c .before .before .before .before .before .before .if2 .left) (c .before .before .before .before .before .if4 .left) _ (c .before .before .before .before .read-groups .ensures) _ _ (c .before .before .others .given .1) (omega (arith, c .before .before .before .before .before .before .before .shared-slice-known2 .given (c .before .before .before .before .before .before .before .before .before .before .args .at))) (c .if5 .taken))
+    (λ c. let h : _ < 2 ^ 32 = fits _ _ _ _ _ (c .before .before .before .before .before .before .before .before .before .before .pre .1) (joins t c) in omega arith)
+    (λ c. let h : _ < 2 ^ 32 = fits _ _ _ _ _ (c .before .before .before .before .before .before .before .before .before .before .pre .1) (joins t c) in omega arith)
+    (joins t)
     (λ c. padded _ _ _ (c .before .before .before .before .before .before .before .before .if1 .left) (c .before .before .before .before .before .before .if2 .left) (c .before .before .before .before .before .if4 .left) _ (c .before .before .before .before .read-groups .ensures) _ _ (c .before .before .others .given .1) (c .if5 .left))
