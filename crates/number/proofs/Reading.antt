@@ -1,16 +1,16 @@
 -- The groups that begin at place i of s, and what each way through `read_groups` answers.
-use mathlib.Core.Path.{_≡_, refl, sym, ap, _∙_}
-use mathlib.Core.List.{List, [], _∷_}
+use mathlib.Core.Path.{_≡_, refl, ap, _∙_}
+use mathlib.Core.List.{List, _∷_}
 use Prim.Native.Nat.{ℕ, zero, suc, _+_, _-_, _*_, _≤_, _<_, _^_}
 use native.Mathlib.Omega.{arith}
 use native.Mathlib.Nat.{zero-add, suc-add, le-refl, pos-of-ne-zero}
 use native.Mathlib.Numerals.{add-one}
 use lib.ListN.{length, drop, getD, length-drop, drop-of-length-le}
 use lib.Seq.{drop-cons}
-use Rattle.model.specs.Numbers.{Step, got, bad, item, more, groups, number}
+use Rattle.model.specs.Numbers.{got, bad, item, more, groups, number}
 use Rattle.number.specs.declared.Num.{Num}
 use Rattle.number.specs.declared.Num.the-variants.{Number, Broken}
-use Rattle.number.specs.Links.{limit, stepOf, numOf, Ahead, GroupsPost, NumPost}
+use Rattle.number.specs.Links.{limit, stepOf, GroupsPost, NumPost}
 use Rattle.number.proofs.Digits.{limit-4}
 use Rattle.number.proofs.Codes.{last-group, front-group, end-group, no-group, below}
 

@@ -1,5 +1,4 @@
 -- The arms of a `match` on a number: a test that is computed at every number of an arm holds of the number that came there.
-use mathlib.Core.Path.{_≡_}
 use mathlib.Core.Bool.{Bool, true, false, _&&_, _||_}
 use mathlib.Core.List.{List, [], _∷_}
 use mathlib.Core.Logic.{⊎-elim, inl, inr}

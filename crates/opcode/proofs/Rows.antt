@@ -6,7 +6,7 @@ use Prim.Native.Nat.{ℕ, zero, suc, _+_, _-_, _≤_, _<_}
 use native.Mathlib.Omega.{arith}
 use lib.Dec.{T, leb, leb→le}
 use lib.Ieee.Fits.{and-l, and-r}
-use lib.ListN.{length, getD, replicate, getD-replicate, getD-replicate, List·getD-eq-default}
+use lib.ListN.{length, getD, replicate, getD-replicate, List·getD-eq-default}
 use Rattle.model.specs.Basics.{ascii}
 use Rattle.model.specs.Opcodes.{Opcode, opcodes, opcodeAt}
 use Rattle.opcode.specs.Names.{padded}
