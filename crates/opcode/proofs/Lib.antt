@@ -1,3 +1,3 @@
 pub mod Arms
 pub mod Counts
-pub mod Rows
+pub mod Names

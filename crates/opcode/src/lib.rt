@@ -6,7 +6,6 @@ use model::Order;
 ghost use mathlib.Core.Path.{_≡_};
 ghost use lib.ListN.{length, getD};
 ghost use Rattle.model.specs.Opcodes.{opcodeAt};
-ghost use Rattle.opcode.specs.Names.{padded};
 
 // What an opcode byte is.
 pub fn decode(b: u8) -> Decoded
@@ -68,75 +67,72 @@ pub fn num_operands(b: u8) -> usize
     }
 }
 
-// A name: how many letters it has, and the letters with spaces behind them.
-struct Name(usize, [u8; 19]);
+// The names of the opcodes, from number 0 on, each with spaces up to 19 letters.
+const NAMES: [u8; 722] = *b"\
+    LoadConstant       \
+    ApplyPrefix        \
+    SetUnitConstant    \
+    GetLocal           \
+    GetUpvalue         \
+    GetLastResult      \
+    Negate             \
+    Factorial          \
+    Add                \
+    Subtract           \
+    Multiply           \
+    Divide             \
+    Power              \
+    ConvertTo          \
+    LessThan           \
+    GreaterThan        \
+    LessOrEqual        \
+    GreatorOrEqual     \
+    Equal              \
+    NotEqual           \
+    LogicalAnd         \
+    LogicalOr          \
+    LogicalNeg         \
+    AddDateTime        \
+    SubDateTime        \
+    DiffDateTime       \
+    JumpIfFalse        \
+    Jump               \
+    Call               \
+    FFICallFunction    \
+    FFICallProcedure   \
+    CallCallable       \
+    PrintString        \
+    JoinString         \
+    BuildStructInstance\
+    AccessStructField  \
+    BuildList          \
+    Return             ";
 
-// The names of the opcodes, from number 0 on.
-const NAMES: [Name; 38] = [
-    Name(12, *b"LoadConstant       "),
-    Name(11, *b"ApplyPrefix        "),
-    Name(15, *b"SetUnitConstant    "),
-    Name(8, *b"GetLocal           "),
-    Name(10, *b"GetUpvalue         "),
-    Name(13, *b"GetLastResult      "),
-    Name(6, *b"Negate             "),
-    Name(9, *b"Factorial          "),
-    Name(3, *b"Add                "),
-    Name(8, *b"Subtract           "),
-    Name(8, *b"Multiply           "),
-    Name(6, *b"Divide             "),
-    Name(5, *b"Power              "),
-    Name(9, *b"ConvertTo          "),
-    Name(8, *b"LessThan           "),
-    Name(11, *b"GreaterThan        "),
-    Name(11, *b"LessOrEqual        "),
-    Name(14, *b"GreatorOrEqual     "),
-    Name(5, *b"Equal              "),
-    Name(8, *b"NotEqual           "),
-    Name(10, *b"LogicalAnd         "),
-    Name(9, *b"LogicalOr          "),
-    Name(10, *b"LogicalNeg         "),
-    Name(11, *b"AddDateTime        "),
-    Name(11, *b"SubDateTime        "),
-    Name(12, *b"DiffDateTime       "),
-    Name(11, *b"JumpIfFalse        "),
-    Name(4, *b"Jump               "),
-    Name(4, *b"Call               "),
-    Name(15, *b"FFICallFunction    "),
-    Name(16, *b"FFICallProcedure   "),
-    Name(12, *b"CallCallable       "),
-    Name(11, *b"PrintString        "),
-    Name(10, *b"JoinString         "),
-    Name(19, *b"BuildStructInstance"),
-    Name(17, *b"AccessStructField  "),
-    Name(9, *b"BuildList          "),
-    Name(6, *b"Return             "),
-];
-
-// The name of an opcode; an unknown one has none.
-fn name_of(b: u8) -> Name
-    ensures { λ r. ⌜ r ≡ padded (opcodeAt b .name) ⌝ }
-{
-    let number = b as usize;
-    if number < 38 {
-        NAMES[number]
-    } else {
-        Name(0, *b"                   ")
-    }
-}
-
-// How many letters an opcode's name has.
-pub fn name_len(b: u8) -> usize
-    ensures { λ r. ⌜ r ≡ length (opcodeAt b .name) ⌝ }
-{
-    name_of(b).0
-}
-
-// The letter at place i of an opcode's name; a space past its end.
+// The letter at place i of an opcode's name; a space past its end. An unknown opcode has no name.
 pub fn name_byte(b: u8, i: usize) -> u8
     ensures { λ r. ⌜ r ≡ getD (opcodeAt b .name) i 32 ⌝ }
 {
-    let name = name_of(b);
-    let letters = name.1;
-    if i < 19 { letters[i] } else { 32 }
+    let number = b as usize;
+    if 38 <= number {
+        return 32;
+    }
+    if 19 <= i {
+        return 32;
+    }
+    NAMES[19 * number + i]
+}
+
+// How many letters an opcode's name has: it ends at the first space.
+pub fn name_len(b: u8) -> usize
+    ensures { λ r. ⌜ r ≡ length (opcodeAt b .name) ⌝ }
+{
+    let mut i = 0;
+    while i < 19 {
+        let letter = name_byte(b, i);
+        if letter == 32 {
+            return i;
+        }
+        i = i + 1;
+    }
+    i
 }

@@ -1,20 +1,29 @@
--- `name_byte`: a letter of the row, or a space.
+-- `name_byte`: the table is that of the model's names.
 use borrow.Author.Needs.{needs}
-use Rattle.opcode.proofs.Rows.{letter, space}
+use Rattle.model.specs.Basics.{ascii}
+use Rattle.model.specs.Opcodes.{opcodes}
+use Rattle.opcode.proofs.Names.{no-name, past-row, letter}
 use Rattle.opcode.proofs.name_byte.Statement.{statement}
 use Rattle.opcode.proofs.name_byte.Tie as tie
 
-name-of-requires : tie.Need-name-of-requires
-name-of-requires c κs = search needs
+returns : tie.Need-returns
+returns c = no-name _ _ (c .if1 .taken)
+
+returns-2 : tie.Need-returns-2
+returns-2 c = past-row _ _ (c .if2 .taken)
+
+mul-result : tie.Need-mul-result
+mul-result c = search needs
+
+add-result : tie.Need-add-result
+add-result c = search needs
 
 array-read-result : tie.Need-array-read-result
 array-read-result c = search needs
 
-returns : tie.Need-returns
-returns c = letter _ _ _ _ (c .before .before .name-of .ensures) (c .if1 .taken)
-
-returns-2 : tie.Need-returns-2
-returns-2 c = space _ _ (c .if1 .left)
+returns-3 : tie.Need-returns-3
+unfolding ascii opcodes
+returns-3 c = letter _ _ _ (c .before .if1 .left) (c .if2 .left)
 
 pub name-byte-spec : {M : Type 1} → statement M
-name-byte-spec = tie.close (tie.spec name-of-requires array-read-result returns returns-2)
+name-byte-spec = tie.close (tie.spec returns returns-2 mul-result add-result array-read-result returns-3)
