@@ -1,0 +1,138 @@
+// The opcodes: what a byte is, how many operands follow it, and its name.
+use model::Arith;
+use model::Decoded;
+use model::Op;
+use model::Order;
+ghost use mathlib.Core.Path.{_≡_};
+ghost use lib.ListN.{length, getD};
+ghost use Rattle.model.specs.Opcodes.{opcodeAt};
+
+// What an opcode byte is.
+pub fn decode(b: u8) -> Decoded
+    ensures { λ r. ⌜ r ≡ opcodeAt b .what ⌝ }
+{
+    match b {
+        0 => Decoded::Carried(Op::LoadConstant),
+        3 => Decoded::Carried(Op::GetLocal),
+        4 => Decoded::Carried(Op::GetUpvalue),
+        5 => Decoded::Carried(Op::GetLastResult),
+        6 => Decoded::Carried(Op::Negate),
+        8 => Decoded::Carried(Op::Arithmetic(Arith::Add)),
+        9 => Decoded::Carried(Op::Arithmetic(Arith::Subtract)),
+        10 => Decoded::Carried(Op::Arithmetic(Arith::Multiply)),
+        11 => Decoded::Carried(Op::Arithmetic(Arith::Divide)),
+        14 => Decoded::Carried(Op::Ordering(Order::LessThan)),
+        15 => Decoded::Carried(Op::Ordering(Order::GreaterThan)),
+        16 => Decoded::Carried(Op::Ordering(Order::LessOrEqual)),
+        17 => Decoded::Carried(Op::Ordering(Order::GreatorOrEqual)),
+        18 => Decoded::Carried(Op::Equal),
+        19 => Decoded::Carried(Op::NotEqual),
+        20 => Decoded::Carried(Op::LogicalAnd),
+        21 => Decoded::Carried(Op::LogicalOr),
+        22 => Decoded::Carried(Op::LogicalNeg),
+        26 => Decoded::Carried(Op::JumpIfFalse),
+        27 => Decoded::Carried(Op::Jump),
+        28 => Decoded::Carried(Op::Call),
+        31 => Decoded::Carried(Op::CallCallable),
+        34 => Decoded::Carried(Op::BuildStructInstance),
+        35 => Decoded::Carried(Op::AccessStructField),
+        36 => Decoded::Carried(Op::BuildList),
+        37 => Decoded::Carried(Op::Return),
+        1..=2 | 7 | 12..=13 | 23..=25 | 29..=30 | 32..=33 => Decoded::NotCarried,
+        38..=255 => Decoded::Unknown,
+    }
+}
+
+// How many operands the machine reads behind an opcode.
+pub fn operands_read(b: u8) -> usize
+    ensures { λ r. ⌜ r ≡ opcodeAt b .read ⌝ }
+{
+    match b {
+        0..=1 | 3..=4 | 7 | 26..=27 | 32..=33 | 35..=36 => 1,
+        2 | 28 | 31 | 34 => 2,
+        29..=30 => 3,
+        _ => 0,
+    }
+}
+
+// How many operands the listing shows of an opcode.
+pub fn num_operands(b: u8) -> usize
+    ensures { λ r. ⌜ r ≡ opcodeAt b .listed ⌝ }
+{
+    match b {
+        0..=1 | 3..=4 | 26..=27 | 31..=33 | 35..=36 => 1,
+        2 | 28..=29 | 34 => 2,
+        30 => 3,
+        _ => 0,
+    }
+}
+
+// The names of the opcodes, from number 0 on, each with spaces up to 19 letters.
+const NAMES: [u8; 722] = *b"\
+    LoadConstant       \
+    ApplyPrefix        \
+    SetUnitConstant    \
+    GetLocal           \
+    GetUpvalue         \
+    GetLastResult      \
+    Negate             \
+    Factorial          \
+    Add                \
+    Subtract           \
+    Multiply           \
+    Divide             \
+    Power              \
+    ConvertTo          \
+    LessThan           \
+    GreaterThan        \
+    LessOrEqual        \
+    GreatorOrEqual     \
+    Equal              \
+    NotEqual           \
+    LogicalAnd         \
+    LogicalOr          \
+    LogicalNeg         \
+    AddDateTime        \
+    SubDateTime        \
+    DiffDateTime       \
+    JumpIfFalse        \
+    Jump               \
+    Call               \
+    FFICallFunction    \
+    FFICallProcedure   \
+    CallCallable       \
+    PrintString        \
+    JoinString         \
+    BuildStructInstance\
+    AccessStructField  \
+    BuildList          \
+    Return             ";
+
+// The letter at place i of an opcode's name; a space past its end. An unknown opcode has no name.
+pub fn name_byte(b: u8, i: usize) -> u8
+    ensures { λ r. ⌜ r ≡ getD (opcodeAt b .name) i 32 ⌝ }
+{
+    let number = b as usize;
+    if 38 <= number {
+        return 32;
+    }
+    if 19 <= i {
+        return 32;
+    }
+    NAMES[19 * number + i]
+}
+
+// How many letters an opcode's name has: it ends at the first space.
+pub fn name_len(b: u8) -> usize
+    ensures { λ r. ⌜ r ≡ length (opcodeAt b .name) ⌝ }
+{
+    let mut i = 0;
+    while i < 19 {
+        let letter = name_byte(b, i);
+        if letter == 32 {
+            return i;
+        }
+        i = i + 1;
+    }
+    i
+}
