@@ -1,0 +1,78 @@
+-- What stands in a store, and what in the heap that the store stands for.
+use mathlib.Core.Path.{_≡_, refl, sym, ap, _∙_}
+use mathlib.Core.Bool.{Bool, true, false, true≢false}
+use mathlib.Core.List.{List, [], _∷_, _++_}
+use Prim.Native.Nat.{ℕ, zero, suc, _+_, _-_, _*_, _<_, _≤_}
+use native.Mathlib.Omega.{arith}
+use lib.Dec.{eqb}
+use lib.ListN.{length, getD, take}
+use lib.Seq.{take-at}
+use Rattle.model.specs.declared.Value.{Value}
+use Rattle.model.specs.declared.Value.the-variants as v
+use Rattle.model.specs.declared.Header.{Header}
+use Rattle.model.specs.Basics.{if_then_else_}
+use Rattle.model.specs.Values.{kindAt, payloadAt, valueAt, valueOf}
+use Rattle.model.specs.Heap.{Cell, item, head, headerOf, cellOf, cellAt, cellsFrom, heapOf, isHead, itemOf, headOf, cellIn, itemIn, headIn}
+use Rattle.value.proofs.Stores.{length-cells, getD-cells}
+use Rattle.cells.proofs.Order.{Whole}
+
+pub length-heap : (n : ℕ) (w : List ℕ) → length (heapOf n w) ≡ n
+unfolding heapOf
+length-heap n w = length-cells n 0 w
+
+is-item : (z : Bool) (h : Header) (u : Value) → isHead (if z then head h else item u) ≡ false → itemOf (if z then head h else item u) ≡ u
+is-item true h u e = absurd (true≢false e)
+is-item false h u e = refl
+
+is-head : (z : Bool) (h : Header) (u : Value) → isHead (if z then head h else item u) ≡ true → headOf (if z then head h else item u) ≡ h
+is-head true h u e = refl
+is-head false h u e = absurd (true≢false (sym e))
+
+which : (z : Bool) (h : Header) (u : Value) → z ≡ isHead (if z then head h else item u)
+which true h u = refl
+which false h u = refl
+
+module _ (w : List ℕ) (used i : ℕ) (l : i < used) where
+  cell-is : cellIn (heapOf used w) i ≡ cellAt w i
+  unfolding cellIn heapOf
+  cell-is = getD-cells used 0 w i _ l ∙ (let z : 0 + i ≡ i = omega arith in rw z)
+
+  pub kind-is : eqb (kindAt w i) 6 ≡ isHead (cellIn (heapOf used w) i)
+  unfolding cellAt cellOf
+  kind-is = which (eqb (kindAt w i) 6) _ _ ∙ ap isHead (sym cell-is)
+
+  pub item-is : isHead (cellIn (heapOf used w) i) ≡ false → itemIn (heapOf used w) i ≡ valueAt w i
+  unfolding itemIn cellAt cellOf valueAt
+  item-is e = ap itemOf cell-is ∙ is-item (eqb (kindAt w i) 6) _ _ (ap isHead (sym cell-is) ∙ e)
+
+  pub head-is : isHead (cellIn (heapOf used w) i) ≡ true → headIn (heapOf used w) i ≡ headerOf (payloadAt w i)
+  unfolding headIn cellAt cellOf
+  head-is e = ap headOf cell-is ∙ is-head (eqb (kindAt w i) 6) _ _ (ap isHead (sym cell-is) ∙ e)
+
+-- a block that is whole in the store
+module _ (w : List ℕ) (used p : ℕ) (k : Whole (heapOf used w) p used) where
+  pub header-is : headIn (heapOf used w) p ≡ headerOf (payloadAt w p)
+  header-is = head-is w used p (let z = k .ends in omega arith) (k .headed)
+
+  pub header-room : 2 * used ≤ length w → 2 * p + 2 ≤ length w
+  header-room h = let z = k .ends in omega arith
+
+-- the heap of the first cells is a prefix
+cells-split : (n m i : ℕ) (w : List ℕ) → cellsFrom (n + m) i w ≡ cellsFrom n i w ++ cellsFrom m (i + n) w
+unfolding cellsFrom
+cells-split zero m i w = let z : 0 + m ≡ m = omega arith in let y : i + 0 ≡ i = omega arith in rw (z, y)
+cells-split (suc n) m i w =
+    let z : suc n + m ≡ suc (n + m) = omega arith in
+    let y : i + suc n ≡ suc i + n = omega arith in
+    rw (z, y) (ap (λ (l : List Cell). cellAt w i ∷ l) (cells-split n m (suc i) w))
+
+pub heap-split : (used p : ℕ) (w : List ℕ) → p ≤ used → heapOf used w ≡ heapOf p w ++ cellsFrom (used - p) p w
+unfolding heapOf
+heap-split used p w h =
+    let z : p + (used - p) ≡ used = omega arith in
+    let y : 0 + p ≡ p = omega arith in
+    rw (z, y) at (cells-split p (used - p) 0 w)
+
+-- cells that were taken are given back
+pub heap-cut : (used p : ℕ) (w : List ℕ) → p ≤ used → heapOf p w ≡ take p (heapOf used w)
+heap-cut used p w h = sym (ap (take p) (heap-split used p w h) ∙ take-at (heapOf p w) _ p (length-heap p w))
