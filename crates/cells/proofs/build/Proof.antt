@@ -7,62 +7,50 @@ use Rattle.cells.proofs.copy.Reads as copy-reads
 use Rattle.cells.proofs.deepest_of.Reads as deepest-of-reads
 use Rattle.cells.proofs.room_of.Reads as room-of-reads
 use Rattle.value.proofs.words.write_header.Reads as write-header-reads
+use native.Mathlib.Omega.{arith}
+use Rattle.cells.proofs.Builds.{too-deep, cells-full, room-head, room-copy, built-is}
 
--- src/lib.rt:99:9
 deepest-of-requires : tie.Need-deepest-of-requires
 deepest-of-requires c κs = search needs
 
--- src/lib.rt:101:9
 same-length : tie.Need-same-length
 same-length c = search needs
 
--- src/lib.rt:101:9
 returns : tie.Need-returns
-returns c = ?
+returns c = too-deep _ _ _ _ _ _ _ (c .before .before .before .before .before .pre .0) _ (c .before .deepest-of .ensures) (c .if1 .taken)
 
--- src/lib.rt:103:9
 room-of-requires : tie.Need-room-of-requires
 room-of-requires c κs = search needs
 
--- src/lib.rt:104:15
 add-end : tie.Need-add-end
 add-end c = search needs
 
--- src/lib.rt:104:15
 add-end-2 : tie.Need-add-end-2
 add-end-2 c = search needs
 
--- src/lib.rt:106:9
 same-length-2 : tie.Need-same-length-2
 same-length-2 c = search needs
 
--- src/lib.rt:106:9
 returns-2 : tie.Need-returns-2
-returns-2 c = ?
+returns-2 c = cells-full _ _ _ _ _ _ _ (c .before .before .before .before .before .before .before .before .pre .0) _ (c .before .before .before .before .deepest-of .ensures) (c .before .before .before .if1 .left) _ (c .before .room-of .ensures) (c .if2 .taken)
 
--- src/lib.rt:111:16
 add-copy : tie.Need-add-copy
 add-copy c = search needs
 
--- src/lib.rt:113:5
 write-header-requires : tie.Need-write-header-requires
-write-header-requires c κs = ?
+write-header-requires c κs = (room-head _ _ _ _ (c .before .before .before .before .before .before .before .before .before .args .number) _ _ (c .before .before .before .before .before .before .before .before .before .pre .0) _ (c .before .before .before .before .before .deepest-of .ensures) (c .before .before .before .before .if1 .left) _ (c .before .before .room-of .ensures) (c .before .if2 .left), c .before .before .before .before .before .before .before .before .before .pre .0 .count, c .before .before .before .before .before .before .before .before .before .pre .1, let l = c .before .before .before .before .if1 .left in omega arith)
 
--- src/lib.rt:114:37
 add-copy-2 : tie.Need-add-copy-2
 add-copy-2 c = search needs
 
--- src/lib.rt:114:5
 copy-requires : tie.Need-copy-requires
-copy-requires c κs = ?
+copy-requires c κs = (c .before .before .before .before .before .before .before .before .before .before .before .before .before .pre .0 .enough, c .before .before .before .before .before .before .before .before .before .before .before .before .before .pre .0 .stack, room-copy _ _ _ _ _ _ _ (c .before .before .before .before .before .before .before .before .before .before .before .before .before .pre .0) _ (c .before .before .before .before .before .before .before .before .before .deepest-of .ensures) (c .before .before .before .before .before .before .before .before .if1 .left) _ (c .before .before .before .before .before .before .room-of .ensures) (c .before .before .before .before .before .if2 .left) _ (c .before .before .before .write-header .ensures))
 
--- src/lib.rt:95:1
 same-length-3 : tie.Need-same-length-3
 same-length-3 c = search needs
 
--- src/lib.rt:95:1
 returns-3 : tie.Need-returns-3
-returns-3 c = ?
+returns-3 c = built-is _ _ _ _ _ _ _ (c .before .before .before .before .before .before .before .before .before .before .before .before .before .before .before .before .pre .0) _ (c .before .before .before .before .before .before .before .before .before .before .before .before .deepest-of .ensures) (c .before .before .before .before .before .before .before .before .before .before .before .if1 .left) _ (c .before .before .before .before .before .before .before .before .before .room-of .ensures) (c .before .before .before .before .before .before .before .before .if2 .left) _ (c .before .before .before .before .before .before .write-header .ensures) _ (c .before .before .copy .ensures) (c .before .before .copy .kept .1 .1 .1 .1 .0)
 
 pub build-spec : {M : Type 1} → statement M
 build-spec =

@@ -5,114 +5,88 @@ use Rattle.cells.proofs.compare.Reads as reads
 use Rattle.cells.proofs.compare.Lts as lts
 use Rattle.cells.proofs.same_bool.Reads as same-bool-reads
 use Rattle.cells.proofs.same_text.Reads as same-text-reads
+use Rattle.cells.proofs.Pairs.{scalars, scalar-other, booleans, boolean-other, strings-inside, strings, string-other, references-inside, references, reference-other, two-lists, list-other, two-structs, struct-other}
 
--- src/lib.rt:177:23
 enum-known-a : tie.Need-enum-known-a
 enum-known-a c = search needs
 
--- src/lib.rt:178:27
 enum-known-b : tie.Need-enum-known-b
 enum-known-b c = search needs
 
--- src/lib.rt:181:24
 enum-known-a-2 : tie.Need-enum-known-a-2
 enum-known-a-2 c = search needs
 
--- src/lib.rt:182:28
 enum-known-b-2 : tie.Need-enum-known-b-2
 enum-known-b-2 c = search needs
 
--- src/lib.rt:182:45
 same-bool-requires : tie.Need-same-bool-requires
 same-bool-requires c κs = search needs
 
--- src/lib.rt:185:23
 enum-known-a-3 : tie.Need-enum-known-a-3
 enum-known-a-3 c = search needs
 
--- src/lib.rt:186:27
 enum-known-b-3 : tie.Need-enum-known-b-3
 enum-known-b-3 c = search needs
 
--- src/lib.rt:186:47
 same-text-requires : tie.Need-same-text-requires
-same-text-requires c κs = ?
+same-text-requires c κs = strings-inside _ _ _ _ _ (c .before .before .before .before .a3 .given .1) (c .before .before .before .before .before .before .before .pre) _ _ (c .before .b3 .given .1)
 
--- src/lib.rt:189:34
 enum-known-a-4 : tie.Need-enum-known-a-4
 enum-known-a-4 c = search needs
 
--- src/lib.rt:190:38
 enum-known-b-4 : tie.Need-enum-known-b-4
 enum-known-b-4 c = search needs
 
--- src/lib.rt:190:58
 same-text-requires-2 : tie.Need-same-text-requires-2
-same-text-requires-2 c κs = ?
+same-text-requires-2 c κs = references-inside _ _ _ _ _ (c .before .before .before .before .a4 .given .1) (c .before .before .before .before .before .before .before .pre) _ _ (c .before .b4 .given .1)
 
--- src/lib.rt:193:21
 enum-known-a-5 : tie.Need-enum-known-a-5
 enum-known-a-5 c = search needs
 
--- src/lib.rt:194:25
 enum-known-b-5 : tie.Need-enum-known-b-5
 enum-known-b-5 c = search needs
 
--- src/lib.rt:197:31
 enum-known-a-6 : tie.Need-enum-known-a-6
 enum-known-a-6 c = search needs
 
--- src/lib.rt:198:35
 enum-known-b-6 : tie.Need-enum-known-b-6
 enum-known-b-6 c = search needs
 
--- src/lib.rt:172:1
 returns : tie.Need-returns
-returns c = ?
+returns c = scalars _ _ _ _ (c .before .before .before .before .a .given .1) _ (c .before .b .given .1)
 
--- src/lib.rt:172:1
 returns-2 : tie.Need-returns-2
-returns-2 c = ?
+returns-2 c = scalar-other _ _ _ _ (c .before .before .a .given .1) (c .match2 .keys2)
 
--- src/lib.rt:172:1
 returns-3 : tie.Need-returns-3
-returns-3 c = ?
+returns-3 c = booleans _ _ _ _ (c .before .before .before .before .before .a2 .given .1) _ (c .before .before .b2 .given .1) _ (c .same-bool .ensures)
 
--- src/lib.rt:172:1
 returns-4 : tie.Need-returns-4
-returns-4 c = ?
+returns-4 c = boolean-other _ _ _ _ (c .before .before .a2 .given .1) (c .match3 .keys2)
 
--- src/lib.rt:172:1
 returns-5 : tie.Need-returns-5
-returns-5 c = ?
+returns-5 c = strings _ _ _ _ _ (c .before .before .before .before .before .a3 .given .1) _ _ (c .before .before .b3 .given .1) _ (c .same-text .ensures)
 
--- src/lib.rt:172:1
 returns-6 : tie.Need-returns-6
-returns-6 c = ?
+returns-6 c = string-other _ _ _ _ _ (c .before .before .a3 .given .1) (c .match4 .keys2)
 
--- src/lib.rt:172:1
 returns-7 : tie.Need-returns-7
-returns-7 c = ?
+returns-7 c = references _ _ _ _ _ (c .before .before .before .before .before .a4 .given .1) _ _ (c .before .before .b4 .given .1) _ (c .same-text2 .ensures)
 
--- src/lib.rt:172:1
 returns-8 : tie.Need-returns-8
-returns-8 c = ?
+returns-8 c = reference-other _ _ _ _ _ (c .before .before .a4 .given .1) (c .match5 .keys2)
 
--- src/lib.rt:172:1
 returns-9 : tie.Need-returns-9
-returns-9 c = ?
+returns-9 c = two-lists (c .before .before .before .before .before .before .before .args .text .now) _ _ _ (c .before .before .before .before .a5 .given .1) _ (c .before .b5 .given .1)
 
--- src/lib.rt:172:1
 returns-10 : tie.Need-returns-10
-returns-10 c = ?
+returns-10 c = list-other _ _ _ _ (c .before .before .a5 .given .1) (c .match6 .keys2)
 
--- src/lib.rt:172:1
 returns-11 : tie.Need-returns-11
-returns-11 c = ?
+returns-11 c = two-structs (c .before .before .before .before .before .before .before .args .text .now) _ _ _ (c .before .before .before .before .a6 .given .1) _ (c .before .b6 .given .1)
 
--- src/lib.rt:172:1
 returns-12 : tie.Need-returns-12
-returns-12 c = ?
+returns-12 c = struct-other _ _ _ _ (c .before .before .a6 .given .1) (c .match7 .keys2)
 
 pub compare-spec : {M : Type 1} → statement M
 compare-spec =

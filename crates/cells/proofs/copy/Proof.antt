@@ -4,48 +4,45 @@ use Rattle.cells.proofs.copy.Reads as reads
 use Rattle.cells.proofs.copy.Lts as lts
 use Rattle.cells.proofs.element.Reads as element-reads
 use Rattle.value.proofs.words.write_value.Reads as write-value-reads
+use borrow.Author.Needs.{needs}
+use Prim.Native.Nat.{_-_}
+use native.Mathlib.Omega.{arith}
+use Rattle.model.specs.Values.{vals}
+use Rattle.cells.specs.Links.{elementsOf}
+use Rattle.cells.proofs.Builds.{length-elements, Copied, copy-start, copy-end, copy-room, copy-more}
 
 abbrev Inv-loop : tie.InvT-loop
-Inv-loop list stack sp n cells₀ from i₀ cells i = ?
+Inv-loop list stack sp n cells₀ from i₀ cells i = Copied (elementsOf list n (vals sp stack)) from n cells₀ cells i
 
 abbrev μ-loop : tie.MeasureT-loop
-μ-loop list stack sp n cells₀ from i₀ cells i = ?
+μ-loop list stack sp n cells₀ from i₀ cells i = n - i
 
--- src/lib.rt:87:5
 loop-holds : tie.Need-loop-holds Inv-loop μ-loop
-loop-holds c = ?
+loop-holds c = copy-start _ _ _ _
 
--- src/lib.rt:88:13
 element-requires : tie.Need-element-requires Inv-loop μ-loop
-element-requires c κs = ?
+element-requires c κs = (c .loop-test .taken, c .before .before .before .before .pre .0, c .before .before .before .before .pre .1)
 
--- src/lib.rt:89:35
 add-write-value : tie.Need-add-write-value Inv-loop μ-loop
-add-write-value c = ?
+add-write-value c = let r = copy-room _ _ _ _ _ _ (c .before .before .before .loop .inv) (length-elements _ _ _ _ (c .before .before .before .before .before .before .pre .0)) (c .before .before .before .before .before .before .pre .2) (c .before .before .loop-test .taken) in omega arith
 
--- src/lib.rt:89:9
 write-value-requires : tie.Need-write-value-requires Inv-loop μ-loop
-write-value-requires c κs = ?
+write-value-requires c κs = copy-room _ _ _ _ _ _ (c .before .before .before .loop .inv) (length-elements _ _ _ _ (c .before .before .before .before .before .before .pre .0)) (c .before .before .before .before .before .before .pre .2) (c .before .before .loop-test .taken)
 
--- src/lib.rt:90:9
 add-i : tie.Need-add-i Inv-loop μ-loop
-add-i c = ?
+add-i c = search needs
 
--- src/lib.rt:87:5
 loop-less : tie.Need-loop-less Inv-loop μ-loop
-loop-less c = ?
+loop-less c = search needs
 
--- src/lib.rt:87:5
 loop-again : tie.Need-loop-again Inv-loop μ-loop
-loop-again c = ?
+loop-again c = copy-more _ _ _ _ _ _ (c .before .before .before .before .before .before .loop .inv) (length-elements _ _ _ _ (c .before .before .before .before .before .before .before .before .before .pre .0)) (c .before .before .before .before .before .before .before .before .before .pre .2) (c .before .before .before .before .before .loop-test .taken) _ (c .before .before .before .before .element .ensures) _ (c .before .before .write-value .ensures)
 
--- src/lib.rt:82:1
 same-length : tie.Need-same-length Inv-loop μ-loop
-same-length c = ?
+same-length c = c .before .loop .inv .size
 
--- src/lib.rt:82:1
 returns : tie.Need-returns Inv-loop μ-loop
-returns c = ?
+returns c = copy-end _ _ _ _ _ _ (c .before .loop .inv) (length-elements _ _ _ _ (c .before .before .before .before .pre .0)) (c .loop-test .left)
 
 pub copy-spec : {M : Type 1} → statement M
 copy-spec =

@@ -4,40 +4,43 @@ use Rattle.cells.proofs.deepest_of.Reads as reads
 use Rattle.cells.proofs.deepest_of.Lts as lts
 use Rattle.cells.proofs.depth.Reads as depth-reads
 use Rattle.cells.proofs.element.Reads as element-reads
+use borrow.Author.Needs.{needs}
+use mathlib.Core.Logic.{⊎-elim}
+use Prim.Native.Nat.{_-_}
+use Rattle.model.specs.Values.{vals}
+use Rattle.model.specs.Heap.{heapOf}
+use Rattle.cells.specs.Links.{elementsOf}
+use Rattle.cells.proofs.Builds.{length-elements, Depth, depth-start, depth-end, depth-deeper, depth-same, held-at}
 
 abbrev Inv-loop : tie.InvT-loop
-Inv-loop list stack sp n cells used d₀ i₀ d i = ?
+Inv-loop list stack sp n cells used d₀ i₀ d i = Depth (heapOf used cells) (elementsOf list n (vals sp stack)) n d i
 
 abbrev μ-loop : tie.MeasureT-loop
-μ-loop list stack sp n cells used d₀ i₀ d i = ?
+μ-loop list stack sp n cells used d₀ i₀ d i = n - i
 
--- src/lib.rt:59:5
 loop-holds : tie.Need-loop-holds Inv-loop μ-loop
-loop-holds c = ?
+loop-holds c = depth-start _ _ _
 
--- src/lib.rt:60:13
 element-requires : tie.Need-element-requires Inv-loop μ-loop
-element-requires c κs = ?
+element-requires c κs = (c .loop-test .taken, c .before .before .before .before .pre .enough, c .before .before .before .before .pre .stack)
 
--- src/lib.rt:61:13
 depth-requires : tie.Need-depth-requires Inv-loop μ-loop
-depth-requires c κs = ?
+depth-requires c κs = (c .before .before .before .before .before .pre .cells, held-at _ _ _ _ _ _ (c .before .before .before .before .before .pre) _ (c .before .loop-test .taken) _ (c .element .ensures))
 
--- src/lib.rt:65:9
 add-i : tie.Need-add-i Inv-loop μ-loop
-add-i c = ?
+add-i c = search needs
 
--- src/lib.rt:59:5
 loop-less : tie.Need-loop-less Inv-loop μ-loop
-loop-less c = ?
+loop-less c = search needs
 
--- src/lib.rt:59:5
 loop-again : tie.Need-loop-again Inv-loop μ-loop
-loop-again c = ?
+loop-again c = ⊎-elim
+    (λ x. depth-deeper _ _ _ (length-elements _ _ _ _ (c .before .before .before .before .before .before .before .pre .enough)) _ _ (c .before .before .before .before .loop .inv) (c .before .before .before .loop-test .taken) _ (c .before .before .element .ensures) _ (c .before .depth .ensures) (x .0 .taken) _ (x .1))
+    (λ x. depth-same _ _ _ (length-elements _ _ _ _ (c .before .before .before .before .before .before .before .pre .enough)) _ _ (c .before .before .before .before .loop .inv) (c .before .before .before .loop-test .taken) _ (c .before .before .element .ensures) _ (c .before .depth .ensures) (x .0 .left) _ (x .1))
+    (c .if1 .came)
 
--- src/lib.rt:53:1
 returns : tie.Need-returns Inv-loop μ-loop
-returns c = ?
+returns c = depth-end _ _ _ (length-elements _ _ _ _ (c .before .before .before .before .pre .enough)) _ _ (c .before .loop .inv) (c .loop-test .left)
 
 pub deepest-of-spec : {M : Type 1} → statement M
 deepest-of-spec =

@@ -4,42 +4,34 @@ use Rattle.cells.proofs.depth.Tie as tie
 use Rattle.cells.proofs.depth.Reads as reads
 use Rattle.cells.proofs.depth.Lts as lts
 use Rattle.value.proofs.words.read_header.Reads as read-header-reads
+use Rattle.cells.proofs.Builds.{list-room, struct-room, list-depth, struct-depth, plain-depth}
 
--- src/lib.rt:40:21
 enum-known-v : tie.Need-enum-known-v
 enum-known-v c = search needs
 
--- src/lib.rt:41:47
 cast-read-header : tie.Need-cast-read-header
 cast-read-header c = search needs
 
--- src/lib.rt:41:17
 read-header-requires : tie.Need-read-header-requires
-read-header-requires c κs = ?
+read-header-requires c κs = list-room _ _ _ (c .before .before .before .before .pre .1) _ (c .before .v .given .1) (c .before .before .before .before .pre .0)
 
--- src/lib.rt:44:31
 enum-known-v-2 : tie.Need-enum-known-v-2
 enum-known-v-2 c = search needs
 
--- src/lib.rt:45:47
 cast-read-header-2 : tie.Need-cast-read-header-2
 cast-read-header-2 c = search needs
 
--- src/lib.rt:45:17
 read-header-requires-2 : tie.Need-read-header-requires-2
-read-header-requires-2 c κs = ?
+read-header-requires-2 c κs = struct-room _ _ _ (c .before .before .before .before .pre .1) _ (c .before .v2 .given .1) (c .before .before .before .before .pre .0)
 
--- src/lib.rt:35:1
 returns : tie.Need-returns
-returns c = ?
+returns c = list-depth _ _ _ (c .before .before .before .before .before .pre .1) _ (c .before .before .v .given .1) _ (c .read-header .ensures)
 
--- src/lib.rt:35:1
 returns-2 : tie.Need-returns-2
-returns-2 c = ?
+returns-2 c = struct-depth _ _ _ (c .before .before .before .before .before .pre .1) _ (c .before .before .v2 .given .1) _ (c .read-header2 .ensures)
 
--- src/lib.rt:35:1
 returns-3 : tie.Need-returns-3
-returns-3 c = ?
+returns-3 c = plain-depth _ _ (c .match .keys3)
 
 pub depth-spec : {M : Type 1} → statement M
 depth-spec =

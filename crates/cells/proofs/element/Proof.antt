@@ -4,38 +4,32 @@ use Rattle.cells.proofs.element.Tie as tie
 use Rattle.cells.proofs.element.Reads as reads
 use Rattle.cells.proofs.element.Lts as lts
 use Rattle.value.proofs.words.read_value.Reads as read-value-reads
+use mathlib.Core.Path.{_∙_}
+use Rattle.cells.proofs.Builds.{element-up, element-down}
 
--- src/lib.rt:28:34
 sub-read-value : tie.Need-sub-read-value
 sub-read-value c = search needs
 
--- src/lib.rt:28:34
 add-read-value : tie.Need-add-read-value
 add-read-value c = search needs
 
--- src/lib.rt:28:9
 read-value-requires : tie.Need-read-value-requires
 read-value-requires c κs = search needs
 
--- src/lib.rt:30:34
 sub-read-value-2 : tie.Need-sub-read-value-2
 sub-read-value-2 c = search needs
 
--- src/lib.rt:30:34
 sub-read-value-3 : tie.Need-sub-read-value-3
 sub-read-value-3 c = search needs
 
--- src/lib.rt:30:9
 read-value-requires-2 : tie.Need-read-value-requires-2
 read-value-requires-2 c κs = search needs
 
--- src/lib.rt:23:1
 returns : tie.Need-returns
-returns c = ?
+returns c = c .read-value .ensures ∙ element-up _ _ _ _ (c .before .before .before .pre .1) _ (c .before .before .before .pre .0) (c .before .if1 .taken)
 
--- src/lib.rt:23:1
 returns-2 : tie.Need-returns-2
-returns-2 c = ?
+returns-2 c = c .read-value2 .ensures ∙ element-down _ _ _ _ (c .before .before .before .pre .1) _ (c .before .before .before .pre .0) (c .before .if1 .left)
 
 pub element-spec : {M : Type 1} → statement M
 element-spec =

@@ -2,14 +2,13 @@ use Rattle.cells.proofs.room_of.Statement.{statement}
 use Rattle.cells.proofs.room_of.Tie as tie
 use Rattle.cells.proofs.room_of.Reads as reads
 use Rattle.cells.proofs.room_of.Lts as lts
+use Rattle.cells.proofs.Builds.{room-small, room-large}
 
--- src/lib.rt:76:9
 returns : tie.Need-returns
-returns c = ?
+returns c = room-small _ (c .if1 .taken)
 
--- src/lib.rt:71:1
 returns-2 : tie.Need-returns-2
-returns-2 c = ?
+returns-2 c = room-large _ (c .if1 .left)
 
 pub room-of-spec : {M : Type 1} → statement M
 room-of-spec = tie.close (tie.spec returns returns-2)
