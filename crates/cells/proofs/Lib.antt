@@ -5,3 +5,5 @@ pub mod Stands
 pub mod Texts
 pub mod Pairs
 pub mod Builds
+pub mod Fields
+pub mod Turns

@@ -29,7 +29,7 @@ enum-known-b-3 : tie.Need-enum-known-b-3
 enum-known-b-3 c = search needs
 
 same-text-requires : tie.Need-same-text-requires
-same-text-requires c κs = strings-inside _ _ _ _ _ (c .before .before .before .before .a3 .given .1) (c .before .before .before .before .before .before .before .pre) _ _ (c .before .b3 .given .1)
+same-text-requires c κs = strings-inside (c .before .before .before .before .before .before .before .args .text .now) _ _ _ _ (c .before .before .before .before .a3 .given .1) (c .before .before .before .before .before .before .before .pre) _ _ (c .before .b3 .given .1)
 
 enum-known-a-4 : tie.Need-enum-known-a-4
 enum-known-a-4 c = search needs
@@ -38,7 +38,7 @@ enum-known-b-4 : tie.Need-enum-known-b-4
 enum-known-b-4 c = search needs
 
 same-text-requires-2 : tie.Need-same-text-requires-2
-same-text-requires-2 c κs = references-inside _ _ _ _ _ (c .before .before .before .before .a4 .given .1) (c .before .before .before .before .before .before .before .pre) _ _ (c .before .b4 .given .1)
+same-text-requires-2 c κs = references-inside (c .before .before .before .before .before .before .before .args .text .now) _ _ _ _ (c .before .before .before .before .a4 .given .1) (c .before .before .before .before .before .before .before .pre) _ _ (c .before .b4 .given .1)
 
 enum-known-a-5 : tie.Need-enum-known-a-5
 enum-known-a-5 c = search needs
