@@ -7,3 +7,4 @@ pub mod Pairs
 pub mod Builds
 pub mod Fields
 pub mod Turns
+pub mod Scans

@@ -4,30 +4,26 @@ use Rattle.cells.proofs.field.Reads as reads
 use Rattle.cells.proofs.field.Lts as lts
 use Rattle.value.proofs.words.read_header.Reads as read-header-reads
 use Rattle.value.proofs.words.read_value.Reads as read-value-reads
+use native.Mathlib.Omega.{arith}
+use Rattle.cells.proofs.Fields.{head-room, field-none, field-room, field-got}
 
--- src/lib.rt:123:9
 read-header-requires : tie.Need-read-header-requires
-read-header-requires c κs = ?
+read-header-requires c κs = head-room _ _ _ (c .before .pre)
 
--- src/lib.rt:126:45
 add-read-value : tie.Need-add-read-value
-add-read-value c = ?
+add-read-value c = let r = field-room _ _ _ (c .before .before .before .pre) _ (c .before .read-header .ensures) _ (c .if1 .taken) in omega arith
 
--- src/lib.rt:126:45
 add-read-value-2 : tie.Need-add-read-value-2
-add-read-value-2 c = ?
+add-read-value-2 c = let r = field-room _ _ _ (c .before .before .before .pre) _ (c .before .read-header .ensures) _ (c .if1 .taken) in omega arith
 
--- src/lib.rt:126:20
 read-value-requires : tie.Need-read-value-requires
-read-value-requires c κs = ?
+read-value-requires c κs = field-room _ _ _ (c .before .before .before .pre) _ (c .before .read-header .ensures) _ (c .if1 .taken)
 
--- src/lib.rt:119:1
 returns : tie.Need-returns
-returns c = ?
+returns c = field-got _ _ _ (c .before .before .before .before .pre) _ (c .before .before .read-header .ensures) _ (c .before .if1 .taken) _ (c .read-value .ensures)
 
--- src/lib.rt:119:1
 returns-2 : tie.Need-returns-2
-returns-2 c = ?
+returns-2 c = field-none _ _ _ (c .before .before .before .pre) _ (c .before .read-header .ensures) _ (c .if1 .left)
 
 pub field-spec : {M : Type 1} → statement M
 field-spec =
