@@ -1,14 +1,13 @@
 -- Building: the elements on the stack, the two loops, and the whole.
 use mathlib.Core.Path.{_≡_, refl, sym, ap, _∙_, subst}
 use mathlib.Core.Bool.{Bool, true, false, _&&_}
-use mathlib.Core.Logic.{⊎-elim}
-use mathlib.Core.List.{List, [], _∷_, _++_, map, reverse, reverseAux, reverse-cons, append-assoc}
+use mathlib.Core.List.{List, [], _∷_, _++_, map, reverseAux, append-assoc}
 use Prim.Native.Nat.{ℕ, zero, suc, _+_, _-_, _*_, _/_, _<_, _≤_, max, min}
 use native.Mathlib.Omega.{arith}
 use borrow.Author.Tests.{lt-ltb, le-ltb}
 use lib.Dec.{ltb}
-use lib.ListN.{length, getD, set, take, drop, length-append, length-take, length-reverse, List·getD-append}
-use lib.Seq.{take-suc, drop-cons, take-length, drop-length, getD-take, getD-at, getD-set-other}
+use lib.ListN.{length, getD, set, take, drop, length-take, length-reverse}
+use lib.Seq.{take-suc, drop-cons, take-length, drop-length, getD-take, getD-set-other}
 use denote.Enum.Declared.{tagOf}
 use types.Run.{OneOf, miss}
 use Rattle.model.proofs.Value.{the-type}
@@ -21,29 +20,15 @@ use Rattle.model.specs.Values.{kindAt, payloadAt, valueAt, putWords, places, va
 use Rattle.model.specs.Heap as heap
 use Rattle.model.specs.Heap.{Cell, item, head, headerOf, cellKind, cellPayload, putCell, heapOf, headIn, depthIn, deepest, listElements, structFields, blockOf, buildOf, placedBelow, exactCell, exactCells}
 use Rattle.value.specs.Links.{Written}
-use Rattle.value.proofs.Coding.{cell-exact}
-use Rattle.value.proofs.Stores.{length-vals, vals-slot, kind-same, kind-other, payload-same, payload-other, written-length, taken}
+use Rattle.value.proofs.Coding.{and-left, and-right, cell-exact}
+use Rattle.value.proofs.Stores.{length-vals, vals-at, vals-upward, getD-values, kind-same, kind-other, payload-same, payload-other, written-length, taken}
 use Rattle.cells.specs.declared.Built.{Built}
 use Rattle.cells.specs.declared.Built.the-variants.{Taken, Bad}
 use Rattle.cells.specs.Links.{elementsOf, Held, TopPre, Besides, CopyPost, Took, BuildPost}
-use Rattle.cells.proofs.Order.{and-1, and-2, and-both, by-less, Every, nil, cons, every-at, Whole, list-of, struct-of}
+use Rattle.cells.proofs.Order.{and-both, Every, nil, cons, every-at, Whole, list-of, struct-of}
 use Rattle.cells.proofs.Stands.{length-heap, header-is, header-room}
 
 -- ---- the elements
-
-getD-reverse : (l : List Value) (i : ℕ) (d : Value) → i < length l → getD (reverse l) i d ≡ getD l (length l - suc i) d
-getD-reverse [] i d h = absurd (let z : ⊥ = omega arith in z)
-getD-reverse (x ∷ l) i d h =
-    rw (reverse-cons x l)
-    (⊎-elim
-    (λ s.
-      let z : suc (length l) - suc i ≡ suc (length l - suc i) = omega arith in
-      let y : i < length (reverse l) = (let q = length-reverse l in omega arith) in
-      rw z (List·getD-append (reverse l) (x ∷ []) d i y ∙ getD-reverse l i d s))
-    (λ s.
-      let z : suc (length l) - suc i ≡ 0 = omega arith in
-      rw z (getD-at (reverse l) x [] d i (length-reverse l ∙ (let y : length l ≡ i = omega arith in y))))
-    (by-less i (length l)))
 
 module _ (list : Bool) (sp n : ℕ) (s : List ℕ) (l : n ≤ sp) where
   length-top : length (take n (vals sp s)) ≡ n
@@ -60,16 +45,13 @@ module _ (list : Bool) (sp n : ℕ) (s : List ℕ) (l : n ≤ sp) where
   module _ (i : ℕ) (h : i < n) where
     pub element-up : list ≡ true → valueAt s (sp - n + i) ≡ getD (elementsOf list n (vals sp s)) i (v.Boolean false)
     unfolding elementsOf listElements
-    element-up e =
-        let z : sp - suc (sp - n + i) ≡ n - suc i = omega arith in
-        rw e (sym (getD-reverse (take n (vals sp s)) i _ (let y = length-top in omega arith)
-        ∙ rw length-top (getD-take n (vals sp s) (n - suc i) _ (omega arith) ∙ (rw z at (vals-slot sp s (sp - n + i) (v.Boolean false) (omega arith))))))
+    element-up e = rw (e, vals-upward n sp s l) (sym (getD-values n (sp - n) s i (v.Boolean false) h))
 
     pub element-down : list ≡ false → valueAt s (sp - 1 - i) ≡ getD (elementsOf list n (vals sp s)) i (v.Boolean false)
     unfolding elementsOf structFields
     element-down e =
-        let z : sp - suc (sp - 1 - i) ≡ i = omega arith in
-        rw e (sym (getD-take n (vals sp s) i _ h ∙ (rw z at (vals-slot sp s (sp - 1 - i) (v.Boolean false) (omega arith)))))
+        let z : sp - suc i ≡ sp - 1 - i = omega arith in
+        rw e (sym (getD-take n (vals sp s) i _ h ∙ (rw z at (vals-at sp s i (v.Boolean false) (omega arith)))))
 
 -- what holds of the values of a stack holds of the elements
 module _ (P : Value → Type 0) where
@@ -191,7 +173,7 @@ exact-more (suc n) i s e f =
     let z : i + suc n ≡ suc i + n = omega arith in
     let x = exactCell (kindAt s i) (payloadAt s i) in
     let y = exactCells n (suc i) s in
-    and-both x (exactCells (suc n) (suc i) s) (and-1 x y e) (exact-more n (suc i) s (and-2 x y e) (rw z at f))
+    and-both x (exactCells (suc n) (suc i) s) (and-left x y e) (exact-more n (suc i) s (and-right x y e) (rw z at f))
 
 module _ {w : List ℕ} {j : ℕ} {x : Cell} {w' : List ℕ} (q : Written w j x w') where
   stored-words : w' ≡ putWords w j (cellKind x) (cellPayload x)
@@ -282,8 +264,10 @@ module _ (list : Bool) (s : List ℕ) (sp n k : ℕ) (w : List ℕ) (used : ℕ)
     cells-full l = record {
       means =
           let x = need-is in
-          rw (le-ltb 64 (suc (deepest (heapOf used w) (elementsOf list n (vals sp s)))) (omega arith),
-          lt-ltb (places 2 w) (length (heapOf used w) + suc (length (elementsOf list n (vals sp s)))) (omega arith));
+          rw (
+            le-ltb 64 (suc (deepest (heapOf used w) (elementsOf list n (vals sp s)))) (omega arith),
+            lt-ltb (places 2 w) (length (heapOf used w) + suc (length (elementsOf list n (vals sp s)))) (omega arith),
+          );
       after = refl;
     }
 
@@ -306,8 +290,10 @@ module _ (list : Bool) (s : List ℕ) (sp n k : ℕ) (w : List ℕ) (used : ℕ)
                   let z : suc used ≡ used + 1 = omega arith in
                   let a : d + 1 ≡ suc (deepest (heapOf used w) (elementsOf list n (vals sp s))) = omega arith in
                   let b : heapOf (used + 1) w1 ≡ heapOf used w ++ head (record { count = n; number = k; depth = d + 1 }) ∷ [] = rw z at (taken q room-head) in
-                  rw (le-ltb 64 (suc (deepest (heapOf used w) (elementsOf list n (vals sp s)))) (omega arith),
-                  le-ltb (places 2 w) (length (heapOf used w) + suc (length (elementsOf list n (vals sp s)))) (omega arith))
+                  rw (
+                    le-ltb 64 (suc (deepest (heapOf used w) (elementsOf list n (vals sp s)))) (omega arith),
+                    le-ltb (places 2 w) (length (heapOf used w) + suc (length (elementsOf list n (vals sp s)))) (omega arith),
+                  )
                   (ap heap.built (rw (← y, c .means, b, append-assoc, length-elements list sp n s (pre .enough), ← a)));
               after = record {
                 count = refl;

@@ -15,7 +15,8 @@ use Rattle.model.specs.declared.Fault.{Fault}
 use Rattle.model.specs.declared.Fault.the-variants as f
 use Rattle.model.specs.Basics.{if_then_else_}
 use Rattle.model.specs.Heap.{Cell, item, head, isHead, itemOf, headOf, cellIn, itemIn, headIn, items, elementsIn, depthIn, deepest, blockOf, Built, built, unbuilt, buildOf, placedBelow, blockOk, blocksFrom, heapOk}
-use Rattle.cells.proofs.Order.{and-1, and-2, and-both, Every, nil, cons, every-map, every-at, Whole, Placed, list-of, list-number, list-to, struct-of, struct-to, placed-more, Element, Block, block-of, block-to, inner}
+use Rattle.value.proofs.Coding.{and-left, and-right}
+use Rattle.cells.proofs.Order.{Every, nil, cons, every-map, every-at, Whole, Placed, list-of, list-number, list-to, struct-of, struct-to, placed-more, Element, Block, block-of, block-to, inner}
 
 -- ---- cells added above
 
@@ -154,7 +155,7 @@ module _ (H : List Cell) (k : ℕ) (us : List Value) where
 
 -- ---- the test passes again
 
-at-end : (f t : ℕ) (H : List Cell) (i : ℕ) → i ≡ length H → blocksFrom f t H i ≡ true
+pub at-end : (f t : ℕ) (H : List Cell) (i : ℕ) → i ≡ length H → blocksFrom f t H i ≡ true
 unfolding blocksFrom
 at-end zero t H i e = eq-eqb _ _ e
 at-end (suc f) t H i e = rw (eq-eqb _ _ e)
@@ -168,8 +169,8 @@ module _ (t : ℕ) (H X : List Cell) (after : (f : ℕ) → blocksFrom (suc f) t
       → (y ≡ true → blocksFrom (suc f) t (H ++ X) (suc i + headIn H i .count) ≡ true) → blocksFrom (suc (suc f)) t (H ++ X) i ≡ true
   on-one f i y true q e on = let z : i ≡ length H = eqb-true _ _ q in rw z (after (suc f))
   on-one f i y false q e on =
-      let b = block-of t H i (and-1 (blockOk t H i) y e) in
-      stepped (suc f) t (H ++ X) i (block-frame H X t i b) (rw (head-of H X (length H) (omega arith) i (b .whole)) (on (and-2 (blockOk t H i) y e)))
+      let b = block-of t H i (and-left (blockOk t H i) y e) in
+      stepped (suc f) t (H ++ X) i (block-frame H X t i b) (rw (head-of H X (length H) (omega arith) i (b .whole)) (on (and-right (blockOk t H i) y e)))
 
   on-from : (f i : ℕ) → blocksFrom f t H i ≡ true → blocksFrom (suc f) t (H ++ X) i ≡ true
   unfolding blocksFrom
@@ -181,7 +182,7 @@ module _ (t : ℕ) (H : List Cell) where
   fuel-one : (f i : ℕ) (y : Bool) (z : Bool) → eqb i (length H) ≡ z → (if z then true else blockOk t H i && y) ≡ true
       → (y ≡ true → blocksFrom (suc f) t H (suc i + headIn H i .count) ≡ true) → blocksFrom (suc (suc f)) t H i ≡ true
   fuel-one f i y true q e on = at-end (suc (suc f)) t H i (eqb-true _ _ q)
-  fuel-one f i y false q e on = stepped (suc f) t H i (block-of t H i (and-1 (blockOk t H i) y e)) (on (and-2 (blockOk t H i) y e))
+  fuel-one f i y false q e on = stepped (suc f) t H i (block-of t H i (and-left (blockOk t H i) y e)) (on (and-right (blockOk t H i) y e))
 
   fuel-suc : (f i : ℕ) → blocksFrom f t H i ≡ true → blocksFrom (suc f) t H i ≡ true
   unfolding blocksFrom

@@ -4,10 +4,12 @@ use mathlib.Core.Bool.{Bool, true, false, _&&_, true≢false}
 use mathlib.Core.Logic.{_⊎_, inl, inr, ⊎-elim}
 use mathlib.Core.List.{List, [], _∷_}
 use Prim.Native.Nat.{ℕ, zero, suc, _+_, _-_, _<_, _≤_, max}
+use native.Mathlib.Nat.{eq-or-lt-of-le}
 use native.Mathlib.Omega.{arith}
 use borrow.Author.Tests.{ltb-true, ltb-false, leb-true, le-leb, eqb-true, eqb-false, eq-eqb}
 use lib.Dec.{eqb, leb, ltb}
 use lib.ListN.{length, getD, List·getD-eq-default}
+use Rattle.value.proofs.Coding.{and-left, and-right}
 use Rattle.model.specs.declared.Value.{Value}
 use Rattle.model.specs.declared.Value.the-variants as v
 use Rattle.model.specs.Basics.{if_then_else_}
@@ -15,16 +17,16 @@ use Rattle.model.specs.Heap.{Cell, item, head, isHead, itemOf, cellIn, itemIn, 
 
 -- ---- tests
 
-pub and-1 : (x y : Bool) → x && y ≡ true → x ≡ true
-and-1 true y e = refl
-and-1 false y e = e
-
-pub and-2 : (x y : Bool) → x && y ≡ true → y ≡ true
-and-2 true y e = e
-and-2 false y e = absurd (true≢false (sym e))
-
 pub and-both : (x y : Bool) → x ≡ true → y ≡ true → x && y ≡ true
 and-both x y e f = rw e f
+
+pub and-false : (x : Bool) → x && false ≡ false
+and-false true = refl
+and-false false = refl
+
+pub same-test : (x y : Bool) → (x ≡ true → y ≡ true) → (x ≡ false → y ≡ false) → x ≡ y
+same-test true y f g = sym (f refl)
+same-test false y f g = sym (g refl)
 
 pub by-less : (a b : ℕ) → (a < b) ⊎ (b ≤ a)
 by-less a b = on (ltb a b) refl
@@ -67,7 +69,7 @@ unfolding wholeBelow
 whole-of H p b e =
     let x = isHead (cellIn H p) in
     let y = leb (suc p + headIn H p .count) b in
-    record { headed = and-1 x y e; ends = leb-true _ _ (and-2 x y e) }
+    record { headed = and-left x y e; ends = leb-true _ _ (and-right x y e) }
 
 pub whole-to : (H : List Cell) (p b : ℕ) → Whole H p b → wholeBelow H p b ≡ true
 unfolding wholeBelow
@@ -79,11 +81,11 @@ Placed t H b u = placedBelow t H b u ≡ true
 module _ (t : ℕ) (H : List Cell) (b p : ℕ) where
   pub list-of : Placed t H b (v.List p) → Whole H p b
   unfolding placedBelow
-  list-of e = whole-of H p b (and-1 (wholeBelow H p b) (eqb (headIn H p .number) 0) e)
+  list-of e = whole-of H p b (and-left (wholeBelow H p b) (eqb (headIn H p .number) 0) e)
 
   pub list-number : Placed t H b (v.List p) → headIn H p .number ≡ 0
   unfolding placedBelow
-  list-number e = eqb-true _ _ (and-2 (wholeBelow H p b) (eqb (headIn H p .number) 0) e)
+  list-number e = eqb-true _ _ (and-right (wholeBelow H p b) (eqb (headIn H p .number) 0) e)
 
   pub list-to : Whole H p b → headIn H p .number ≡ 0 → Placed t H b (v.List p)
   unfolding placedBelow
@@ -132,11 +134,11 @@ unfolding elementsBelow itemIn
 elements-of t H b zero i e k h = absurd (let z : ⊥ = omega arith in z)
 elements-of t H b (suc n) i e zero h =
     let z : i + 0 ≡ i = omega arith in
-    let f = element-of t H b (cellIn H i) (and-1 (elementBelow t H b (cellIn H i)) (elementsBelow t H b n (suc i)) e) in
+    let f = element-of t H b (cellIn H i) (and-left (elementBelow t H b (cellIn H i)) (elementsBelow t H b n (suc i)) e) in
     rw z (record { plain = f .0; placed = f .1 })
 elements-of t H b (suc n) i e (suc k) h =
     let z : i + suc k ≡ suc i + k = omega arith in
-    rw z (elements-of t H b n (suc i) (and-2 (elementBelow t H b (cellIn H i)) (elementsBelow t H b n (suc i)) e) k (omega arith))
+    rw z (elements-of t H b n (suc i) (and-right (elementBelow t H b (cellIn H i)) (elementsBelow t H b n (suc i)) e) k (omega arith))
 
 elements-to : (t : ℕ) (H : List Cell) (b n i : ℕ) → ((k : ℕ) → k < n → Element t H b (i + k)) → elementsBelow t H b n i ≡ true
 unfolding elementsBelow itemIn
@@ -160,13 +162,13 @@ block-of t H p e =
     let b = elementsBelow t H p (headIn H p .count) (suc p) in
     let c = eqb (headIn H p .depth) (suc (deepest H (elementsIn H p))) in
     let d = leb (headIn H p .depth) 64 in
-    let abc = and-1 (a && b && c) d e in
-    let ab = and-1 (a && b) c abc in
+    let abc = and-left (a && b && c) d e in
+    let ab = and-left (a && b) c abc in
     record {
-      whole = whole-of H p (length H) (and-1 a b ab);
-      element = elements-of t H p (headIn H p .count) (suc p) (and-2 a b ab);
-      deep = eqb-true _ _ (and-2 (a && b) c abc);
-      shallow = leb-true _ _ (and-2 (a && b && c) d e);
+      whole = whole-of H p (length H) (and-left a b ab);
+      element = elements-of t H p (headIn H p .count) (suc p) (and-right a b ab);
+      deep = eqb-true _ _ (and-right (a && b) c abc);
+      shallow = leb-true _ _ (and-right (a && b && c) d e);
     }
 
 pub block-to : (t : ℕ) (H : List Cell) (p : ℕ) → Block t H p → blockOk t H p ≡ true
@@ -189,13 +191,6 @@ past-end : (H : List Cell) (p : ℕ) → length H ≤ p → isHead (cellIn H p) 
 unfolding cellIn
 past-end H p h = ap isHead (List·getD-eq-default H (item (v.Boolean false)) h)
 
-by-equal : (a b : ℕ) → (a ≡ b) ⊎ (a ≡ b → ⊥)
-by-equal a b = on (eqb a b) refl
-  where
-    on : (z : Bool) → eqb a b ≡ z → (a ≡ b) ⊎ (a ≡ b → ⊥)
-    on true e = inl (eqb-true a b e)
-    on false e = inr (eqb-false a b e)
-
 -- a header from i on is the one at i, or stands past the block at i
 module _ (t : ℕ) (H : List Cell) (i p : ℕ) (l : i ≤ p) (h : isHead (cellIn H p) ≡ true) where
   met : Block t H i → (suc i + headIn H i .count ≤ p → Block t H p) → Block t H p
@@ -205,11 +200,11 @@ module _ (t : ℕ) (H : List Cell) (i p : ℕ) (l : i ≤ p) (h : isHead (cellIn
       (λ inside. absurd (true≢false (sym h ∙ (let z : suc i + (p - suc i) ≡ p = omega arith in rw z at (b .element (p - suc i) (omega arith) .plain)))))
       on
       (by-less p (suc i + headIn H i .count)))
-      (by-equal i p)
+      (eq-or-lt-of-le {n = i} {m = p} l)
 
   met-or-end : (y : Bool) → (y ≡ true → suc i + headIn H i .count ≤ p → Block t H p) → (z : Bool) → eqb i (length H) ≡ z → (if z then true else blockOk t H i && y) ≡ true → Block t H p
   met-or-end y on true q e = absurd (true≢false (sym h ∙ past-end H p (let z : i ≡ length H = eqb-true _ _ q in omega arith)))
-  met-or-end y on false q e = met (block-of t H i (and-1 (blockOk t H i) y e)) (on (and-2 (blockOk t H i) y e))
+  met-or-end y on false q e = met (block-of t H i (and-left (blockOk t H i) y e)) (on (and-right (blockOk t H i) y e))
 
 heads : (f t : ℕ) (H : List Cell) (i : ℕ) → blocksFrom f t H i ≡ true → (p : ℕ) → i ≤ p → isHead (cellIn H p) ≡ true → Block t H p
 unfolding blocksFrom

@@ -16,6 +16,7 @@ use Rattle.model.specs.declared.Value.the-variants as v
 use Rattle.model.specs.Values.{ifScalar, ifBoolean, ifString, ifReference, ifList, ifStruct, textAt}
 use Rattle.model.specs.Heap.{Cell, placedBelow}
 use Rattle.model.specs.Equality.{Same, said, sameBytes, samePair}
+use Rattle.value.proofs.Operands.{no-scalar, no-boolean}
 use Rattle.cells.specs.declared.Pair.{Pair}
 use Rattle.cells.specs.declared.Pair.the-variants.{Said, Blocks}
 use Rattle.cells.specs.Links.{Inside, Alike, lists, structs, Compared}
@@ -26,60 +27,42 @@ same-bool-true true false e = refl
 same-bool-true false y e = absurd (true≢false (sym e))
 
 -- a value of another kind
-module _ {A : Type 0} (e : A) where
-  not-scalar : (k : Float → A) (u : Value) → OneOf (1 ∷ 2 ∷ 3 ∷ 4 ∷ 5 ∷ []) (tagOf the-type u) → ifScalar u k e ≡ e
-  unfolding ifScalar
-  not-scalar k (v.Scalar x) h = absurd (miss (1 ∷ 2 ∷ 3 ∷ 4 ∷ 5 ∷ []) 0 tt h)
-  not-scalar k (v.Boolean x) h = refl
-  not-scalar k (v.String o n) h = refl
-  not-scalar k (v.FunctionReference o n) h = refl
-  not-scalar k (v.List p) h = refl
-  not-scalar k (v.StructInstance p) h = refl
-
-  not-boolean : (k : Bool → A) (u : Value) → OneOf (0 ∷ 2 ∷ 3 ∷ 4 ∷ 5 ∷ []) (tagOf the-type u) → ifBoolean u k e ≡ e
-  unfolding ifBoolean
-  not-boolean k (v.Scalar x) h = refl
-  not-boolean k (v.Boolean x) h = absurd (miss (0 ∷ 2 ∷ 3 ∷ 4 ∷ 5 ∷ []) 1 tt h)
-  not-boolean k (v.String o n) h = refl
-  not-boolean k (v.FunctionReference o n) h = refl
-  not-boolean k (v.List p) h = refl
-  not-boolean k (v.StructInstance p) h = refl
-
-  not-string : (k : ℕ → ℕ → A) (u : Value) → OneOf (0 ∷ 1 ∷ 3 ∷ 4 ∷ 5 ∷ []) (tagOf the-type u) → ifString u k e ≡ e
+module _ {A : Type 0} where
+  no-string : (u : Value) → OneOf (0 ∷ 1 ∷ 3 ∷ 4 ∷ 5 ∷ []) (tagOf the-type u) → (k : ℕ → ℕ → A) (d : A) → ifString u k d ≡ d
   unfolding ifString
-  not-string k (v.Scalar x) h = refl
-  not-string k (v.Boolean x) h = refl
-  not-string k (v.String o n) h = absurd (miss (0 ∷ 1 ∷ 3 ∷ 4 ∷ 5 ∷ []) 2 tt h)
-  not-string k (v.FunctionReference o n) h = refl
-  not-string k (v.List p) h = refl
-  not-string k (v.StructInstance p) h = refl
+  no-string (v.Scalar x) h k d = refl
+  no-string (v.Boolean x) h k d = refl
+  no-string (v.String o n) h k d = absurd (miss (0 ∷ 1 ∷ 3 ∷ 4 ∷ 5 ∷ []) 2 tt h)
+  no-string (v.FunctionReference o n) h k d = refl
+  no-string (v.List p) h k d = refl
+  no-string (v.StructInstance p) h k d = refl
 
-  not-reference : (k : ℕ → ℕ → A) (u : Value) → OneOf (0 ∷ 1 ∷ 2 ∷ 4 ∷ 5 ∷ []) (tagOf the-type u) → ifReference u k e ≡ e
+  no-reference : (u : Value) → OneOf (0 ∷ 1 ∷ 2 ∷ 4 ∷ 5 ∷ []) (tagOf the-type u) → (k : ℕ → ℕ → A) (d : A) → ifReference u k d ≡ d
   unfolding ifReference
-  not-reference k (v.Scalar x) h = refl
-  not-reference k (v.Boolean x) h = refl
-  not-reference k (v.String o n) h = refl
-  not-reference k (v.FunctionReference o n) h = absurd (miss (0 ∷ 1 ∷ 2 ∷ 4 ∷ 5 ∷ []) 3 tt h)
-  not-reference k (v.List p) h = refl
-  not-reference k (v.StructInstance p) h = refl
+  no-reference (v.Scalar x) h k d = refl
+  no-reference (v.Boolean x) h k d = refl
+  no-reference (v.String o n) h k d = refl
+  no-reference (v.FunctionReference o n) h k d = absurd (miss (0 ∷ 1 ∷ 2 ∷ 4 ∷ 5 ∷ []) 3 tt h)
+  no-reference (v.List p) h k d = refl
+  no-reference (v.StructInstance p) h k d = refl
 
-  not-list : (k : ℕ → A) (u : Value) → OneOf (0 ∷ 1 ∷ 2 ∷ 3 ∷ 5 ∷ []) (tagOf the-type u) → ifList u k e ≡ e
+  no-list : (u : Value) → OneOf (0 ∷ 1 ∷ 2 ∷ 3 ∷ 5 ∷ []) (tagOf the-type u) → (k : ℕ → A) (d : A) → ifList u k d ≡ d
   unfolding ifList
-  not-list k (v.Scalar x) h = refl
-  not-list k (v.Boolean x) h = refl
-  not-list k (v.String o n) h = refl
-  not-list k (v.FunctionReference o n) h = refl
-  not-list k (v.List p) h = absurd (miss (0 ∷ 1 ∷ 2 ∷ 3 ∷ 5 ∷ []) 4 tt h)
-  not-list k (v.StructInstance p) h = refl
+  no-list (v.Scalar x) h k d = refl
+  no-list (v.Boolean x) h k d = refl
+  no-list (v.String o n) h k d = refl
+  no-list (v.FunctionReference o n) h k d = refl
+  no-list (v.List p) h k d = absurd (miss (0 ∷ 1 ∷ 2 ∷ 3 ∷ 5 ∷ []) 4 tt h)
+  no-list (v.StructInstance p) h k d = refl
 
-  not-struct : (k : ℕ → A) (u : Value) → OneOf (0 ∷ 1 ∷ 2 ∷ 3 ∷ 4 ∷ []) (tagOf the-type u) → ifStruct u k e ≡ e
+  no-struct : (u : Value) → OneOf (0 ∷ 1 ∷ 2 ∷ 3 ∷ 4 ∷ []) (tagOf the-type u) → (k : ℕ → A) (d : A) → ifStruct u k d ≡ d
   unfolding ifStruct
-  not-struct k (v.Scalar x) h = refl
-  not-struct k (v.Boolean x) h = refl
-  not-struct k (v.String o n) h = refl
-  not-struct k (v.FunctionReference o n) h = refl
-  not-struct k (v.List p) h = refl
-  not-struct k (v.StructInstance p) h = absurd (miss (0 ∷ 1 ∷ 2 ∷ 3 ∷ 4 ∷ []) 5 tt h)
+  no-struct (v.Scalar x) h k d = refl
+  no-struct (v.Boolean x) h k d = refl
+  no-struct (v.String o n) h k d = refl
+  no-struct (v.FunctionReference o n) h k d = refl
+  no-struct (v.List p) h k d = refl
+  no-struct (v.StructInstance p) h k d = absurd (miss (0 ∷ 1 ∷ 2 ∷ 3 ∷ 4 ∷ []) 5 tt h)
 
 -- texts that are inside
 string-inside : (t : ℕ) (u : Value) → Inside t u → (o n : ℕ) → u ≡ v.String o n → o + n ≤ t
@@ -99,7 +82,7 @@ module _ (t : List ℕ) (a b : Value) where
 
     pub scalar-other : OneOf (1 ∷ 2 ∷ 3 ∷ 4 ∷ 5 ∷ []) (tagOf the-type b) → Compared t a b (Said false)
     unfolding samePair
-    scalar-other h r H = rw ea (not-scalar (said false) _ b h)
+    scalar-other h r H = rw ea (no-scalar b h _ (said false))
 
   module _ (x : Bool) (ea : a ≡ v.Boolean x) where
     pub booleans : (y : Bool) → b ≡ v.Boolean y → (z : Bool) → z ≡ Bool·beq x y → Compared t a b (Said z)
@@ -108,7 +91,7 @@ module _ (t : List ℕ) (a b : Value) where
 
     pub boolean-other : OneOf (0 ∷ 2 ∷ 3 ∷ 4 ∷ 5 ∷ []) (tagOf the-type b) → Compared t a b (Said false)
     unfolding samePair
-    boolean-other h r H = rw ea (not-boolean (said false) _ b h)
+    boolean-other h r H = rw ea (no-boolean b h _ (said false))
 
   module _ (o n : ℕ) (ea : a ≡ v.String o n) where
     pub strings-inside : Inside (length t) a × Inside (length t) b → (p m : ℕ) → b ≡ v.String p m → (o + n ≤ length t) × (p + m ≤ length t)
@@ -120,7 +103,7 @@ module _ (t : List ℕ) (a b : Value) where
 
     pub string-other : OneOf (0 ∷ 1 ∷ 3 ∷ 4 ∷ 5 ∷ []) (tagOf the-type b) → Compared t a b (Said false)
     unfolding samePair
-    string-other h r H = rw ea (not-string (said false) _ b h)
+    string-other h r H = rw ea (no-string b h _ (said false))
 
   module _ (o n : ℕ) (ea : a ≡ v.FunctionReference o n) where
     pub references-inside : Inside (length t) a × Inside (length t) b → (p m : ℕ) → b ≡ v.FunctionReference p m → (o + n ≤ length t) × (p + m ≤ length t)
@@ -132,7 +115,7 @@ module _ (t : List ℕ) (a b : Value) where
 
     pub reference-other : OneOf (0 ∷ 1 ∷ 2 ∷ 4 ∷ 5 ∷ []) (tagOf the-type b) → Compared t a b (Said false)
     unfolding samePair
-    reference-other h r H = rw ea (not-reference (said false) _ b h)
+    reference-other h r H = rw ea (no-reference b h _ (said false))
 
   module _ (p : ℕ) (ea : a ≡ v.List p) where
     pub two-lists : (q : ℕ) → b ≡ v.List q → Compared t a b (Blocks p q)
@@ -140,7 +123,7 @@ module _ (t : List ℕ) (a b : Value) where
 
     pub list-other : OneOf (0 ∷ 1 ∷ 2 ∷ 3 ∷ 5 ∷ []) (tagOf the-type b) → Compared t a b (Said false)
     unfolding samePair
-    list-other h r H = rw ea (not-list (said false) _ b h)
+    list-other h r H = rw ea (no-list b h _ (said false))
 
   module _ (p : ℕ) (ea : a ≡ v.StructInstance p) where
     pub two-structs : (q : ℕ) → b ≡ v.StructInstance q → Compared t a b (Blocks p q)
@@ -148,4 +131,4 @@ module _ (t : List ℕ) (a b : Value) where
 
     pub struct-other : OneOf (0 ∷ 1 ∷ 2 ∷ 3 ∷ 4 ∷ []) (tagOf the-type b) → Compared t a b (Said false)
     unfolding samePair
-    struct-other h r H = rw ea (not-struct (said false) _ b h)
+    struct-other h r H = rw ea (no-struct b h _ (said false))

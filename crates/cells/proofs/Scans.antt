@@ -1,6 +1,6 @@
 -- The test of good order: the laws of its code.
 use mathlib.Core.Path.{_≡_, refl, sym, ap, _∙_, subst}
-use mathlib.Core.Bool.{Bool, true, false, not, _&&_}
+use mathlib.Core.Bool.{Bool, true, false, not, _&&_, true≢false}
 use mathlib.Core.Logic.{⊎-elim}
 use mathlib.Core.List.{List, [], _∷_, _++_}
 use Prim.Native.Nat.{ℕ, zero, suc, _+_, _-_, _*_, _<_, _≤_, max}
@@ -18,19 +18,9 @@ use Rattle.model.specs.Basics.{if_then_else_}
 use Rattle.model.specs.Values.{kindAt, payloadAt, valueAt}
 use Rattle.model.specs.Heap.{Cell, item, head, headerOf, cellsFrom, heapOf, isHead, itemOf, cellIn, itemIn, headIn, items, elementsIn, depthIn, deepest, wholeBelow, placedBelow, elementBelow, elementsBelow, blockOk, blocksFrom, heapOk, exactCell, exactCells}
 use Rattle.cells.specs.Links.{Held}
-use Rattle.cells.proofs.Order.{and-1, by-less, Whole, whole-of, Placed, Block, block-of}
-use Rattle.cells.proofs.Frame.{cell-frame, head-frame, depth-frame}
+use Rattle.cells.proofs.Order.{and-false, same-test, by-less, Whole, whole-of, Placed, Block, block-of}
+use Rattle.cells.proofs.Frame.{cell-frame, head-frame, depth-frame, at-end}
 use Rattle.cells.proofs.Stands.{length-heap, kind-is, item-is, head-is, header-is, header-room, heap-split}
-
--- ---- tests
-
-and-false : (x : Bool) → x && false ≡ false
-and-false true = refl
-and-false false = refl
-
-same-test : (x y : Bool) → (x ≡ true → y ≡ true) → (x ≡ false → y ≡ false) → x ≡ y
-same-test true y f g = sym (f refl)
-same-test false y f g = sym (g refl)
 
 -- ---- a whole block
 
@@ -56,7 +46,7 @@ module _ (w : List ℕ) (used p : ℕ) where
         let x : headIn (heapOf used w) p ≡ h = head-is w used p l y ∙ sym q in
         let c = h .count in
         rw (y, x) (same-test (ltb c (used - p)) (leb (suc p + c) used)
-        (λ t. let s = ltb-true c (used - p) t in le-leb _ _ (omega arith)) (λ t. let s = ltb-false c (used - p) t in lt-leb _ _ (omega arith)))
+        (λ t. let s = ltb-true c (used - p) t in le-leb (suc p + c) used (omega arith)) (λ t. let s = ltb-false c (used - p) t in lt-leb (suc p + c) used (omega arith)))
 
 -- ---- a placed value
 
@@ -114,12 +104,12 @@ module _ (w : List ℕ) (used p : ℕ) (z : Bool) (g : z ≡ wholeBelow (heapOf 
 
 -- ---- what is placed below p, judged in the cells below p alone
 
+near : (H X : List Cell) (q : ℕ) → q < length H → wholeBelow H q (length H) ≡ wholeBelow (H ++ X) q (length H)
+unfolding wholeBelow
+near H X q l = rw (cell-frame H X q l, head-frame H X q l)
+
 whole-cut : (H X : List Cell) (q : ℕ) → wholeBelow H q (length H) ≡ wholeBelow (H ++ X) q (length H)
-whole-cut H X q = ⊎-elim near (λ l. far H q (length H) l ∙ sym (far (H ++ X) q (length H) l)) (by-less q (length H))
-  where
-    near : q < length H → wholeBelow H q (length H) ≡ wholeBelow (H ++ X) q (length H)
-    unfolding wholeBelow
-    near l = rw (cell-frame H X q l, head-frame H X q l)
+whole-cut H X q = ⊎-elim (near H X q) (λ l. far H q (length H) l ∙ sym (far (H ++ X) q (length H) l)) (by-less q (length H))
 
 list-cut : (H X : List Cell) (q : ℕ) → wholeBelow H q (length H) && eqb (headIn H q .number) 0 ≡ wholeBelow (H ++ X) q (length H) && eqb (headIn (H ++ X) q .number) 0
 list-cut H X q =
@@ -167,13 +157,13 @@ deepest-one H (suc n) i h = let z : suc n - 1 ≡ n = omega arith in rw z
 
 element-head : (t : ℕ) (H : List Cell) (b : ℕ) (c : Cell) → isHead c ≡ true → elementBelow t H b c ≡ false
 unfolding elementBelow
-element-head t H b (item u) e = sym e
+element-head t H b (item u) e = absurd (true≢false (sym e))
 element-head t H b (head h) e = refl
 
 element-item : (t : ℕ) (H : List Cell) (b : ℕ) (c : Cell) → isHead c ≡ false → elementBelow t H b c ≡ placedBelow t H b (itemOf c)
 unfolding elementBelow
 element-item t H b (item u) e = refl
-element-item t H b (head h) e = sym e
+element-item t H b (head h) e = absurd (true≢false e)
 
 module _ (t : ℕ) (w : List ℕ) (used p : ℕ) where
   pub not-whole : (z : Bool) → z ≡ wholeBelow (heapOf used w) p used → not z ≡ true → false ≡ blockOk t (heapOf used w) p
@@ -315,10 +305,10 @@ module _ (used : ℕ) (w : List ℕ) where
           r .means ∙ (rw (a, b, ← e) at (exact-one (used - i) i (omega arith)))
 
       pub exact-no : not z ≡ true → false ≡ exactCells used 0 w
-      exact-no n = sym (exact-step ∙ rw (not-true _ n))
+      exact-no n = sym (exact-step ∙ rw (not-true z n))
 
       pub exact-next : not z ≡ false → Exact used w (i + 1)
-      exact-next n = record { inside = omega arith; means = exact-step ∙ rw (not-false _ n) }
+      exact-next n = record { inside = omega arith; means = exact-step ∙ rw (not-false z n) }
 
 -- ---- block by block
 
@@ -329,12 +319,7 @@ pub record Scanned (t : ℕ) (H : List Cell) (used p : ℕ) : Type 0 where
   pub means : heapOk t H ≡ blocksFrom left t H p
 
 pub not-exact : (t used : ℕ) (w : List ℕ) (z : Bool) → z ≡ exactCells used 0 w → not z ≡ true → false ≡ exactCells used 0 w && heapOk t (heapOf used w)
-not-exact t used w z e n = rw (← e, not-true _ n)
-
-blocks-end : (f t : ℕ) (H : List Cell) (p : ℕ) → p ≡ length H → blocksFrom f t H p ≡ true
-unfolding blocksFrom
-blocks-end zero t H p e = eq-eqb _ _ e
-blocks-end (suc f) t H p e = rw (eq-eqb _ _ e)
+not-exact t used w z e n = rw (← e, not-true z n)
 
 blocks-one : (f t : ℕ) (H : List Cell) (p : ℕ) → (p ≡ length H → ⊥) → 0 < f → blocksFrom f t H p ≡ blockOk t H p && blocksFrom (f - 1) t H (suc p + headIn H p .count)
 unfolding blocksFrom
@@ -348,17 +333,17 @@ module _ (t used : ℕ) (w : List ℕ) where
 
   module _ (x : Bool) (ex : x ≡ exactCells used 0 w) (nx : not x ≡ false) (p : ℕ) (s : Scanned t (heapOf used w) used p) where
     all-is : exactCells used 0 w && heapOk t (heapOf used w) ≡ blocksFrom (s .left) t (heapOf used w) p
-    all-is = rw (← ex, not-false _ nx) (s .means)
+    all-is = rw (← ex, not-false x nx) (s .means)
 
     pub scan-end : used ≤ p → true ≡ exactCells used 0 w && heapOk t (heapOf used w)
-    scan-end l = sym (all-is ∙ blocks-end (s .left) t (heapOf used w) p (let y = s .inside in let z = length-heap used w in omega arith))
+    scan-end l = sym (all-is ∙ at-end (s .left) t (heapOf used w) p (let y = s .inside in let z = length-heap used w in omega arith))
 
   module _ (p : ℕ) (s : Scanned t (heapOf used w) used p) (l : p < used) (z : Bool) (e : z ≡ blockOk t (heapOf used w) p) where
     scan-step : blocksFrom (s .left) t (heapOf used w) p ≡ z && blocksFrom (s .left - 1) t (heapOf used w) (suc p + headIn (heapOf used w) p .count)
     scan-step = rw e (blocks-one (s .left) t (heapOf used w) p (λ q. let y = length-heap used w in omega arith) (let y = s .enough in omega arith))
 
     pub scan-bad : (x : Bool) → x ≡ exactCells used 0 w → not x ≡ false → not z ≡ true → false ≡ exactCells used 0 w && heapOk t (heapOf used w)
-    scan-bad x ex nx n = sym (all-is x ex nx p s ∙ scan-step ∙ rw (not-true _ n))
+    scan-bad x ex nx n = sym (all-is x ex nx p s ∙ scan-step ∙ rw (not-true z n))
 
     module _ (n : not z ≡ false) where
       block : Block t (heapOf used w) p
@@ -387,5 +372,5 @@ module _ (t used : ℕ) (w : List ℕ) where
               inside = block-ends;
               left = s .left - 1;
               enough = let x = s .enough in omega arith;
-              means = s .means ∙ scan-step ∙ rw (not-false _ n, block-head, y);
+              means = s .means ∙ scan-step ∙ rw (not-false z n, block-head, y);
             }

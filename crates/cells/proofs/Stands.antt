@@ -13,24 +13,12 @@ use Rattle.model.specs.declared.Header.{Header}
 use Rattle.model.specs.Basics.{if_then_else_}
 use Rattle.model.specs.Values.{kindAt, payloadAt, valueAt, valueOf}
 use Rattle.model.specs.Heap.{Cell, item, head, headerOf, cellOf, cellAt, cellsFrom, heapOf, isHead, itemOf, headOf, cellIn, itemIn, headIn}
-use Rattle.value.proofs.Stores.{length-cells, getD-cells}
+use Rattle.value.proofs.Stores.{length-cells, getD-cells, cell-header, cell-item}
 use Rattle.cells.proofs.Order.{Whole}
 
 pub length-heap : (n : ℕ) (w : List ℕ) → length (heapOf n w) ≡ n
 unfolding heapOf
 length-heap n w = length-cells n 0 w
-
-is-item : (z : Bool) (h : Header) (u : Value) → isHead (if z then head h else item u) ≡ false → itemOf (if z then head h else item u) ≡ u
-is-item true h u e = absurd (true≢false e)
-is-item false h u e = refl
-
-is-head : (z : Bool) (h : Header) (u : Value) → isHead (if z then head h else item u) ≡ true → headOf (if z then head h else item u) ≡ h
-is-head true h u e = refl
-is-head false h u e = absurd (true≢false (sym e))
-
-which : (z : Bool) (h : Header) (u : Value) → z ≡ isHead (if z then head h else item u)
-which true h u = refl
-which false h u = refl
 
 module _ (w : List ℕ) (used i : ℕ) (l : i < used) where
   cell-is : cellIn (heapOf used w) i ≡ cellAt w i
@@ -38,16 +26,19 @@ module _ (w : List ℕ) (used i : ℕ) (l : i < used) where
   cell-is = getD-cells used 0 w i _ l ∙ (let z : 0 + i ≡ i = omega arith in rw z)
 
   pub kind-is : eqb (kindAt w i) 6 ≡ isHead (cellIn (heapOf used w) i)
-  unfolding cellAt cellOf
-  kind-is = which (eqb (kindAt w i) 6) _ _ ∙ ap isHead (sym cell-is)
+  kind-is = on (eqb (kindAt w i) 6) refl
+    where
+      on : (z : Bool) → eqb (kindAt w i) 6 ≡ z → z ≡ isHead (cellIn (heapOf used w) i)
+      on true e = sym (ap isHead (cell-is ∙ cell-header w i e))
+      on false e = sym (ap isHead (cell-is ∙ cell-item w i e))
 
   pub item-is : isHead (cellIn (heapOf used w) i) ≡ false → itemIn (heapOf used w) i ≡ valueAt w i
-  unfolding itemIn cellAt cellOf valueAt
-  item-is e = ap itemOf cell-is ∙ is-item (eqb (kindAt w i) 6) _ _ (ap isHead (sym cell-is) ∙ e)
+  unfolding itemIn
+  item-is e = ap itemOf (cell-is ∙ cell-item w i (kind-is ∙ e))
 
   pub head-is : isHead (cellIn (heapOf used w) i) ≡ true → headIn (heapOf used w) i ≡ headerOf (payloadAt w i)
-  unfolding headIn cellAt cellOf
-  head-is e = ap headOf cell-is ∙ is-head (eqb (kindAt w i) 6) _ _ (ap isHead (sym cell-is) ∙ e)
+  unfolding headIn
+  head-is e = ap headOf (cell-is ∙ cell-header w i (kind-is ∙ e))
 
 -- a block that is whole in the store
 module _ (w : List ℕ) (used p : ℕ) (k : Whole (heapOf used w) p used) where

@@ -10,14 +10,11 @@ use lib.ListN.{length, getD, take, drop, length-take, length-drop}
 use lib.Seq.{drop-cons}
 use Rattle.model.specs.Values.{textAt}
 use Rattle.model.specs.Equality.{sameBytes}
+use Rattle.cells.proofs.Order.{and-false}
 
 length-text : (t : List ℕ) (o n : ℕ) → o + n ≤ length t → length (textAt t o n) ≡ n
 unfolding textAt
 length-text t o n h = simp (length-take, length-drop) (omega arith)
-
-and-false : (x : Bool) → x && false ≡ false
-and-false true = refl
-and-false false = refl
 
 unlike : (xs ys : List ℕ) → (length xs ≡ length ys → ⊥) → false ≡ sameBytes xs ys
 unfolding sameBytes

@@ -19,7 +19,7 @@ use Rattle.cells.specs.declared.Verdict.the-variants.{Done, Out}
 use Rattle.cells.specs.declared.Pair.{Pair}
 use Rattle.cells.specs.declared.Pair.the-variants.{Said, Blocks}
 use Rattle.cells.specs.Links.{verdict, EqualPre, Inside, Alike, lists, structs, Compared}
-use Rattle.cells.proofs.Order.{Whole, Placed, list-of, struct-of, placed-more, Element, Block, good-of}
+use Rattle.cells.proofs.Order.{same-test, Whole, Placed, list-of, struct-of, placed-more, Element, good-of}
 use Rattle.cells.proofs.Meaning.{same-step}
 use Rattle.cells.proofs.Stands.{length-heap, item-is, header-is, header-room}
 
@@ -42,14 +42,12 @@ out-is : (l k : ℕ) (b z : Bool) → leb k l ≡ z → (if z then Done b (l - k
 out-is l k b true e h = absurd (let z : _≡_ {A = ℕ} 0 1 = cc in omega arith)
 out-is l k b false e h = leb-false _ _ e
 
-same-leb : (a b c d : ℕ) → (a ≤ b → c ≤ d) → (b < a → d < c) → (z : Bool) → leb a b ≡ z → leb c d ≡ z
-same-leb a b c d f g true e = le-leb _ _ (f (leb-true _ _ e))
-same-leb a b c d f g false e = lt-leb _ _ (g (leb-false _ _ e))
-
 on-alike : (k l n : ℕ) (m : Same) → k ≤ l → l - k ≡ n → verdict (suc l) (andNext (same true k) m) ≡ verdict n m
 unfolding verdict andNext
 on-alike k l n (same b j) h e =
-    let p : leb (suc k + j) (suc l) ≡ leb j n = same-leb j n (suc k + j) (suc l) (λ x. omega arith) (λ x. omega arith) (leb j n) refl in
+    let p : leb (suc k + j) (suc l) ≡ leb j n =
+    same-test (leb (suc k + j) (suc l)) (leb j n)
+    (λ t. let x = leb-true (suc k + j) (suc l) t in le-leb j n (omega arith)) (λ t. let x = leb-false (suc k + j) (suc l) t in lt-leb j n (omega arith)) in
     let q : suc l - (suc k + j) ≡ n - j = omega arith in
     rw (p, q)
 

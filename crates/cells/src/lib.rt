@@ -92,7 +92,15 @@ fn copy(list: bool, stack: &[u64], sp: usize, n: usize, cells: &mut [u64], from:
 }
 
 // Makes a list, or a struct with that number, of the n values on top of a stack: takes n + 1 cells, a header and the elements.
-pub fn build(list: bool, stack: &[u64], sp: usize, n: usize, number: usize, cells: &mut [u64], used: usize) -> Built
+pub fn build(
+    list: bool,
+    stack: &[u64],
+    sp: usize,
+    n: usize,
+    number: usize,
+    cells: &mut [u64],
+    used: usize,
+) -> Built
     requires { ⌜ TopPre (now stack) sp n (now cells) used × (number < 0x1_0000) ⌝ }
     ensures { λ r. ⌜ BuildPost list (now (stack .entry)) sp n number (now (cells .entry)) used r (now (cells .exit)) ⌝ }
 {

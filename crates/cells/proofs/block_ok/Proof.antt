@@ -8,88 +8,78 @@ use Rattle.cells.proofs.whole.Reads as whole-reads
 use Rattle.value.proofs.words.is_header.Reads as is-header-reads
 use Rattle.value.proofs.words.read_header.Reads as read-header-reads
 use Rattle.value.proofs.words.read_value.Reads as read-value-reads
+use borrow.Author.Needs.{needs}
+use mathlib.Core.Logic.{⊎-elim}
+use Prim.Native.Nat.{_-_}
+use native.Mathlib.Omega.{arith}
+use Rattle.model.specs.Heap.{heapOf}
+use Rattle.cells.proofs.Scans.{whole-room, Walk, walk-start, not-whole, element-room, bad-head, bad-place, held, walk-deeper, walk-same, bad-64, bad-shallow, last-is}
 
 abbrev Inv-loop : tie.InvT-loop
-Inv-loop texts cells used p count told d₀ i₀ d i = ?
+Inv-loop texts cells used p count told d₀ i₀ d i = Walk texts (heapOf used cells) p count d i
 
 abbrev μ-loop : tie.MeasureT-loop
-μ-loop texts cells used p count told d₀ i₀ d i = ?
+μ-loop texts cells used p count told d₀ i₀ d i = count - i
 
--- src/lib.rt:292:9
 whole-requires : tie.Need-whole-requires Inv-loop μ-loop
-whole-requires c κs = ?
+whole-requires c κs = c .before .pre .0
 
--- src/lib.rt:293:9
 returns : tie.Need-returns Inv-loop μ-loop
-returns c = ?
+returns c = not-whole (c .before .before .before .args .texts) (c .before .before .before .args .cells .now) (c .before .before .before .args .used) (c .before .before .before .args .p) _ (c .before .whole .ensures) (c .if1 .taken)
 
--- src/lib.rt:295:9
 read-header-requires : tie.Need-read-header-requires Inv-loop μ-loop
-read-header-requires c κs = ?
+read-header-requires c κs = whole-room _ _ _ _ (c .before .whole .ensures) (c .if1 .left) (c .before .before .before .pre .0)
 
--- src/lib.rt:300:5
 loop-holds : tie.Need-loop-holds Inv-loop μ-loop
-loop-holds c = ?
+loop-holds c = walk-start _ _ _ _
 
--- src/lib.rt:301:18
 add-at : tie.Need-add-at Inv-loop μ-loop
-add-at c = ?
+add-at c = let r = element-room (c .before .before .before .before .before .before .args .texts) (c .before .before .before .before .before .before .args .cells .now) (c .before .before .before .before .before .before .args .used) (c .before .before .before .before .before .before .args .p) _ (c .before .before .before .before .whole .ensures) (c .before .before .before .if1 .left) _ (c .before .before .read-header .ensures) _ _ (c .before .loop .inv) (c .loop-test .taken) (c .before .before .before .before .before .before .pre .0) in omega arith
 
--- src/lib.rt:301:18
 add-at-2 : tie.Need-add-at-2 Inv-loop μ-loop
-add-at-2 c = ?
+add-at-2 c = let r = element-room (c .before .before .before .before .before .before .args .texts) (c .before .before .before .before .before .before .args .cells .now) (c .before .before .before .before .before .before .args .used) (c .before .before .before .before .before .before .args .p) _ (c .before .before .before .before .whole .ensures) (c .before .before .before .if1 .left) _ (c .before .before .read-header .ensures) _ _ (c .before .loop .inv) (c .loop-test .taken) (c .before .before .before .before .before .before .pre .0) in omega arith
 
--- src/lib.rt:302:12
 is-header-requires : tie.Need-is-header-requires Inv-loop μ-loop
-is-header-requires c κs = ?
+is-header-requires c κs = element-room (c .before .before .before .before .before .before .args .texts) (c .before .before .before .before .before .before .args .cells .now) (c .before .before .before .before .before .before .args .used) (c .before .before .before .before .before .before .args .p) _ (c .before .before .before .before .whole .ensures) (c .before .before .before .if1 .left) _ (c .before .before .read-header .ensures) _ _ (c .before .loop .inv) (c .loop-test .taken) (c .before .before .before .before .before .before .pre .0)
 
--- src/lib.rt:303:13
 returns-2 : tie.Need-returns-2 Inv-loop μ-loop
-returns-2 c = ?
+returns-2 c = bad-head (c .before .before .before .before .before .before .before .before .args .texts) (c .before .before .before .before .before .before .before .before .args .cells .now) (c .before .before .before .before .before .before .before .before .args .used) (c .before .before .before .before .before .before .before .before .args .p) _ (c .before .before .before .before .before .before .whole .ensures) (c .before .before .before .before .before .if1 .left) _ (c .before .before .before .before .read-header .ensures) _ _ (c .before .before .before .loop .inv) (c .before .before .loop-test .taken) _ (c .before .is-header .ensures) (c .if2 .taken)
 
--- src/lib.rt:305:13
 read-value-requires : tie.Need-read-value-requires Inv-loop μ-loop
-read-value-requires c κs = ?
+read-value-requires c κs = element-room (c .before .before .before .before .before .before .before .before .args .texts) (c .before .before .before .before .before .before .before .before .args .cells .now) (c .before .before .before .before .before .before .before .before .args .used) (c .before .before .before .before .before .before .before .before .args .p) _ (c .before .before .before .before .before .before .whole .ensures) (c .before .before .before .before .before .if1 .left) _ (c .before .before .before .before .read-header .ensures) _ _ (c .before .before .before .loop .inv) (c .before .before .loop-test .taken) (c .before .before .before .before .before .before .before .before .pre .0)
 
--- src/lib.rt:306:13
 placed-requires : tie.Need-placed-requires Inv-loop μ-loop
-placed-requires c κs = ?
+placed-requires c κs = let a = c .before .before .before .before .before .before .before .before .before .pre .0 in let b = c .before .before .before .before .before .before .before .before .before .pre .1 in omega arith
 
--- src/lib.rt:307:13
 returns-3 : tie.Need-returns-3 Inv-loop μ-loop
-returns-3 c = ?
+returns-3 c = bad-place (c .before .before .before .before .before .before .before .before .before .before .before .args .texts) (c .before .before .before .before .before .before .before .before .before .before .before .args .cells .now) (c .before .before .before .before .before .before .before .before .before .before .before .args .used) (c .before .before .before .before .before .before .before .before .before .before .before .args .p) _ (c .before .before .before .before .before .before .before .before .before .whole .ensures) (c .before .before .before .before .before .before .before .before .if1 .left) _ (c .before .before .before .before .before .before .before .read-header .ensures) _ _ (c .before .before .before .before .before .before .loop .inv) (c .before .before .before .before .before .loop-test .taken) _ (c .before .before .before .before .is-header .ensures) (c .before .before .before .if2 .left) _ (c .before .before .read-value .ensures) _ (c .before .placed .ensures) (c .if3 .taken)
 
--- src/lib.rt:309:13
 depth-requires : tie.Need-depth-requires Inv-loop μ-loop
-depth-requires c κs = ?
+depth-requires c κs = ((let a = c .before .before .before .before .before .before .before .before .before .before .before .pre .0 in let b = c .before .before .before .before .before .before .before .before .before .before .before .pre .1 in omega arith), held (c .before .before .before .before .before .before .before .before .before .before .before .args .texts) (c .before .before .before .before .before .before .before .before .before .before .before .args .cells .now) (c .before .before .before .before .before .before .before .before .before .before .before .args .used) (c .before .before .before .before .before .before .before .before .before .before .before .args .p) _ (c .before .before .before .before .before .before .before .before .before .whole .ensures) (c .before .before .before .before .before .before .before .before .if1 .left) _ (c .before .before .before .before .before .before .before .read-header .ensures) _ _ (c .before .before .before .before .before .before .loop .inv) (c .before .before .before .before .before .loop-test .taken) _ (c .before .before .before .before .is-header .ensures) (c .before .before .before .if2 .left) _ (c .before .before .read-value .ensures) _ (c .before .placed .ensures) (c .if3 .left))
 
--- src/lib.rt:313:9
 add-i : tie.Need-add-i Inv-loop μ-loop
-add-i c = ?
+add-i c = search needs
 
--- src/lib.rt:300:5
 loop-less : tie.Need-loop-less Inv-loop μ-loop
-loop-less c = ?
+loop-less c = search needs
 
--- src/lib.rt:300:5
 loop-again : tie.Need-loop-again Inv-loop μ-loop
-loop-again c = ?
+loop-again c = ⊎-elim
+    (λ x. walk-deeper (c .before .before .before .before .before .before .before .before .before .before .before .before .before .args .texts) (c .before .before .before .before .before .before .before .before .before .before .before .before .before .args .cells .now) (c .before .before .before .before .before .before .before .before .before .before .before .before .before .args .used) (c .before .before .before .before .before .before .before .before .before .before .before .before .before .args .p) _ (c .before .before .before .before .before .before .before .before .before .before .before .whole .ensures) (c .before .before .before .before .before .before .before .before .before .before .if1 .left) _ (c .before .before .before .before .before .before .before .before .before .read-header .ensures) _ _ (c .before .before .before .before .before .before .before .before .loop .inv) (c .before .before .before .before .before .before .before .loop-test .taken) _ (c .before .before .before .before .before .before .is-header .ensures) (c .before .before .before .before .before .if2 .left) _ (c .before .before .before .before .read-value .ensures) _ (c .before .before .before .placed .ensures) (c .before .before .if3 .left) _ (c .before .depth .ensures) (x .0 .taken) _ (x .1))
+    (λ x. walk-same (c .before .before .before .before .before .before .before .before .before .before .before .before .before .args .texts) (c .before .before .before .before .before .before .before .before .before .before .before .before .before .args .cells .now) (c .before .before .before .before .before .before .before .before .before .before .before .before .before .args .used) (c .before .before .before .before .before .before .before .before .before .before .before .before .before .args .p) _ (c .before .before .before .before .before .before .before .before .before .before .before .whole .ensures) (c .before .before .before .before .before .before .before .before .before .before .if1 .left) _ (c .before .before .before .before .before .before .before .before .before .read-header .ensures) _ _ (c .before .before .before .before .before .before .before .before .loop .inv) (c .before .before .before .before .before .before .before .loop-test .taken) _ (c .before .before .before .before .before .before .is-header .ensures) (c .before .before .before .before .before .if2 .left) _ (c .before .before .before .before .read-value .ensures) _ (c .before .before .before .placed .ensures) (c .before .before .if3 .left) _ (c .before .depth .ensures) (x .0 .left) _ (x .1))
+    (c .if4 .came)
 
--- src/lib.rt:316:9
 returns-4 : tie.Need-returns-4 Inv-loop μ-loop
-returns-4 c = ?
+returns-4 c = bad-64 (c .before .before .before .before .before .before .before .args .texts) (c .before .before .before .before .before .before .before .args .cells .now) (c .before .before .before .before .before .before .before .args .used) (c .before .before .before .before .before .before .before .args .p) _ (c .before .before .before .before .before .whole .ensures) (c .before .before .before .before .if1 .left) _ (c .before .before .before .read-header .ensures) _ _ (c .before .before .loop .inv) (c .before .loop-test .left) (c .if5 .taken)
 
--- src/lib.rt:319:9
 returns-5 : tie.Need-returns-5 Inv-loop μ-loop
-returns-5 c = ?
+returns-5 c = bad-shallow (c .before .before .before .before .before .before .before .before .args .texts) (c .before .before .before .before .before .before .before .before .args .cells .now) (c .before .before .before .before .before .before .before .before .args .used) (c .before .before .before .before .before .before .before .before .args .p) _ (c .before .before .before .before .before .before .whole .ensures) (c .before .before .before .before .before .if1 .left) _ (c .before .before .before .before .read-header .ensures) _ _ (c .before .before .before .loop .inv) (c .before .before .loop-test .left) (c .if6 .taken)
 
--- src/lib.rt:321:5
 sub-result : tie.Need-sub-result Inv-loop μ-loop
-sub-result c = ?
+sub-result c = search needs
 
--- src/lib.rt:288:1
 returns-6 : tie.Need-returns-6 Inv-loop μ-loop
-returns-6 c = ?
+returns-6 c = last-is (c .before .before .before .before .before .before .before .before .args .texts) (c .before .before .before .before .before .before .before .before .args .cells .now) (c .before .before .before .before .before .before .before .before .args .used) (c .before .before .before .before .before .before .before .before .args .p) _ (c .before .before .before .before .before .before .whole .ensures) (c .before .before .before .before .before .if1 .left) _ (c .before .before .before .before .read-header .ensures) _ _ (c .before .before .before .loop .inv) (c .before .before .loop-test .left) (c .before .if5 .left) (c .if6 .left)
 
 pub block-ok-spec : {M : Type 1} → statement M
 block-ok-spec =

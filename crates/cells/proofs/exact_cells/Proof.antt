@@ -3,40 +3,36 @@ use Rattle.cells.proofs.exact_cells.Tie as tie
 use Rattle.cells.proofs.exact_cells.Reads as reads
 use Rattle.cells.proofs.exact_cells.Lts as lts
 use Rattle.value.proofs.words.exact_cell.Reads as exact-cell-reads
+use borrow.Author.Needs.{needs}
+use Prim.Native.Nat.{_-_}
+use Rattle.cells.proofs.Scans.{Exact, exact-start, exact-end, exact-no, exact-next}
 
 abbrev Inv-loop : tie.InvT-loop
-Inv-loop cells used i₀ i = ?
+Inv-loop cells used i₀ i = Exact used cells i
 
 abbrev μ-loop : tie.MeasureT-loop
-μ-loop cells used i₀ i = ?
+μ-loop cells used i₀ i = used - i
 
--- src/lib.rt:330:5
 loop-holds : tie.Need-loop-holds Inv-loop μ-loop
-loop-holds c = ?
+loop-holds c = exact-start _ _
 
--- src/lib.rt:331:13
 exact-cell-requires : tie.Need-exact-cell-requires Inv-loop μ-loop
-exact-cell-requires c κs = ?
+exact-cell-requires c κs = search needs
 
--- src/lib.rt:332:13
 returns : tie.Need-returns Inv-loop μ-loop
-returns c = ?
+returns c = exact-no _ _ _ (c .before .before .before .loop .inv) (c .before .before .loop-test .taken) _ (c .before .exact-cell .ensures) (c .if1 .taken)
 
--- src/lib.rt:334:9
 add-i : tie.Need-add-i Inv-loop μ-loop
-add-i c = ?
+add-i c = search needs
 
--- src/lib.rt:330:5
 loop-less : tie.Need-loop-less Inv-loop μ-loop
-loop-less c = ?
+loop-less c = search needs
 
--- src/lib.rt:330:5
 loop-again : tie.Need-loop-again Inv-loop μ-loop
-loop-again c = ?
+loop-again c = exact-next _ _ _ (c .before .before .before .loop .inv) (c .before .before .loop-test .taken) _ (c .before .exact-cell .ensures) (c .if1 .left)
 
--- src/lib.rt:325:1
 returns-2 : tie.Need-returns-2 Inv-loop μ-loop
-returns-2 c = ?
+returns-2 c = exact-end _ _ _ (c .before .loop .inv) (c .loop-test .left)
 
 pub exact-cells-spec : {M : Type 1} → statement M
 exact-cells-spec =

@@ -5,30 +5,25 @@ use Rattle.cells.proofs.whole.Reads as reads
 use Rattle.cells.proofs.whole.Lts as lts
 use Rattle.value.proofs.words.is_header.Reads as is-header-reads
 use Rattle.value.proofs.words.read_header.Reads as read-header-reads
+use Rattle.cells.proofs.Scans.{whole-far, whole-none, whole-here}
 
--- src/lib.rt:256:9
 returns : tie.Need-returns
-returns c = ?
+returns c = whole-far _ _ _ (c .if1 .taken)
 
--- src/lib.rt:258:9
 is-header-requires : tie.Need-is-header-requires
 is-header-requires c κs = search needs
 
--- src/lib.rt:259:9
 returns-2 : tie.Need-returns-2
-returns-2 c = ?
+returns-2 c = whole-none _ _ _ (c .before .before .if1 .left) _ (c .before .is-header .ensures) (c .if2 .taken)
 
--- src/lib.rt:261:9
 read-header-requires : tie.Need-read-header-requires
 read-header-requires c κs = search needs
 
--- src/lib.rt:263:13
 sub-result : tie.Need-sub-result
 sub-result c = search needs
 
--- src/lib.rt:251:1
 returns-3 : tie.Need-returns-3
-returns-3 c = ?
+returns-3 c = whole-here _ _ _ (c .before .before .before .if1 .left) _ (c .before .before .is-header .ensures) (c .before .if2 .left) _ (c .read-header .ensures)
 
 pub whole-spec : {M : Type 1} → statement M
 whole-spec =
