@@ -1,11 +1,10 @@
 -- Building: the elements on the stack, the two loops, and the whole.
 use mathlib.Core.Path.{_≡_, refl, sym, ap, _∙_, subst}
-use mathlib.Core.Bool.{Bool, true, false, _&&_}
+use mathlib.Core.Bool.{Bool, true, false}
 use mathlib.Core.List.{List, [], _∷_, _++_, map, reverseAux, append-assoc}
-use Prim.Native.Nat.{ℕ, zero, suc, _+_, _-_, _*_, _/_, _<_, _≤_, max, min}
+use Prim.Native.Nat.{ℕ, zero, suc, _+_, _-_, _*_, _/_, _<_, _≤_, max}
 use native.Mathlib.Omega.{arith}
 use borrow.Author.Tests.{lt-ltb, le-ltb}
-use lib.Dec.{ltb}
 use lib.ListN.{length, getD, set, take, drop, length-take, length-reverse}
 use lib.Seq.{take-suc, drop-cons, take-length, drop-length, getD-take, getD-set-other}
 use denote.Enum.Declared.{tagOf}
@@ -15,16 +14,14 @@ use Rattle.model.specs.declared.Value.{Value}
 use Rattle.model.specs.declared.Value.the-variants as v
 use Rattle.model.specs.declared.Header.{Header}
 use Rattle.model.specs.declared.Fault.the-variants as f
-use Rattle.model.specs.Basics.{if_then_else_}
 use Rattle.model.specs.Values.{kindAt, payloadAt, valueAt, putWords, places, vals}
 use Rattle.model.specs.Heap as heap
-use Rattle.model.specs.Heap.{Cell, item, head, headerOf, cellKind, cellPayload, putCell, heapOf, headIn, depthIn, deepest, listElements, structFields, blockOf, buildOf, placedBelow, exactCell, exactCells}
+use Rattle.model.specs.Heap.{Cell, item, head, headerOf, cellKind, cellPayload, putCell, heapOf, depthIn, deepest, listElements, structFields, blockOf, buildOf, placedBelow, exactCell, exactCells}
 use Rattle.value.specs.Links.{Written}
 use Rattle.value.proofs.Coding.{and-left, and-right, cell-exact}
 use Rattle.value.proofs.Stores.{length-vals, vals-at, vals-upward, getD-values, kind-same, kind-other, payload-same, payload-other, written-length, taken}
-use Rattle.cells.specs.declared.Built.{Built}
 use Rattle.cells.specs.declared.Built.the-variants.{Taken, Bad}
-use Rattle.cells.specs.Links.{elementsOf, Held, TopPre, Besides, CopyPost, Took, BuildPost}
+use Rattle.cells.specs.Links.{elementsOf, Held, TopPre, Besides, CopyPost, BuildPost}
 use Rattle.cells.proofs.Order.{and-both, Every, nil, cons, every-at, Whole, list-of, struct-of}
 use Rattle.cells.proofs.Stands.{length-heap, header-is, header-room}
 

@@ -1,5 +1,5 @@
 -- Reading a field.
-use mathlib.Core.Path.{_≡_, refl, sym, ap, _∙_}
+use mathlib.Core.Path.{_≡_, sym, _∙_}
 use mathlib.Core.List.{List}
 use Prim.Native.Nat.{ℕ, suc, _+_, _*_, _<_, _≤_}
 use native.Mathlib.Omega.{arith}
@@ -8,11 +8,9 @@ use lib.ListN.{length}
 use Rattle.model.specs.declared.Value.{Value}
 use Rattle.model.specs.declared.Header.{Header}
 use Rattle.model.specs.declared.Fault.the-variants as f
-use Rattle.model.specs.declared.Found.{Found}
 use Rattle.model.specs.declared.Found.the-variants as g
-use Rattle.model.specs.Basics.{if_then_else_}
 use Rattle.model.specs.Values.{payloadAt, valueAt}
-use Rattle.model.specs.Heap.{Cell, headerOf, heapOf, itemIn, headIn, fieldOf}
+use Rattle.model.specs.Heap.{headerOf, heapOf, headIn, fieldOf}
 use Rattle.cells.specs.Links.{FieldPre}
 use Rattle.cells.proofs.Order.{Whole, struct-of, good-of}
 use Rattle.cells.proofs.Stands.{item-is, header-is, header-room}

@@ -1,22 +1,21 @@
 -- Cells added above a heap change nothing below; and what a build adds keeps good order.
-use mathlib.Core.Path.{_≡_, refl, sym, ap, _∙_, subst}
-use mathlib.Core.Bool.{Bool, true, false, _&&_, true≢false}
-use mathlib.Core.List.{List, [], _∷_, _++_, map}
-use Prim.Native.Nat.{ℕ, zero, suc, _+_, _-_, _<_, _≤_, max}
+use mathlib.Core.Path.{_≡_, refl, sym, ap, _∙_}
+use mathlib.Core.Bool.{Bool, true, false, _&&_}
+use mathlib.Core.List.{List, [], _∷_, _++_}
+use Prim.Native.Nat.{ℕ, zero, suc, _+_, _<_, _≤_}
 use native.Mathlib.Omega.{arith}
-use borrow.Author.Tests.{ltb-false, ltb-true, eqb-true, eqb-false, eq-eqb, ne-eqb}
+use borrow.Author.Tests.{ltb-false, eqb-true, eq-eqb, ne-eqb}
 use lib.Dec.{eqb, ltb}
 use lib.ListN.{length, getD, take, length-append, length-map, List·getD-append, List·getD-map}
 use lib.Seq.{getD-append-add, getD-append-seam, take-append-seam}
 use Rattle.model.specs.declared.Value.{Value}
 use Rattle.model.specs.declared.Value.the-variants as v
 use Rattle.model.specs.declared.Header.{Header}
-use Rattle.model.specs.declared.Fault.{Fault}
 use Rattle.model.specs.declared.Fault.the-variants as f
 use Rattle.model.specs.Basics.{if_then_else_}
-use Rattle.model.specs.Heap.{Cell, item, head, isHead, itemOf, headOf, cellIn, itemIn, headIn, items, elementsIn, depthIn, deepest, blockOf, Built, built, unbuilt, buildOf, placedBelow, blockOk, blocksFrom, heapOk}
+use Rattle.model.specs.Heap.{Cell, item, head, isHead, itemOf, headOf, cellIn, itemIn, headIn, items, elementsIn, depthIn, deepest, blockOf, built, unbuilt, buildOf, placedBelow, blockOk, blocksFrom, heapOk}
 use Rattle.value.proofs.Coding.{and-left, and-right}
-use Rattle.cells.proofs.Order.{Every, nil, cons, every-map, every-at, Whole, Placed, list-of, list-number, list-to, struct-of, struct-to, placed-more, Element, Block, block-of, block-to, inner}
+use Rattle.cells.proofs.Order.{Every, nil, cons, every-map, every-at, Whole, Placed, list-of, list-number, list-to, struct-of, struct-to, placed-more, Block, block-of, block-to, inner}
 
 -- ---- cells added above
 

@@ -8,3 +8,4 @@ pub mod Builds
 pub mod Fields
 pub mod Turns
 pub mod Scans
+pub mod Made

@@ -1,25 +1,24 @@
 -- What values mean: equality of values is equality of their trees, cells added above change no meaning, and what a build and a field mean.
-use mathlib.Core.Path.{_≡_, refl, sym, ap, _∙_, subst}
+use mathlib.Core.Path.{_≡_, refl, sym, ap, _∙_}
 use mathlib.Core.Bool.{Bool, true, false, _&&_}
 use mathlib.Core.List.{List, [], _∷_, _++_}
-use Prim.Native.Nat.{ℕ, zero, suc, _+_, _-_, _<_, _≤_}
+use Prim.Native.Nat.{ℕ, zero, suc, _+_, _<_, _≤_}
 use native.Mathlib.Omega.{arith}
 use borrow.Author.Tests.{eq-eqb, ltb-true}
 use lib.Dec.{eqb, ltb}
-use lib.ListN.{length, getD}
+use lib.ListN.{length}
 use Rattle.model.specs.declared.Value.{Value}
 use Rattle.model.specs.declared.Value.the-variants as v
 use Rattle.model.specs.declared.Header.{Header}
 use Rattle.model.specs.declared.Fault.the-variants as f
-use Rattle.model.specs.declared.Found.{Found}
 use Rattle.model.specs.declared.Found.the-variants as g
 use Rattle.model.specs.Basics.{if_then_else_}
 use Rattle.model.specs.Values.{ifScalar, ifBoolean, ifString, ifReference, ifList, ifStruct}
-use Rattle.model.specs.Heap.{Cell, isHead, cellIn, itemIn, headIn, items, elementsIn, fieldOf, depthIn, deepest, blockOf, built, buildOf, heapOk}
-use Rattle.model.specs.Equality.{Same, same, said, andNext, sameElements, sameBlocks, samePair, sameTo, sameOf}
+use Rattle.model.specs.Heap.{Cell, itemIn, headIn, items, elementsIn, fieldOf, depthIn, blockOf, built, buildOf, heapOk}
+use Rattle.model.specs.Equality.{Same, said, sameElements, sameBlocks, samePair, sameTo, sameOf}
 use Rattle.model.specs.Trees.{Tree, Trees, list, struct, none, more, treesOf, treeOf, meaningTo, meaning, size, isScalar, isBoolean, isString, isReference, isList, isStruct, isMore, sameTree, sameTrees}
-use Rattle.cells.proofs.Order.{Every, nil, cons, every-map, Whole, Placed, list-of, list-number, struct-of, placed-more, Inner, inner, Good, good-of, depth-64}
-use Rattle.cells.proofs.Frame.{head-of, elements-frame, head-new, elements-new, Grown, grown-of, Keeps, build-good}
+use Rattle.cells.proofs.Order.{Every, nil, cons, every-map, Whole, Placed, list-of, list-number, struct-of, placed-more, inner, Good, good-of, depth-64}
+use Rattle.cells.proofs.Frame.{head-of, elements-frame, head-new, elements-new, grown-of, Keeps, build-good}
 
 -- ---- equality of values is equality of trees
 

@@ -1,9 +1,8 @@
 -- Two values by themselves: the arms of the comparison.
-use mathlib.Core.Path.{_≡_, refl, sym, ap, _∙_, subst}
+use mathlib.Core.Path.{_≡_, refl, sym, subst}
 use mathlib.Core.Bool.{Bool, true, false, Bool·beq, true≢false}
 use mathlib.Core.List.{List, [], _∷_}
-use Prim.Native.Nat.{ℕ, zero, suc, _+_, _<_, _≤_}
-use native.Mathlib.Omega.{arith}
+use Prim.Native.Nat.{ℕ, _+_, _≤_}
 use borrow.Author.Tests.{leb-true}
 use lib.Ieee as Ieee
 use lib.Ieee.{Float}
@@ -14,12 +13,11 @@ use Rattle.model.proofs.Value.{the-type}
 use Rattle.model.specs.declared.Value.{Value}
 use Rattle.model.specs.declared.Value.the-variants as v
 use Rattle.model.specs.Values.{ifScalar, ifBoolean, ifString, ifReference, ifList, ifStruct, textAt}
-use Rattle.model.specs.Heap.{Cell, placedBelow}
-use Rattle.model.specs.Equality.{Same, said, sameBytes, samePair}
+use Rattle.model.specs.Heap.{placedBelow}
+use Rattle.model.specs.Equality.{said, sameBytes, samePair}
 use Rattle.value.proofs.Operands.{no-scalar, no-boolean}
-use Rattle.cells.specs.declared.Pair.{Pair}
 use Rattle.cells.specs.declared.Pair.the-variants.{Said, Blocks}
-use Rattle.cells.specs.Links.{Inside, Alike, lists, structs, Compared}
+use Rattle.cells.specs.Links.{Inside, lists, structs, Compared}
 
 pub same-bool-true : (x y : Bool) → x ≡ true → y ≡ Bool·beq x y
 same-bool-true true true e = refl

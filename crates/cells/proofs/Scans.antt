@@ -1,11 +1,11 @@
 -- The test of good order: the laws of its code.
-use mathlib.Core.Path.{_≡_, refl, sym, ap, _∙_, subst}
+use mathlib.Core.Path.{_≡_, refl, sym, ap, _∙_}
 use mathlib.Core.Bool.{Bool, true, false, not, _&&_, true≢false}
 use mathlib.Core.Logic.{⊎-elim}
 use mathlib.Core.List.{List, [], _∷_, _++_}
 use Prim.Native.Nat.{ℕ, zero, suc, _+_, _-_, _*_, _<_, _≤_, max}
 use native.Mathlib.Omega.{arith}
-use borrow.Author.Tests.{not-true, not-false, eq-eqb, ne-eqb, le-leb, lt-leb, leb-true, lt-ltb, le-ltb, ltb-true, ltb-false, eqb-true, eqb-false}
+use borrow.Author.Tests.{not-true, not-false, eq-eqb, ne-eqb, le-leb, lt-leb, ltb-true, ltb-false, eqb-true, eqb-false}
 use lib.Dec.{eqb, leb, ltb}
 use lib.ListN.{length}
 use denote.Enum.Declared.{tagOf}
@@ -14,7 +14,6 @@ use Rattle.model.proofs.Value.{the-type}
 use Rattle.model.specs.declared.Value.{Value}
 use Rattle.model.specs.declared.Value.the-variants as v
 use Rattle.model.specs.declared.Header.{Header}
-use Rattle.model.specs.Basics.{if_then_else_}
 use Rattle.model.specs.Values.{kindAt, payloadAt, valueAt}
 use Rattle.model.specs.Heap.{Cell, item, head, headerOf, cellsFrom, heapOf, isHead, itemOf, cellIn, itemIn, headIn, items, elementsIn, depthIn, deepest, wholeBelow, placedBelow, elementBelow, elementsBelow, blockOk, blocksFrom, heapOk, exactCell, exactCells}
 use Rattle.cells.specs.Links.{Held}

@@ -1,20 +1,17 @@
 -- What stands in a store, and what in the heap that the store stands for.
 use mathlib.Core.Path.{_≡_, refl, sym, ap, _∙_}
-use mathlib.Core.Bool.{Bool, true, false, true≢false}
-use mathlib.Core.List.{List, [], _∷_, _++_}
+use mathlib.Core.Bool.{Bool, true, false, _&&_}
+use mathlib.Core.List.{List, _∷_, _++_}
 use Prim.Native.Nat.{ℕ, zero, suc, _+_, _-_, _*_, _<_, _≤_}
 use native.Mathlib.Omega.{arith}
 use lib.Dec.{eqb}
-use lib.ListN.{length, getD, take}
+use lib.ListN.{length, take}
 use lib.Seq.{take-at}
-use Rattle.model.specs.declared.Value.{Value}
-use Rattle.model.specs.declared.Value.the-variants as v
-use Rattle.model.specs.declared.Header.{Header}
-use Rattle.model.specs.Basics.{if_then_else_}
-use Rattle.model.specs.Values.{kindAt, payloadAt, valueAt, valueOf}
-use Rattle.model.specs.Heap.{Cell, item, head, headerOf, cellOf, cellAt, cellsFrom, heapOf, isHead, itemOf, headOf, cellIn, itemIn, headIn}
+use Rattle.model.specs.Values.{kindAt, payloadAt, valueAt}
+use Rattle.model.specs.Heap.{Cell, headerOf, cellAt, cellsFrom, heapOf, isHead, itemOf, headOf, cellIn, itemIn, headIn, exactCell, exactCells}
+use Rattle.value.proofs.Coding.{and-left, and-right}
 use Rattle.value.proofs.Stores.{length-cells, getD-cells, cell-header, cell-item}
-use Rattle.cells.proofs.Order.{Whole}
+use Rattle.cells.proofs.Order.{and-both, Whole}
 
 pub length-heap : (n : ℕ) (w : List ℕ) → length (heapOf n w) ≡ n
 unfolding heapOf
@@ -67,3 +64,15 @@ heap-split used p w h =
 -- cells that were taken are given back
 pub heap-cut : (used p : ℕ) (w : List ℕ) → p ≤ used → heapOf p w ≡ take p (heapOf used w)
 heap-cut used p w h = sym (ap (take p) (heap-split used p w h) ∙ take-at (heapOf p w) _ p (length-heap p w))
+
+exact-first : (n m i : ℕ) (w : List ℕ) → exactCells (n + m) i w ≡ true → exactCells n i w ≡ true
+unfolding exactCells
+exact-first zero m i w e = refl
+exact-first (suc n) m i w e =
+    let z : suc n + m ≡ suc (n + m) = omega arith in
+    let x = exactCell (kindAt w i) (payloadAt w i) in
+    let f : x && exactCells (n + m) (suc i) w ≡ true = rw z at e in
+    and-both x (exactCells n (suc i) w) (and-left x (exactCells (n + m) (suc i) w) f) (exact-first n m (suc i) w (and-right x (exactCells (n + m) (suc i) w) f))
+
+pub exact-cut : (used p : ℕ) (w : List ℕ) → p ≤ used → exactCells used 0 w ≡ true → exactCells p 0 w ≡ true
+exact-cut used p w h e = let z : p + (used - p) ≡ used = omega arith in exact-first p (used - p) 0 w (rw z e)

@@ -1,7 +1,7 @@
 -- Equality of two lists or two structs: the loop over the elements and its laws.
 use mathlib.Core.Path.{_≡_, refl, sym, ap, _∙_}
 use mathlib.Core.Bool.{Bool, true, false, _&&_}
-use mathlib.Core.List.{List, [], _∷_}
+use mathlib.Core.List.{List}
 use Prim.Native.Nat.{ℕ, zero, suc, _+_, _-_, _*_, _<_, _≤_}
 use native.Mathlib.Omega.{arith}
 use borrow.Author.Tests.{eq-eqb, ne-eqb, le-leb, lt-leb, leb-true, leb-false}
@@ -12,7 +12,7 @@ use Rattle.model.specs.declared.Value.the-variants as v
 use Rattle.model.specs.declared.Header.{Header}
 use Rattle.model.specs.Basics.{if_then_else_}
 use Rattle.model.specs.Values.{payloadAt, valueAt, ifList, ifStruct}
-use Rattle.model.specs.Heap.{Cell, headerOf, heapOf, isHead, cellIn, itemIn, headIn, items, elementsIn, heapOk, placedBelow}
+use Rattle.model.specs.Heap.{Cell, headerOf, heapOf, itemIn, headIn, items, elementsIn}
 use Rattle.model.specs.Equality.{Same, same, said, andNext, sameElements, sameBlocks, samePair, sameOf}
 use Rattle.cells.specs.declared.Verdict.{Verdict}
 use Rattle.cells.specs.declared.Verdict.the-variants.{Done, Out}

@@ -1,13 +1,5 @@
 use Rattle.cells.proofs.block_ok.Statement.{statement}
 use Rattle.cells.proofs.block_ok.Tie as tie
-use Rattle.cells.proofs.block_ok.Reads as reads
-use Rattle.cells.proofs.block_ok.Lts as lts
-use Rattle.cells.proofs.depth.Reads as depth-reads
-use Rattle.cells.proofs.placed.Reads as placed-reads
-use Rattle.cells.proofs.whole.Reads as whole-reads
-use Rattle.value.proofs.words.is_header.Reads as is-header-reads
-use Rattle.value.proofs.words.read_header.Reads as read-header-reads
-use Rattle.value.proofs.words.read_value.Reads as read-value-reads
 use borrow.Author.Needs.{needs}
 use mathlib.Core.Logic.{⊎-elim}
 use Prim.Native.Nat.{_-_}

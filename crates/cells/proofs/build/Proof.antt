@@ -1,12 +1,6 @@
 use borrow.Author.Needs.{needs}
 use Rattle.cells.proofs.build.Statement.{statement}
 use Rattle.cells.proofs.build.Tie as tie
-use Rattle.cells.proofs.build.Reads as reads
-use Rattle.cells.proofs.build.Lts as lts
-use Rattle.cells.proofs.copy.Reads as copy-reads
-use Rattle.cells.proofs.deepest_of.Reads as deepest-of-reads
-use Rattle.cells.proofs.room_of.Reads as room-of-reads
-use Rattle.value.proofs.words.write_header.Reads as write-header-reads
 use native.Mathlib.Omega.{arith}
 use Rattle.cells.proofs.Builds.{too-deep, cells-full, room-head, room-copy, built-is}
 

@@ -1,10 +1,6 @@
 use borrow.Author.Needs.{needs}
 use Rattle.cells.proofs.compare.Statement.{statement}
 use Rattle.cells.proofs.compare.Tie as tie
-use Rattle.cells.proofs.compare.Reads as reads
-use Rattle.cells.proofs.compare.Lts as lts
-use Rattle.cells.proofs.same_bool.Reads as same-bool-reads
-use Rattle.cells.proofs.same_text.Reads as same-text-reads
 use Rattle.cells.proofs.Pairs.{scalars, scalar-other, booleans, boolean-other, strings-inside, strings, string-other, references-inside, references, reference-other, two-lists, list-other, two-structs, struct-other}
 
 enum-known-a : tie.Need-enum-known-a

@@ -1,9 +1,5 @@
 use Rattle.cells.proofs.copy.Statement.{statement}
 use Rattle.cells.proofs.copy.Tie as tie
-use Rattle.cells.proofs.copy.Reads as reads
-use Rattle.cells.proofs.copy.Lts as lts
-use Rattle.cells.proofs.element.Reads as element-reads
-use Rattle.value.proofs.words.write_value.Reads as write-value-reads
 use borrow.Author.Needs.{needs}
 use Prim.Native.Nat.{_-_}
 use native.Mathlib.Omega.{arith}

@@ -1,9 +1,5 @@
 use Rattle.cells.proofs.deepest_of.Statement.{statement}
 use Rattle.cells.proofs.deepest_of.Tie as tie
-use Rattle.cells.proofs.deepest_of.Reads as reads
-use Rattle.cells.proofs.deepest_of.Lts as lts
-use Rattle.cells.proofs.depth.Reads as depth-reads
-use Rattle.cells.proofs.element.Reads as element-reads
 use borrow.Author.Needs.{needs}
 use mathlib.Core.Logic.{⊎-elim}
 use Prim.Native.Nat.{_-_}

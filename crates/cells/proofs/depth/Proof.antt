@@ -1,9 +1,6 @@
 use borrow.Author.Needs.{needs}
 use Rattle.cells.proofs.depth.Statement.{statement}
 use Rattle.cells.proofs.depth.Tie as tie
-use Rattle.cells.proofs.depth.Reads as reads
-use Rattle.cells.proofs.depth.Lts as lts
-use Rattle.value.proofs.words.read_header.Reads as read-header-reads
 use Rattle.cells.proofs.Builds.{list-room, struct-room, list-depth, struct-depth, plain-depth}
 
 enum-known-v : tie.Need-enum-known-v

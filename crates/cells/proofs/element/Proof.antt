@@ -1,9 +1,6 @@
 use borrow.Author.Needs.{needs}
 use Rattle.cells.proofs.element.Statement.{statement}
 use Rattle.cells.proofs.element.Tie as tie
-use Rattle.cells.proofs.element.Reads as reads
-use Rattle.cells.proofs.element.Lts as lts
-use Rattle.value.proofs.words.read_value.Reads as read-value-reads
 use mathlib.Core.Path.{_∙_}
 use Rattle.cells.proofs.Builds.{element-up, element-down}
 

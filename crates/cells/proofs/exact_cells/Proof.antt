@@ -1,8 +1,5 @@
 use Rattle.cells.proofs.exact_cells.Statement.{statement}
 use Rattle.cells.proofs.exact_cells.Tie as tie
-use Rattle.cells.proofs.exact_cells.Reads as reads
-use Rattle.cells.proofs.exact_cells.Lts as lts
-use Rattle.value.proofs.words.exact_cell.Reads as exact-cell-reads
 use borrow.Author.Needs.{needs}
 use Prim.Native.Nat.{_-_}
 use Rattle.cells.proofs.Scans.{Exact, exact-start, exact-end, exact-no, exact-next}

@@ -1,9 +1,5 @@
 use Rattle.cells.proofs.field.Statement.{statement}
 use Rattle.cells.proofs.field.Tie as tie
-use Rattle.cells.proofs.field.Reads as reads
-use Rattle.cells.proofs.field.Lts as lts
-use Rattle.value.proofs.words.read_header.Reads as read-header-reads
-use Rattle.value.proofs.words.read_value.Reads as read-value-reads
 use native.Mathlib.Omega.{arith}
 use Rattle.cells.proofs.Fields.{head-room, field-none, field-room, field-got}
 

@@ -1,10 +1,5 @@
 use Rattle.cells.proofs.good_cells.Statement.{statement}
 use Rattle.cells.proofs.good_cells.Tie as tie
-use Rattle.cells.proofs.good_cells.Reads as reads
-use Rattle.cells.proofs.good_cells.Lts as lts
-use Rattle.cells.proofs.block_ok.Reads as block-ok-reads
-use Rattle.cells.proofs.exact_cells.Reads as exact-cells-reads
-use Rattle.value.proofs.words.read_header.Reads as read-header-reads
 use borrow.Author.Needs.{needs}
 use Prim.Native.Nat.{_-_}
 use native.Mathlib.Omega.{arith}

@@ -1,10 +1,6 @@
 use borrow.Author.Needs.{needs}
 use Rattle.cells.proofs.placed.Statement.{statement}
 use Rattle.cells.proofs.placed.Tie as tie
-use Rattle.cells.proofs.placed.Reads as reads
-use Rattle.cells.proofs.placed.Lts as lts
-use Rattle.cells.proofs.whole.Reads as whole-reads
-use Rattle.value.proofs.words.read_header.Reads as read-header-reads
 use Rattle.cells.proofs.Scans.{placed-string, placed-reference, placed-struct, placed-no, placed-plain, whole-room, placed-list}
 
 enum-known-v : tie.Need-enum-known-v

@@ -1,7 +1,5 @@
 use Rattle.cells.proofs.room_of.Statement.{statement}
 use Rattle.cells.proofs.room_of.Tie as tie
-use Rattle.cells.proofs.room_of.Reads as reads
-use Rattle.cells.proofs.room_of.Lts as lts
 use Rattle.cells.proofs.Builds.{room-small, room-large}
 
 returns : tie.Need-returns

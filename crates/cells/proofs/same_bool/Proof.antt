@@ -1,8 +1,6 @@
 use borrow.Author.Needs.{needs}
 use Rattle.cells.proofs.same_bool.Statement.{statement}
 use Rattle.cells.proofs.same_bool.Tie as tie
-use Rattle.cells.proofs.same_bool.Reads as reads
-use Rattle.cells.proofs.same_bool.Lts as lts
 use Rattle.cells.proofs.Pairs.{same-bool-true}
 
 returns : tie.Need-returns

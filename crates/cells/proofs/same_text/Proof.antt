@@ -1,7 +1,5 @@
 use Rattle.cells.proofs.same_text.Statement.{statement}
 use Rattle.cells.proofs.same_text.Tie as tie
-use Rattle.cells.proofs.same_text.Reads as reads
-use Rattle.cells.proofs.same_text.Lts as lts
 use borrow.Author.Needs.{needs}
 use Prim.Native.Nat.{_-_}
 use Rattle.cells.proofs.Texts.{Run, lengths-differ, run-start, run-end, run-more, bytes-differ}

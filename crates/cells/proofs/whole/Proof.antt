@@ -1,10 +1,6 @@
 use borrow.Author.Needs.{needs}
 use Rattle.cells.proofs.whole.Statement.{statement}
 use Rattle.cells.proofs.whole.Tie as tie
-use Rattle.cells.proofs.whole.Reads as reads
-use Rattle.cells.proofs.whole.Lts as lts
-use Rattle.value.proofs.words.is_header.Reads as is-header-reads
-use Rattle.value.proofs.words.read_header.Reads as read-header-reads
 use Rattle.cells.proofs.Scans.{whole-far, whole-none, whole-here}
 
 returns : tie.Need-returns
