@@ -4,7 +4,7 @@ use mathlib.Core.Bool.{Bool, true, false, _&&_}
 use mathlib.Core.List.{List, [], _∷_, _++_}
 use Prim.Native.Nat.{ℕ, zero, suc, _+_, _<_, _≤_}
 use native.Mathlib.Omega.{arith}
-use borrow.Author.Tests.{ltb-false, eqb-true, eq-eqb, ne-eqb}
+use borrow.Author.Tests.{lt-ltb, ltb-false, eqb-true, eq-eqb, ne-eqb}
 use lib.Dec.{eqb, ltb}
 use lib.ListN.{length, getD, take, length-append, length-map, List·getD-append, List·getD-map}
 use lib.Seq.{getD-append-add, getD-append-seam, take-append-seam}
@@ -12,8 +12,9 @@ use Rattle.model.specs.declared.Value.{Value}
 use Rattle.model.specs.declared.Value.the-variants as v
 use Rattle.model.specs.declared.Header.{Header}
 use Rattle.model.specs.declared.Fault.the-variants as f
+use Rattle.model.specs.declared.Found.the-variants as g
 use Rattle.model.specs.Basics.{if_then_else_}
-use Rattle.model.specs.Heap.{Cell, item, head, isHead, itemOf, headOf, cellIn, itemIn, headIn, items, elementsIn, depthIn, deepest, blockOf, built, unbuilt, buildOf, placedBelow, blockOk, blocksFrom, heapOk}
+use Rattle.model.specs.Heap.{Cell, item, head, isHead, itemOf, headOf, cellIn, itemIn, headIn, items, elementsIn, fieldOf, depthIn, deepest, blockOf, built, unbuilt, buildOf, placedBelow, blockOk, blocksFrom, heapOk}
 use Rattle.value.proofs.Coding.{and-left, and-right}
 use Rattle.cells.proofs.Order.{Every, nil, cons, every-map, every-at, Whole, Placed, list-of, list-number, list-to, struct-of, struct-to, placed-more, Block, block-of, block-to, inner}
 
@@ -152,6 +153,28 @@ module _ (H : List Cell) (k : ℕ) (us : List Value) where
     shallow = rw head-new small;
   }
 
+-- a build that was not refused
+pub record Grown (room : ℕ) (H : List Cell) (k : ℕ) (us : List Value) (H' : List Cell) : Type 0 where
+  pub shallow : suc (deepest H us) ≤ 64
+  pub fits : length H + suc (length us) ≤ room
+  pub is : H' ≡ H ++ blockOf H k us
+
+grown-at : (room : ℕ) (H : List Cell) (k : ℕ) (us : List Value) (H' : List Cell) (x y : Bool) → ltb 64 (suc (deepest H us)) ≡ x → ltb room (length H + suc (length us)) ≡ y
+    → (if x then unbuilt f.TooDeep else (if y then unbuilt f.CellsFull else built (H ++ blockOf H k us))) ≡ built H' → Grown room H k us H'
+grown-at room H k us H' true y ex ey e = absurd (let z : _≡_ {A = ℕ} 0 1 = cc in omega arith)
+grown-at room H k us H' false true ex ey e = absurd (let z : _≡_ {A = ℕ} 0 1 = cc in omega arith)
+grown-at room H k us H' false false ex ey e = record { shallow = ltb-false _ _ ex; fits = ltb-false _ _ ey; is = cc }
+
+pub grown-of : (room : ℕ) (H : List Cell) (k : ℕ) (us : List Value) (H' : List Cell) → buildOf room H k us ≡ built H' → Grown room H k us H'
+unfolding buildOf
+grown-of room H k us H' e = grown-at room H k us H' (ltb 64 (suc (deepest H us))) (ltb room (length H + suc (length us))) refl refl e
+
+-- field a of a new struct is element a
+pub new-field : (room : ℕ) (H : List Cell) (k : ℕ) (us : List Value) (H' : List Cell) → buildOf room H k us ≡ built H'
+    → (a : ℕ) → a < length us → fieldOf H' (length H) a ≡ g.Got (getD us a (v.Boolean false))
+unfolding fieldOf
+new-field room H k us H' q a h = rw (grown-of room H k us H' q .is, head-new H k us, lt-ltb a (length us) h, item-new H k us a)
+
 -- ---- the test passes again
 
 pub at-end : (f t : ℕ) (H : List Cell) (i : ℕ) → i ≡ length H → blocksFrom f t H i ≡ true
@@ -211,22 +234,7 @@ new-good t H k us e f small =
 
 -- ---- a build that was not refused
 
-pub record Grown (room : ℕ) (H : List Cell) (k : ℕ) (us : List Value) (H' : List Cell) : Type 0 where
-  pub shallow : suc (deepest H us) ≤ 64
-  pub fits : length H + suc (length us) ≤ room
-  pub is : H' ≡ H ++ blockOf H k us
-
-grown-at : (room : ℕ) (H : List Cell) (k : ℕ) (us : List Value) (H' : List Cell) (x y : Bool) → ltb 64 (suc (deepest H us)) ≡ x → ltb room (length H + suc (length us)) ≡ y
-    → (if x then unbuilt f.TooDeep else (if y then unbuilt f.CellsFull else built (H ++ blockOf H k us))) ≡ built H' → Grown room H k us H'
-grown-at room H k us H' true y ex ey e = absurd (let z : _≡_ {A = ℕ} 0 1 = cc in omega arith)
-grown-at room H k us H' false true ex ey e = absurd (let z : _≡_ {A = ℕ} 0 1 = cc in omega arith)
-grown-at room H k us H' false false ex ey e = record { shallow = ltb-false _ _ ex; fits = ltb-false _ _ ey; is = cc }
-
-pub grown-of : (room : ℕ) (H : List Cell) (k : ℕ) (us : List Value) (H' : List Cell) → buildOf room H k us ≡ built H' → Grown room H k us H'
-unfolding buildOf
-grown-of room H k us H' e = grown-at room H k us H' (ltb 64 (suc (deepest H us))) (ltb room (length H + suc (length us))) refl refl e
-
--- what a build keeps: good order, the places of old values, and the old heap as a prefix; and its value is placed
+-- what it keeps: good order, the places of old values, and the old heap as a prefix; and its value is placed
 pub record Keeps (t : ℕ) (H : List Cell) (k : ℕ) (H' : List Cell) : Type 0 where
   pub good : heapOk t H' ≡ true
   pub old : (u : Value) → Placed t H (length H) u → Placed t H' (length H') u

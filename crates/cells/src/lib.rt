@@ -149,6 +149,7 @@ pub enum Verdict {
     Out,
 }
 
+// Whether two booleans are the same.
 fn same_bool(x: bool, y: bool) -> bool
     ensures { λ r. ⌜ r ≡ Bool·beq x y ⌝ }
 {
