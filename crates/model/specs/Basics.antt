@@ -4,6 +4,7 @@ use mathlib.Core.List.{List, [], _∷_}
 use Prim.Native.Nat.{ℕ, zero, suc}
 use Prim.Native.Char.{code}
 use Prim.Native.String.{String, [] as end, _∷_ as _then_}
+use lib.Seq.{sets}
 
 infix 5 if_then_else_
 abbrev pub if_then_else_ : {A : Type 0} → Bool → A → A → A
@@ -19,3 +20,7 @@ ascii (_then_ c s) = code c ∷ ascii s
 unfoldable pub everyFrom : ℕ → ℕ → (ℕ → Bool) → Bool
 everyFrom zero i t = true
 everyFrom (suc n) i t = t i && everyFrom n (suc i) t
+
+-- the store with the numbers l from place i on
+unfoldable pub written : List ℕ → ℕ → List ℕ → List ℕ
+written s i l = sets s i l

@@ -5,7 +5,6 @@ use mathlib.Core.Option.{Option, none, some}
 use Prim.Native.Nat.{ℕ, zero, suc, _+_, _*_, _/_, _%_, min}
 use lib.Dec.{ltb, leb, eqb}
 use lib.ListN.{length, replicate, set}
-use lib.Seq.{sets}
 use Rattle.model.specs.declared.Constant.{Constant}
 use Rattle.model.specs.declared.Constant.the-variants as k
 use Rattle.model.specs.declared.Counts.{Counts}
@@ -14,6 +13,7 @@ use Rattle.model.specs.declared.Emitted.the-variants.{Done, Refused}
 use Rattle.model.specs.declared.Told.{Told}
 use Rattle.model.specs.declared.Told.the-variants as t
 use Rattle.model.specs.Basics.{if_then_else_}
+unfoldable pub use Rattle.model.specs.Basics.{written}
 use Rattle.model.specs.Values.{places, putWords, bit}
 use Rattle.model.specs.Programs.{mainName, newestFrom, firstFrom, codeLimit, constantLimit, nameLimit}
 use Rattle.model.specs.Stores.{Stores, withConstants, withStructs, withFunctions, withText, codeHere, placesHere, withCode, start, size, pack, part, nameWord, codeWord, codeEnd, structsFrom}
@@ -44,10 +44,6 @@ oneStruct n c = counts (c .constants) (suc (c .structs)) (c .functions) (c .text
 -- a new function is then the current one
 abbrev pub oneFunction : ℕ → Counts → Counts
 oneFunction n c = counts (c .constants) (c .structs) (suc (c .functions)) (c .text + n) (c .functions)
-
--- the store with the numbers l from place i on
-unfoldable pub written : List ℕ → ℕ → List ℕ → List ℕ
-written s i l = sets s i l
 
 -- an operand, low byte first
 unfoldable pub u16 : ℕ → List ℕ

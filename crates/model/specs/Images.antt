@@ -8,6 +8,7 @@ use lib.ListN.{length, take, drop, replicate}
 use Rattle.model.specs.Basics.{if_then_else_}
 use Rattle.model.specs.Numbers.{Step, got, bad, andThen, item, checked, digits, number}
 use Rattle.model.specs.Equality.{sameBytes}
+pub use Rattle.model.specs.Numbers.{Small}
 use Rattle.model.specs.Programs.{Constant, scalar, boolean, string, reference, Function, Program, mainName, among}
 
 -- ---- the image of a program
@@ -180,10 +181,6 @@ unfoldable pub judge : List ℕ → Judged
 judge b = judgedStep (length b) (parse b)
 
 -- ---- the programs that have an image
-
--- a length, a count or a place that an image can say
-abbrev pub Small : ℕ → Type 0
-Small n = n < 2 ^ 32
 
 unfoldable pub SoundConstant : Constant → Type 0
 SoundConstant (scalar w) = w < 256 ^ 8

@@ -2,7 +2,7 @@
 use mathlib.Core.Path.{_≡_}
 use mathlib.Core.Bool.{Bool}
 use mathlib.Core.List.{List, [], _∷_, _++_}
-use Prim.Native.Nat.{ℕ, zero, suc, _+_, _-_, _*_, _/_, _%_, _<_}
+use Prim.Native.Nat.{ℕ, zero, suc, _+_, _-_, _*_, _/_, _%_, _<_, _^_}
 use lib.Dec.{ltb}
 use lib.ListN.{length}
 use Rattle.model.specs.Basics.{if_then_else_}
@@ -36,6 +36,10 @@ Bytes (x ∷ r) = (x < 256) × Bytes r
 pub record Codes {A : Type 0} (ok : A → Type 0) (enc : A → List ℕ) (dec : List ℕ → Step A) : Type 0 where
   pub back : (a : A) (r : List ℕ) → ok a → dec (enc a ++ r) ≡ got a r
   pub only : (b : List ℕ) (a : A) (r : List ℕ) → Bytes b → dec b ≡ got a r → (b ≡ enc a ++ r) × ok a
+
+-- [image.numbers] a number that an image can say: a length, a count or a place
+abbrev pub Small : ℕ → Type 0
+Small n = n < 2 ^ 32
 
 -- [image.numbers] the groups of n, f + 1 at most: seven bits each, lowest first, the high bit set on all but the last
 unfoldable pub groupsOf : ℕ → ℕ → List ℕ

@@ -6,7 +6,8 @@ use native.Mathlib.Omega.{arith}
 use lib.ListN.{length}
 use borrow.Author.Tests.{lt-ltb, le-ltb}
 use Rattle.model.specs.Numbers.{Step, got, bad, item, Bytes, Codes, groupsOf, digits, more, groups, number}
-use Rattle.number.specs.Links.{Small, limit}
+use Rattle.model.specs.Numbers.{Small}
+use Rattle.number.specs.Links.{limit}
 use Rattle.number.proofs.Digits.{by-lt, limit-4, one, many}
 
 -- a broken reading is no number

@@ -6,7 +6,8 @@ use native.Mathlib.Omega.{arith}
 use native.Mathlib.Numerals.{add-one}
 use lib.ListN.{length, set, length-set}
 use Rattle.model.specs.Numbers.{digits}
-use Rattle.number.specs.Links.{written, WritePost}
+use Rattle.model.specs.Basics.{written}
+use Rattle.number.specs.Links.{WritePost}
 use Rattle.number.proofs.Digits.{by-lt, digits-one, digits-many}
 
 -- s is what s₀ has become, and the groups of rest belong at place i

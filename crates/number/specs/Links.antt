@@ -3,14 +3,10 @@ use mathlib.Core.Path.{_≡_}
 use mathlib.Core.List.{List}
 use Prim.Native.Nat.{ℕ, zero, suc, _+_, _-_, _*_, _≤_, _<_, _^_}
 use lib.ListN.{length, drop}
-use lib.Seq.{sets}
+use Rattle.model.specs.Basics.{written}
 use Rattle.model.specs.Numbers.{Step, got, bad, groups, number}
 use Rattle.number.specs.declared.Num.{Num}
 use Rattle.number.specs.declared.Num.the-variants.{Number, Broken}
-
--- the numbers that the image holds
-abbrev pub Small : ℕ → Type 0
-Small n = n < 2 ^ 32
 
 -- a number of f groups and a last one below 16 is below this
 unfoldable pub limit : ℕ → ℕ
@@ -38,10 +34,6 @@ pub record GroupsPost (f : ℕ) (s : List ℕ) (i : ℕ) (r : Num) : Type 0 wher
 pub record NumPost (s : List ℕ) (i : ℕ) (r : Num) : Type 0 where
   pub means : number (drop i s) ≡ numOf s i r
   pub ahead : Ahead (2 ^ 32) s i r
-
--- s with the bytes l stored from place i on
-unfoldable pub written : List ℕ → ℕ → List ℕ → List ℕ
-written s i l = sets s i l
 
 -- the bytes l were stored, and r is the place behind them
 pub record WritePost (l s : List ℕ) (i : ℕ) (s' : List ℕ) (r : ℕ) : Type 0 where
