@@ -133,7 +133,7 @@ named-less t fs i e = let z = newest-less 0 t (map (λ (x : Function). x .name) 
 
 -- ---- each instruction does one of these
 
-got : (b : Bool) (x y : Value) (n : Fault) → (if b then g.Got x else g.Bad n) ≡ g.Got y → (b ≡ true) × (x ≡ y)
+pub got : (b : Bool) (x y : Value) (n : Fault) → (if b then g.Got x else g.Bad n) ≡ g.Got y → (b ≡ true) × (x ≡ y)
 got true x y n e = (refl, cc)
 got false x y n e = absurd (let z : _≡_ {A = ℕ} 0 1 = cc in let y : ⊥ = omega arith in y)
 

@@ -7,3 +7,6 @@ pub mod Adds
 -- runs: their end, and the written steps that lead to it
 pub mod Ends
 pub mod Paths
+-- good order
+pub mod Placed
+pub mod Keeps
