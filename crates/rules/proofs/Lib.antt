@@ -10,3 +10,4 @@ pub mod Paths
 -- good order
 pub mod Placed
 pub mod Keeps
+pub mod Runs

@@ -74,13 +74,25 @@ module _ (w : World) where
   pub marked : (s : State) → Marked (mark s) s
   marked s = record { last = refl; heap = grows-none (s .heap) }
 
-  marked-went : {m : Mark} {s s' : State} → Marked m s → stepOf w s ≡ went s' → Marked m s'
-  marked-went {m} {s} {s'} k q =
-      let z : Adds (s .heap) (s .last) (went s') = subst (Adds (s .heap) (s .last)) q (step-adds w s) in
-      record { last = k .last ∙ sym (z .1); heap = grows-on (k .heap) (z .0) }
+  went-adds : (s s' : State) → stepOf w s ≡ went s' → Adds (s .heap) (s .last) (went s')
+  went-adds s s' q = subst (Adds (s .heap) (s .last)) q (step-adds w s)
+
+  went-marked : {m : Mark} {s s' : State} → Marked m s → stepOf w s ≡ went s' → Marked m s'
+  went-marked {s = s} {s' = s'} k q = let z = went-adds s s' q in record { last = k .last ∙ sym (z .1); heap = grows-on (k .heap) (z .0) }
 
   -- the mark's last result is the state's, and its cells are at the front of the state's heap
   pub mark-last : {n : ℕ} {a b : Last} {m k : Mark} {s t : State} → Marked m s → Steps w n a m s b k t → Marked k t
   mark-last g none = g
-  mark-last g (on o q p) = mark-last (marked-went g q) p
+  mark-last g (on o q p) = mark-last (went-marked g q) p
   mark-last g (ret {s' = s'} o q p) = mark-last (marked s') p
+
+  returned-grows : (m : Mark) (s s' : State) (x : Value) → Marked m s → stepOf w s ≡ returned x s' → Grows (m .heap) (s' .heap)
+  returned-grows m s s' x g q =
+      let z : Adds (s .heap) (s .last) (returned x s') = subst (Adds (s .heap) (s .last)) q (step-adds w s) in
+      subst (Grows (m .heap)) (sym (z .0)) (g .heap)
+
+  -- a later mark has the cells of the earlier one at its front
+  pub mark-grows : {n : ℕ} {a b : Last} {m k : Mark} {s t : State} → Marked m s → Steps w n a m s b k t → Grows (m .heap) (k .heap)
+  mark-grows {m = m} g none = grows-none (m .heap)
+  mark-grows g (on o q p) = mark-grows (went-marked g q) p
+  mark-grows {m = m} g (ret {s = s} {s' = s'} {v = x} o q p) = grows-on (returned-grows m s s' x g q) (mark-grows (marked s') p)
