@@ -11,3 +11,5 @@ pub mod Paths
 pub mod Placed
 pub mod Keeps
 pub mod Runs
+-- more units
+pub mod More

@@ -14,6 +14,10 @@ use Rattle.rules.proofs.Spends.{step-spends, went-spends, returned-spen
 use Rattle.rules.proofs.Adds.{grows-none, grows-on, step-adds}
 use Rattle.rules.proofs.Ends.{end-over, end-step}
 
+-- where a run starts
+pub marked : (s : State) → Marked (mark s) s
+marked s = record { last = refl; heap = grows-none (s .heap) }
+
 module _ (w : World) where
   -- ---- from a run to its steps
 
@@ -70,9 +74,6 @@ module _ (w : World) where
   path-spends none = omega arith
   path-spends (on {s = s} o q p) = let z = went-spends w s q in let y = path-spends p in omega arith
   path-spends (ret {s = s} o q p) = let z = returned-spends w s q in let y = path-spends p in omega arith
-
-  pub marked : (s : State) → Marked (mark s) s
-  marked s = record { last = refl; heap = grows-none (s .heap) }
 
   went-adds : (s s' : State) → stepOf w s ≡ went s' → Adds (s .heap) (s .last) (went s')
   went-adds s s' q = subst (Adds (s .heap) (s .last)) q (step-adds w s)

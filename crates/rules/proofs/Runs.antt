@@ -87,7 +87,7 @@ module _ (w : World) (good : SaneWorld w) where
     recovered-sane {n} {t} {k} q i =
         let s = begin m u in
         let r : StoppedBy w Nothing (mark s) s n t k = run-path w Nothing (mark s) s (sym (end-of w s) ∙ q) in
-        recover-sane m u i k h (path-mark h (mark-sane h) (r .path)) (mark-grows w (marked w s) (r .path))
+        recover-sane m u i k h (path-mark h (mark-sane h) (r .path)) (mark-grows w (marked s) (r .path))
 
     settled-sane : (e : Ended) → endOf w (begin m u) ≡ e → (i : ℕ) → Sane w (begin (settle w m u e .machine) i)
     unfolding settle

@@ -2,13 +2,14 @@
 use mathlib.Core.Path.{_≡_}
 use mathlib.Core.Bool.{Bool, true, false}
 use mathlib.Core.List.{List, _++_}
-use Prim.Native.Nat.{ℕ, suc, _≤_, _<_}
+use Prim.Native.Nat.{ℕ, suc, _+_, _≤_, _<_}
 use Rattle.model.specs.declared.Value.{Value}
 use Rattle.model.specs.declared.Last.{Last}
 use Rattle.model.specs.declared.Last.the-variants.{Is}
 use Rattle.model.specs.declared.Fault.{Fault}
+use Rattle.model.specs.declared.Fault.the-variants as f
 use Rattle.model.specs.Heap.{Cell}
-use Rattle.model.specs.Steps.{World, State, Outcome, went, returned, faulted, stepOf}
+use Rattle.model.specs.Steps.{World, State, Outcome, went, returned, faulted, withUnits, stepOf}
 use Rattle.model.specs.Runs.{Mark, mark, Ended, ended, stopped, over, runFor}
 
 -- ---- what a step from s does to the units, the heap and the last result
@@ -67,3 +68,18 @@ By w a m s (stopped n t k) = StoppedBy w a m s n t k
 pub record Marked (m : Mark) (s : State) : Type 0 where
   pub last : m .last ≡ s .last
   pub heap : Grows (m .heap) (s .heap)
+
+-- ---- more units
+
+-- s with d units more
+abbrev pub more : ℕ → State → State
+more d s = withUnits (s .units + d) s
+
+abbrev pub moreEnd : ℕ → Ended → Ended
+moreEnd d (ended b t) = ended b (more d t)
+moreEnd d (stopped n t k) = stopped n (more d t) k
+
+-- an end for which the units were enough
+abbrev pub Paid : Ended → Type 0
+Paid (ended b t) = Unit
+Paid (stopped n t k) = n ≡ f.UnitsSpent → ⊥
