@@ -2,7 +2,6 @@
 use mathlib.Core.Path.{_≡_, refl, ap, _∙_}
 use mathlib.Core.List.{List, [], _∷_, _++_, append-assoc}
 use Prim.Native.Nat.{ℕ}
-use native.Mathlib.Omega.{arith}
 use lib.ListN.{length, take}
 use lib.Seq.{take-append-seam}
 use Rattle.model.specs.declared.Value.{Value}
@@ -10,7 +9,7 @@ use Rattle.model.specs.Heap.{Cell, built, buildOf, blockOf}
 use Rattle.model.specs.Steps.{World, State, Outcome, stepOf}
 use Rattle.cells.proofs.Frame.{grown-of}
 use Rattle.rules.specs.Paths.{Grows, Adds}
-use Rattle.rules.proofs.Does.{Does, fault, spent, full, push, answer, compare, fall, leap, call, build, field, back, home, Stepped, unpaid, unread, ran, step-does}
+use Rattle.rules.proofs.Does.{Does, fault, spent, full, push, answer, compare, fall, leap, call, build, field, back, home, Stepped, unpaid, unread, ran, step-one}
 
 append-nil : {A : Type 0} (l : List A) → l ≡ l ++ []
 append-nil [] = refl
@@ -49,4 +48,4 @@ stepped-adds (unread h n) = (grows-none _, refl)
 stepped-adds (ran i a h l k e d) = does-adds d
 
 pub step-adds : (w : World) (s : State) → Adds (s .heap) (s .last) (stepOf w s)
-step-adds w s = stepped-adds (step-does w s (s .units) (omega arith))
+step-adds w s = stepped-adds (step-one w s)

@@ -1,11 +1,11 @@
 -- All that an instruction can do, and that each does one of these: the one induction over the rules.
 use mathlib.Core.Path.{_≡_, refl, sym, ap, _∙_}
-use mathlib.Core.Bool.{Bool, true, false, not, _&&_, _||_}
+use mathlib.Core.Bool.{Bool, true, false}
 use mathlib.Core.List.{List, [], _∷_, map}
 use mathlib.Core.Option.{Option, none, some}
-use Prim.Native.Nat.{ℕ, zero, suc, _+_, _-_, _*_, _≤_, _<_}
+use Prim.Native.Nat.{ℕ, suc, _+_, _-_, _*_, _≤_, _<_}
 use native.Mathlib.Omega.{arith}
-use borrow.Author.Tests.{ltb-true, ltb-false, leb-true, leb-false, le-leb, eqb-true, eqb-false, ne-eqb}
+use borrow.Author.Tests.{ltb-true, ltb-false, leb-true, eqb-true, eqb-false, ne-eqb}
 use lib.Dec.{ltb, leb, eqb}
 use lib.ListN.{length, getD, drop, length-map}
 use lib.Ieee.{Float}
@@ -23,13 +23,12 @@ use Rattle.model.specs.declared.Found.{Found}
 use Rattle.model.specs.declared.Found.the-variants as g
 use Rattle.model.specs.declared.Frame.{Frame}
 use Rattle.model.specs.Basics.{if_then_else_}
-use Rattle.model.specs.Opcodes.{Opcode, opcodeAt}
 use Rattle.model.specs.Scalars.{zeroDivisor}
-use Rattle.model.specs.Heap.{Cell, Built, built, unbuilt, buildOf, listElements, structFields, fieldOf}
-use Rattle.model.specs.Equality.{Same, same, sameOf, sameBytes}
+use Rattle.model.specs.Heap.{Cell, built, buildOf, listElements, structFields, fieldOf}
+use Rattle.model.specs.Equality.{Same, sameBytes}
 use Rattle.model.specs.Programs.{Function, functionNamed, newestFrom, orElse, wordAt}
-use Rattle.model.specs.Steps.{World, State, Outcome, went, returned, faulted, withStack, withHeap, withLast, withUnits, withFrames, at, position, codeOf, pushing, onFound, constantOf, slotOf, lastOf, loadStep, slotStep, lastStep, negateStep, arithmeticStep, orderingStep, onSame, equalStep, logicStep, notStep, jumpStep, jumpIfFalseStep, enter, callStep, enterNamed, callCallableStep, onBuilt, buildStep, structStep, fieldStep, cut, returnTo, returnStep, execOf, operandsThen, decodedThen, fetched, stepOf}
-use Rattle.rules.proofs.Combinators.{if-each, if-left, popping-each, ifReference-each, ifStruct-each, poppingScalar-each, poppingBoolean-each, onFound-each}
+use Rattle.model.specs.Steps.{World, State, Outcome, went, returned, faulted, withStack, withHeap, withLast, withUnits, withFrames, at, position, codeOf, pushing, onFound, constantOf, slotOf, lastOf, loadStep, slotStep, lastStep, negateStep, arithmeticStep, orderingStep, onSame, equalStep, logicStep, notStep, jumpStep, jumpIfFalseStep, enter, callStep, enterNamed, callCallableStep, buildStep, structStep, fieldStep, cut, returnTo, returnStep, execOf, operandsThen, decodedThen, fetched, stepOf}
+use Rattle.rules.proofs.Combinators.{if-each, if-left, popping-each, ifReference-each, ifStruct-each, poppingScalar-each, poppingBoolean-each, onFound-each, pushing-each, onSame-each, onBuilt-each, enter-each}
 
 -- ---- the words of the table
 
@@ -141,43 +140,27 @@ module _ (w : World) (a : ℕ) (s : State) (u : ℕ) (h : s .units ≤ u) where
   abbrev D : Outcome → Outcome → Type 0
   D = Does w a s u
 
-  pushing-does : {y : Value} → Held w s y → D (pushing w y s) (pushing w y (withUnits u s))
-  unfolding pushing
-  pushing-does g = if-each D (ltb (length (s .stack)) (w .stackRoom)) (λ e. push g (ltb-true _ _ e)) (λ e. fault f.StackFull)
-
   found-does : (x : Found) → ((y : Value) → x ≡ g.Got y → Held w s y) → D (onFound x s (λ y. pushing w y s)) (onFound x (withUnits u s) (λ y. pushing w y (withUnits u s)))
-  found-does x g = onFound-each D x fault (λ y e. pushing-does (g y e))
+  found-does x g = onFound-each D x fault (λ y e. pushing-each D w s u y (fault f.StackFull) (push (g y e)))
 
-  onSame-does : {x : Value} {r : List Value} (t : Bool → Bool) (z : Same) → Below (x ∷ r) (s .stack) → D (onSame t r s z) (onSame t r (withUnits u s) z)
-  unfolding onSame
-  onSame-does t (same b k) l =
-      if-left D (leb k (s .units))
-      (λ e. let z : k ≤ s .units = leb-true _ _ e in rw (le-leb k u (omega arith)) (compare (t b) k l z))
-      (λ e. spent _)
+  same-does : {x : Value} {r : List Value} (t : Bool → Bool) (z : Same) → Below (x ∷ r) (s .stack) → D (onSame t r s z) (onSame t r (withUnits u s) z)
+  same-does t z l = onSame-each D w s u t _ z h spent (λ b k e m. compare (t b) k l m)
 
   enter-does : {r : List Value} (i n : ℕ) → Below r (s .stack) → i < length (w .functions) → D (enter w i n r s) (enter w i n r (withUnits u s))
-  unfolding enter
-  enter-does {r} i n b l =
-      if-each D (ltb (length r) n) (λ e. fault f.TooFewValues) (λ e.
-      if-each D (leb (w .frameRoom) (suc (length (s .callers)))) (λ e'. fault f.FramesFull) (λ e'. call i n b l (ltb-false _ _ e) (leb-false _ _ e')))
+  enter-does i n b l = enter-each D w s u i n _ fault (λ m g. call i n b l m g)
 
   named-does : {r : List Value} (n : ℕ) (x : Option ℕ) → Below r (s .stack) → ((i : ℕ) → x ≡ some i → i < length (w .functions)) → D (enterNamed w n r s x) (enterNamed w n r (withUnits u s) x)
   unfolding enterNamed
   named-does n none b l = fault f.NoFunction
   named-does n (some i) b l = enter-does i n b (l i refl)
 
-  onBuilt-does : {t : ℕ → Value} {elements : ℕ → List Value → List Value} (k n : ℕ) → Makes t elements k → n ≤ length (s .stack)
-      → (x : Built) → buildOf (w .cellRoom) (s .heap) k (elements n (s .stack)) ≡ x
-      → D (onBuilt w t (drop n (s .stack)) s x) (onBuilt w t (drop n (s .stack)) (withUnits u s) x)
-  unfolding onBuilt pushing
-  onBuilt-does k n m l (built H) e =
-      if-each D (ltb (length (drop n (s .stack))) (w .stackRoom))
-      (λ g. build (record { makes = m; enough = l; gives = e }) (ltb-true _ _ g)) (λ g. full (record { makes = m; enough = l; gives = e }))
-  onBuilt-does k n m l (unbuilt x) e = fault x
-
   build-does : {t : ℕ → Value} {elements : ℕ → List Value → List Value} (k n : ℕ) → Makes t elements k → D (buildStep w t elements k n s) (buildStep w t elements k n (withUnits u s))
   unfolding buildStep
-  build-does k n m = if-each D (ltb (length (s .stack)) n) (λ e. fault f.TooFewValues) (λ e. onBuilt-does k n m (ltb-false _ _ e) _ refl)
+  build-does {t} {elements} k n m =
+      if-each D (ltb (length (s .stack)) n) (λ e. fault f.TooFewValues)
+      (λ e. onBuilt-each D w s u t (drop n (s .stack)) (buildOf (w .cellRoom) (s .heap) k (elements n (s .stack))) fault
+      (λ H q. let b : Builds w s t elements k n H = record { makes = m; enough = ltb-false _ _ e; gives = q } in
+      pushing-each D w (withStack (drop n (s .stack)) (withHeap H s)) u (t (length (s .heap))) (full b) (build b)))
 
   return-does : {x : Value} {r : List Value} (cs : List Frame) → Below (x ∷ r) (s .stack) → s .callers ≡ cs → D (returnTo cs x r s) (returnTo cs x r (withUnits u s))
   unfolding returnTo
@@ -211,8 +194,8 @@ module _ (w : World) (a : ℕ) (s : State) (u : ℕ) (h : s .units ≤ u) where
   exec-does o.Negate b = poppingScalar-each D _ fault (λ x r e. answer (top e) (number _))
   exec-does (o.Arithmetic x) b = poppingScalar-each D _ fault (λ j r e. poppingScalar-each D _ fault (λ i q e'. if-each D (zeroDivisor x j) (λ z. fault f.ZeroDivisor) (λ z. answer (second e e') (number _))))
   exec-does (o.Ordering x) b = poppingScalar-each D _ fault (λ j r e. poppingScalar-each D _ fault (λ i q e'. answer (second e e') (truth _)))
-  exec-does o.Equal b = popping-each D _ fault (λ y r e. popping-each D _ fault (λ x q e'. onSame-does _ _ (second e e')))
-  exec-does o.NotEqual b = popping-each D _ fault (λ y r e. popping-each D _ fault (λ x q e'. onSame-does _ _ (second e e')))
+  exec-does o.Equal b = popping-each D _ fault (λ y r e. popping-each D _ fault (λ x q e'. same-does _ _ (second e e')))
+  exec-does o.NotEqual b = popping-each D _ fault (λ y r e. popping-each D _ fault (λ x q e'. same-does _ _ (second e e')))
   exec-does o.LogicalAnd b = poppingBoolean-each D _ fault (λ y r e. poppingBoolean-each D _ fault (λ x q e'. answer (second e e') (truth _)))
   exec-does o.LogicalOr b = poppingBoolean-each D _ fault (λ y r e. poppingBoolean-each D _ fault (λ x q e'. answer (second e e') (truth _)))
   exec-does o.LogicalNeg b = poppingBoolean-each D _ fault (λ x r e. answer (top e) (truth _))
@@ -250,3 +233,7 @@ module _ (w : World) (s : State) (u : ℕ) (h : s .units ≤ u) where
       if-left S (eqb (s .units) 0)
       (λ e. unpaid (eqb-true _ _ e) _)
       (λ e. let z = eqb-false (s .units) 0 e in rw (ne-eqb u 0 (λ q. z (omega arith))) (decoded-stepped (omega arith) _ _))
+
+-- of one outcome alone
+pub step-one : (w : World) (s : State) → Stepped w s (s .units) (stepOf w s) (stepOf w s)
+step-one w s = step-does w s (s .units) (omega arith)

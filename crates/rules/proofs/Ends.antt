@@ -3,12 +3,10 @@ use mathlib.Core.Path.{_≡_, refl}
 use mathlib.Core.Bool.{Bool, true, false}
 use Prim.Native.Nat.{ℕ, zero, suc, _<_}
 use native.Mathlib.Omega.{arith}
-use Rattle.model.specs.declared.Value.{Value}
 use Rattle.model.specs.declared.Last.{Last}
 use Rattle.model.specs.declared.Last.the-variants.{Nothing, Is}
-use Rattle.model.specs.declared.Fault.{Fault}
 use Rattle.model.specs.Steps.{World, State, Outcome, went, returned, faulted, stepOf}
-use Rattle.model.specs.Runs.{Mark, mark, Ended, ended, stopped, over, next, turn, runFor, endOf}
+use Rattle.model.specs.Runs.{Mark, mark, Ended, ended, over, next, turn, runFor, endOf}
 use Rattle.rules.specs.Paths.{Spends, endFrom}
 use Rattle.rules.proofs.Spends.{step-spends}
 

@@ -1,28 +1,22 @@
 -- A step keeps good order.
-use mathlib.Core.Path.{_≡_, refl, sym, ap, subst, _∙_}
-use mathlib.Core.Bool.{Bool, true, false, _&&_}
+use mathlib.Core.Path.{_≡_, refl, ap, subst}
+use mathlib.Core.Bool.{true, false}
 use mathlib.Core.List.{List, [], _∷_}
-use Prim.Native.Nat.{ℕ, zero, suc, _+_, _-_, _*_, _≤_, _<_}
+use Prim.Native.Nat.{ℕ, zero, suc, _-_, _≤_, _<_}
 use native.Mathlib.Omega.{arith}
 use borrow.Author.Tests.{lt-ltb, leb-false}
-use lib.Dec.{ltb, leb}
 use lib.ListN.{length, getD, drop, length-drop}
 use Rattle.model.specs.declared.Value.{Value}
-use Rattle.model.specs.declared.Value.the-variants as v
-use Rattle.model.specs.declared.Last.{Last}
-use Rattle.model.specs.declared.Last.the-variants.{Nothing, Is}
-use Rattle.model.specs.declared.Fault.{Fault}
 use Rattle.model.specs.declared.Frame.{Frame}
-use Rattle.model.specs.Heap.{Cell, heapOk}
+use Rattle.model.specs.Heap.{Cell}
 use Rattle.model.specs.Programs.{Function, functionAt, wordAt}
-use Rattle.model.specs.Steps.{World, State, Outcome, went, returned, faulted, withStack, withHeap, withLast, withUnits, withFrames, at, position, codeOf, cut, stepOf}
+use Rattle.model.specs.Steps.{World, State, Outcome, went, returned, faulted, withStack, withHeap, withUnits, at, position, codeOf, cut, stepOf}
 use Rattle.model.specs.Runs.{over, traceable}
 use Rattle.cells.proofs.Order.{Placed}
-use Rattle.rules.specs.Sane.{AllPlaced, LastPlaced, CodesFit, SaneWorld, FrameFits, CallerFits, CallersFit, Rooted, Sane, SameFrames, Returns, Faults, Kept}
-use Rattle.rules.specs.Paths.{Grows}
-use Rattle.rules.proofs.Does.{Below, here, under, truth, Held, constant, slot, last, Builds, Does, fault, spent, full, push, answer, compare, fall, leap, call, build, field, back, home, fetchedAt, Stepped, unpaid, unread, ran, step-does}
+use Rattle.rules.specs.Sane.{AllPlaced, LastPlaced, CodesFit, SaneWorld, CallerFits, CallersFit, Rooted, Sane, Faults, Kept}
+use Rattle.rules.proofs.Does.{Below, here, under, truth, Held, constant, slot, last, Does, fault, spent, full, push, answer, compare, fall, leap, call, build, field, back, home, fetchedAt, Stepped, unpaid, unread, ran, step-one}
 use Rattle.rules.proofs.Adds.{built-grows}
-use Rattle.rules.proofs.Placed.{grows-placed, plain-placed, all-at, all-below, all-drop, all-grows, last-grows, Made, built-made, field-placed}
+use Rattle.rules.proofs.Placed.{grows-placed, plain-placed, all-at, all-below, all-drop, all-grows, last-grows, built-made, field-placed}
 
 -- ---- lengths and numbers
 
@@ -67,7 +61,12 @@ module _ (w : World) (s : State) (sane : Sane w s) where
   -- another stack, another position, other units
   stacked : (n i : ℕ) (vs : List Value) → i ≤ 131070 → length vs ≤ w .stackRoom → AllPlaced (length (w .text)) (s .heap) vs → Sane w (withStack vs (at i (withUnits n s)))
   stacked n i vs p l a = record {
-    stack = l; frames = sane .frames; cells = sane .cells; heap = sane .heap; placed = a; last = sane .last;
+    stack = l;
+    frames = sane .frames;
+    cells = sane .cells;
+    heap = sane .heap;
+    placed = a;
+    last = sane .last;
     frame = record { known = sane .frame .known; base = sane .frame .base; position = p };
     callers = sane .callers;
     root = rooted-at (s .frame) i (s .callers) (sane .root);
@@ -117,7 +116,12 @@ module _ (w : World) (good : SaneWorld w) (s : State) (sane : Sane w s) (ready :
   does-kept h (fall b) = popped (s .units) (position s) _ (sane .frame .position) (below-length b) (all-below text (s .heap) b (sane .placed))
   does-kept h (leap b) = popped (s .units) _ _ (let z = short in omega arith) (below-length b) (all-below text (s .heap) b (sane .placed))
   does-kept h (call i n b l m g) = let z = below-length b in let y = sane .stack in record {
-    stack = omega arith; frames = g; cells = sane .cells; heap = sane .heap; placed = all-below text (s .heap) b (sane .placed); last = sane .last;
+    stack = omega arith;
+    frames = g;
+    cells = sane .cells;
+    heap = sane .heap;
+    placed = all-below text (s .heap) b (sane .placed);
+    last = sane .last;
     frame = record { known = l; base = omega arith; position = omega arith };
     callers = (ready, sane .callers);
     root = sane .root;
@@ -126,10 +130,15 @@ module _ (w : World) (good : SaneWorld w) (s : State) (sane : Sane w s) (ready :
       let m = built-made text (sane .heap) (sane .placed) b in
       let g = built-grows _ _ _ _ (b .gives) in
       record {
-        stack = l; frames = sane .frames; cells = m .fits; heap = m .good;
+        stack = l;
+        frames = sane .frames;
+        cells = m .fits;
+        heap = m .good;
         placed = (m .placed, all-drop text H n (s .stack) (all-grows text g (s .stack) (sane .placed)));
         last = last-grows text g (s .last) (sane .last);
-        frame = sane .frame; callers = sane .callers; root = sane .root;
+        frame = sane .frame;
+        callers = sane .callers;
+        root = sane .root;
       }
   does-kept h (field p i b e) = popped (s .units) (position s) _ (sane .frame .position) (below-length b) (field-placed text (s .heap) (sane .heap) p i (first b) e, rest b)
   does-kept h (back {r = r} {c = c} {cs = cs} b e) =
@@ -138,14 +147,27 @@ module _ (w : World) (good : SaneWorld w) (s : State) (sane : Sane w s) (ready :
       let z : length (s .callers) ≡ suc (length cs) = ap length e in
       let y = below-length b in let x = sane .stack in let n = drop-length (length r - s .frame .base) r in
       record {
-        stack = omega arith; frames = let f = sane .frames in omega arith; cells = sane .cells; heap = sane .heap;
+        stack = omega arith;
+        frames = let f = sane .frames in omega arith;
+        cells = sane .cells;
+        heap = sane .heap;
         placed = (first b, all-drop text (s .heap) (length r - s .frame .base) r (rest b));
-        last = sane .last; frame = all .0 .frame; callers = all .1; root = root;
+        last = sane .last;
+        frame = all .0 .frame;
+        callers = all .1;
+        root = root;
       }
   does-kept h (home {r = r} b e) = record {
     sane = record {
-      stack = let y = below-length b in let x = sane .stack in omega arith; frames = sane .frames; cells = sane .cells; heap = sane .heap;
-      placed = rest b; last = first b; frame = sane .frame; callers = sane .callers; root = sane .root;
+      stack = let y = below-length b in let x = sane .stack in omega arith;
+      frames = sane .frames;
+      cells = sane .cells;
+      heap = sane .heap;
+      placed = rest b;
+      last = first b;
+      frame = sane .frame;
+      callers = sane .callers;
+      root = sane .root;
     };
     last = refl;
     frames = record { function = refl; base = refl; callers = refl };
@@ -180,4 +202,4 @@ module _ (w : World) (good : SaneWorld w) (s : State) (sane : Sane w s) (l : pos
 
 pub step-keeps : (w : World) (s : State) → SaneWorld w → Sane w s → over w s ≡ false → Kept w s (stepOf w s)
 unfolding over
-step-keeps w s good sane o = stepped-kept w good s sane (leb-false _ _ o) (step-does w s (s .units) (omega arith))
+step-keeps w s good sane o = stepped-kept w good s sane (leb-false _ _ o) (step-one w s)

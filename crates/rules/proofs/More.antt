@@ -2,17 +2,15 @@
 use mathlib.Core.Path.{_≡_, refl, sym, ap, subst, _∙_}
 use mathlib.Core.Bool.{Bool, true, false}
 use mathlib.Core.List.{List, _∷_}
-use Prim.Native.Nat.{ℕ, suc, _+_, _-_, _≤_}
+use Prim.Native.Nat.{ℕ, _+_, _-_}
 use native.Mathlib.Omega.{arith}
-use Rattle.model.specs.declared.Value.{Value}
 use Rattle.model.specs.declared.Last.{Last}
-use Rattle.model.specs.declared.Last.the-variants.{Nothing, Is}
-use Rattle.model.specs.declared.Fault.{Fault}
+use Rattle.model.specs.declared.Last.the-variants.{Nothing}
 use Rattle.model.specs.declared.Fault.the-variants as f
 use Rattle.model.specs.Values.{faultNumber}
-use Rattle.model.specs.Steps.{World, State, Outcome, went, returned, faulted, withUnits, codeOf, stepOf}
-use Rattle.model.specs.Runs.{Machine, begin, Mark, mark, Ended, ended, stopped, over, endOf, Entry, traceOf, Reply, fault as faulting, settle, runOf}
-use Rattle.rules.specs.Paths.{endFrom, Steps, none, on, ret, EndedBy, StoppedBy, By, more, moreEnd, Paid}
+use Rattle.model.specs.Steps.{World, State, Outcome, went, returned, faulted, codeOf, stepOf}
+use Rattle.model.specs.Runs.{Machine, begin, Mark, mark, Ended, ended, stopped, over, endOf, Entry, traceOf, fault as faulting, settle, runOf}
+use Rattle.rules.specs.Paths.{endFrom, Steps, none, on, ret, By, more, moreEnd, Paid}
 use Rattle.rules.proofs.Does.{Does, fault, spent, full, push, answer, compare, fall, leap, call, build, field, back, home, Stepped, unpaid, unread, ran, step-does}
 use Rattle.rules.proofs.Ends.{end-of}
 use Rattle.rules.proofs.Paths.{run-by, path-run}
@@ -59,7 +57,10 @@ module _ (w : World) (d : ℕ) where
   by-more : (a : Last) (m : Mark) (s : State) (e : Ended) → Paid e → By w a m s e → By w a m (more d s) (moreEnd d e)
   by-more a m s (ended b t) h r = record { steps = r .steps; kept = r .kept; path = path-more (r .path); over = over-more t true (r .over) }
   by-more a m s (stopped n t k) h r = record {
-    steps = r .steps; answer = r .answer; at = more d (r .at); path = path-more (r .path);
+    steps = r .steps;
+    answer = r .answer;
+    at = more d (r .at);
+    path = path-more (r .path);
     goes-on = over-more (r .at) false (r .goes-on);
     stops = subst (λ (x : Outcome). More d x (stepOf w (more d (r .at)))) (r .stops) (step-more w (r .at) d) h;
   }

@@ -5,12 +5,11 @@ use Prim.Native.Nat.{ℕ, zero, suc, _+_, _≤_, _<_}
 use native.Mathlib.Omega.{arith}
 use Rattle.model.specs.declared.Value.{Value}
 use Rattle.model.specs.declared.Last.{Last}
-use Rattle.model.specs.declared.Last.the-variants.{Nothing, Is}
-use Rattle.model.specs.declared.Fault.{Fault}
+use Rattle.model.specs.declared.Last.the-variants.{Is}
 use Rattle.model.specs.Steps.{World, State, Outcome, went, returned, faulted, stepOf}
 use Rattle.model.specs.Runs.{Mark, mark, Ended, ended, stopped, over, next, turn, runFor}
-use Rattle.rules.specs.Paths.{Spends, Grows, Adds, endFrom, Steps, none, on, ret, EndedBy, StoppedBy, By, Marked}
-use Rattle.rules.proofs.Spends.{step-spends, went-spends, returned-spends}
+use Rattle.rules.specs.Paths.{Grows, Adds, endFrom, Steps, none, on, ret, By, Marked}
+use Rattle.rules.proofs.Spends.{went-spends, returned-spends}
 use Rattle.rules.proofs.Adds.{grows-none, grows-on, step-adds}
 use Rattle.rules.proofs.Ends.{end-over, end-step}
 

@@ -1,21 +1,17 @@
 -- Values stay placed: what pops leave of a stack, what cells behind a heap change, what a build and a field give.
-use mathlib.Core.Path.{_≡_, refl, sym, ap, subst, _∙_}
-use mathlib.Core.Bool.{Bool, true, false}
-use mathlib.Core.List.{List, [], _∷_, _++_, reverse, reverseAux}
-use Prim.Native.Nat.{ℕ, zero, suc, _+_, _-_, _≤_, _<_}
+use mathlib.Core.Path.{_≡_, refl, sym}
+use mathlib.Core.Bool.{true, false}
+use mathlib.Core.List.{List, [], _∷_, _++_, reverseAux}
+use Prim.Native.Nat.{ℕ, zero, suc, _≤_, _<_}
 use native.Mathlib.Omega.{arith}
 use borrow.Author.Tests.{ltb-true}
-use lib.Dec.{ltb}
 use lib.ListN.{length, getD, take, drop, length-append}
 use Rattle.model.specs.declared.Value.{Value}
 use Rattle.model.specs.declared.Value.the-variants as v
-use Rattle.model.specs.declared.Fault.the-variants as f
-use Rattle.model.specs.declared.Found.{Found}
 use Rattle.model.specs.declared.Found.the-variants as g
 use Rattle.model.specs.declared.Last.{Last}
 use Rattle.model.specs.declared.Last.the-variants.{Nothing, Is}
-use Rattle.model.specs.Basics.{if_then_else_}
-use Rattle.model.specs.Heap.{Cell, built, buildOf, listElements, structFields, fieldOf, headIn, itemIn, heapOk, placedBelow}
+use Rattle.model.specs.Heap.{Cell, listElements, structFields, fieldOf, headIn, heapOk, placedBelow}
 use Rattle.model.specs.Steps.{World, State}
 use Rattle.cells.proofs.Order.{Every, nil, cons, Placed, placed-more, struct-of, good-of}
 use Rattle.cells.proofs.Frame.{placed-frame, length-new, Keeps, build-good, grown-of}

@@ -1,21 +1,18 @@
 -- A run keeps good order, whether it ends or faults.
-use mathlib.Core.Path.{_≡_, refl, sym, ap, subst, _∙_}
-use mathlib.Core.Bool.{Bool, true, false}
-use mathlib.Core.List.{List, [], _∷_}
-use Prim.Native.Nat.{ℕ, suc, _≤_, _<_}
+use mathlib.Core.Path.{_≡_, refl, sym, subst, _∙_}
+use mathlib.Core.Bool.{true, false}
+use mathlib.Core.List.{_∷_}
+use Prim.Native.Nat.{ℕ}
 use native.Mathlib.Omega.{arith}
 use lib.ListN.{length}
 use Rattle.model.specs.declared.Value.{Value}
 use Rattle.model.specs.declared.Last.{Last}
-use Rattle.model.specs.declared.Last.the-variants.{Nothing, Is}
+use Rattle.model.specs.declared.Last.the-variants.{Nothing}
 use Rattle.model.specs.declared.Fault.{Fault}
-use Rattle.model.specs.Heap.{Cell}
-use Rattle.model.specs.Programs.{functionAt}
-use Rattle.model.specs.Steps.{World, State, Outcome, went, returned, faulted, stepOf}
-use Rattle.model.specs.Runs.{Machine, begin, machineOf, Mark, mark, Ended, ended, stopped, over, endOf, traceable, recovered, settle, runOf}
+use Rattle.model.specs.Steps.{World, State, went, returned, stepOf}
+use Rattle.model.specs.Runs.{Machine, begin, Mark, mark, Ended, ended, stopped, over, endOf, traceable, recovered, settle, runOf}
 use Rattle.rules.specs.Sane.{SaneWorld, CallersFit, Rooted, Sane, SaneMark, Returns, Faults, Kept}
-use Rattle.rules.specs.Paths.{Grows, Adds, endFrom, Steps, none, on, ret, EndedBy, StoppedBy, By, Marked}
-use Rattle.rules.proofs.Adds.{grows-none, grows-on, step-adds}
+use Rattle.rules.specs.Paths.{Grows, endFrom, Steps, none, on, ret, EndedBy, StoppedBy}
 use Rattle.rules.proofs.Ends.{end-of}
 use Rattle.rules.proofs.Paths.{run-path, marked, mark-grows}
 use Rattle.rules.proofs.Placed.{all-grows}
@@ -24,8 +21,15 @@ use Rattle.rules.proofs.Keeps.{code-fits, step-keeps}
 -- good order does not ask for the units
 pub other-units : {w : World} {m : Machine} {u : ℕ} (n : ℕ) → Sane w (begin m u) → Sane w (begin m n)
 other-units n s = record {
-  stack = s .stack; frames = s .frames; cells = s .cells; heap = s .heap; placed = s .placed; last = s .last;
-  frame = s .frame; callers = s .callers; root = s .root;
+  stack = s .stack;
+  frames = s .frames;
+  cells = s .cells;
+  heap = s .heap;
+  placed = s .placed;
+  last = s .last;
+  frame = s .frame;
+  callers = s .callers;
+  root = s .root;
 }
 
 pub mark-sane : {w : World} {s : State} → Sane w s → SaneMark w (mark s)
@@ -69,7 +73,8 @@ module _ (w : World) (good : SaneWorld w) where
   recover-sane m u n k h g l = record {
     stack = h .stack;
     frames = let z = h .frames in omega arith;
-    cells = g .cells; heap = g .heap;
+    cells = g .cells;
+    heap = g .heap;
     placed = all-grows (length (w .text)) l (m .stack) (h .placed);
     last = g .last;
     frame = record {

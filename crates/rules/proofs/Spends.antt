@@ -1,18 +1,14 @@
 -- Every step that completes spends a unit, and without units there is none.
-use mathlib.Core.Path.{_≡_, refl, subst}
-use mathlib.Core.Bool.{Bool}
-use mathlib.Core.List.{List, _++_}
-use Prim.Native.Nat.{ℕ, suc, _-_, _≤_, _<_}
+use mathlib.Core.Path.{_≡_, subst}
+use Prim.Native.Nat.{ℕ, _-_, _≤_, _<_}
 use native.Mathlib.Omega.{arith}
 use borrow.Author.Tests.{eq-eqb}
-use lib.Dec.{eqb}
 use Rattle.model.specs.declared.Value.{Value}
 use Rattle.model.specs.declared.Fault.{Fault}
 use Rattle.model.specs.declared.Fault.the-variants as f
-use Rattle.model.specs.Basics.{if_then_else_}
 use Rattle.model.specs.Steps.{World, State, Outcome, went, returned, faulted, stepOf}
 use Rattle.rules.specs.Paths.{Spends}
-use Rattle.rules.proofs.Does.{Does, fault, spent, full, push, answer, compare, fall, leap, call, build, field, back, home, Stepped, unpaid, unread, ran, step-does}
+use Rattle.rules.proofs.Does.{Does, fault, spent, full, push, answer, compare, fall, leap, call, build, field, back, home, Stepped, unpaid, unread, ran, step-one}
 
 -- at most n units are left
 abbrev Left : ℕ → Outcome → Type 0
@@ -46,7 +42,7 @@ stepped-spends (unread h n) = omega arith
 stepped-spends {s = s} {x = x} (ran i a h l k e d) = left-spends s h x (does-left d)
 
 pub step-spends : (w : World) (s : State) → Spends s (stepOf w s)
-step-spends w s = stepped-spends (step-does w s (s .units) (omega arith))
+step-spends w s = stepped-spends (step-one w s)
 
 pub went-spends : (w : World) (s : State) {s' : State} → stepOf w s ≡ went s' → s' .units < s .units
 went-spends w s e = subst (Spends s) e (step-spends w s)

@@ -1,13 +1,12 @@
 -- What good order says of a running machine, over the rules' own records.
 use mathlib.Core.Path.{_≡_}
-use mathlib.Core.Bool.{Bool, true}
+use mathlib.Core.Bool.{true}
 use mathlib.Core.List.{List, [], _∷_}
 use Prim.Native.Nat.{ℕ, suc, _≤_, _<_}
 use lib.ListN.{length, getD}
 use Rattle.model.specs.declared.Value.{Value}
 use Rattle.model.specs.declared.Last.{Last}
 use Rattle.model.specs.declared.Last.the-variants.{Nothing, Is}
-use Rattle.model.specs.declared.Fault.{Fault}
 use Rattle.model.specs.declared.Frame.{Frame}
 use Rattle.model.specs.Heap.{Cell, heapOk, placedBelow}
 use Rattle.model.specs.Programs.{Function, functionAt}
