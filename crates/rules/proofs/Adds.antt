@@ -27,7 +27,7 @@ grows-take {H} g = rw (g .is) (take-append-seam H (g .more))
 pub built-grows : (room : ℕ) (H : List Cell) (k : ℕ) (us : List Value) {H' : List Cell} → buildOf room H k us ≡ built H' → Grows H H'
 built-grows room H k us {H'} e = record { more = blockOf H k us; is = grown-of room H k us H' e .is }
 
-does-adds : {w : World} {a : ℕ} {s : State} {u : ℕ} {x y : Outcome} → Does w a s u x y → Adds (s .heap) (s .last) x
+does-adds : {w : World} {a : ℕ} {s t : State} {x y : Outcome} → Does w a s t x y → Adds (s .heap) (s .last) x
 does-adds (fault n) = (grows-none _, refl)
 does-adds (spent x) = (grows-none _, refl)
 does-adds (full b) = (built-grows _ _ _ _ (b .gives), refl)
@@ -42,7 +42,7 @@ does-adds (field p i b e) = (grows-none _, refl)
 does-adds (back b e) = (grows-none _, refl)
 does-adds (home b e) = (refl, refl)
 
-stepped-adds : {w : World} {s : State} {u : ℕ} {x y : Outcome} → Stepped w s u x y → Adds (s .heap) (s .last) x
+stepped-adds : {w : World} {s t : State} {x y : Outcome} → Stepped w s t x y → Adds (s .heap) (s .last) x
 stepped-adds (unpaid e x) = (grows-none _, refl)
 stepped-adds (unread h n) = (grows-none _, refl)
 stepped-adds (ran i a h l k e d) = does-adds d

@@ -54,51 +54,50 @@ pub data Makes : (ℕ → Value) → (ℕ → List Value → List Value) → ℕ
   struct : (k : ℕ) → Makes v.StructInstance structFields k
 
 -- a build of the top n values that gives the heap H
-pub record Builds (w : World) (s : State) (t : ℕ → Value) (elements : ℕ → List Value → List Value) (k n : ℕ) (H : List Cell) : Type 0 where
-  pub makes : Makes t elements k
+pub record Builds (w : World) (s : State) (c : ℕ → Value) (elements : ℕ → List Value → List Value) (k n : ℕ) (H : List Cell) : Type 0 where
+  pub makes : Makes c elements k
   pub enough : n ≤ length (s .stack)
   pub gives : buildOf (w .cellRoom) (s .heap) k (elements n (s .stack)) ≡ built H
 
--- ---- what an instruction with the operand a does from s; and, beside it, from s with u units instead, where u is not less
-pub data Does (w : World) (a : ℕ) (s : State) (u : ℕ) : Outcome → Outcome → Type 0 where
-  fault : (n : Fault) → Does w a s u (faulted n s) (faulted n (withUnits u s))
+-- ---- THE TABLE: what an instruction with the operand a does from s; and, beside it, from t, which is s with as many units or more
+pub data Does (w : World) (a : ℕ) (s t : State) : Outcome → Outcome → Type 0 where
+  fault : (n : Fault) → Does w a s t (faulted n s) (faulted n t)
   -- a comparison for which s has too few units
-  spent : (x : Outcome) → Does w a s u (faulted f.UnitsSpent (withUnits 0 s)) x
+  spent : (x : Outcome) → Does w a s t (faulted f.UnitsSpent (withUnits 0 s)) x
   -- a build with no room for its value
-  full : {t : ℕ → Value} {elements : ℕ → List Value → List Value} {k n : ℕ} {H : List Cell} → Builds w s t elements k n H
-      → Does w a s u (faulted f.StackFull (withStack (drop n (s .stack)) (withHeap H s))) (faulted f.StackFull (withStack (drop n (s .stack)) (withHeap H (withUnits u s))))
-  push : {y : Value} → Held w s y → length (s .stack) < w .stackRoom → Does w a s u (went (withStack (y ∷ s .stack) s)) (went (withStack (y ∷ s .stack) (withUnits u s)))
+  full : {c : ℕ → Value} {elements : ℕ → List Value → List Value} {k n : ℕ} {H : List Cell} → Builds w s c elements k n H
+      → Does w a s t (faulted f.StackFull (withStack (drop n (s .stack)) (withHeap H s))) (faulted f.StackFull (withStack (drop n (s .stack)) (withHeap H t)))
+  push : {y : Value} → Held w s y → length (s .stack) < w .stackRoom → Does w a s t (went (withStack (y ∷ s .stack) s)) (went (withStack (y ∷ s .stack) t))
   -- the value x and those above it become y
-  answer : {x y : Value} {r : List Value} → Below (x ∷ r) (s .stack) → Plain y → Does w a s u (went (withStack (y ∷ r) s)) (went (withStack (y ∷ r) (withUnits u s)))
+  answer : {x y : Value} {r : List Value} → Below (x ∷ r) (s .stack) → Plain y → Does w a s t (went (withStack (y ∷ r) s)) (went (withStack (y ∷ r) t))
   compare : {x : Value} {r : List Value} (b : Bool) (k : ℕ) → Below (x ∷ r) (s .stack) → k ≤ s .units
-      → Does w a s u (went (withStack (v.Boolean b ∷ r) (withUnits (s .units - k) s))) (went (withStack (v.Boolean b ∷ r) (withUnits (u - k) s)))
-  fall : {r : List Value} → Below r (s .stack) → Does w a s u (went (withStack r s)) (went (withStack r (withUnits u s)))
-  leap : {r : List Value} → Below r (s .stack) → Does w a s u (went (withStack r (at (position s + a) s))) (went (withStack r (at (position s + a) (withUnits u s))))
+      → Does w a s t (went (withStack (v.Boolean b ∷ r) (withUnits (s .units - k) s))) (went (withStack (v.Boolean b ∷ r) (withUnits (t .units - k) t)))
+  fall : {r : List Value} → Below r (s .stack) → Does w a s t (went (withStack r s)) (went (withStack r t))
+  leap : {r : List Value} → Below r (s .stack) → Does w a s t (went (withStack r (at (position s + a) s))) (went (withStack r (at (position s + a) t)))
   call : {r : List Value} (i n : ℕ) → Below r (s .stack) → i < length (w .functions) → n ≤ length r → suc (length (s .callers)) < w .frameRoom
-      → Does w a s u (went (withStack r (withFrames (record { function = i; position = 0; base = length r - n }) (s .frame ∷ s .callers) s)))
-      (went (withStack r (withFrames (record { function = i; position = 0; base = length r - n }) (s .frame ∷ s .callers) (withUnits u s))))
-  build : {t : ℕ → Value} {elements : ℕ → List Value → List Value} {k n : ℕ} {H : List Cell} → Builds w s t elements k n H → length (drop n (s .stack)) < w .stackRoom
-      → Does w a s u (went (withStack (t (length (s .heap)) ∷ drop n (s .stack)) (withHeap H s))) (went (withStack (t (length (s .heap)) ∷ drop n (s .stack)) (withHeap H (withUnits u s))))
+      → Does w a s t (went (withStack r (withFrames (record { function = i; position = 0; base = length r - n }) (s .frame ∷ s .callers) s)))
+      (went (withStack r (withFrames (record { function = i; position = 0; base = length r - n }) (s .frame ∷ s .callers) t)))
+  build : {c : ℕ → Value} {elements : ℕ → List Value → List Value} {k n : ℕ} {H : List Cell} → Builds w s c elements k n H → length (drop n (s .stack)) < w .stackRoom
+      → Does w a s t (went (withStack (c (length (s .heap)) ∷ drop n (s .stack)) (withHeap H s))) (went (withStack (c (length (s .heap)) ∷ drop n (s .stack)) (withHeap H t)))
   field : {x : Value} {r : List Value} (p i : ℕ) → Below (v.StructInstance p ∷ r) (s .stack) → fieldOf (s .heap) p i ≡ g.Got x
-      → Does w a s u (went (withStack (x ∷ r) s)) (went (withStack (x ∷ r) (withUnits u s)))
+      → Does w a s t (went (withStack (x ∷ r) s)) (went (withStack (x ∷ r) t))
   back : {x : Value} {r : List Value} {c : Frame} {cs : List Frame} → Below (x ∷ r) (s .stack) → s .callers ≡ c ∷ cs
-      → Does w a s u (went (withStack (x ∷ cut (s .frame .base) r) (withFrames c cs s))) (went (withStack (x ∷ cut (s .frame .base) r) (withFrames c cs (withUnits u s))))
-  home : {x : Value} {r : List Value} → Below (x ∷ r) (s .stack) → s .callers ≡ []
-      → Does w a s u (returned x (withLast x (withStack r s))) (returned x (withLast x (withStack r (withUnits u s))))
+      → Does w a s t (went (withStack (x ∷ cut (s .frame .base) r) (withFrames c cs s))) (went (withStack (x ∷ cut (s .frame .base) r) (withFrames c cs t)))
+  home : {x : Value} {r : List Value} → Below (x ∷ r) (s .stack) → s .callers ≡ [] → Does w a s t (returned x (withLast x (withStack r s))) (returned x (withLast x (withStack r t)))
 
--- the opcode of s has been fetched
+-- one unit is paid, and the position is i
 abbrev pub fetchedAt : ℕ → State → State
 fetchedAt i s = at i (withUnits (s .units - 1) s)
 
--- what a step does from s; and, beside it, from s with u units
-pub data Stepped (w : World) (s : State) (u : ℕ) : Outcome → Outcome → Type 0 where
+-- what a step does from s; and, beside it, from t
+pub data Stepped (w : World) (s t : State) : Outcome → Outcome → Type 0 where
   -- no unit is left
-  unpaid : s .units ≡ 0 → (x : Outcome) → Stepped w s u (faulted f.UnitsSpent s) x
+  unpaid : s .units ≡ 0 → (x : Outcome) → Stepped w s t (faulted f.UnitsSpent s) x
   -- no instruction, or not all of it
-  unread : 1 ≤ s .units → (n : Fault) → Stepped w s u (faulted n (fetchedAt (suc (position s)) s)) (faulted n (fetchedAt (suc (position s)) (withUnits u s)))
+  unread : 1 ≤ s .units → (n : Fault) → Stepped w s t (faulted n (fetchedAt (suc (position s)) s)) (faulted n (fetchedAt (suc (position s)) t))
   -- an instruction whose operands end at i, the first of them a
   ran : {x y : Outcome} (i a : ℕ) → 1 ≤ s .units → suc (position s) ≤ i → i ≤ length (codeOf w s) → a ≡ wordAt (codeOf w s) (suc (position s))
-      → Does w a (fetchedAt i s) (u - 1) x y → Stepped w s u x y
+      → Does w a (fetchedAt i s) (fetchedAt i t) x y → Stepped w s t x y
 
 -- ---- pops
 
@@ -138,7 +137,7 @@ got false x y n e = absurd (let z : _≡_ {A = ℕ} 0 1 = cc in let y : ⊥ = om
 
 module _ (w : World) (a : ℕ) (s : State) (u : ℕ) (h : s .units ≤ u) where
   abbrev D : Outcome → Outcome → Type 0
-  D = Does w a s u
+  D = Does w a s (withUnits u s)
 
   found-does : (x : Found) → ((y : Value) → x ≡ g.Got y → Held w s y) → D (onFound x s (λ y. pushing w y s)) (onFound x (withUnits u s) (λ y. pushing w y (withUnits u s)))
   found-does x g = onFound-each D x fault (λ y e. pushing-each D w s u y (fault f.StackFull) (push (g y e)))
@@ -184,7 +183,7 @@ module _ (w : World) (a : ℕ) (s : State) (u : ℕ) (h : s .units ≤ u) where
   last-held Nothing q y e = absurd (let z : _≡_ {A = ℕ} 0 1 = cc in let y : ⊥ = omega arith in y)
   last-held (Is x) q y e = last (let z : x ≡ y = cc in q ∙ ap Is z)
 
-  -- THE TABLE: a line for each opcode
+  -- a line for each opcode
   pub exec-does : (p : Op) (b : ℕ) → D (execOf w p a b s) (execOf w p a b (withUnits u s))
   unfolding execOf loadStep slotStep lastStep negateStep arithmeticStep orderingStep equalStep logicStep notStep jumpStep jumpIfFalseStep callStep callCallableStep structStep fieldStep returnStep
   exec-does o.LoadConstant b = found-does _ (constant-held a)
@@ -210,7 +209,7 @@ module _ (w : World) (a : ℕ) (s : State) (u : ℕ) (h : s .units ≤ u) where
 
 module _ (w : World) (s : State) (u : ℕ) (h : s .units ≤ u) where
   abbrev S : Outcome → Outcome → Type 0
-  S = Stepped w s u
+  S = Stepped w s (withUnits u s)
 
   operands-stepped : 1 ≤ s .units → (p : Op) (n : ℕ) → S (operandsThen w p n (fetchedAt (suc (position s)) s)) (operandsThen w p n (fetchedAt (suc (position s)) (withUnits u s)))
   unfolding operandsThen codeOf
@@ -234,6 +233,6 @@ module _ (w : World) (s : State) (u : ℕ) (h : s .units ≤ u) where
       (λ e. unpaid (eqb-true _ _ e) _)
       (λ e. let z = eqb-false (s .units) 0 e in rw (ne-eqb u 0 (λ q. z (omega arith))) (decoded-stepped (omega arith) _ _))
 
--- of one outcome alone
-pub step-one : (w : World) (s : State) → Stepped w s (s .units) (stepOf w s) (stepOf w s)
+-- the same, where one outcome is all that is asked for
+pub step-one : (w : World) (s : State) → Stepped w s s (stepOf w s) (stepOf w s)
 step-one w s = step-does w s (s .units) (omega arith)

@@ -21,13 +21,13 @@ More d (went s) y = y ≡ went (more d s)
 More d (returned x s) y = y ≡ returned x (more d s)
 More d (faulted n s) y = (n ≡ f.UnitsSpent → ⊥) → y ≡ faulted n (more d s)
 
-does-more : {w : World} {a : ℕ} {s : State} {u : ℕ} {x y : Outcome} (d : ℕ) → u ≡ s .units + d → Does w a s u x y → More d x y
+does-more : {w : World} {a : ℕ} {s t : State} {x y : Outcome} (d : ℕ) → t ≡ more d s → Does w a s t x y → More d x y
 does-more d e (fault n) = λ h. rw e
 does-more d e (spent x) = λ h. absurd (h refl)
 does-more d e (full b) = λ h. rw e
 does-more d e (push h l) = rw e
 does-more d e (answer b p) = rw e
-does-more {s = s} {u = u} d e (compare b k l h) = let z : u - k ≡ s .units - k + d = omega arith in rw z
+does-more {s = s} d e (compare b k l h) = let z : s .units + d - k ≡ s .units - k + d = omega arith in rw (e, z)
 does-more d e (fall b) = rw e
 does-more d e (leap b) = rw e
 does-more d e (call i n b l h g) = rw e
@@ -36,13 +36,13 @@ does-more d e (field p i b h) = rw e
 does-more d e (back b h) = rw e
 does-more d e (home b h) = rw e
 
-stepped-more : {w : World} {s : State} {u : ℕ} {x y : Outcome} (d : ℕ) → u ≡ s .units + d → Stepped w s u x y → More d x y
-stepped-more d e (unpaid q x) = λ h. absurd (h refl)
-stepped-more {s = s} {u = u} d e (unread l n) = λ h. let z : u - 1 ≡ s .units - 1 + d = omega arith in rw z
-stepped-more d e (ran i a h l k q z) = does-more d (omega arith) z
+stepped-more : {w : World} {s : State} {x y : Outcome} (d : ℕ) → Stepped w s (more d s) x y → More d x y
+stepped-more d (unpaid q x) = λ h. absurd (h refl)
+stepped-more {s = s} d (unread l n) = λ h. let z : s .units + d - 1 ≡ s .units - 1 + d = omega arith in rw z
+stepped-more {s = s} d (ran i a h l k q z) = does-more d (let e : s .units + d - 1 ≡ s .units - 1 + d = omega arith in rw e) z
 
 pub step-more : (w : World) (s : State) (d : ℕ) → More d (stepOf w s) (stepOf w (more d s))
-step-more w s d = stepped-more d refl (step-does w s (s .units + d) (omega arith))
+step-more w s d = stepped-more d (step-does w s (s .units + d) (omega arith))
 
 module _ (w : World) (d : ℕ) where
   over-more : (s : State) (b : Bool) → over w s ≡ b → over w (more d s) ≡ b

@@ -16,7 +16,7 @@ Left n (went s) = s .units ≤ n
 Left n (returned x s) = s .units ≤ n
 Left n (faulted i s) = s .units ≤ n
 
-does-left : {w : World} {a : ℕ} {s : State} {u : ℕ} {x y : Outcome} → Does w a s u x y → Left (s .units) x
+does-left : {w : World} {a : ℕ} {s t : State} {x y : Outcome} → Does w a s t x y → Left (s .units) x
 does-left (fault n) = omega arith
 does-left (spent x) = omega arith
 does-left (full b) = omega arith
@@ -36,7 +36,7 @@ left-spends s h (went t) l = omega arith
 left-spends s h (returned v t) l = omega arith
 left-spends s h (faulted n t) l = omega arith
 
-stepped-spends : {w : World} {s : State} {u : ℕ} {x y : Outcome} → Stepped w s u x y → Spends s x
+stepped-spends : {w : World} {s t : State} {x y : Outcome} → Stepped w s t x y → Spends s x
 stepped-spends (unpaid e x) = omega arith
 stepped-spends (unread h n) = omega arith
 stepped-spends {s = s} {x = x} (ran i a h l k e d) = left-spends s h x (does-left d)
