@@ -16,7 +16,7 @@ use Rattle.rules.proofs.Ends.{end-of}
 use Rattle.rules.proofs.Paths.{run-by, path-run}
 
 -- the same outcome with d units more, unless it is that units are spent
-abbrev More : ℕ → Outcome → Outcome → Type 0
+abbrev pub More : ℕ → Outcome → Outcome → Type 0
 More d (went s) y = y ≡ went (more d s)
 More d (returned x s) y = y ≡ returned x (more d s)
 More d (faulted n s) y = (n ≡ f.UnitsSpent → ⊥) → y ≡ faulted n (more d s)

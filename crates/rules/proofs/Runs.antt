@@ -68,7 +68,7 @@ module _ (w : World) (good : SaneWorld w) where
       f .traced
 
   -- the starting stack over a good mark that has the starting cells at its front
-  recover-sane : (m : Machine) (u n : ℕ) (k : Mark) → Sane w (begin m u) → SaneMark w k → Grows (m .heap) (k .heap) → Sane w (begin (recovered w m k) n)
+  pub recover-sane : (m : Machine) (u n : ℕ) (k : Mark) → Sane w (begin m u) → SaneMark w k → Grows (m .heap) (k .heap) → Sane w (begin (recovered w m k) n)
   unfolding recovered CallersFit Rooted
   recover-sane m u n k h g l = record {
     stack = h .stack;
