@@ -1,0 +1,15 @@
+-- a step: one law per combinator of the rules, then all that a step can do
+pub mod Combinators
+pub mod Does
+-- what follows of every step: its units, its heap
+pub mod Spends
+pub mod Adds
+-- runs: their end, and the written steps that lead to it
+pub mod Ends
+pub mod Paths
+-- good order
+pub mod Placed
+pub mod Keeps
+pub mod Runs
+-- more units
+pub mod More

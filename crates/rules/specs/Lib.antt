@@ -1,0 +1,2 @@
+pub mod Sane
+pub mod Paths
