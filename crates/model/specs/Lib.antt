@@ -15,10 +15,11 @@ pub mod Listings
 -- the machine: a step; a run with its recovery and backtrace
 pub mod Steps
 pub mod Runs
--- what is lent: how a program lies in stores, good order, emission, loading and saving
+-- what is lent: how a program lies in stores, good order, emission, loading and saving, the entries of a machine
 pub mod Stores
 pub mod Orders
 pub mod Emission
 pub mod Loading
+pub mod Machines
 -- the examples to hold
 pub mod Examples

@@ -147,3 +147,21 @@ pub enum Told {
     Number(usize),
     Refused(u8),
 }
+
+// A machine between calls: how much of each store is taken, and the last result.
+pub struct Vm {
+    pub program: Counts,
+    pub stack: usize,
+    pub frames: usize,
+    pub cells: usize,
+    pub last: Last,
+}
+
+// What a run answers, with the machine as it then is and the units spent: a value, or "continue", or a fault's number and the length of its backtrace.
+// Or a refusal.
+pub enum RunResult {
+    Value(Vm, Value, u64),
+    Continue(Vm, u64),
+    Fault(Vm, u8, u64, usize),
+    Refused(u8),
+}

@@ -1,0 +1,118 @@
+-- [run] The run as an entry, over what a host lends.
+use mathlib.Core.Bool.{Bool, true, false, _&&_, _||_}
+use mathlib.Core.List.{List, [], _∷_, reverse}
+use Prim.Native.Nat.{ℕ, zero, suc, _+_, _-_, _*_, min}
+use lib.Dec.{ltb}
+use lib.ListN.{length, getD, take}
+use Rattle.model.specs.declared.Counts.{Counts}
+use Rattle.model.specs.declared.Vm.{Vm}
+use Rattle.model.specs.declared.RunResult.{RunResult}
+use Rattle.model.specs.declared.RunResult.the-variants as r
+use Rattle.model.specs.declared.Frame.{Frame}
+use Rattle.model.specs.Basics.{if_then_else_}
+use Rattle.model.specs.Values.{places, mostPlaces, vals}
+use Rattle.model.specs.Heap.{heapOf}
+use Rattle.model.specs.Steps.{World}
+use Rattle.model.specs.Runs.{Machine, root, Entry, entry, Reply, value, continue, fault, Ran, runOf}
+use Rattle.model.specs.Stores.{Stores, worldIn, functionsFrom}
+use Rattle.model.specs.Orders.{countsOk, textOk, constantsOk, functionsOk, mainOk, insideCodes, cellsOk, stackOk, lastOk, frameStoreOk}
+use Rattle.model.specs.Emission.{written}
+
+-- what a host lends a run besides the program's stores
+pub record Lent : Type 0 where
+  pub stack : List ℕ
+  pub cells : List ℕ
+  pub frames : List Frame
+  pub copy : List ℕ
+  pub backtrace : List ℕ
+
+-- the places of a slice of frames
+unfoldable pub frameRoom : List Frame → ℕ
+frameRoom fs = min (length fs) mostPlaces
+
+-- ---- the machine that counts and stores stand for: of n frames in a slice, the root first, the last is the innermost
+
+unfoldable pub innermost : ℕ → List Frame → Frame
+innermost n fs = getD fs (n - 1) (root 0)
+
+unfoldable pub callersIn : ℕ → List Frame → List Frame
+callersIn n fs = reverse (take (n - 1) fs)
+
+unfoldable pub machineIn : Vm → Lent → Machine
+machineIn m l = record {
+  stack = vals (m .stack) (l .stack);
+  frame = innermost (m .frames) (l .frames);
+  callers = callersIn (m .frames) (l .frames);
+  heap = heapOf (m .cells) (l .cells);
+  last = m .last;
+}
+
+unfoldable pub worldOf : Vm → Stores → Lent → World
+worldOf m s l = worldIn (m .program) s (places 2 (l .stack)) (frameRoom (l .frames)) (places 2 (l .cells))
+
+-- ---- [order.machine] the good order that a run judges
+
+unfoldable pub runOrder : Vm → Stores → Lent → Bool
+runOrder m s l =
+    countsOk (m .program)
+    && textOk (m .program) (s .text)
+    && constantsOk (m .program) (s .constants)
+    && functionsOk (m .program) (s .functions)
+    && mainOk (s .functions) (s .text)
+    && insideCodes (m .program) (s .functions) (s .main) (s .other)
+    && insideCodes (m .program) (s .functions) (s .mainPlaces) (s .otherPlaces)
+    && cellsOk (m .program .text) (m .cells) (l .cells)
+    && stackOk (m .program .text) (heapOf (m .cells) (l .cells)) (m .stack) (l .stack)
+    && lastOk (m .program .text) (heapOf (m .cells) (l .cells)) (m .last)
+    && frameStoreOk (functionsFrom (m .program .functions) 0 s) (places 2 (l .stack)) (m .frames) (l .frames)
+
+-- 17: the copy store is shorter than the stack store, or the backtrace store than the frame store
+unfoldable pub tooShort : Lent → Bool
+tooShort l = ltb (places 2 (l .copy)) (places 2 (l .stack)) || ltb (places 2 (l .backtrace)) (frameRoom (l .frames))
+
+-- ---- [run] as an entry: 19, 17, then the run
+
+-- the program's counts, the reply and the machine; or a refusal
+pub data RunAnswer : Type 0 where
+  ran : Counts → Ran → RunAnswer
+  refused : ℕ → RunAnswer
+
+unfoldable pub runAnswer : Vm → Stores → Lent → ℕ → RunAnswer
+runAnswer m s l u =
+    if runOrder m s l then
+    (if tooShort l then refused 17 else ran (m .program) (runOf (worldOf m s l) (machineIn m l) u))
+    else refused 19
+
+-- the starting stack at the front of the copy store, and nothing past it
+unfoldable pub copyAfter : Vm → Lent → RunAnswer → List ℕ
+copyAfter m l (ran c r) = written (l .copy) 0 (take (2 * m .stack) (l .stack))
+copyAfter m l (refused n) = l .copy
+
+unfoldable pub entryWords : List Entry → List ℕ
+entryWords [] = []
+entryWords (e ∷ es) = e .function ∷ e .place ∷ entryWords es
+
+unfoldable pub traceOfReply : Reply → List Entry
+traceOfReply (value v n) = []
+traceOfReply (continue n) = []
+traceOfReply (fault n u es) = es
+
+-- the backtrace at the front of its store, and nothing past it
+unfoldable pub traceAfter : Lent → RunAnswer → List ℕ
+traceAfter l (ran c r) = written (l .backtrace) 0 (entryWords (traceOfReply (r .reply)))
+traceAfter l (refused n) = l .backtrace
+
+-- ---- what a run's answer stands for, with the lent stores as they then are
+
+unfoldable pub entriesIn : ℕ → ℕ → List ℕ → List Entry
+entriesIn zero i b = []
+entriesIn (suc n) i b = entry (getD b (2 * i) 0) (getD b (2 * i + 1) 0) ∷ entriesIn n (suc i) b
+
+abbrev pub ranAs : Vm → Lent → Reply → RunAnswer
+ranAs m l y = ran (m .program) (record { reply = y; machine = machineIn m l })
+
+unfoldable pub answerIn : Lent → RunResult → RunAnswer
+answerIn l (r.Value m v n) = ranAs m l (value v n)
+answerIn l (r.Continue m n) = ranAs m l (continue n)
+answerIn l (r.Fault m k n j) = ranAs m l (fault k n (entriesIn j 0 (l .backtrace)))
+answerIn l (r.Refused n) = refused n
