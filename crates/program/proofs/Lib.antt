@@ -1,0 +1,5 @@
+pub mod Bools
+pub mod Parts
+pub mod Every
+pub mod Checks
+pub mod Writing

@@ -1,0 +1,62 @@
+use Rattle.program.proofs.writes.put_bytes.Statement.{statement}
+use Rattle.program.proofs.writes.put_bytes.Tie as tie
+use Rattle.program.proofs.writes.put_bytes.Reads as reads
+use Rattle.program.proofs.writes.put_bytes.Lts as lts
+
+abbrev Inv-loop : tie.InvT-loop
+Inv-loop s₀ at bytes i₀ s i = ?
+
+abbrev μ-loop : tie.MeasureT-loop
+μ-loop s₀ at bytes i₀ s i = ?
+
+-- src/writes.rt:14:5
+loop-holds : tie.Need-loop-holds Inv-loop μ-loop
+loop-holds c = ?
+
+-- src/writes.rt:15:21
+shared-slice-read-s : tie.Need-shared-slice-read-s Inv-loop μ-loop
+shared-slice-read-s c = ?
+
+-- src/writes.rt:15:11
+add-s : tie.Need-add-s Inv-loop μ-loop
+add-s c = ?
+
+-- src/writes.rt:15:9
+slice-write-s : tie.Need-slice-write-s Inv-loop μ-loop
+slice-write-s c = ?
+
+-- src/writes.rt:16:9
+add-i : tie.Need-add-i Inv-loop μ-loop
+add-i c = ?
+
+-- src/writes.rt:14:5
+loop-less : tie.Need-loop-less Inv-loop μ-loop
+loop-less c = ?
+
+-- src/writes.rt:14:5
+loop-again : tie.Need-loop-again Inv-loop μ-loop
+loop-again c = ?
+
+-- src/writes.rt:9:1
+same-length : tie.Need-same-length Inv-loop μ-loop
+same-length c = ?
+
+-- src/writes.rt:9:1
+returns : tie.Need-returns Inv-loop μ-loop
+returns c = ?
+
+pub put-bytes-spec : {M : Type 1} → statement M
+put-bytes-spec =
+    tie.close
+    (tie.spec
+    Inv-loop
+    μ-loop
+    loop-holds
+    shared-slice-read-s
+    add-s
+    slice-write-s
+    add-i
+    loop-less
+    loop-again
+    same-length
+    returns)
