@@ -3,3 +3,6 @@ pub mod Parts
 pub mod Every
 pub mod Checks
 pub mod Writing
+pub mod Known
+pub mod Entered
+pub mod Emitting

@@ -5,7 +5,7 @@ use Prim.Native.Nat.{ℕ, suc, _+_, _*_, _≤_, _<_}
 use native.Mathlib.Omega.{arith}
 use native.Mathlib.Numerals.{add-one}
 use lib.ListN.{length, getD, set, take, replicate, length-set, length-replicate, getD-replicate}
-use lib.Seq.{sets, take-suc, take-all, length-take-le, length-sets}
+use lib.Seq.{sets, take-suc, take-all, length-take-le, length-sets, lt-length-set}
 use Rattle.model.specs.Values.{putWords}
 use Rattle.model.specs.Emission.{written}
 
@@ -49,3 +49,6 @@ again n i x h = sym (getD-replicate n i x 0 h)
 pub length-words : (s : List ℕ) (i a b : ℕ) → length (putWords s i a b) ≡ length s
 unfolding putWords
 length-words s i a b = length-set (set s (2 * i) a) (2 * i + 1) b ∙ length-set s (2 * i) a
+
+pub second-fits : (s : List ℕ) (i a : ℕ) → 2 * i + 2 ≤ length s → 2 * i + 1 < length (set s (2 * i) a)
+second-fits s i a h = lt-length-set s (2 * i) a (omega arith)

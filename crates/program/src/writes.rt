@@ -29,6 +29,15 @@ pub fn put_places(s: &mut [u32], at: usize, n: usize, place: u32)
     }
 }
 
+// The bytes of code from place at on, and the place of the source for each.
+pub fn put_code(code: &mut [u8], places: &mut [u32], at: usize, bytes: &[u8], place: u32)
+    requires { ⌜ (at + length (now bytes) ≤ length (now code)) × (at + length (now bytes) ≤ length (now places)) ⌝ }
+    ensures { λ _. ⌜ (now (code .exit) ≡ written (now (code .entry)) at (now (bytes .entry))) × (now (places .exit) ≡ written (now (places .entry)) at (replicate (length (now (bytes .entry))) place)) ⌝ }
+{
+    put_bytes(code, at, bytes);
+    put_places(places, at, bytes.len(), place);
+}
+
 // The two words of place i.
 pub fn put_words(s: &mut [u64], i: usize, first: u64, second: u64)
     requires { ⌜ 2 * i + 2 ≤ length (now s) ⌝ }

@@ -1,3 +1,4 @@
+use Rattle.program.proofs.Entered.{offset-told, offset-refused}
 use borrow.Author.Needs.{needs}
 use Rattle.program.proofs.code.current_offset.Statement.{statement}
 use Rattle.program.proofs.code.current_offset.Tie as tie
@@ -26,11 +27,11 @@ size-of-requires c κs = search needs
 
 -- src/code.rt:16:9
 returns : tie.Need-returns
-returns c = ?
+returns c = offset-told _ _ _ _ (c .before .before .before .before .counts-ok .ensures) (c .before .before .before .functions-ok .ensures) (c .before .before .if1 .taken) _ _ (c .before .second .ensures) (c .size-of .ensures .0)
 
 -- src/code.rt:12:1
 returns-2 : tie.Need-returns-2
-returns-2 c = ?
+returns-2 c = offset-refused _ _ _ _ (c .before .before .counts-ok .ensures) (c .before .functions-ok .ensures) (c .if1 .left)
 
 pub current-offset-spec : {M : Type 1} → statement M
 current-offset-spec =

@@ -1,3 +1,4 @@
+use Rattle.program.proofs.Entered.{ended, not-ended}
 use borrow.Author.Needs.{needs}
 use Rattle.program.proofs.functions.end_function.Statement.{statement}
 use Rattle.program.proofs.functions.end_function.Tie as tie
@@ -11,11 +12,11 @@ counts-ok-requires c κs = search needs
 
 -- src/functions.rt:38:9
 returns : tie.Need-returns
-returns c = ?
+returns c = ended _ _ (c .before .counts-ok .ensures) (c .if1 .taken)
 
 -- src/functions.rt:34:1
 returns-2 : tie.Need-returns-2
-returns-2 c = ?
+returns-2 c = not-ended _ _ (c .before .counts-ok .ensures) (c .if1 .left)
 
 pub end-function-spec : {M : Type 1} → statement M
 end-function-spec = tie.close (tie.spec counts-ok-requires returns returns-2)

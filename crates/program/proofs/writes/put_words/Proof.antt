@@ -1,3 +1,6 @@
+use mathlib.Core.Path.{refl}
+use Rattle.model.specs.Values.{putWords}
+use Rattle.program.proofs.Writing.{second-fits}
 use borrow.Author.Needs.{needs}
 use Rattle.program.proofs.writes.put_words.Statement.{statement}
 use Rattle.program.proofs.writes.put_words.Tie as tie
@@ -30,7 +33,7 @@ mul-s-4 c = search needs
 
 -- src/writes.rt:38:5
 slice-write-s-2 : tie.Need-slice-write-s-2
-slice-write-s-2 c = ?
+slice-write-s-2 c = second-fits (c .args .s .now) (c .args .i) (c .args .first) (c .pre)
 
 -- src/writes.rt:33:1
 same-length : tie.Need-same-length
@@ -38,7 +41,8 @@ same-length c = search needs
 
 -- src/writes.rt:33:1
 returns : tie.Need-returns
-returns c = ?
+unfolding putWords
+returns c = refl
 
 pub put-words-spec : {M : Type 1} → statement M
 put-words-spec =
