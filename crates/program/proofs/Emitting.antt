@@ -14,11 +14,11 @@ use Rattle.model.specs.declared.Emitted.the-variants.{Done, Refused}
 use Rattle.model.specs.Values.{places, payloadAt}
 use Rattle.model.specs.Stores.{Stores, start, size, pack, codeWord, codeEnd, codeHere, placesHere, withCode, withFunctions, withMain, withOther}
 use Rattle.model.specs.Orders.{countsOk, functionsOk, insideCodes}
-use Rattle.model.specs.Emission.{Res, written, sizeHere, endHere, codeRoom, longer, appended, codeOrder, emitIn, emitOf}
-use Rattle.program.specs.Links.{Is, codeLent}
+use Rattle.model.specs.Emission.{Res, written, sizeHere, endHere, codeRoom, longer, appended, codeOrder, emitIn, emitOf, u16, patchOrder, patched, patchOf}
+use Rattle.program.specs.Links.{Is, codeLent, bytesLent}
 use Rattle.program.proofs.Bools.{and-left, and-right}
 use Rattle.program.proofs.Parts.{room-1, room-2}
-use Rattle.program.proofs.Known.{Limited, limited, Known, function-known}
+use Rattle.program.proofs.Known.{Limited, limited, Known, function-known, code-in-main, code-in-other}
 
 pub order-is : (c : Counts) (fs m mp o op : List ℕ) (b1 b2 b3 b4 : Bool) → b1 ≡ countsOk c → b2 ≡ functionsOk c fs → b3 ≡ insideCodes c fs m o → b4 ≡ insideCodes c fs mp op
     → (rest : Stores) → (b1 && b2 && b3 && b4) ≡ codeOrder c (codeLent rest fs m mp o op)
@@ -133,3 +133,60 @@ module _ (c : Counts) (p : ℕ) (bytes : List ℕ) (place : ℕ) (s : Stores) (b
               → Is (emitOf c p bytes place s) (Done c 0) (withFunctions fs (withOther code places s))
           unfolding appended withCode codeHere placesHere
           emitted-other z ec el = record { means = sym (all-in q ∙ rw (← longer-is, ← end-is, ne-eqb _ _ z, ec, el)) }
+
+-- ---- a patch
+
+pub patch-order-is : (c : Counts) (fs m o : List ℕ) (b1 b2 b3 : Bool) → b1 ≡ countsOk c → b2 ≡ functionsOk c fs → b3 ≡ insideCodes c fs m o
+    → (rest : Stores) → (b1 && b2 && b3) ≡ patchOrder c (bytesLent rest fs m o)
+unfolding patchOrder bytesLent codeLent
+patch-order-is c fs m o b1 b2 b3 e1 e2 e3 rest = rw (e1, e2, e3)
+
+-- two bytes inside the current function's code lie in its store
+module _ (c : Counts) (fs m o : List ℕ) (b1 b2 b3 : Bool) (e1 : b1 ≡ countsOk c) (e2 : b2 ≡ functionsOk c fs) (e3 : b3 ≡ insideCodes c fs m o) (h : not (b1 && b2 && b3) ≡ false)
+    (word at n k : ℕ) (ew : word ≡ payloadAt fs (c .current)) (ea : at ≡ start word) (en : n ≡ size word) (g : k + 2 ≤ n) where
+  patch-limited : Limited c
+  patch-limited = limited c (sym e1 ∙ and-left b1 b2 (and-left (b1 && b2) b3 (not-false (b1 && b2 && b3) h)))
+
+  patch-codes : insideCodes c fs m o ≡ true
+  patch-codes = sym e3 ∙ and-right (b1 && b2) b3 (not-false (b1 && b2 && b3) h)
+
+  patch-end : codeEnd fs (c .current) ≡ at + n
+  unfolding codeEnd codeWord
+  patch-end = rw (ea, en, ew)
+
+  pub patch-in-main : c .current ≡ 0 → at + k + 2 ≤ length m
+  patch-in-main z = let x = code-in-main c fs m o patch-limited patch-codes z in let y = patch-end in omega arith
+
+  pub patch-in-other : (c .current ≡ 0 → ⊥) → at + k + 2 ≤ length o
+  patch-in-other z = let x = code-in-other c fs m o patch-limited patch-codes z in let y = patch-end in omega arith
+
+module _ (c : Counts) (k a : ℕ) (s : Stores) (b : Bool) (e : b ≡ patchOrder c s) where
+  pub patch-19 : not b ≡ true → Is (patchOf c k a s) (Refused 19) s
+  unfolding patchOf
+  patch-19 h = record { means = rw (← e, not-true b h) }
+
+  module _ (h : not b ≡ false) (word at n : ℕ) (ew : word ≡ payloadAt (s .functions) (c .current)) (ea : at ≡ start word) (en : n ≡ size word) where
+    patch-size : n ≡ sizeHere c s
+    unfolding sizeHere codeWord
+    patch-size = rw (en, ew)
+
+    pub patch-23 : n < k + 2 → Is (patchOf c k a s) (Refused 23) s
+    unfolding patchOf
+    patch-23 l = record { means = rw (← e, not-false b h, ← patch-size, lt-ltb _ _ l) }
+
+    module _ (l : k + 2 ≤ n) (code : List ℕ) where
+      patch-all : patchOf c k a s ≡ patched c k a s
+      unfolding patchOf
+      patch-all = rw (← e, not-false b h, ← patch-size, le-ltb _ _ l)
+
+      patch-from : at + k ≡ start (codeWord (s .functions) (c .current)) + k
+      unfolding codeWord
+      patch-from = rw (ea, ew)
+
+      pub patched-main : c .current ≡ 0 → code ≡ written (s .main) (at + k) (u16 a) → Is (patchOf c k a s) (Done c 0) (withMain code (s .mainPlaces) s)
+      unfolding patched withCode codeHere placesHere
+      patched-main z ec = record { means = sym (patch-all ∙ rw (← patch-from, eq-eqb _ _ z, ec)) }
+
+      pub patched-other : (c .current ≡ 0 → ⊥) → code ≡ written (s .other) (at + k) (u16 a) → Is (patchOf c k a s) (Done c 0) (withOther code (s .otherPlaces) s)
+      unfolding patched withCode codeHere placesHere
+      patched-other z ec = record { means = sym (patch-all ∙ rw (← patch-from, ne-eqb _ _ z, ec)) }

@@ -2,7 +2,7 @@
 use mathlib.Core.Path.{_≡_, refl, sym, ap, _∙_}
 use mathlib.Core.Bool.{Bool, true, false, _&&_, _||_}
 use mathlib.Core.List.{List}
-use Prim.Native.Nat.{ℕ, suc, _+_, _*_, _≤_, _<_}
+use Prim.Native.Nat.{ℕ, zero, suc, _+_, _*_, _≤_, _<_}
 use native.Mathlib.Omega.{arith}
 use lib.Dec.{eqb, leb}
 use lib.ListN.{length}
@@ -12,7 +12,7 @@ use Rattle.model.specs.Basics.{everyFrom}
 use Rattle.model.specs.Values.{places, kindAt, payloadAt}
 use Rattle.model.specs.Programs.{codeLimit, constantLimit, nameLimit}
 use Rattle.model.specs.Stores.{start, size, nameWord, codeWord, codeEnd}
-use Rattle.model.specs.Orders.{countsOk, textOk, insideText, constantOk, constantsOk, codeStart, functionOk, functionsOk}
+use Rattle.model.specs.Orders.{countsOk, textOk, insideText, constantOk, constantsOk, codeStart, functionOk, functionsOk, mainTaken, otherTaken, insideCodes}
 use Rattle.program.proofs.Bools.{and-left, and-right}
 use Rattle.program.proofs.Parts.{room-1, room-2}
 use Rattle.program.proofs.Every.{passed-at}
@@ -25,13 +25,15 @@ pub record Limited (c : Counts) : Type 0 where
   pub functions : c .functions ≤ 65536
   pub text : c .text ≤ 0xFFFF_FFFF
   pub current : c .current < c .functions
+  pub newest : (c .current ≡ 0 → ⊥) → suc (c .current) ≡ c .functions
 
-current-known : (i n : ℕ) → 1 ≤ n → (eqb i 0 || eqb (suc i) n) ≡ true → i < n
-current-known i n h e = by (eqb i 0) (eqb (suc i) n) e (λ x. eqb-true i 0 x) (λ x. eqb-true (suc i) n x)
+-- main or the newest
+which : (i n : ℕ) → 1 ≤ n → (eqb i 0 || eqb (suc i) n) ≡ true → (i < n) × ((i ≡ 0 → ⊥) → suc i ≡ n)
+which i n h e = by (eqb i 0) (eqb (suc i) n) e (λ x. eqb-true i 0 x) (λ x. eqb-true (suc i) n x)
   where
-  by : (a b : Bool) → (a || b) ≡ true → (a ≡ true → i ≡ 0) → (b ≡ true → suc i ≡ n) → i < n
-  by true b e f g = let z : i ≡ 0 = f refl in omega arith
-  by false b e f g = let z : suc i ≡ n = g e in omega arith
+  by : (a b : Bool) → (a || b) ≡ true → (a ≡ true → i ≡ 0) → (b ≡ true → suc i ≡ n) → (i < n) × ((i ≡ 0 → ⊥) → suc i ≡ n)
+  by true b e f g = let z : i ≡ 0 = f refl in (omega arith, λ k. absurd (k z))
+  by false b e f g = let z : suc i ≡ n = g e in (omega arith, λ k. z)
 
 pub limited : (c : Counts) → countsOk c ≡ true → Limited c
 unfolding countsOk
@@ -43,13 +45,15 @@ limited c e =
     let e3 = and-left (a1 && a2 && a3) a4 e4 in
     let e2 = and-left (a1 && a2) a3 e3 in
     let one : 1 ≤ c .functions = leb-true 1 (c .functions) (and-right (a1 && a2) a3 e3) in
+    let w = which (c .current) (c .functions) one (and-right (a1 && a2 && a3 && a4 && a5) a6 e) in
     record {
       constants = leb-true (c .constants) 65535 (and-left a1 a2 e2);
       structs = leb-true (c .structs) 65536 (and-right a1 a2 e2);
       some = one;
       functions = leb-true (c .functions) 65536 (and-right (a1 && a2 && a3) a4 e4);
       text = leb-true (c .text) 0xFFFF_FFFF (and-right (a1 && a2 && a3 && a4) a5 e5);
-      current = current-known (c .current) (c .functions) one (and-right (a1 && a2 && a3 && a4 && a5) a6 e);
+      current = w .0;
+      newest = w .1;
     }
 
 -- the text that is taken lies in its store
@@ -104,3 +108,23 @@ function-known c fs e i h =
       short = leb-true (size (codeWord fs i)) 65535 (and-right (b1 && b2) b3 f3);
       ends = leb-true (codeEnd fs i) 0xFFFF_FFFF (and-right (b1 && b2 && b3) b4 f);
     }
+
+-- the current function's code lies in its store
+codes-behind : (fs : List ℕ) (i n : ℕ) → (i ≡ 0 → ⊥) → suc i ≡ n → codeStart fs n ≡ codeEnd fs i
+unfolding codeStart
+codes-behind fs zero n h e = absurd (h refl)
+codes-behind fs (suc i) n h e = rw (← e)
+
+module _ (c : Counts) (fs m o : List ℕ) (l : Limited c) (e : insideCodes c fs m o ≡ true) where
+  pub code-in-main : c .current ≡ 0 → codeEnd fs (c .current) ≤ length m
+  unfolding insideCodes mainTaken
+  code-in-main z =
+      let h : codeEnd fs 0 ≤ places 1 m = leb-true (codeEnd fs 0) (places 1 m) (and-left (leb (codeEnd fs 0) (places 1 m)) (leb (otherTaken c fs) (places 1 o)) e) in
+      let x = room-1 m in rw z (omega arith)
+
+  pub code-in-other : (c .current ≡ 0 → ⊥) → codeEnd fs (c .current) ≤ length o
+  unfolding insideCodes otherTaken
+  code-in-other z =
+      let h : codeStart fs (c .functions) ≤ places 1 o = leb-true (codeStart fs (c .functions)) (places 1 o) (and-right (leb (mainTaken fs) (places 1 m)) (leb (codeStart fs (c .functions)) (places 1 o)) e) in
+      let k : codeStart fs (c .functions) ≡ codeEnd fs (c .current) = codes-behind fs (c .current) (c .functions) z (l .newest z) in
+      let x = room-1 o in omega arith

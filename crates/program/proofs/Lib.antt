@@ -6,3 +6,4 @@ pub mod Writing
 pub mod Known
 pub mod Entered
 pub mod Emitting
+pub mod Adding

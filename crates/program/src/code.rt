@@ -8,6 +8,7 @@ use crate::words::room;
 use crate::words::second;
 use crate::words::size_of;
 use crate::words::start_of;
+use crate::writes::put_bytes;
 use crate::writes::put_code;
 use model::Counts;
 use model::Emitted;
@@ -16,8 +17,8 @@ ghost use mathlib.Core.Path.{_≡_};
 ghost use mathlib.Core.List.{List};
 ghost use Prim.Native.Nat.{ℕ};
 ghost use Rattle.model.specs.Stores.{Stores};
-ghost use Rattle.model.specs.Emission.{codeOrder, codeRoom, emitOf, addOpOf, addOp1Of, addOp2Of, addOp3Of, currentOffsetOf};
-ghost use Rattle.program.specs.Links.{Is, codeLent};
+ghost use Rattle.model.specs.Emission.{codeOrder, codeRoom, emitOf, addOpOf, addOp1Of, addOp2Of, addOp3Of, currentOffsetOf, patchOf};
+ghost use Rattle.program.specs.Links.{Is, codeLent, bytesLent};
 
 // How long the current function's code is.
 pub fn current_offset(c: Counts, functions: &[u64]) -> Told
@@ -110,4 +111,29 @@ pub fn add_op3(c: Counts, op: u8, a: u16, b: u16, d: u16, place: u32, functions:
 {
     let bytes = [op, (a % 256) as u8, (a / 256) as u8, (b % 256) as u8, (b / 256) as u8, (d % 256) as u8, (d / 256) as u8];
     emit(c, op, &bytes, place, functions, main, main_places, other, other_places)
+}
+
+// An operand written anew inside the current function's code.
+pub fn patch_u16_value_at(c: Counts, offset: u16, arg: u16, functions: &[u64], main: &mut [u8], other: &mut [u8]) -> Emitted
+    ensures { λ r. ⌜ ((rest : Stores) → Is (patchOf c offset arg (bytesLent rest (now (functions .entry)) (now (main .entry)) (now (other .entry)))) r (bytesLent rest (now (functions .entry)) (now (main .exit)) (now (other .exit)))) ⌝ }
+{
+    let ok = counts_ok(c) & functions_ok(c, functions) & inside_codes(c, functions, main.len(), other.len());
+    if !ok {
+        return Emitted::Refused(19);
+    }
+    let current = c.current;
+    let word = second(functions, current);
+    let start = start_of(word);
+    let size = size_of(word);
+    let at = offset as usize;
+    if size < at + 2 {
+        return Emitted::Refused(23);
+    }
+    let bytes = [(arg % 256) as u8, (arg / 256) as u8];
+    if current == 0 {
+        put_bytes(main, start + at, &bytes);
+        return Emitted::Done(c, 0);
+    }
+    put_bytes(other, start + at, &bytes);
+    Emitted::Done(c, 0)
 }

@@ -1,12 +1,14 @@
 // What stands where in the stores. Reading past a store's end gives 0, and a part past it is cut short, so that nothing is required.
+use model::Counts;
 ghost use mathlib.Core.Path.{_≡_};
 ghost use mathlib.Core.List.{List};
 ghost use Prim.Native.Nat.{ℕ, _≤_, _<_, _^_, min};
 ghost use lib.ListN.{length};
 ghost use Rattle.model.specs.Values.{places, kindAt, payloadAt};
 ghost use Rattle.model.specs.Equality.{sameBytes};
-ghost use Rattle.model.specs.Stores.{start, size, pack, part, structWord, codeEnd};
+ghost use Rattle.model.specs.Stores.{Stores, start, size, pack, part, structWord, codeEnd};
 ghost use Rattle.model.specs.Orders.{codeStart};
+ghost use Rattle.model.specs.Emission.{textRoom};
 
 // The smaller of two numbers.
 pub fn lesser(a: usize, b: usize) -> usize
@@ -24,6 +26,18 @@ pub fn room(n: usize, w: usize) -> usize
     ensures { λ r. ⌜ ((s : List ℕ) → length s ≡ n → r ≡ places w s) ⌝ }
 {
     lesser(n / w, 0xFFFF_FFFF)
+}
+
+// Whether n bytes of text more have room.
+pub fn text_room(c: Counts, text: &[u8], n: usize) -> bool
+    ensures { λ r. ⌜ ((s : Stores) → s .text ≡ now (text .entry) → r ≡ textRoom c s n) ⌝ }
+{
+    let all = room(text.len(), 1);
+    let taken = c.text;
+    if all < taken {
+        return false;
+    }
+    n <= all - taken
 }
 
 // Where the part that a word names starts, and how long it is.
