@@ -9,11 +9,11 @@ use borrow.Author.Tests.{eq-eqb, ne-eqb, le-leb, lt-leb}
 use Rattle.model.specs.declared.Counts.{Counts}
 use Rattle.model.specs.Values.{places, kindAt, payloadAt}
 use Rattle.model.specs.Equality.{sameBytes}
-use Rattle.model.specs.Stores.{start, size, part, nameWord, codeWord, codeEnd}
+use Rattle.model.specs.Stores.{start, size, part, structWord, structsFrom, nameWord, codeWord, codeEnd}
 use Rattle.model.specs.Programs.{mainName, codeLimit}
-use Rattle.model.specs.Basics.{ascii}
+use Rattle.model.specs.Basics.{ascii, everyFrom}
 use Rattle.program.proofs.Every.{Judged}
-use Rattle.model.specs.Orders.{countsOk, textOk, insideText, constantOk, constantsOk, codeStart, functionOk, functionsOk, mainOk, mainTaken, otherTaken, insideCodes}
+use Rattle.model.specs.Orders.{countsOk, textOk, insideText, constantOk, constantsOk, allDifferent, structsOk, codeStart, functionOk, functionsOk, mainOk, mainTaken, otherTaken, insideCodes}
 
 pub counts-is : (c : Counts) (last : Bool) → last ≡ eqb (suc (c .current)) (c .functions)
     → (leb (c .constants) 65535 && leb (c .structs) 65536 && leb 1 (c .functions) && leb (c .functions) 65536 && leb (c .text) 0xFFFF_FFFF && (eqb (c .current) 0 || last)) ≡ countsOk c
@@ -53,6 +53,21 @@ constants-judged c cs = record { says = refl }
 -- what the loop found of place i
 pub constant-here : (c : Counts) (cs : List ℕ) (i k a : ℕ) (b : Bool) → k ≡ kindAt cs i → a ≡ payloadAt cs i → b ≡ constantOk c k a → b ≡ constantOk c (kindAt cs i) (payloadAt cs i)
 constant-here c cs i k a b e f g = g ∙ rw (e, f)
+
+pub structs-judged : (c : Counts) (ss : List ℕ) → Judged (leb (c .structs) (places 1 ss) && everyFrom (c .structs) 0 (λ i. insideText c (structWord ss i))) (c .structs) (places 1 ss) (λ i. insideText c (structWord ss i))
+structs-judged c ss = record { says = refl }
+
+pub struct-here : (c : Counts) (ss : List ℕ) (i w : ℕ) (b : Bool) → w ≡ structWord ss i → b ≡ insideText c w → b ≡ insideText c (structWord ss i)
+struct-here c ss i w b e f = f ∙ rw e
+
+module _ (c : Counts) (ss t : List ℕ) (a : Bool) (e : a ≡ (leb (c .structs) (places 1 ss) && everyFrom (c .structs) 0 (λ i. insideText c (structWord ss i)))) where
+  pub structs-is : a ≡ true → (b : Bool) → b ≡ allDifferent (structsFrom (c .structs) 0 ss t) → b ≡ structsOk c ss t
+  unfolding structsOk
+  structs-is h b f = rw (← e, h) f
+
+  pub structs-not : a ≡ false → false ≡ structsOk c ss t
+  unfolding structsOk
+  structs-not h = rw (← e, h)
 
 pub functions-judged : (c : Counts) (fs : List ℕ) → Judged (functionsOk c fs) (c .functions) (places 2 fs) (functionOk c fs)
 unfolding functionsOk

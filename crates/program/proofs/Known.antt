@@ -31,9 +31,9 @@ pub record Limited (c : Counts) : Type 0 where
 which : (i n : ℕ) → 1 ≤ n → (eqb i 0 || eqb (suc i) n) ≡ true → (i < n) × ((i ≡ 0 → ⊥) → suc i ≡ n)
 which i n h e = by (eqb i 0) (eqb (suc i) n) e (λ x. eqb-true i 0 x) (λ x. eqb-true (suc i) n x)
   where
-  by : (a b : Bool) → (a || b) ≡ true → (a ≡ true → i ≡ 0) → (b ≡ true → suc i ≡ n) → (i < n) × ((i ≡ 0 → ⊥) → suc i ≡ n)
-  by true b e f g = let z : i ≡ 0 = f refl in (omega arith, λ k. absurd (k z))
-  by false b e f g = let z : suc i ≡ n = g e in (omega arith, λ k. z)
+    by : (a b : Bool) → (a || b) ≡ true → (a ≡ true → i ≡ 0) → (b ≡ true → suc i ≡ n) → (i < n) × ((i ≡ 0 → ⊥) → suc i ≡ n)
+    by true b e f g = let z : i ≡ 0 = f refl in (omega arith, λ k. absurd (k z))
+    by false b e f g = let z : suc i ≡ n = g e in (omega arith, λ k. z)
 
 pub limited : (c : Counts) → countsOk c ≡ true → Limited c
 unfolding countsOk

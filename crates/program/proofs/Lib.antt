@@ -6,4 +6,5 @@ pub mod Writing
 pub mod Known
 pub mod Entered
 pub mod Emitting
+pub mod Searching
 pub mod Adding

@@ -13,7 +13,14 @@ pub record Is (want : Res) (r : Emitted) (s : Stores) : Type 0 where
 -- functions, main with its places, the others with theirs
 unfoldable pub codeLent : Stores → List ℕ → List ℕ → List ℕ → List ℕ → List ℕ → Stores
 codeLent rest fs m mp o op = record {
-  constants = rest .constants; structs = rest .structs; functions = fs; text = rest .text; main = m; mainPlaces = mp; other = o; otherPlaces = op;
+  constants = rest .constants;
+  structs = rest .structs;
+  functions = fs;
+  text = rest .text;
+  main = m;
+  mainPlaces = mp;
+  other = o;
+  otherPlaces = op;
 }
 
 -- functions, and the code of main and of the others
@@ -23,20 +30,38 @@ bytesLent rest fs m o = codeLent rest fs m (rest .mainPlaces) o (rest .otherPlac
 -- functions and text
 unfoldable pub namesLent : Stores → List ℕ → List ℕ → Stores
 namesLent rest fs t = record {
-  constants = rest .constants; structs = rest .structs; functions = fs; text = t;
-  main = rest .main; mainPlaces = rest .mainPlaces; other = rest .other; otherPlaces = rest .otherPlaces;
+  constants = rest .constants;
+  structs = rest .structs;
+  functions = fs;
+  text = t;
+  main = rest .main;
+  mainPlaces = rest .mainPlaces;
+  other = rest .other;
+  otherPlaces = rest .otherPlaces;
 }
 
 -- constants and text
 unfoldable pub constantsLent : Stores → List ℕ → List ℕ → Stores
 constantsLent rest cs t = record {
-  constants = cs; structs = rest .structs; functions = rest .functions; text = t;
-  main = rest .main; mainPlaces = rest .mainPlaces; other = rest .other; otherPlaces = rest .otherPlaces;
+  constants = cs;
+  structs = rest .structs;
+  functions = rest .functions;
+  text = t;
+  main = rest .main;
+  mainPlaces = rest .mainPlaces;
+  other = rest .other;
+  otherPlaces = rest .otherPlaces;
 }
 
 -- struct names and text
 unfoldable pub structsLent : Stores → List ℕ → List ℕ → Stores
 structsLent rest ss t = record {
-  constants = rest .constants; structs = ss; functions = rest .functions; text = t;
-  main = rest .main; mainPlaces = rest .mainPlaces; other = rest .other; otherPlaces = rest .otherPlaces;
+  constants = rest .constants;
+  structs = ss;
+  functions = rest .functions;
+  text = t;
+  main = rest .main;
+  mainPlaces = rest .mainPlaces;
+  other = rest .other;
+  otherPlaces = rest .otherPlaces;
 }

@@ -31,7 +31,14 @@ pub fn current_offset(c: Counts, functions: &[u64]) -> Told
 }
 
 // Good order of what the emission of code is lent.
-fn code_order(c: Counts, functions: &[u64], main: &[u8], main_places: &[u32], other: &[u8], other_places: &[u32]) -> bool
+fn code_order(
+    c: Counts,
+    functions: &[u64],
+    main: &[u8],
+    main_places: &[u32],
+    other: &[u8],
+    other_places: &[u32],
+) -> bool
     ensures { λ r. ⌜ ((rest : Stores) → r ≡ codeOrder c (codeLent rest (now (functions .entry)) (now (main .entry)) (now («main_places» .entry)) (now (other .entry)) (now («other_places» .entry)))) ⌝ }
 {
     counts_ok(c)
@@ -41,7 +48,13 @@ fn code_order(c: Counts, functions: &[u64], main: &[u8], main_places: &[u32], ot
 }
 
 // The room for the current function's code.
-fn code_room(c: Counts, main: &[u8], main_places: &[u32], other: &[u8], other_places: &[u32]) -> usize
+fn code_room(
+    c: Counts,
+    main: &[u8],
+    main_places: &[u32],
+    other: &[u8],
+    other_places: &[u32],
+) -> usize
     ensures { λ r. ⌜ ((rest : Stores) (fs : List ℕ) → r ≡ codeRoom c (codeLent rest fs (now (main .entry)) (now («main_places» .entry)) (now (other .entry)) (now («other_places» .entry)))) ⌝ }
 {
     if c.current == 0 {
@@ -51,7 +64,17 @@ fn code_room(c: Counts, main: &[u8], main_places: &[u32], other: &[u8], other_pl
 }
 
 // An instruction at the end of the current function, each byte with the place.
-fn emit(c: Counts, op: u8, bytes: &[u8], place: u32, functions: &mut [u64], main: &mut [u8], main_places: &mut [u32], other: &mut [u8], other_places: &mut [u32]) -> Emitted
+fn emit(
+    c: Counts,
+    op: u8,
+    bytes: &[u8],
+    place: u32,
+    functions: &mut [u64],
+    main: &mut [u8],
+    main_places: &mut [u32],
+    other: &mut [u8],
+    other_places: &mut [u32],
+) -> Emitted
     ensures { λ r. ⌜ ((rest : Stores) → Is (emitOf c op (now (bytes .entry)) place (codeLent rest (now (functions .entry)) (now (main .entry)) (now («main_places» .entry)) (now (other .entry)) (now («other_places» .entry)))) r (codeLent rest (now (functions .exit)) (now (main .exit)) (now («main_places» .exit)) (now (other .exit)) (now («other_places» .exit)))) ⌝ }
 {
     let ok = code_order(c, functions, main, main_places, other, other_places);
@@ -84,40 +107,145 @@ fn emit(c: Counts, op: u8, bytes: &[u8], place: u32, functions: &mut [u64], main
 }
 
 // An instruction with no operand.
-pub fn add_op(c: Counts, op: u8, place: u32, functions: &mut [u64], main: &mut [u8], main_places: &mut [u32], other: &mut [u8], other_places: &mut [u32]) -> Emitted
+pub fn add_op(
+    c: Counts,
+    op: u8,
+    place: u32,
+    functions: &mut [u64],
+    main: &mut [u8],
+    main_places: &mut [u32],
+    other: &mut [u8],
+    other_places: &mut [u32],
+) -> Emitted
     ensures { λ r. ⌜ ((rest : Stores) → Is (addOpOf c op place (codeLent rest (now (functions .entry)) (now (main .entry)) (now («main_places» .entry)) (now (other .entry)) (now («other_places» .entry)))) r (codeLent rest (now (functions .exit)) (now (main .exit)) (now («main_places» .exit)) (now (other .exit)) (now («other_places» .exit)))) ⌝ }
 {
     let bytes = [op];
-    emit(c, op, &bytes, place, functions, main, main_places, other, other_places)
+    emit(
+        c,
+        op,
+        &bytes,
+        place,
+        functions,
+        main,
+        main_places,
+        other,
+        other_places,
+    )
 }
 
 // An instruction with one operand, low byte first; with two; with three.
-pub fn add_op1(c: Counts, op: u8, a: u16, place: u32, functions: &mut [u64], main: &mut [u8], main_places: &mut [u32], other: &mut [u8], other_places: &mut [u32]) -> Emitted
+pub fn add_op1(
+    c: Counts,
+    op: u8,
+    a: u16,
+    place: u32,
+    functions: &mut [u64],
+    main: &mut [u8],
+    main_places: &mut [u32],
+    other: &mut [u8],
+    other_places: &mut [u32],
+) -> Emitted
     ensures { λ r. ⌜ ((rest : Stores) → Is (addOp1Of c op a place (codeLent rest (now (functions .entry)) (now (main .entry)) (now («main_places» .entry)) (now (other .entry)) (now («other_places» .entry)))) r (codeLent rest (now (functions .exit)) (now (main .exit)) (now («main_places» .exit)) (now (other .exit)) (now («other_places» .exit)))) ⌝ }
 {
     let bytes = [op, (a % 256) as u8, (a / 256) as u8];
-    emit(c, op, &bytes, place, functions, main, main_places, other, other_places)
+    emit(
+        c,
+        op,
+        &bytes,
+        place,
+        functions,
+        main,
+        main_places,
+        other,
+        other_places,
+    )
 }
 
-pub fn add_op2(c: Counts, op: u8, a: u16, b: u16, place: u32, functions: &mut [u64], main: &mut [u8], main_places: &mut [u32], other: &mut [u8], other_places: &mut [u32]) -> Emitted
+pub fn add_op2(
+    c: Counts,
+    op: u8,
+    a: u16,
+    b: u16,
+    place: u32,
+    functions: &mut [u64],
+    main: &mut [u8],
+    main_places: &mut [u32],
+    other: &mut [u8],
+    other_places: &mut [u32],
+) -> Emitted
     ensures { λ r. ⌜ ((rest : Stores) → Is (addOp2Of c op a b place (codeLent rest (now (functions .entry)) (now (main .entry)) (now («main_places» .entry)) (now (other .entry)) (now («other_places» .entry)))) r (codeLent rest (now (functions .exit)) (now (main .exit)) (now («main_places» .exit)) (now (other .exit)) (now («other_places» .exit)))) ⌝ }
 {
-    let bytes = [op, (a % 256) as u8, (a / 256) as u8, (b % 256) as u8, (b / 256) as u8];
-    emit(c, op, &bytes, place, functions, main, main_places, other, other_places)
+    let bytes = [
+        op,
+        (a % 256) as u8,
+        (a / 256) as u8,
+        (b % 256) as u8,
+        (b / 256) as u8,
+    ];
+    emit(
+        c,
+        op,
+        &bytes,
+        place,
+        functions,
+        main,
+        main_places,
+        other,
+        other_places,
+    )
 }
 
-pub fn add_op3(c: Counts, op: u8, a: u16, b: u16, d: u16, place: u32, functions: &mut [u64], main: &mut [u8], main_places: &mut [u32], other: &mut [u8], other_places: &mut [u32]) -> Emitted
+pub fn add_op3(
+    c: Counts,
+    op: u8,
+    a: u16,
+    b: u16,
+    d: u16,
+    place: u32,
+    functions: &mut [u64],
+    main: &mut [u8],
+    main_places: &mut [u32],
+    other: &mut [u8],
+    other_places: &mut [u32],
+) -> Emitted
     ensures { λ r. ⌜ ((rest : Stores) → Is (addOp3Of c op a b d place (codeLent rest (now (functions .entry)) (now (main .entry)) (now («main_places» .entry)) (now (other .entry)) (now («other_places» .entry)))) r (codeLent rest (now (functions .exit)) (now (main .exit)) (now («main_places» .exit)) (now (other .exit)) (now («other_places» .exit)))) ⌝ }
 {
-    let bytes = [op, (a % 256) as u8, (a / 256) as u8, (b % 256) as u8, (b / 256) as u8, (d % 256) as u8, (d / 256) as u8];
-    emit(c, op, &bytes, place, functions, main, main_places, other, other_places)
+    let bytes = [
+        op,
+        (a % 256) as u8,
+        (a / 256) as u8,
+        (b % 256) as u8,
+        (b / 256) as u8,
+        (d % 256) as u8,
+        (d / 256) as u8,
+    ];
+    emit(
+        c,
+        op,
+        &bytes,
+        place,
+        functions,
+        main,
+        main_places,
+        other,
+        other_places,
+    )
 }
 
 // An operand written anew inside the current function's code.
-pub fn patch_u16_value_at(c: Counts, offset: u16, arg: u16, functions: &[u64], main: &mut [u8], other: &mut [u8]) -> Emitted
+pub fn patch_u16_value_at(
+    c: Counts,
+    offset: u16,
+    arg: u16,
+    functions: &[u64],
+    main: &mut [u8],
+    other: &mut [u8],
+) -> Emitted
     ensures { λ r. ⌜ ((rest : Stores) → Is (patchOf c offset arg (bytesLent rest (now (functions .entry)) (now (main .entry)) (now (other .entry)))) r (bytesLent rest (now (functions .entry)) (now (main .exit)) (now (other .exit)))) ⌝ }
 {
-    let ok = counts_ok(c) & functions_ok(c, functions) & inside_codes(c, functions, main.len(), other.len());
+    let ok = counts_ok(c)
+        & functions_ok(c, functions)
+        & inside_codes(c, functions, main.len(), other.len());
     if !ok {
         return Emitted::Refused(19);
     }

@@ -25,27 +25,53 @@ fn plain(c: Counts, kind: u64, payload: u64, constants: &mut [u64]) -> Emitted
 {
     let n = c.constants;
     put_words(constants, n, kind, payload);
-    Emitted::Done(Counts { constants: n + 1, ..c }, n)
+    Emitted::Done(
+        Counts {
+            constants: n + 1,
+            ..c
+        },
+        n,
+    )
 }
 
 // One constant more, a text, if there is room for it.
-fn text_constant(c: Counts, kind: u64, lent: &[u8], constants: &mut [u64], text: &mut [u8]) -> Emitted
+fn text_constant(
+    c: Counts,
+    kind: u64,
+    lent: &[u8],
+    constants: &mut [u64],
+    text: &mut [u8],
+) -> Emitted
     requires { ⌜ 2 * c .constants + 2 ≤ length (now constants) ⌝ }
     ensures { λ r. ⌜ ((rest : Stores) → Is (withTextConstant c kind (now (lent .entry)) (constantsLent rest (now (constants .entry)) (now (text .entry)))) r (constantsLent rest (now (constants .exit)) (now (text .exit)))) ⌝ }
 {
     let size = lent.len();
     if text_room(c, text, size) {
         let at = c.text;
+        let end = at + size;
         let n = c.constants;
         put_bytes(text, at, lent);
         put_words(constants, n, kind, pack(at, size));
-        return Emitted::Done(Counts { constants: n + 1, text: at + size, ..c }, n);
+        return Emitted::Done(
+            Counts {
+                constants: n + 1,
+                text: end,
+                ..c
+            },
+            n,
+        );
     }
     Emitted::Refused(21)
 }
 
 // One constant more; its number.
-pub fn add_constant(c: Counts, constant: Constant, lent: &[u8], constants: &mut [u64], text: &mut [u8]) -> Emitted
+pub fn add_constant(
+    c: Counts,
+    constant: Constant,
+    lent: &[u8],
+    constants: &mut [u64],
+    text: &mut [u8],
+) -> Emitted
     ensures { λ r. ⌜ ((rest : Stores) → Is (addConstantOf c constant (now (lent .entry)) (constantsLent rest (now (constants .entry)) (now (text .entry)))) r (constantsLent rest (now (constants .exit)) (now (text .exit)))) ⌝ }
 {
     let ok = counts_ok(c) & text_ok(c, text) & constants_ok(c, constants);

@@ -1,4 +1,5 @@
 // Good order of a program's counts and stores: each check answers exactly what the model's definition says.
+use crate::names::all_different;
 use crate::words::code_end;
 use crate::words::code_start;
 use crate::words::first;
@@ -11,11 +12,15 @@ use crate::words::start_of;
 use crate::words::word;
 use model::Counts;
 ghost use mathlib.Core.Path.{_≡_};
+ghost use mathlib.Core.Bool.{_&&_};
 ghost use mathlib.Core.List.{List};
 ghost use Prim.Native.Nat.{ℕ, suc};
-ghost use lib.Dec.{eqb};
+ghost use lib.Dec.{eqb, leb};
 ghost use lib.ListN.{length};
-ghost use Rattle.model.specs.Orders.{countsOk, textOk, insideText, constantOk, constantsOk, functionOk, functionsOk, mainOk, insideCodes};
+ghost use Rattle.model.specs.Basics.{everyFrom};
+ghost use Rattle.model.specs.Values.{places};
+ghost use Rattle.model.specs.Stores.{structWord};
+ghost use Rattle.model.specs.Orders.{countsOk, textOk, insideText, constantOk, constantsOk, structsOk, functionOk, functionsOk, mainOk, insideCodes};
 
 // Whether i is the last of n.
 fn last_of(i: usize, n: usize) -> bool
@@ -89,6 +94,34 @@ pub fn constants_ok(c: Counts, constants: &[u64]) -> bool
     true
 }
 
+// The struct names lie in their store and inside the text.
+fn structs_inside(c: Counts, structs: &[u64]) -> bool
+    ensures { λ r. ⌜ r ≡ (leb (c .structs) (places 1 (now (structs .entry))) && everyFrom (c .structs) 0 (λ i. insideText c (structWord (now (structs .entry)) i))) ⌝ }
+{
+    let n = c.structs;
+    if room(structs.len(), 1) < n {
+        return false;
+    }
+    let mut i = 0;
+    while i < n {
+        let ok = inside_text(c, word(structs, i));
+        if !ok {
+            return false;
+        }
+        i += 1;
+    }
+    true
+}
+
+pub fn structs_ok(c: Counts, structs: &[u64], text: &[u8]) -> bool
+    ensures { λ r. ⌜ r ≡ structsOk c (now (structs .entry)) (now (text .entry)) ⌝ }
+{
+    if structs_inside(c, structs) {
+        return all_different(c.structs, structs, text);
+    }
+    false
+}
+
 // Function i: its name inside the text, its code behind the others and within its limit.
 pub fn function_ok(c: Counts, functions: &[u64], i: usize) -> bool
     ensures { λ r. ⌜ r ≡ functionOk c (now (functions .entry)) i ⌝ }
@@ -129,5 +162,6 @@ pub fn main_ok(functions: &[u64], text: &[u8]) -> bool
 pub fn inside_codes(c: Counts, functions: &[u64], main: usize, other: usize) -> bool
     ensures { λ r. ⌜ ((m o : List ℕ) → length m ≡ main → length o ≡ other → r ≡ insideCodes c (now (functions .entry)) m o) ⌝ }
 {
-    (code_end(functions, 0) <= room(main, 1)) & (code_start(functions, c.functions) <= room(other, 1))
+    (code_end(functions, 0) <= room(main, 1))
+        & (code_start(functions, c.functions) <= room(other, 1))
 }

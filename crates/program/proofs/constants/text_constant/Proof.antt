@@ -16,35 +16,35 @@ use Rattle.program.proofs.writes.put_words.Reads as put-words-reads
 text-room-requires : tie.Need-text-room-requires
 text-room-requires c κs = search needs
 
--- src/constants.rt:40:9
+-- src/constants.rt:39:19
+add-end : tie.Need-add-end
+add-end c = let h = lent-fits _ _ _ _ (c .before .text-room .ensures) (c .if1 .taken) in omega arith
+
+-- src/constants.rt:41:9
 put-bytes-requires : tie.Need-put-bytes-requires
 put-bytes-requires c κs = lent-fits _ _ _ _ (c .before .before .text-room .ensures) (c .before .if1 .taken) .0
 
--- src/constants.rt:41:39
+-- src/constants.rt:42:39
 pack-requires : tie.Need-pack-requires
 pack-requires c κs = let h = lent-fits _ _ _ _ (c .before .before .before .before .before .before .text-room .ensures) (c .before .before .before .before .before .if1 .taken) in (omega arith, omega arith)
 
--- src/constants.rt:41:9
+-- src/constants.rt:42:9
 put-words-requires : tie.Need-put-words-requires
 put-words-requires c κs = search needs
 
--- src/constants.rt:42:50
-add-t18 : tie.Need-add-t18
-add-t18 c = search needs
-
--- src/constants.rt:42:63
+-- src/constants.rt:43:50
 add-t19 : tie.Need-add-t19
-add-t19 c = let h = lent-fits _ _ _ _ (c .before .before .before .before .before .before .before .before .before .before .text-room .ensures) (c .before .before .before .before .before .before .before .before .before .if1 .taken) in omega arith
+add-t19 c = search needs
 
--- src/constants.rt:42:9
+-- src/constants.rt:43:9
 same-length : tie.Need-same-length
 same-length c = search needs
 
--- src/constants.rt:42:9
+-- src/constants.rt:43:9
 same-length-2 : tie.Need-same-length-2
 same-length-2 c = search needs
 
--- src/constants.rt:42:9
+-- src/constants.rt:43:9
 returns : tie.Need-returns
 unfolding constantsLent
 returns c = λ rest. text-added _ _ _ _ _ (c .before .before .before .before .before .before .before .before .before .before .text-room .ensures _ refl) (c .before .before .before .before .before .before .before .before .before .if1 .taken) _ _ _ (c .before .before .before .before .before .before .before .put-bytes .ensures) (c .before .before .before .pack .ensures) (c .before .before .put-words .ensures)
@@ -63,10 +63,10 @@ text-constant-spec =
     tie.close
     (tie.spec
     text-room-requires
+    add-end
     put-bytes-requires
     pack-requires
     put-words-requires
-    add-t18
     add-t19
     same-length
     same-length-2
