@@ -1,40 +1,30 @@
+-- `program::code::add_op` meets its contract.
 use Rattle.model.specs.Emission.{addOpOf}
 use borrow.Author.Needs.{needs}
 use Rattle.program.proofs.code.add_op.Statement.{statement}
 use Rattle.program.proofs.code.add_op.Tie as tie
-use Rattle.program.proofs.code.add_op.Reads as reads
-use Rattle.program.proofs.code.add_op.Lts as lts
-use Rattle.program.proofs.code.emit.Reads as emit-reads
 
--- src/code.rt:103:17
 slice-aggregate-emit : tie.Need-slice-aggregate-emit
 slice-aggregate-emit c = search needs
 
--- src/code.rt:103:5
 emit-requires : tie.Need-emit-requires
 emit-requires c κs = search needs
 
--- src/code.rt:99:1
 same-length : tie.Need-same-length
 same-length c = search needs
 
--- src/code.rt:99:1
 same-length-2 : tie.Need-same-length-2
 same-length-2 c = search needs
 
--- src/code.rt:99:1
 same-length-3 : tie.Need-same-length-3
 same-length-3 c = search needs
 
--- src/code.rt:99:1
 same-length-4 : tie.Need-same-length-4
 same-length-4 c = search needs
 
--- src/code.rt:99:1
 same-length-5 : tie.Need-same-length-5
 same-length-5 c = search needs
 
--- src/code.rt:99:1
 returns : tie.Need-returns
 unfolding addOpOf
 returns c = c .before .before .before .before .before .before .before .before .before .before .emit .ensures

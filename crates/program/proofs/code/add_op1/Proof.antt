@@ -1,48 +1,36 @@
+-- `program::code::add_op1` meets its contract.
 use Rattle.model.specs.Emission.{addOp1Of, u16}
 use borrow.Author.Needs.{needs}
 use Rattle.program.proofs.code.add_op1.Statement.{statement}
 use Rattle.program.proofs.code.add_op1.Tie as tie
-use Rattle.program.proofs.code.add_op1.Reads as reads
-use Rattle.program.proofs.code.add_op1.Lts as lts
-use Rattle.program.proofs.code.emit.Reads as emit-reads
 
--- src/code.rt:97:22
 cast-t12 : tie.Need-cast-t12
 cast-t12 c = search needs
 
--- src/code.rt:97:39
 cast-t14 : tie.Need-cast-t14
 cast-t14 c = search needs
 
--- src/code.rt:98:17
 slice-aggregate-emit : tie.Need-slice-aggregate-emit
 slice-aggregate-emit c = search needs
 
--- src/code.rt:98:5
 emit-requires : tie.Need-emit-requires
 emit-requires c κs = search needs
 
--- src/code.rt:94:1
 same-length : tie.Need-same-length
 same-length c = search needs
 
--- src/code.rt:94:1
 same-length-2 : tie.Need-same-length-2
 same-length-2 c = search needs
 
--- src/code.rt:94:1
 same-length-3 : tie.Need-same-length-3
 same-length-3 c = search needs
 
--- src/code.rt:94:1
 same-length-4 : tie.Need-same-length-4
 same-length-4 c = search needs
 
--- src/code.rt:94:1
 same-length-5 : tie.Need-same-length-5
 same-length-5 c = search needs
 
--- src/code.rt:94:1
 returns : tie.Need-returns
 unfolding addOp1Of u16
 returns c = c .before .before .before .before .before .before .before .before .before .before .emit .ensures

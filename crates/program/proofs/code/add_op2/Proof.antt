@@ -1,56 +1,42 @@
+-- `program::code::add_op2` meets its contract.
 use Rattle.model.specs.Emission.{addOp2Of, u16}
 use borrow.Author.Needs.{needs}
 use Rattle.program.proofs.code.add_op2.Statement.{statement}
 use Rattle.program.proofs.code.add_op2.Tie as tie
-use Rattle.program.proofs.code.add_op2.Reads as reads
-use Rattle.program.proofs.code.add_op2.Lts as lts
-use Rattle.program.proofs.code.emit.Reads as emit-reads
 
--- src/code.rt:104:22
 cast-t13 : tie.Need-cast-t13
 cast-t13 c = search needs
 
--- src/code.rt:104:39
 cast-t15 : tie.Need-cast-t15
 cast-t15 c = search needs
 
--- src/code.rt:104:56
 cast-t17 : tie.Need-cast-t17
 cast-t17 c = search needs
 
--- src/code.rt:104:73
 cast-t19 : tie.Need-cast-t19
 cast-t19 c = search needs
 
--- src/code.rt:105:17
 slice-aggregate-emit : tie.Need-slice-aggregate-emit
 slice-aggregate-emit c = search needs
 
--- src/code.rt:105:5
 emit-requires : tie.Need-emit-requires
 emit-requires c κs = search needs
 
--- src/code.rt:101:1
 same-length : tie.Need-same-length
 same-length c = search needs
 
--- src/code.rt:101:1
 same-length-2 : tie.Need-same-length-2
 same-length-2 c = search needs
 
--- src/code.rt:101:1
 same-length-3 : tie.Need-same-length-3
 same-length-3 c = search needs
 
--- src/code.rt:101:1
 same-length-4 : tie.Need-same-length-4
 same-length-4 c = search needs
 
--- src/code.rt:101:1
 same-length-5 : tie.Need-same-length-5
 same-length-5 c = search needs
 
--- src/code.rt:101:1
 returns : tie.Need-returns
 unfolding addOp2Of u16
 returns c = c .before .before .before .before .before .before .before .before .before .before .emit .ensures

@@ -1,64 +1,48 @@
+-- `program::code::add_op3` meets its contract.
 use Rattle.model.specs.Emission.{addOp3Of, u16}
 use borrow.Author.Needs.{needs}
 use Rattle.program.proofs.code.add_op3.Statement.{statement}
 use Rattle.program.proofs.code.add_op3.Tie as tie
-use Rattle.program.proofs.code.add_op3.Reads as reads
-use Rattle.program.proofs.code.add_op3.Lts as lts
-use Rattle.program.proofs.code.emit.Reads as emit-reads
 
--- src/code.rt:111:22
 cast-t14 : tie.Need-cast-t14
 cast-t14 c = search needs
 
--- src/code.rt:111:39
 cast-t16 : tie.Need-cast-t16
 cast-t16 c = search needs
 
--- src/code.rt:111:56
 cast-t18 : tie.Need-cast-t18
 cast-t18 c = search needs
 
--- src/code.rt:111:73
 cast-t20 : tie.Need-cast-t20
 cast-t20 c = search needs
 
--- src/code.rt:111:90
 cast-t22 : tie.Need-cast-t22
 cast-t22 c = search needs
 
--- src/code.rt:111:107
 cast-t24 : tie.Need-cast-t24
 cast-t24 c = search needs
 
--- src/code.rt:112:17
 slice-aggregate-emit : tie.Need-slice-aggregate-emit
 slice-aggregate-emit c = search needs
 
--- src/code.rt:112:5
 emit-requires : tie.Need-emit-requires
 emit-requires c κs = search needs
 
--- src/code.rt:108:1
 same-length : tie.Need-same-length
 same-length c = search needs
 
--- src/code.rt:108:1
 same-length-2 : tie.Need-same-length-2
 same-length-2 c = search needs
 
--- src/code.rt:108:1
 same-length-3 : tie.Need-same-length-3
 same-length-3 c = search needs
 
--- src/code.rt:108:1
 same-length-4 : tie.Need-same-length-4
 same-length-4 c = search needs
 
--- src/code.rt:108:1
 same-length-5 : tie.Need-same-length-5
 same-length-5 c = search needs
 
--- src/code.rt:108:1
 returns : tie.Need-returns
 unfolding addOp3Of u16
 returns c = c .before .before .before .before .before .before .before .before .before .before .emit .ensures

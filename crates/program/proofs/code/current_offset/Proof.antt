@@ -1,35 +1,24 @@
+-- `program::code::current_offset` meets its contract.
 use Rattle.program.proofs.Entered.{offset-told, offset-refused}
 use borrow.Author.Needs.{needs}
 use Rattle.program.proofs.code.current_offset.Statement.{statement}
 use Rattle.program.proofs.code.current_offset.Tie as tie
-use Rattle.program.proofs.code.current_offset.Reads as reads
-use Rattle.program.proofs.code.current_offset.Lts as lts
-use Rattle.program.proofs.order.counts_ok.Reads as counts-ok-reads
-use Rattle.program.proofs.order.functions_ok.Reads as functions-ok-reads
-use Rattle.program.proofs.words.second.Reads as second-reads
-use Rattle.program.proofs.words.size_of.Reads as size-of-reads
 
--- src/code.rt:15:8
 counts-ok-requires : tie.Need-counts-ok-requires
 counts-ok-requires c κs = search needs
 
--- src/code.rt:15:23
 functions-ok-requires : tie.Need-functions-ok-requires
 functions-ok-requires c κs = search needs
 
--- src/code.rt:16:37
 second-requires : tie.Need-second-requires
 second-requires c κs = search needs
 
--- src/code.rt:16:29
 size-of-requires : tie.Need-size-of-requires
 size-of-requires c κs = search needs
 
--- src/code.rt:16:9
 returns : tie.Need-returns
 returns c = offset-told _ _ _ _ (c .before .before .before .before .counts-ok .ensures) (c .before .before .before .functions-ok .ensures) (c .before .before .if1 .taken) _ _ (c .before .second .ensures) (c .size-of .ensures .0)
 
--- src/code.rt:12:1
 returns-2 : tie.Need-returns-2
 returns-2 c = offset-refused _ _ _ _ (c .before .before .counts-ok .ensures) (c .before .functions-ok .ensures) (c .if1 .left)
 

@@ -1,3 +1,4 @@
+-- `program::code::patch_u16_value_at` meets its contract.
 use mathlib.Core.Path.{refl}
 use Rattle.model.specs.Emission.{u16}
 use Rattle.program.specs.Links.{codeLent, bytesLent}
@@ -5,99 +6,69 @@ use Rattle.program.proofs.Emitting.{patch-order-is, patch-in-main, patc
 use borrow.Author.Needs.{needs}
 use Rattle.program.proofs.code.patch_u16_value_at.Statement.{statement}
 use Rattle.program.proofs.code.patch_u16_value_at.Tie as tie
-use Rattle.program.proofs.code.patch_u16_value_at.Reads as reads
-use Rattle.program.proofs.code.patch_u16_value_at.Lts as lts
-use Rattle.program.proofs.order.counts_ok.Reads as counts-ok-reads
-use Rattle.program.proofs.order.functions_ok.Reads as functions-ok-reads
-use Rattle.program.proofs.order.inside_codes.Reads as inside-codes-reads
-use Rattle.program.proofs.words.second.Reads as second-reads
-use Rattle.program.proofs.words.size_of.Reads as size-of-reads
-use Rattle.program.proofs.words.start_of.Reads as start-of-reads
-use Rattle.program.proofs.writes.put_bytes.Reads as put-bytes-reads
 
--- src/code.rt:120:14
 counts-ok-requires : tie.Need-counts-ok-requires
 counts-ok-requires c κs = search needs
 
--- src/code.rt:120:29
 functions-ok-requires : tie.Need-functions-ok-requires
 functions-ok-requires c κs = search needs
 
--- src/code.rt:120:58
 inside-codes-requires : tie.Need-inside-codes-requires
 inside-codes-requires c κs = search needs
 
--- src/code.rt:122:9
 returns : tie.Need-returns
 returns c = λ rest. patch-19 _ _ _ _ _ (patch-order-is _ _ _ _ _ _ _ (c .before .before .before .counts-ok .ensures) (c .before .before .functions-ok .ensures) (c .before .inside-codes .ensures _ _ refl refl) rest) (c .if1 .taken)
 
--- src/code.rt:125:9
 second-requires : tie.Need-second-requires
 second-requires c κs = search needs
 
--- src/code.rt:126:9
 start-of-requires : tie.Need-start-of-requires
 start-of-requires c κs = search needs
 
--- src/code.rt:127:9
 size-of-requires : tie.Need-size-of-requires
 size-of-requires c κs = search needs
 
--- src/code.rt:129:15
 add-if2 : tie.Need-add-if2
 add-if2 c = search needs
 
--- src/code.rt:130:9
 returns-2 : tie.Need-returns-2
 unfolding codeLent bytesLent
 returns-2 c = λ rest. patch-23 _ _ _ _ _ (patch-order-is _ _ _ _ _ _ _ (c .before .before .before .before .before .before .before .counts-ok .ensures) (c .before .before .before .before .before .before .functions-ok .ensures) (c .before .before .before .before .before .inside-codes .ensures _ _ refl refl) rest) (c .before .before .before .before .if1 .left) _ _ _ (c .before .before .before .second .ensures) (c .before .before .start-of .ensures .0) (c .before .size-of .ensures .0) (c .if2 .taken)
 
--- src/code.rt:132:18
 cast-t21 : tie.Need-cast-t21
 cast-t21 c = search needs
 
--- src/code.rt:132:37
 cast-t23 : tie.Need-cast-t23
 cast-t23 c = search needs
 
--- src/code.rt:134:25
 add-put-bytes : tie.Need-add-put-bytes
 add-put-bytes c = search needs
 
--- src/code.rt:134:37
 slice-aggregate-put-bytes : tie.Need-slice-aggregate-put-bytes
 slice-aggregate-put-bytes c = search needs
 
--- src/code.rt:134:9
 put-bytes-requires : tie.Need-put-bytes-requires
 put-bytes-requires c κs = patch-in-main _ _ (c .before .before .before .before .before .before .before .before .before .before .before .before .before .before .args .main .now) (c .before .before .before .before .before .before .before .before .before .before .before .before .before .before .args .other .now) _ _ _ (c .before .before .before .before .before .before .before .before .before .before .counts-ok .ensures) (c .before .before .before .before .before .before .before .before .before .functions-ok .ensures) (c .before .before .before .before .before .before .before .before .inside-codes .ensures _ _ refl refl) (c .before .before .before .before .before .before .before .if1 .left) _ _ _ _ (c .before .before .before .before .before .before .second .ensures) (c .before .before .before .before .before .start-of .ensures .0) (c .before .before .before .before .size-of .ensures .0) (c .before .before .before .if2 .left) (c .before .before .if3 .taken)
 
--- src/code.rt:135:9
 same-length : tie.Need-same-length
 same-length c = search needs
 
--- src/code.rt:135:9
 returns-3 : tie.Need-returns-3
 unfolding codeLent bytesLent u16
 returns-3 c = λ rest. patched-main _ _ _ _ _ (patch-order-is _ _ _ _ _ _ _ (c .before .before .before .before .before .before .before .before .before .before .before .before .before .counts-ok .ensures) (c .before .before .before .before .before .before .before .before .before .before .before .before .functions-ok .ensures) (c .before .before .before .before .before .before .before .before .before .before .before .inside-codes .ensures _ _ refl refl) rest) (c .before .before .before .before .before .before .before .before .before .before .if1 .left) _ _ _ (c .before .before .before .before .before .before .before .before .before .second .ensures) (c .before .before .before .before .before .before .before .before .start-of .ensures .0) (c .before .before .before .before .before .before .before .size-of .ensures .0) (c .before .before .before .before .before .before .if2 .left) _ (c .before .before .before .before .before .if3 .taken) (c .before .before .put-bytes .ensures)
 
--- src/code.rt:137:22
 add-put-bytes-2 : tie.Need-add-put-bytes-2
 add-put-bytes-2 c = search needs
 
--- src/code.rt:137:34
 slice-aggregate-put-bytes-2 : tie.Need-slice-aggregate-put-bytes-2
 slice-aggregate-put-bytes-2 c = search needs
 
--- src/code.rt:137:5
 put-bytes-requires-2 : tie.Need-put-bytes-requires-2
 put-bytes-requires-2 c κs = patch-in-other _ _ (c .before .before .before .before .before .before .before .before .before .before .before .before .before .before .args .main .now) (c .before .before .before .before .before .before .before .before .before .before .before .before .before .before .args .other .now) _ _ _ (c .before .before .before .before .before .before .before .before .before .before .counts-ok .ensures) (c .before .before .before .before .before .before .before .before .before .functions-ok .ensures) (c .before .before .before .before .before .before .before .before .inside-codes .ensures _ _ refl refl) (c .before .before .before .before .before .before .before .if1 .left) _ _ _ _ (c .before .before .before .before .before .before .second .ensures) (c .before .before .before .before .before .start-of .ensures .0) (c .before .before .before .before .size-of .ensures .0) (c .before .before .before .if2 .left) (c .before .before .if3 .left)
 
--- src/code.rt:117:1
 same-length-2 : tie.Need-same-length-2
 same-length-2 c = search needs
 
--- src/code.rt:117:1
 returns-4 : tie.Need-returns-4
 unfolding codeLent bytesLent u16
 returns-4 c = λ rest. patched-other _ _ _ _ _ (patch-order-is _ _ _ _ _ _ _ (c .before .before .before .before .before .before .before .before .before .before .before .before .before .counts-ok .ensures) (c .before .before .before .before .before .before .before .before .before .before .before .before .functions-ok .ensures) (c .before .before .before .before .before .before .before .before .before .before .before .inside-codes .ensures _ _ refl refl) rest) (c .before .before .before .before .before .before .before .before .before .before .if1 .left) _ _ _ (c .before .before .before .before .before .before .before .before .before .second .ensures) (c .before .before .before .before .before .before .before .before .start-of .ensures .0) (c .before .before .before .before .before .before .before .size-of .ensures .0) (c .before .before .before .before .before .before .if2 .left) _ (c .before .before .before .before .before .if3 .left) (c .before .before .put-bytes2 .ensures)

@@ -1,25 +1,19 @@
+-- `program::constants::plain` meets its contract.
 use Rattle.program.specs.Links.{constantsLent}
 use Rattle.program.proofs.Adding.{plain-added}
 use borrow.Author.Needs.{needs}
 use Rattle.program.proofs.constants.plain.Statement.{statement}
 use Rattle.program.proofs.constants.plain.Tie as tie
-use Rattle.program.proofs.constants.plain.Reads as reads
-use Rattle.program.proofs.constants.plain.Lts as lts
-use Rattle.program.proofs.writes.put_words.Reads as put-words-reads
 
--- src/constants.rt:27:5
 put-words-requires : tie.Need-put-words-requires
 put-words-requires c κs = search needs
 
--- src/constants.rt:28:39
 add-t9 : tie.Need-add-t9
 add-t9 c = search needs
 
--- src/constants.rt:22:1
 same-length : tie.Need-same-length
 same-length c = search needs
 
--- src/constants.rt:22:1
 returns : tie.Need-returns
 unfolding constantsLent
 returns c = λ rest t. plain-added _ _ _ _ _ (c .before .before .put-words .ensures)

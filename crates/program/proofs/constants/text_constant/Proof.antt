@@ -1,3 +1,4 @@
+-- `program::constants::text_constant` meets its contract.
 use mathlib.Core.Path.{refl}
 use native.Mathlib.Omega.{arith}
 use Rattle.program.specs.Links.{constantsLent}
@@ -5,55 +6,38 @@ use Rattle.program.proofs.Adding.{lent-fits, text-21, text-added}
 use borrow.Author.Needs.{needs}
 use Rattle.program.proofs.constants.text_constant.Statement.{statement}
 use Rattle.program.proofs.constants.text_constant.Tie as tie
-use Rattle.program.proofs.constants.text_constant.Reads as reads
-use Rattle.program.proofs.constants.text_constant.Lts as lts
-use Rattle.program.proofs.words.pack.Reads as pack-reads
-use Rattle.program.proofs.words.text_room.Reads as text-room-reads
-use Rattle.program.proofs.writes.put_bytes.Reads as put-bytes-reads
-use Rattle.program.proofs.writes.put_words.Reads as put-words-reads
 
--- src/constants.rt:37:8
 text-room-requires : tie.Need-text-room-requires
 text-room-requires c κs = search needs
 
--- src/constants.rt:39:19
 add-end : tie.Need-add-end
 add-end c = let h = lent-fits _ _ _ _ (c .before .text-room .ensures) (c .if1 .taken) in omega arith
 
--- src/constants.rt:41:9
 put-bytes-requires : tie.Need-put-bytes-requires
 put-bytes-requires c κs = lent-fits _ _ _ _ (c .before .before .text-room .ensures) (c .before .if1 .taken) .0
 
--- src/constants.rt:42:39
 pack-requires : tie.Need-pack-requires
 pack-requires c κs = let h = lent-fits _ _ _ _ (c .before .before .before .before .before .before .text-room .ensures) (c .before .before .before .before .before .if1 .taken) in (omega arith, omega arith)
 
--- src/constants.rt:42:9
 put-words-requires : tie.Need-put-words-requires
 put-words-requires c κs = search needs
 
--- src/constants.rt:43:50
 add-t19 : tie.Need-add-t19
 add-t19 c = search needs
 
--- src/constants.rt:43:9
 same-length : tie.Need-same-length
 same-length c = search needs
 
--- src/constants.rt:43:9
 same-length-2 : tie.Need-same-length-2
 same-length-2 c = search needs
 
--- src/constants.rt:43:9
 returns : tie.Need-returns
 unfolding constantsLent
 returns c = λ rest. text-added _ _ _ _ _ (c .before .before .before .before .before .before .before .before .before .before .text-room .ensures _ refl) (c .before .before .before .before .before .before .before .before .before .if1 .taken) _ _ _ (c .before .before .before .before .before .before .before .put-bytes .ensures) (c .before .before .before .pack .ensures) (c .before .before .put-words .ensures)
 
--- src/constants.rt:32:1
 same-length-3 : tie.Need-same-length-3
 same-length-3 c = search needs
 
--- src/constants.rt:32:1
 returns-2 : tie.Need-returns-2
 unfolding constantsLent
 returns-2 c = λ rest. text-21 _ _ _ _ _ (c .before .text-room .ensures _ refl) (c .if1 .left)

@@ -1,3 +1,4 @@
+-- `program::functions::begin_function` meets its contract.
 use mathlib.Core.Path.{refl}
 use native.Mathlib.Omega.{arith}
 use Rattle.program.specs.Links.{namesLent}
@@ -5,115 +6,81 @@ use Rattle.program.proofs.Adding.{lent-fits, pair-fits, behind-fits, be
 use borrow.Author.Needs.{needs}
 use Rattle.program.proofs.functions.begin_function.Statement.{statement}
 use Rattle.program.proofs.functions.begin_function.Tie as tie
-use Rattle.program.proofs.functions.begin_function.Reads as reads
-use Rattle.program.proofs.functions.begin_function.Lts as lts
-use Rattle.program.proofs.functions.function_order.Reads as function-order-reads
-use Rattle.program.proofs.words.code_start.Reads as code-start-reads
-use Rattle.program.proofs.words.pack.Reads as pack-reads
-use Rattle.program.proofs.words.room.Reads as room-reads
-use Rattle.program.proofs.words.text_room.Reads as text-room-reads
-use Rattle.program.proofs.writes.put_bytes.Reads as put-bytes-reads
-use Rattle.program.proofs.writes.put_words.Reads as put-words-reads
 
--- src/functions.rt:61:9
 function-order-requires : tie.Need-function-order-requires
 function-order-requires c κs = search needs
 
--- src/functions.rt:63:9
 same-length : tie.Need-same-length
 same-length c = search needs
 
--- src/functions.rt:63:9
 same-length-2 : tie.Need-same-length-2
 same-length-2 c = search needs
 
--- src/functions.rt:63:9
 returns : tie.Need-returns
 returns c = λ rest. begin-19 _ _ _ _ (c .before .function-order .ensures rest) (c .if1 .taken)
 
--- src/functions.rt:67:9
 same-length-3 : tie.Need-same-length-3
 same-length-3 c = search needs
 
--- src/functions.rt:67:9
 same-length-4 : tie.Need-same-length-4
 same-length-4 c = search needs
 
--- src/functions.rt:67:9
 returns-2 : tie.Need-returns-2
 returns-2 c = λ rest. begin-22 _ _ _ _ (c .before .before .function-order .ensures rest) (c .before .if1 .left) (c .if2 .taken)
 
--- src/functions.rt:69:8
 room-requires : tie.Need-room-requires
 room-requires c κs = search needs
 
--- src/functions.rt:70:9
 same-length-5 : tie.Need-same-length-5
 same-length-5 c = search needs
 
--- src/functions.rt:70:9
 same-length-6 : tie.Need-same-length-6
 same-length-6 c = search needs
 
--- src/functions.rt:70:9
 returns-3 : tie.Need-returns-3
 unfolding namesLent
 returns-3 c = λ rest. begin-21 _ _ _ _ (c .before .before .before .before .function-order .ensures rest) (c .before .before .before .if1 .left) (c .before .before .if2 .left) _ (c .before .room .ensures _ refl) (c .if3 .taken)
 
--- src/functions.rt:73:8
 text-room-requires : tie.Need-text-room-requires
 text-room-requires c κs = search needs
 
--- src/functions.rt:75:19
 add-end : tie.Need-add-end
 add-end c = let h = lent-fits _ _ _ _ (c .before .text-room .ensures) (c .if4 .taken) in omega arith
 
--- src/functions.rt:76:13
 code-start-requires : tie.Need-code-start-requires
 code-start-requires c κs = search needs
 
--- src/functions.rt:77:9
 put-bytes-requires : tie.Need-put-bytes-requires
 put-bytes-requires c κs = lent-fits _ _ _ _ (c .before .before .before .before .text-room .ensures) (c .before .before .before .if4 .taken) .0
 
--- src/functions.rt:78:33
 pack-requires : tie.Need-pack-requires
 pack-requires c κs = let h = lent-fits _ _ _ _ (c .before .before .before .before .before .before .before .before .text-room .ensures) (c .before .before .before .before .before .before .before .if4 .taken) in (omega arith, omega arith)
 
--- src/functions.rt:78:49
 pack-requires-2 : tie.Need-pack-requires-2
 pack-requires-2 c κs = (behind-fits _ _ _ _ (c .before .before .before .before .before .before .before .before .before .before .before .before .before .before .before .function-order .ensures) (c .before .before .before .before .before .before .before .before .before .before .before .before .before .before .if1 .left) _ (c .before .before .before .before .before .before .code-start .ensures), search needs)
 
--- src/functions.rt:78:9
 put-words-requires : tie.Need-put-words-requires
 put-words-requires c κs = pair-fits _ _ (c .before .before .before .before .before .before .before .before .before .before .before .before .before .before .before .before .before .before .before .before .before .before .args .functions .now) (c .before .before .before .before .before .before .before .before .before .before .before .before .before .room .ensures _ refl) (c .before .before .before .before .before .before .before .before .before .before .before .before .if3 .left)
 
--- src/functions.rt:79:50
 add-t30 : tie.Need-add-t30
 add-t30 c = search needs
 
--- src/functions.rt:79:9
 same-length-7 : tie.Need-same-length-7
 same-length-7 c = search needs
 
--- src/functions.rt:79:9
 same-length-8 : tie.Need-same-length-8
 same-length-8 c = search needs
 
--- src/functions.rt:79:9
 returns-4 : tie.Need-returns-4
 unfolding namesLent
 returns-4 c = λ rest. begin-done _ _ _ _ (c .before .before .before .before .before .before .before .before .before .before .before .before .before .before .before .before .before .before .before .function-order .ensures rest) (c .before .before .before .before .before .before .before .before .before .before .before .before .before .before .before .before .before .before .if1 .left) (c .before .before .before .before .before .before .before .before .before .before .before .before .before .before .before .before .before .if2 .left) _ (c .before .before .before .before .before .before .before .before .before .before .before .before .before .before .before .before .room .ensures _ refl) (c .before .before .before .before .before .before .before .before .before .before .before .before .before .before .before .if3 .left) _ (c .before .before .before .before .before .before .before .before .before .before .before .before .before .text-room .ensures _ refl) (c .before .before .before .before .before .before .before .before .before .before .before .before .if4 .taken) _ _ _ _ _ (c .before .before .before .before .before .before .before .before .before .before .code-start .ensures) (c .before .before .before .before .before .before .before .before .put-bytes .ensures) (c .before .before .before .before .pack .ensures) (c .before .before .before .pack2 .ensures) (c .before .before .put-words .ensures)
 
--- src/functions.rt:58:1
 same-length-9 : tie.Need-same-length-9
 same-length-9 c = search needs
 
--- src/functions.rt:58:1
 same-length-10 : tie.Need-same-length-10
 same-length-10 c = search needs
 
--- src/functions.rt:58:1
 returns-5 : tie.Need-returns-5
 unfolding namesLent
 returns-5 c = λ rest. begin-text-21 _ _ _ _ (c .before .before .before .before .before .before .before .function-order .ensures rest) (c .before .before .before .before .before .before .if1 .left) (c .before .before .before .before .before .if2 .left) _ (c .before .before .before .before .room .ensures _ refl) (c .before .before .before .if3 .left) _ (c .before .text-room .ensures _ refl) (c .if4 .left)

@@ -1,25 +1,18 @@
+-- `program::functions::get_function_idx` meets its contract.
 use Rattle.program.proofs.Adding.{index-19, index-told}
 use borrow.Author.Needs.{needs}
 use Rattle.program.proofs.functions.get_function_idx.Statement.{statement}
 use Rattle.program.proofs.functions.get_function_idx.Tie as tie
-use Rattle.program.proofs.functions.get_function_idx.Reads as reads
-use Rattle.program.proofs.functions.get_function_idx.Lts as lts
-use Rattle.program.proofs.functions.function_order.Reads as function-order-reads
-use Rattle.program.proofs.names.newest_function.Reads as newest-function-reads
 
--- src/functions.rt:88:8
 function-order-requires : tie.Need-function-order-requires
 function-order-requires c κs = search needs
 
--- src/functions.rt:89:9
 newest-function-requires : tie.Need-newest-function-requires
 newest-function-requires c κs = search needs
 
--- src/functions.rt:89:9
 returns : tie.Need-returns
 returns c = index-told _ _ _ _ _ (c .before .before .function-order .ensures) (c .before .if1 .taken) _ (c .newest-function .ensures)
 
--- src/functions.rt:85:1
 returns-2 : tie.Need-returns-2
 returns-2 c = index-19 _ _ _ _ _ (c .before .function-order .ensures) (c .if1 .left)
 

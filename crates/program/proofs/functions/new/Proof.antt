@@ -1,53 +1,38 @@
+-- `program::functions::new` meets its contract.
 use mathlib.Core.Path.{refl}
 use native.Mathlib.Omega.{arith}
 use Rattle.program.proofs.Entered.{new-fits, new-done, new-refused}
 use borrow.Author.Needs.{needs}
 use Rattle.program.proofs.functions.new.Statement.{statement}
 use Rattle.program.proofs.functions.new.Tie as tie
-use Rattle.program.proofs.functions.new.Reads as reads
-use Rattle.program.proofs.functions.new.Lts as lts
-use Rattle.program.proofs.words.pack.Reads as pack-reads
-use Rattle.program.proofs.words.room.Reads as room-reads
-use Rattle.program.proofs.writes.put_bytes.Reads as put-bytes-reads
-use Rattle.program.proofs.writes.put_words.Reads as put-words-reads
 
--- src/functions.rt:18:14
 room-requires : tie.Need-room-requires
 room-requires c κs = search needs
 
--- src/functions.rt:18:43
 room-requires-2 : tie.Need-room-requires-2
 room-requires-2 c κs = search needs
 
--- src/functions.rt:19:28
 slice-aggregate-put-bytes : tie.Need-slice-aggregate-put-bytes
 slice-aggregate-put-bytes c = search needs
 
--- src/functions.rt:19:9
 put-bytes-requires : tie.Need-put-bytes-requires
 put-bytes-requires c κs = let h = new-fits (c .before .before .before .before .before .before .before .args .functions .now) (c .before .before .before .before .before .before .before .args .text .now) _ _ (c .before .before .before .before .room .ensures _ refl) (c .before .before .before .room2 .ensures _ refl) (c .before .before .if1 .taken) in omega arith
 
--- src/functions.rt:20:33
 pack-requires : tie.Need-pack-requires
 pack-requires c κs = search needs
 
--- src/functions.rt:20:9
 put-words-requires : tie.Need-put-words-requires
 put-words-requires c κs = let h = new-fits (c .before .before .before .before .before .before .before .before .before .before .before .before .args .functions .now) (c .before .before .before .before .before .before .before .before .before .before .before .before .args .text .now) _ _ (c .before .before .before .before .before .before .before .before .before .room .ensures _ refl) (c .before .before .before .before .before .before .before .before .room2 .ensures _ refl) (c .before .before .before .before .before .before .before .if1 .taken) in omega arith
 
--- src/functions.rt:28:9
 same-length : tie.Need-same-length
 same-length c = search needs
 
--- src/functions.rt:28:9
 same-length-2 : tie.Need-same-length-2
 same-length-2 c = search needs
 
--- src/functions.rt:28:9
 returns : tie.Need-returns
 returns c = λ rest. new-done _ _ _ _ (c .before .before .before .before .before .before .before .before .before .before .before .before .room .ensures _ refl) (c .before .before .before .before .before .before .before .before .before .before .before .room2 .ensures _ refl) rest (c .before .before .before .before .before .before .before .before .before .before .if1 .taken) _ _ _ (c .before .before .before .before .before .before .before .put-bytes .ensures) (c .before .before .before .pack .ensures) (c .before .before .put-words .ensures)
 
--- src/functions.rt:15:1
 returns-2 : tie.Need-returns-2
 returns-2 c = λ rest. new-refused _ _ _ _ (c .before .before .room .ensures _ refl) (c .before .room2 .ensures _ refl) rest (c .if1 .left)
 

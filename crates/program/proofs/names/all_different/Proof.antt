@@ -1,14 +1,10 @@
+-- `program::names::all_different` meets its contract.
 use Prim.Native.Nat.{_-_}
 use borrow.Author.Needs.{needs}
 use native.Mathlib.Omega.{arith}
 use Rattle.program.proofs.Searching.{Different, different-start, different-all, different-not, different-next}
 use Rattle.program.proofs.names.all_different.Statement.{statement}
 use Rattle.program.proofs.names.all_different.Tie as tie
-use Rattle.program.proofs.names.all_different.Reads as reads
-use Rattle.program.proofs.names.all_different.Lts as lts
-use Rattle.program.proofs.names.among.Reads as among-reads
-use Rattle.program.proofs.words.part.Reads as part-reads
-use Rattle.program.proofs.words.word.Reads as word-reads
 
 abbrev Inv-loop : tie.InvT-loop
 Inv-loop n structs text i₀ i = Different n structs text i
@@ -16,43 +12,33 @@ Inv-loop n structs text i₀ i = Different n structs text i
 abbrev μ-loop : tie.MeasureT-loop
 μ-loop n structs text i₀ i = n - i
 
--- src/names.rt:62:5
 loop-holds : tie.Need-loop-holds Inv-loop μ-loop
 loop-holds c = different-start _ _ _
 
--- src/names.rt:63:38
 word-requires : tie.Need-word-requires Inv-loop μ-loop
 word-requires c κs = search needs
 
--- src/names.rt:63:27
 part-requires : tie.Need-part-requires Inv-loop μ-loop
 part-requires c κs = search needs
 
--- src/names.rt:63:57
 add-among : tie.Need-add-among Inv-loop μ-loop
 add-among c = omega arith
 
--- src/names.rt:63:13
 among-requires : tie.Need-among-requires Inv-loop μ-loop
 among-requires c κs = search needs
 
--- src/names.rt:65:13
 returns : tie.Need-returns Inv-loop μ-loop
 returns c = different-not _ _ _ _ (c .before .before .before .before .before .loop .inv) (c .before .before .before .before .loop-test .taken) _ _ _ (c .before .before .before .word .ensures) (c .before .before .part .ensures) (c .before .among .ensures) (c .if1 .taken)
 
--- src/names.rt:67:9
 add-i : tie.Need-add-i Inv-loop μ-loop
 add-i c = omega arith
 
--- src/names.rt:62:5
 loop-less : tie.Need-loop-less Inv-loop μ-loop
 loop-less c = omega arith
 
--- src/names.rt:62:5
 loop-again : tie.Need-loop-again Inv-loop μ-loop
 loop-again c = different-next _ _ _ _ (c .before .before .before .before .before .loop .inv) (c .before .before .before .before .loop-test .taken) _ _ _ (c .before .before .before .word .ensures) (c .before .before .part .ensures) (c .before .among .ensures) (c .if1 .left)
 
--- src/names.rt:58:1
 returns-2 : tie.Need-returns-2 Inv-loop μ-loop
 returns-2 c = different-all _ _ _ _ (c .before .loop .inv) (c .loop-test .left)
 

@@ -1,28 +1,21 @@
+-- `program::names::among` meets its contract.
 use Rattle.program.proofs.Searching.{is-among, not-among}
 use borrow.Author.Needs.{needs}
 use Rattle.program.proofs.names.among.Statement.{statement}
 use Rattle.program.proofs.names.among.Tie as tie
-use Rattle.program.proofs.names.among.Reads as reads
-use Rattle.program.proofs.names.among.Lts as lts
-use Rattle.program.proofs.names.first_struct.Reads as first-struct-reads
 
--- src/names.rt:50:9
 first-struct-requires : tie.Need-first-struct-requires
 first-struct-requires c κs = search needs
 
--- src/names.rt:52:28
 enum-told : tie.Need-enum-told
 enum-told c = search needs
 
--- src/names.rt:53:29
 enum-told-2 : tie.Need-enum-told-2
 enum-told-2 c = search needs
 
--- src/names.rt:47:1
 returns : tie.Need-returns
 returns c = is-among _ _ _ _ _ (c .before .before .first-struct .ensures) (c .enum-told .given .1)
 
--- src/names.rt:47:1
 returns-2 : tie.Need-returns-2
 returns-2 c = not-among _ _ _ _ _ (c .before .before .first-struct .ensures) (c .enum-told2 .given .1)
 

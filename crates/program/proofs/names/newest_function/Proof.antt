@@ -1,13 +1,9 @@
+-- `program::names::newest_function` meets its contract.
 use borrow.Author.Needs.{needs}
 use native.Mathlib.Omega.{arith}
 use Rattle.program.proofs.Searching.{Newest, newest-start, newest-none, newest-here, newest-below}
 use Rattle.program.proofs.names.newest_function.Statement.{statement}
 use Rattle.program.proofs.names.newest_function.Tie as tie
-use Rattle.program.proofs.names.newest_function.Reads as reads
-use Rattle.program.proofs.names.newest_function.Lts as lts
-use Rattle.program.proofs.words.first.Reads as first-reads
-use Rattle.program.proofs.words.part.Reads as part-reads
-use Rattle.program.proofs.words.same_bytes.Reads as same-bytes-reads
 
 abbrev Inv-loop : tie.InvT-loop
 Inv-loop n name functions text left₀ left = Newest n name functions text left
@@ -15,39 +11,30 @@ Inv-loop n name functions text left₀ left = Newest n name functions text left
 abbrev μ-loop : tie.MeasureT-loop
 μ-loop n name functions text left₀ left = left
 
--- src/names.rt:20:5
 loop-holds : tie.Need-loop-holds Inv-loop μ-loop
 loop-holds c = newest-start _ _ _ _
 
--- src/names.rt:21:17
 sub-i : tie.Need-sub-i Inv-loop μ-loop
 sub-i c = omega arith
 
--- src/names.rt:22:48
 first-requires : tie.Need-first-requires Inv-loop μ-loop
 first-requires c κs = search needs
 
--- src/names.rt:22:37
 part-requires : tie.Need-part-requires Inv-loop μ-loop
 part-requires c κs = search needs
 
--- src/names.rt:22:13
 same-bytes-requires : tie.Need-same-bytes-requires Inv-loop μ-loop
 same-bytes-requires c κs = search needs
 
--- src/names.rt:24:13
 returns : tie.Need-returns Inv-loop μ-loop
 returns c = newest-here _ _ _ _ _ (c .before .before .before .before .before .loop .inv) (c .before .before .before .before .loop-test .taken) _ _ _ (c .before .before .before .first .ensures) (c .before .before .part .ensures) (c .before .same-bytes .ensures) (c .if1 .taken)
 
--- src/names.rt:20:5
 loop-less : tie.Need-loop-less Inv-loop μ-loop
 loop-less c = omega arith
 
--- src/names.rt:20:5
 loop-again : tie.Need-loop-again Inv-loop μ-loop
 loop-again c = newest-below _ _ _ _ _ (c .before .before .before .before .before .loop .inv) (c .before .before .before .before .loop-test .taken) _ _ _ (c .before .before .before .first .ensures) (c .before .before .part .ensures) (c .before .same-bytes .ensures) (c .if1 .left)
 
--- src/names.rt:16:1
 returns-2 : tie.Need-returns-2 Inv-loop μ-loop
 returns-2 c = newest-none _ _ _ _ _ (c .before .loop .inv) (c .loop-test .left)
 

@@ -1,28 +1,21 @@
+-- `program::order::constant_ok` meets its contract.
 use Rattle.program.proofs.Checks.{kind-0, kind-1, kind-text, kind-none}
 use borrow.Author.Needs.{needs}
 use Rattle.program.proofs.order.constant_ok.Statement.{statement}
 use Rattle.program.proofs.order.constant_ok.Tie as tie
-use Rattle.program.proofs.order.constant_ok.Reads as reads
-use Rattle.program.proofs.order.constant_ok.Lts as lts
-use Rattle.program.proofs.order.inside_text.Reads as inside-text-reads
 
--- src/order.rt:61:9
 returns : tie.Need-returns
 returns c = kind-0 _ _ _ (c .if1 .taken)
 
--- src/order.rt:64:9
 returns-2 : tie.Need-returns-2
 returns-2 c = kind-1 _ _ _ (c .before .if1 .left) (c .if2 .taken)
 
--- src/order.rt:67:9
 inside-text-requires : tie.Need-inside-text-requires
 inside-text-requires c κs = search needs
 
--- src/order.rt:67:9
 returns-3 : tie.Need-returns-3
 returns-3 c = kind-text _ _ _ (c .before .before .before .if1 .left) (c .before .before .if2 .left) (c .before .if3 .taken) _ (c .inside-text .ensures)
 
--- src/order.rt:57:1
 returns-4 : tie.Need-returns-4
 returns-4 c = kind-none _ _ _ (c .before .before .if1 .left) (c .before .if2 .left) (c .if3 .left)
 

@@ -1,3 +1,4 @@
+-- `program::order::constants_ok` meets its contract.
 use Rattle.model.specs.Orders.{constantOk, constantsOk}
 use Rattle.model.specs.Values.{kindAt, payloadAt}
 use Rattle.program.proofs.Checks.{constants-judged, constant-here}
@@ -9,12 +10,6 @@ use native.Mathlib.Omega.{arith}
 use Rattle.program.proofs.Every.{Passed, too-many, none-yet, all-passed, one-fails, one-more}
 use Rattle.program.proofs.order.constants_ok.Statement.{statement}
 use Rattle.program.proofs.order.constants_ok.Tie as tie
-use Rattle.program.proofs.order.constants_ok.Reads as reads
-use Rattle.program.proofs.order.constants_ok.Lts as lts
-use Rattle.program.proofs.order.constant_ok.Reads as constant-ok-reads
-use Rattle.program.proofs.words.first.Reads as first-reads
-use Rattle.program.proofs.words.room.Reads as room-reads
-use Rattle.program.proofs.words.second.Reads as second-reads
 
 abbrev Inv-loop : tie.InvT-loop
 Inv-loop c constants n i₀ i = Passed (constantsOk c constants) (c .constants) (λ j. constantOk c (kindAt constants j) (payloadAt constants j)) i
@@ -22,47 +17,36 @@ Inv-loop c constants n i₀ i = Passed (constantsOk c constants) (c .constants) 
 abbrev μ-loop : tie.MeasureT-loop
 μ-loop c constants n i₀ i = c .constants - i
 
--- src/order.rt:76:8
 room-requires : tie.Need-room-requires Inv-loop μ-loop
 room-requires c κs = search needs
 
--- src/order.rt:77:9
 returns : tie.Need-returns Inv-loop μ-loop
 returns c = too-many (constants-judged _ _) _ (c .before .room .ensures _ refl) (c .if1 .taken)
 
--- src/order.rt:80:5
 loop-holds : tie.Need-loop-holds Inv-loop μ-loop
 loop-holds c = none-yet (constants-judged _ _) _ (c .before .room .ensures _ refl) (c .if1 .left)
 
--- src/order.rt:81:13
 first-requires : tie.Need-first-requires Inv-loop μ-loop
 first-requires c κs = search needs
 
--- src/order.rt:82:13
 second-requires : tie.Need-second-requires Inv-loop μ-loop
 second-requires c κs = search needs
 
--- src/order.rt:83:13
 constant-ok-requires : tie.Need-constant-ok-requires Inv-loop μ-loop
 constant-ok-requires c κs = search needs
 
--- src/order.rt:85:13
 returns-2 : tie.Need-returns-2 Inv-loop μ-loop
 returns-2 c = one-fails (c .before .before .before .before .before .loop .inv) (c .before .before .before .before .loop-test .taken) _ (constant-here _ _ _ _ _ _ (c .before .before .before .first .ensures) (c .before .before .second .ensures) (c .before .constant-ok .ensures)) (not-true _ (c .if2 .taken))
 
--- src/order.rt:87:9
 add-i : tie.Need-add-i Inv-loop μ-loop
 add-i c = omega arith
 
--- src/order.rt:80:5
 loop-less : tie.Need-loop-less Inv-loop μ-loop
 loop-less c = omega arith
 
--- src/order.rt:80:5
 loop-again : tie.Need-loop-again Inv-loop μ-loop
 loop-again c = one-more (c .before .before .before .before .before .loop .inv) (c .before .before .before .before .loop-test .taken) _ (constant-here _ _ _ _ _ _ (c .before .before .before .first .ensures) (c .before .before .second .ensures) (c .before .constant-ok .ensures)) (not-false _ (c .if2 .left))
 
--- src/order.rt:72:1
 returns-3 : tie.Need-returns-3 Inv-loop μ-loop
 returns-3 c = all-passed (c .before .loop .inv) (c .loop-test .left)
 

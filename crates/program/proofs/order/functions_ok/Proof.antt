@@ -1,3 +1,4 @@
+-- `program::order::functions_ok` meets its contract.
 use Rattle.model.specs.Orders.{functionOk, functionsOk}
 use Rattle.program.proofs.Checks.{functions-judged}
 use Rattle.program.proofs.Every.{Passed, too-many, none-yet, all-passed, one-fails, one-more}
@@ -8,10 +9,6 @@ use mathlib.Core.Path.{refl}
 use borrow.Author.Needs.{needs}
 use Rattle.program.proofs.order.functions_ok.Statement.{statement}
 use Rattle.program.proofs.order.functions_ok.Tie as tie
-use Rattle.program.proofs.order.functions_ok.Reads as reads
-use Rattle.program.proofs.order.functions_ok.Lts as lts
-use Rattle.program.proofs.order.function_ok.Reads as function-ok-reads
-use Rattle.program.proofs.words.room.Reads as room-reads
 
 abbrev Inv-loop : tie.InvT-loop
 Inv-loop c functions n i₀ i = Passed (functionsOk c functions) (c .functions) (functionOk c functions) i
@@ -19,39 +16,30 @@ Inv-loop c functions n i₀ i = Passed (functionsOk c functions) (c .functions) 
 abbrev μ-loop : tie.MeasureT-loop
 μ-loop c functions n i₀ i = c .functions - i
 
--- src/order.rt:107:8
 room-requires : tie.Need-room-requires Inv-loop μ-loop
 room-requires c κs = search needs
 
--- src/order.rt:108:9
 returns : tie.Need-returns Inv-loop μ-loop
 returns c = too-many (functions-judged _ _) _ (c .before .room .ensures _ refl) (c .if1 .taken)
 
--- src/order.rt:111:5
 loop-holds : tie.Need-loop-holds Inv-loop μ-loop
 loop-holds c = none-yet (functions-judged _ _) _ (c .before .room .ensures _ refl) (c .if1 .left)
 
--- src/order.rt:112:13
 function-ok-requires : tie.Need-function-ok-requires Inv-loop μ-loop
 function-ok-requires c κs = search needs
 
--- src/order.rt:114:13
 returns-2 : tie.Need-returns-2 Inv-loop μ-loop
 returns-2 c = one-fails (c .before .before .before .loop .inv) (c .before .before .loop-test .taken) _ (c .before .function-ok .ensures) (not-true _ (c .if2 .taken))
 
--- src/order.rt:116:9
 add-i : tie.Need-add-i Inv-loop μ-loop
 add-i c = omega arith
 
--- src/order.rt:111:5
 loop-less : tie.Need-loop-less Inv-loop μ-loop
 loop-less c = omega arith
 
--- src/order.rt:111:5
 loop-again : tie.Need-loop-again Inv-loop μ-loop
 loop-again c = one-more (c .before .before .before .loop .inv) (c .before .before .loop-test .taken) _ (c .before .function-ok .ensures) (not-false _ (c .if2 .left))
 
--- src/order.rt:103:1
 returns-3 : tie.Need-returns-3 Inv-loop μ-loop
 returns-3 c = all-passed (c .before .loop .inv) (c .loop-test .left)
 

@@ -1,3 +1,4 @@
+-- `program::order::structs_inside` meets its contract.
 use Rattle.model.specs.Orders.{insideText}
 use Rattle.model.specs.Stores.{structWord}
 use Rattle.model.specs.Values.{places}
@@ -13,11 +14,6 @@ use mathlib.Core.Path.{refl}
 use borrow.Author.Needs.{needs}
 use Rattle.program.proofs.order.structs_inside.Statement.{statement}
 use Rattle.program.proofs.order.structs_inside.Tie as tie
-use Rattle.program.proofs.order.structs_inside.Reads as reads
-use Rattle.program.proofs.order.structs_inside.Lts as lts
-use Rattle.program.proofs.order.inside_text.Reads as inside-text-reads
-use Rattle.program.proofs.words.room.Reads as room-reads
-use Rattle.program.proofs.words.word.Reads as word-reads
 
 abbrev Inv-loop : tie.InvT-loop
 Inv-loop c structs n i₀ i = Passed (leb (c .structs) (places 1 structs) && everyFrom (c .structs) 0 (λ j. insideText c (structWord structs j))) (c .structs) (λ j. insideText c (structWord structs j)) i
@@ -25,43 +21,33 @@ Inv-loop c structs n i₀ i = Passed (leb (c .structs) (places 1 structs) && eve
 abbrev μ-loop : tie.MeasureT-loop
 μ-loop c structs n i₀ i = c .structs - i
 
--- src/order.rt:102:8
 room-requires : tie.Need-room-requires Inv-loop μ-loop
 room-requires c κs = search needs
 
--- src/order.rt:103:9
 returns : tie.Need-returns Inv-loop μ-loop
 returns c = too-many (structs-judged (c .before .before .before .args .c) (c .before .before .before .args .structs .now)) _ (c .before .room .ensures _ refl) (c .if1 .taken)
 
--- src/order.rt:106:5
 loop-holds : tie.Need-loop-holds Inv-loop μ-loop
 loop-holds c = none-yet (structs-judged (c .before .before .before .args .c) (c .before .before .before .args .structs .now)) _ (c .before .room .ensures _ refl) (c .if1 .left)
 
--- src/order.rt:107:33
 word-requires : tie.Need-word-requires Inv-loop μ-loop
 word-requires c κs = search needs
 
--- src/order.rt:107:13
 inside-text-requires : tie.Need-inside-text-requires Inv-loop μ-loop
 inside-text-requires c κs = search needs
 
--- src/order.rt:109:13
 returns-2 : tie.Need-returns-2 Inv-loop μ-loop
 returns-2 c = one-fails (c .before .before .before .before .loop .inv) (c .before .before .before .loop-test .taken) _ (struct-here _ _ _ _ _ (c .before .before .word .ensures) (c .before .inside-text .ensures)) (not-true _ (c .if2 .taken))
 
--- src/order.rt:111:9
 add-i : tie.Need-add-i Inv-loop μ-loop
 add-i c = omega arith
 
--- src/order.rt:106:5
 loop-less : tie.Need-loop-less Inv-loop μ-loop
 loop-less c = omega arith
 
--- src/order.rt:106:5
 loop-again : tie.Need-loop-again Inv-loop μ-loop
 loop-again c = one-more (c .before .before .before .before .loop .inv) (c .before .before .before .loop-test .taken) _ (struct-here _ _ _ _ _ (c .before .before .word .ensures) (c .before .inside-text .ensures)) (not-false _ (c .if2 .left))
 
--- src/order.rt:98:1
 returns-3 : tie.Need-returns-3 Inv-loop μ-loop
 returns-3 c = all-passed (c .before .loop .inv) (c .loop-test .left)
 

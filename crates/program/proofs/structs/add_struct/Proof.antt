@@ -1,3 +1,4 @@
+-- `program::structs::add_struct` meets its contract.
 use mathlib.Core.Path.{refl}
 use native.Mathlib.Omega.{arith}
 use Rattle.program.specs.Links.{structsLent}
@@ -5,72 +6,51 @@ use Rattle.program.proofs.Adding.{lent-fits, word-fits, struct-22, stru
 use borrow.Author.Needs.{needs}
 use Rattle.program.proofs.structs.add_struct.Statement.{statement}
 use Rattle.program.proofs.structs.add_struct.Tie as tie
-use Rattle.program.proofs.structs.add_struct.Reads as reads
-use Rattle.program.proofs.structs.add_struct.Lts as lts
-use Rattle.program.proofs.words.pack.Reads as pack-reads
-use Rattle.program.proofs.words.room.Reads as room-reads
-use Rattle.program.proofs.words.text_room.Reads as text-room-reads
-use Rattle.program.proofs.writes.put_bytes.Reads as put-bytes-reads
 
--- src/structs.rt:34:9
 returns : tie.Need-returns
 returns c = λ rest. struct-22 _ _ _ (c .if1 .taken)
 
--- src/structs.rt:36:8
 room-requires : tie.Need-room-requires
 room-requires c κs = search needs
 
--- src/structs.rt:37:9
 returns-2 : tie.Need-returns-2
 unfolding structsLent
 returns-2 c = λ rest. struct-21 _ _ _ (c .before .before .if1 .left) _ (c .before .room .ensures _ refl) (c .if2 .taken)
 
--- src/structs.rt:40:8
 text-room-requires : tie.Need-text-room-requires
 text-room-requires c κs = search needs
 
--- src/structs.rt:42:19
 add-end : tie.Need-add-end
 add-end c = let h = lent-fits _ _ _ _ (c .before .text-room .ensures) (c .if3 .taken) in omega arith
 
--- src/structs.rt:43:9
 put-bytes-requires : tie.Need-put-bytes-requires
 put-bytes-requires c κs = lent-fits _ _ _ _ (c .before .before .text-room .ensures) (c .before .if3 .taken) .0
 
--- src/structs.rt:44:22
 pack-requires : tie.Need-pack-requires
 pack-requires c κs = let h = lent-fits _ _ _ _ (c .before .before .before .before .before .text-room .ensures) (c .before .before .before .before .if3 .taken) in (omega arith, omega arith)
 
--- src/structs.rt:44:9
 mul-structs : tie.Need-mul-structs
 mul-structs c = search needs
 
--- src/structs.rt:44:9
 slice-write-structs : tie.Need-slice-write-structs
 slice-write-structs c = word-fits _ _ (c .before .before .before .before .before .before .before .before .before .before .before .before .before .before .args .structs .now) (c .before .before .before .before .before .before .before .before .before .room .ensures _ refl) (c .before .before .before .before .before .before .before .before .if2 .left)
 
--- src/structs.rt:45:48
 add-t19 : tie.Need-add-t19
 add-t19 c = search needs
 
--- src/structs.rt:45:9
 same-length : tie.Need-same-length
 same-length c = search needs
 
--- src/structs.rt:45:9
 same-length-2 : tie.Need-same-length-2
 same-length-2 c = search needs
 
--- src/structs.rt:45:9
 returns-3 : tie.Need-returns-3
 unfolding structsLent
 returns-3 c = λ rest. struct-added _ _ _ (c .before .before .before .before .before .before .before .before .before .before .if1 .left) _ (c .before .before .before .before .before .before .before .before .before .room .ensures _ refl) (c .before .before .before .before .before .before .before .before .if2 .left) _ (c .before .before .before .before .before .before .text-room .ensures _ refl) (c .before .before .before .before .before .if3 .taken) _ _ _ (c .before .before .before .put-bytes .ensures) (c .pack .ensures) refl
 
--- src/structs.rt:29:1
 same-length-3 : tie.Need-same-length-3
 same-length-3 c = search needs
 
--- src/structs.rt:29:1
 returns-4 : tie.Need-returns-4
 unfolding structsLent
 returns-4 c = λ rest. struct-text-21 _ _ _ (c .before .before .before .before .before .if1 .left) _ (c .before .before .before .before .room .ensures _ refl) (c .before .before .before .if2 .left) _ (c .before .text-room .ensures _ refl) (c .if3 .left)

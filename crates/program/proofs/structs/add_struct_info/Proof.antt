@@ -1,68 +1,50 @@
+-- `program::structs::add_struct_info` meets its contract.
 use Rattle.program.specs.Links.{structsLent}
 use Rattle.program.proofs.Adding.{struct-19, struct-known, struct-new}
 use borrow.Author.Needs.{needs}
 use Rattle.program.proofs.structs.add_struct_info.Statement.{statement}
 use Rattle.program.proofs.structs.add_struct_info.Tie as tie
-use Rattle.program.proofs.structs.add_struct_info.Reads as reads
-use Rattle.program.proofs.structs.add_struct_info.Lts as lts
-use Rattle.program.proofs.names.first_struct.Reads as first-struct-reads
-use Rattle.program.proofs.structs.add_struct.Reads as add-struct-reads
-use Rattle.program.proofs.structs.struct_order.Reads as struct-order-reads
 
--- src/structs.rt:54:9
 struct-order-requires : tie.Need-struct-order-requires
 struct-order-requires c κs = search needs
 
--- src/structs.rt:56:9
 same-length : tie.Need-same-length
 same-length c = search needs
 
--- src/structs.rt:56:9
 same-length-2 : tie.Need-same-length-2
 same-length-2 c = search needs
 
--- src/structs.rt:56:9
 returns : tie.Need-returns
 returns c = λ rest. struct-19 _ _ _ _ (c .before .struct-order .ensures rest) (c .if1 .taken)
 
--- src/structs.rt:58:9
 first-struct-requires : tie.Need-first-struct-requires
 first-struct-requires c κs = search needs
 
--- src/structs.rt:60:22
 enum-known-found : tie.Need-enum-known-found
 enum-known-found c = search needs
 
--- src/structs.rt:61:49
 enum-told : tie.Need-enum-told
 enum-told c = search needs
 
--- src/structs.rt:61:29
 add-struct-requires : tie.Need-add-struct-requires
 add-struct-requires c κs = search needs
 
--- src/structs.rt:51:1
 same-length-3 : tie.Need-same-length-3
 same-length-3 c = search needs
 
--- src/structs.rt:51:1
 same-length-4 : tie.Need-same-length-4
 same-length-4 c = search needs
 
--- src/structs.rt:51:1
 returns-2 : tie.Need-returns-2
 unfolding structsLent
 returns-2 c = λ rest. struct-known _ _ _ _ (c .before .before .before .before .before .before .before .struct-order .ensures rest) (c .before .before .before .before .before .before .if1 .left) _ (c .before .before .before .first-struct .ensures) _ (c .before .found .given .1)
 
--- src/structs.rt:51:1
 same-length-5 : tie.Need-same-length-5
 same-length-5 c = search needs
 
--- src/structs.rt:51:1
 same-length-6 : tie.Need-same-length-6
 same-length-6 c = search needs
 
--- src/structs.rt:51:1
 returns-3 : tie.Need-returns-3
 unfolding structsLent
 returns-3 c = λ rest. struct-new _ _ _ _ (c .before .before .before .before .before .before .before .before .before .before .before .before .before .struct-order .ensures rest) (c .before .before .before .before .before .before .before .before .before .before .before .before .if1 .left) _ (c .before .before .before .before .before .before .before .before .before .first-struct .ensures) _ (c .before .before .before .before .before .before .before .enum-told .given .1) _ _ (c .before .before .before .before .add-struct .ensures rest)

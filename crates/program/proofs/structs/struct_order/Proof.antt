@@ -1,30 +1,21 @@
+-- `program::structs::struct_order` meets its contract.
 use Rattle.program.proofs.Adding.{struct-order-is, struct-order-not}
 use borrow.Author.Needs.{needs}
 use Rattle.program.proofs.structs.struct_order.Statement.{statement}
 use Rattle.program.proofs.structs.struct_order.Tie as tie
-use Rattle.program.proofs.structs.struct_order.Reads as reads
-use Rattle.program.proofs.structs.struct_order.Lts as lts
-use Rattle.program.proofs.order.counts_ok.Reads as counts-ok-reads
-use Rattle.program.proofs.order.structs_ok.Reads as structs-ok-reads
-use Rattle.program.proofs.order.text_ok.Reads as text-ok-reads
 
--- src/structs.rt:22:8
 counts-ok-requires : tie.Need-counts-ok-requires
 counts-ok-requires c κs = search needs
 
--- src/structs.rt:22:23
 text-ok-requires : tie.Need-text-ok-requires
 text-ok-requires c κs = search needs
 
--- src/structs.rt:23:9
 structs-ok-requires : tie.Need-structs-ok-requires
 structs-ok-requires c κs = search needs
 
--- src/structs.rt:23:9
 returns : tie.Need-returns
 returns c = struct-order-is _ _ _ _ _ (c .before .before .before .counts-ok .ensures) (c .before .before .text-ok .ensures) (c .before .if1 .taken) _ (c .structs-ok .ensures)
 
--- src/structs.rt:19:1
 returns-2 : tie.Need-returns-2
 returns-2 c = struct-order-not _ _ _ _ _ (c .before .before .counts-ok .ensures) (c .before .text-ok .ensures) (c .if1 .left)
 

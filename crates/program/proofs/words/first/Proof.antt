@@ -1,26 +1,20 @@
+-- `program::words::first` meets its contract.
 use Rattle.model.specs.Stores.{structWord}
 use Rattle.model.specs.Values.{kindAt}
 use Rattle.program.proofs.Parts.{past-0}
 use borrow.Author.Needs.{needs}
 use Rattle.program.proofs.words.first.Statement.{statement}
 use Rattle.program.proofs.words.first.Tie as tie
-use Rattle.program.proofs.words.first.Reads as reads
-use Rattle.program.proofs.words.first.Lts as lts
-use Rattle.program.proofs.words.word.Reads as word-reads
 
--- src/words.rt:91:9
 returns : tie.Need-returns
 returns c = past-0 _ _ (c .if1 .taken)
 
--- src/words.rt:93:13
 mul-word : tie.Need-mul-word
 mul-word c = search needs
 
--- src/words.rt:93:5
 word-requires : tie.Need-word-requires
 word-requires c κs = search needs
 
--- src/words.rt:87:1
 returns-2 : tie.Need-returns-2
 unfolding kindAt structWord
 returns-2 c = c .word .ensures

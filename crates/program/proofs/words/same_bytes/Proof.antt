@@ -1,11 +1,10 @@
+-- `program::words::same_bytes` meets its contract.
 use Prim.Native.Nat.{_-_}
 use lib.ListN.{length}
 use native.Mathlib.Omega.{arith}
 use Rattle.program.proofs.Parts.{Matching, other-length, at-first, at-end, differs, agrees}
 use Rattle.program.proofs.words.same_bytes.Statement.{statement}
 use Rattle.program.proofs.words.same_bytes.Tie as tie
-use Rattle.program.proofs.words.same_bytes.Reads as reads
-use Rattle.program.proofs.words.same_bytes.Lts as lts
 
 abbrev Inv-loop : tie.InvT-loop
 Inv-loop a b i₀ i = Matching a b i
@@ -13,39 +12,30 @@ Inv-loop a b i₀ i = Matching a b i
 abbrev μ-loop : tie.MeasureT-loop
 μ-loop a b i₀ i = length a - i
 
--- src/words.rt:64:9
 returns : tie.Need-returns Inv-loop μ-loop
 returns c = other-length _ _ (c .if1 .taken)
 
--- src/words.rt:67:5
 loop-holds : tie.Need-loop-holds Inv-loop μ-loop
 loop-holds c = at-first _ _ (c .if1 .left)
 
--- src/words.rt:68:12
 shared-slice-read-if2 : tie.Need-shared-slice-read-if2 Inv-loop μ-loop
 shared-slice-read-if2 c = omega arith
 
--- src/words.rt:68:20
 shared-slice-read-if2-2 : tie.Need-shared-slice-read-if2-2 Inv-loop μ-loop
 shared-slice-read-if2-2 c = omega arith
 
--- src/words.rt:69:13
 returns-2 : tie.Need-returns-2 Inv-loop μ-loop
 returns-2 c = differs _ _ _ (c .before .before .before .before .loop .inv) (c .before .before .before .loop-test .taken) (c .if2 .taken)
 
--- src/words.rt:71:9
 add-i : tie.Need-add-i Inv-loop μ-loop
 add-i c = omega arith
 
--- src/words.rt:67:5
 loop-less : tie.Need-loop-less Inv-loop μ-loop
 loop-less c = omega arith
 
--- src/words.rt:67:5
 loop-again : tie.Need-loop-again Inv-loop μ-loop
 loop-again c = agrees _ _ _ (c .before .before .before .before .loop .inv) (c .before .before .before .loop-test .taken) (c .if2 .left)
 
--- src/words.rt:60:1
 returns-3 : tie.Need-returns-3 Inv-loop μ-loop
 returns-3 c = at-end _ _ _ (c .before .loop .inv) (c .loop-test .left)
 

@@ -1,21 +1,16 @@
+-- `program::words::text_room` meets its contract.
 use mathlib.Core.Path.{refl}
 use Rattle.program.proofs.Adding.{no-room, room-left}
 use borrow.Author.Needs.{needs}
 use Rattle.program.proofs.words.text_room.Statement.{statement}
 use Rattle.program.proofs.words.text_room.Tie as tie
-use Rattle.program.proofs.words.text_room.Reads as reads
-use Rattle.program.proofs.words.text_room.Lts as lts
-use Rattle.program.proofs.words.room.Reads as room-reads
 
--- src/words.rt:35:9
 room-requires : tie.Need-room-requires
 room-requires c κs = search needs
 
--- src/words.rt:38:9
 returns : tie.Need-returns
 returns c = λ s e. no-room _ _ _ _ (c .before .room .ensures _ refl) s e (c .if1 .taken)
 
--- src/words.rt:32:1
 returns-2 : tie.Need-returns-2
 returns-2 c = λ s e. room-left _ _ _ _ (c .before .room .ensures _ refl) s e (c .if1 .left)
 

@@ -1,26 +1,21 @@
+-- `program::words::word` meets its contract.
 use mathlib.Core.Path.{refl}
 use Rattle.model.specs.Stores.{structWord}
 use Rattle.program.proofs.Parts.{past}
 use borrow.Author.Needs.{needs}
 use Rattle.program.proofs.words.word.Statement.{statement}
 use Rattle.program.proofs.words.word.Tie as tie
-use Rattle.program.proofs.words.word.Reads as reads
-use Rattle.program.proofs.words.word.Lts as lts
 
--- src/words.rt:81:16
 mul-result : tie.Need-mul-result
 mul-result c = search needs
 
--- src/words.rt:81:16
 shared-slice-read-result : tie.Need-shared-slice-read-result
 shared-slice-read-result c = search needs
 
--- src/words.rt:81:9
 returns : tie.Need-returns
 unfolding structWord
 returns c = refl
 
--- src/words.rt:77:1
 returns-2 : tie.Need-returns-2
 returns-2 c = past _ _ (c .if1 .left)
 

@@ -1,3 +1,4 @@
+-- `program::writes::put_bytes` meets its contract.
 use Prim.Native.Nat.{_-_}
 use lib.ListN.{length}
 use mathlib.Core.Path.{refl}
@@ -5,8 +6,6 @@ use native.Mathlib.Omega.{arith}
 use Rattle.program.proofs.Writing.{Writing, nothing-yet, another, whole}
 use Rattle.program.proofs.writes.put_bytes.Statement.{statement}
 use Rattle.program.proofs.writes.put_bytes.Tie as tie
-use Rattle.program.proofs.writes.put_bytes.Reads as reads
-use Rattle.program.proofs.writes.put_bytes.Lts as lts
 
 abbrev Inv-loop : tie.InvT-loop
 Inv-loop s₀ at bytes i₀ s i = Writing s₀ at bytes s i
@@ -14,39 +13,30 @@ Inv-loop s₀ at bytes i₀ s i = Writing s₀ at bytes s i
 abbrev μ-loop : tie.MeasureT-loop
 μ-loop s₀ at bytes i₀ s i = length bytes - i
 
--- src/writes.rt:14:5
 loop-holds : tie.Need-loop-holds Inv-loop μ-loop
 loop-holds c = nothing-yet _ _ _
 
--- src/writes.rt:15:21
 shared-slice-read-s : tie.Need-shared-slice-read-s Inv-loop μ-loop
 shared-slice-read-s c = let i = c .before .before .loop .inv in let p = c .before .before .before .pre in omega arith
 
--- src/writes.rt:15:11
 add-s : tie.Need-add-s Inv-loop μ-loop
 add-s c = let i = c .before .before .loop .inv in let p = c .before .before .before .pre in omega arith
 
--- src/writes.rt:15:9
 slice-write-s : tie.Need-slice-write-s Inv-loop μ-loop
 slice-write-s c = let i = c .before .before .loop .inv in let p = c .before .before .before .pre in omega arith
 
--- src/writes.rt:16:9
 add-i : tie.Need-add-i Inv-loop μ-loop
 add-i c = let i = c .before .before .loop .inv in let p = c .before .before .before .pre in omega arith
 
--- src/writes.rt:14:5
 loop-less : tie.Need-loop-less Inv-loop μ-loop
 loop-less c = let i = c .before .before .loop .inv in let p = c .before .before .before .pre in omega arith
 
--- src/writes.rt:14:5
 loop-again : tie.Need-loop-again Inv-loop μ-loop
 loop-again c = another (c .before .before .loop .inv) _ refl (c .before .loop-test .taken)
 
--- src/writes.rt:9:1
 same-length : tie.Need-same-length Inv-loop μ-loop
 same-length c = c .before .loop .inv .same
 
--- src/writes.rt:9:1
 returns : tie.Need-returns Inv-loop μ-loop
 returns c = whole (c .before .loop .inv) (c .loop-test .left)
 

@@ -1,11 +1,10 @@
+-- `program::writes::put_places` meets its contract.
 use Prim.Native.Nat.{_-_}
-use lib.ListN.{length, replicate, length-replicate}
+use lib.ListN.{replicate, length-replicate}
 use native.Mathlib.Omega.{arith}
 use Rattle.program.proofs.Writing.{Writing, nothing-yet, another, whole, again}
 use Rattle.program.proofs.writes.put_places.Statement.{statement}
 use Rattle.program.proofs.writes.put_places.Tie as tie
-use Rattle.program.proofs.writes.put_places.Reads as reads
-use Rattle.program.proofs.writes.put_places.Lts as lts
 
 abbrev Inv-loop : tie.InvT-loop
 Inv-loop s₀ at n place i₀ s i = Writing s₀ at (replicate n place) s i
@@ -13,39 +12,30 @@ Inv-loop s₀ at n place i₀ s i = Writing s₀ at (replicate n place) s i
 abbrev μ-loop : tie.MeasureT-loop
 μ-loop s₀ at n place i₀ s i = n - i
 
--- src/writes.rt:26:5
 loop-holds : tie.Need-loop-holds Inv-loop μ-loop
 loop-holds c = nothing-yet _ _ _
 
--- src/writes.rt:27:11
 add-s : tie.Need-add-s Inv-loop μ-loop
 add-s c = let i = c .before .loop .inv in let p = c .before .before .pre in omega arith
 
--- src/writes.rt:27:9
 mul-s : tie.Need-mul-s Inv-loop μ-loop
 mul-s c = let i = c .before .loop .inv in let p = c .before .before .pre in omega arith
 
--- src/writes.rt:27:9
 slice-write-s : tie.Need-slice-write-s Inv-loop μ-loop
 slice-write-s c = let i = c .before .loop .inv in let p = c .before .before .pre in omega arith
 
--- src/writes.rt:28:9
 add-i : tie.Need-add-i Inv-loop μ-loop
 add-i c = omega arith
 
--- src/writes.rt:26:5
 loop-less : tie.Need-loop-less Inv-loop μ-loop
 loop-less c = omega arith
 
--- src/writes.rt:26:5
 loop-again : tie.Need-loop-again Inv-loop μ-loop
 loop-again c = another (c .before .loop .inv) _ (again _ _ _ (c .loop-test .taken)) (omega (arith, length-replicate (c .before .before .args .n) (c .before .before .args .place)))
 
--- src/writes.rt:21:1
 same-length : tie.Need-same-length Inv-loop μ-loop
 same-length c = c .before .loop .inv .same
 
--- src/writes.rt:21:1
 returns : tie.Need-returns Inv-loop μ-loop
 returns c = whole (c .before .loop .inv) (omega (arith, length-replicate (c .before .before .args .n) (c .before .before .args .place)))
 

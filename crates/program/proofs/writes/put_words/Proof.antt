@@ -1,45 +1,35 @@
+-- `program::writes::put_words` meets its contract.
 use mathlib.Core.Path.{refl}
 use Rattle.model.specs.Values.{putWords}
 use Rattle.program.proofs.Writing.{second-fits}
 use borrow.Author.Needs.{needs}
 use Rattle.program.proofs.writes.put_words.Statement.{statement}
 use Rattle.program.proofs.writes.put_words.Tie as tie
-use Rattle.program.proofs.writes.put_words.Reads as reads
-use Rattle.program.proofs.writes.put_words.Lts as lts
 
--- src/writes.rt:37:7
 mul-s : tie.Need-mul-s
 mul-s c = search needs
 
--- src/writes.rt:37:5
 mul-s-2 : tie.Need-mul-s-2
 mul-s-2 c = search needs
 
--- src/writes.rt:37:5
 slice-write-s : tie.Need-slice-write-s
 slice-write-s c = search needs
 
--- src/writes.rt:38:7
 mul-s-3 : tie.Need-mul-s-3
 mul-s-3 c = search needs
 
--- src/writes.rt:38:7
 add-s : tie.Need-add-s
 add-s c = search needs
 
--- src/writes.rt:38:5
 mul-s-4 : tie.Need-mul-s-4
 mul-s-4 c = search needs
 
--- src/writes.rt:38:5
 slice-write-s-2 : tie.Need-slice-write-s-2
 slice-write-s-2 c = second-fits (c .args .s .now) (c .args .i) (c .args .first) (c .pre)
 
--- src/writes.rt:33:1
 same-length : tie.Need-same-length
 same-length c = search needs
 
--- src/writes.rt:33:1
 returns : tie.Need-returns
 unfolding putWords
 returns c = refl
