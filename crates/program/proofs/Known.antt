@@ -110,7 +110,7 @@ function-known c fs e i h =
     }
 
 -- the current function's code lies in its store
-codes-behind : (fs : List ℕ) (i n : ℕ) → (i ≡ 0 → ⊥) → suc i ≡ n → codeStart fs n ≡ codeEnd fs i
+pub codes-behind : (fs : List ℕ) (i n : ℕ) → (i ≡ 0 → ⊥) → suc i ≡ n → codeStart fs n ≡ codeEnd fs i
 unfolding codeStart
 codes-behind fs zero n h e = absurd (h refl)
 codes-behind fs (suc i) n h e = rw (← e)

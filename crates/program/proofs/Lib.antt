@@ -8,3 +8,4 @@ pub mod Entered
 pub mod Emitting
 pub mod Searching
 pub mod Adding
+pub mod Keeping
