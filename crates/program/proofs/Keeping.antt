@@ -68,9 +68,10 @@ pub inside-back : (c : Counts) (w : ℕ) → start w + size w ≤ c .text → in
 unfolding insideText
 inside-back c w h = le-leb (start w + size w) (c .text) h
 
-pub places-same : (a b : List ℕ) → length a ≡ length b → places 1 a ≡ places 1 b
+pub places-same : (w : ℕ) (a b : List ℕ) → length a ≡ length b → places w a ≡ places w b
 unfolding places
-places-same a b e = rw e
+places-same zero a b e = refl
+places-same (suc w) a b e = rw e
 
 functions-room : (c : Counts) (fs : List ℕ) → functionsOk c fs ≡ true → leb (c .functions) (places 2 fs) ≡ true
 unfolding functionsOk
@@ -120,10 +121,6 @@ module _ (fs fs' : List ℕ) (k w : ℕ) (l : Longer fs fs' k w) where
   same-start (suc zero) d = refl
   same-start (suc (suc i)) d = same-end (suc i) (λ e. let z : k ≡ 0 = d (ap suc e) in omega arith)
 
-  same-room : places 2 fs' ≡ places 2 fs
-  unfolding places
-  same-room = rw (l .same)
-
   module _ (c : Counts) (g : functionsOk c fs ≡ true) (lim : Limited c) (here : c .current ≡ k) (n : ℕ) (ew : w ≡ pack (start (codeWord fs k)) (size (codeWord fs k) + n))
       (short : size (codeWord fs k) + n ≤ 65535) (ends : codeEnd fs k + n ≤ 0xFFFF_FFFF) where
     known : Known c fs k
@@ -167,7 +164,7 @@ module _ (fs fs' : List ℕ) (k w : ℕ) (l : Longer fs fs' k w) where
     pub functions-longer : functionsOk c fs' ≡ true
     unfolding functionsOk
     functions-longer =
-        let a : leb (c .functions) (places 2 fs') ≡ true = rw same-room (functions-room c fs g) in
+        let a : leb (c .functions) (places 2 fs') ≡ true = rw (places-same 2 fs' fs (l .same)) (functions-room c fs g) in
         and-both (leb (c .functions) (places 2 fs')) (everyFrom (c .functions) 0 (functionOk c fs')) a (pass-all (c .functions) 0 (functionOk c fs') each-good)
 
     -- the codes still lie in their stores
@@ -176,7 +173,7 @@ module _ (fs fs' : List ℕ) (k w : ℕ) (l : Longer fs fs' k w) where
     unfolding insideCodes mainTaken otherTaken
     codes-longer m o m' o' e em eo hm ho =
         let a = leb (codeEnd fs 0) (places 1 m) in let b = leb (codeStart fs (c .functions)) (places 1 o) in
-        rw (places-same m' m em, places-same o' o eo) (either-way (eqb k 0)
+        rw (places-same 1 m' m em, places-same 1 o' o eo) (either-way (eqb k 0)
         (λ t.
         let z : k ≡ 0 = eqb-true k 0 t in
         let x : codeEnd fs' 0 ≤ places 1 m = rw z at (rw (← longer-end) at (hm z)) in

@@ -25,6 +25,7 @@ pub record Limited (c : Counts) : Type 0 where
   pub functions : c .functions ≤ 65536
   pub text : c .text ≤ 0xFFFF_FFFF
   pub current : c .current < c .functions
+  pub main-or-newest : (eqb (c .current) 0 || eqb (suc (c .current)) (c .functions)) ≡ true
   pub newest : (c .current ≡ 0 → ⊥) → suc (c .current) ≡ c .functions
 
 -- main or the newest
@@ -53,6 +54,7 @@ limited c e =
       functions = leb-true (c .functions) 65536 (and-right (a1 && a2 && a3) a4 e4);
       text = leb-true (c .text) 0xFFFF_FFFF (and-right (a1 && a2 && a3 && a4) a5 e5);
       current = w .0;
+      main-or-newest = and-right (a1 && a2 && a3 && a4 && a5) a6 e;
       newest = w .1;
     }
 

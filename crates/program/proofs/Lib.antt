@@ -9,3 +9,4 @@ pub mod Emitting
 pub mod Searching
 pub mod Adding
 pub mod Keeping
+pub mod Growing
