@@ -185,7 +185,7 @@ module _ (c : Counts) (name fs t : List ℕ) (b : Bool) (e : (rest : Stores) →
   index-told h r er rest = rw (← (e rest), h) (er rest)
 
 -- the codes of the other functions end where a word can name it
-start-below : (c : Counts) (fs : List ℕ) → functionsOk c fs ≡ true → (n : ℕ) → n ≤ c .functions → codeStart fs n ≤ 0xFFFF_FFFF
+pub start-below : (c : Counts) (fs : List ℕ) → functionsOk c fs ≡ true → (n : ℕ) → n ≤ c .functions → codeStart fs n ≤ 0xFFFF_FFFF
 unfolding codeStart
 start-below c fs e zero h = omega arith
 start-below c fs e (suc zero) h = omega arith

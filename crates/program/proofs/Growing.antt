@@ -1,4 +1,4 @@
--- Text that is appended changes no name below it; add_constant keeps good order.
+-- Text that is appended changes no name below it. Each of the other entries but add_struct_info keeps good order.
 use mathlib.Core.Path.{_≡_, refl, sym, ap, _∙_}
 use mathlib.Core.Bool.{Bool, true, false, _&&_, _||_}
 use mathlib.Core.List.{List, [], _∷_, _++_, append-assoc}
@@ -16,9 +16,9 @@ use Rattle.model.specs.declared.Emitted.the-variants.{Done, Refused}
 use Rattle.model.specs.Basics.{if_then_else_, everyFrom}
 use Rattle.model.specs.Values.{places, textAt, kindAt, payloadAt, putWords, bit}
 use Rattle.model.specs.Programs.{constantLimit}
-use Rattle.model.specs.Stores.{Stores, start, size, pack, part, structWord, nameWord, structsFrom, withConstants, withText}
+use Rattle.model.specs.Stores.{Stores, start, size, pack, part, structWord, nameWord, codeWord, structsFrom, codeHere, placesHere, withCode, withConstants, withText}
 use Rattle.model.specs.Orders.{countsOk, textOk, insideText, constantOk, constantsOk, allDifferent, structsOk, functionOk, functionsOk, mainOk, otherTaken, insideCodes, programOk}
-use Rattle.model.specs.Emission.{Res, refuse, counts, oneConstant, written, textRoom, withConstant, withTextConstant, constantAdded, constantOrder, addConstantOf}
+use Rattle.model.specs.Emission.{Res, refuse, counts, oneConstant, written, textRoom, withConstant, withTextConstant, constantAdded, constantOrder, addConstantOf, u16, sizeHere, patchOrder, patched, patchOf, endFunctionOf}
 use Rattle.program.proofs.Bools.{either-way, and-left, and-right, and-both}
 use Rattle.program.proofs.Parts.{room-1, room-2, start-pack, size-pack}
 use Rattle.program.proofs.Every.{pass-all, passed-at}
@@ -72,6 +72,14 @@ module _ (c d : Counts) (more : c .text ≤ d .text) where
   unfolding constantOk
   constant-more k a e = kind-more (eqb k 0) (eqb k 1) (leb k 3) (ltb a 2) (insideText c a) (insideText d a) e (inside-more a)
 
+  pub constants-more : (cs : List ℕ) → d .constants ≡ c .constants → constantsOk c cs ≡ true → constantsOk d cs ≡ true
+  unfolding constantsOk constantOk insideText everyFrom
+  constants-more cs e g =
+      rw e (and-both (leb (c .constants) (places 2 cs)) (everyFrom (c .constants) 0 (λ i. constantOk d (kindAt cs i) (payloadAt cs i)))
+      (le-leb _ _ (constants-known c cs g .within))
+      (pass-all (c .constants) 0 (λ i. constantOk d (kindAt cs i) (payloadAt cs i)) (λ i h.
+      let z : 0 + i ≡ i = omega arith in rw z (constant-more (kindAt cs i) (payloadAt cs i) (constants-known c cs g .each i h)))))
+
   pub functions-more : (fs : List ℕ) → d .functions ≡ c .functions → functionsOk c fs ≡ true → functionsOk d fs ≡ true
   unfolding functionsOk functionOk insideText
   functions-more fs e g =
@@ -103,7 +111,7 @@ pub main-kept : (c : Counts) (fs t u : List ℕ) → functionsOk c fs ≡ true �
 unfolding mainOk
 main-kept c fs t u g one same e = rw (same (nameWord fs 0) (function-known c fs g 0 (omega arith) .name)) e
 
--- ---- one constant more
+-- ---- two words at a place
 
 module _ (cs : List ℕ) (i a b : ℕ) (h : 2 * i + 2 ≤ length cs) where
   pub words-here : (kindAt (putWords cs i a b) i ≡ a) × (payloadAt (putWords cs i a b) i ≡ b)
@@ -125,6 +133,8 @@ below-or-same j n h d = either-way (leb n j) (λ t. let l : n ≤ j = leb-true n
 counts-good : (c : Counts) → c .constants ≤ 65535 → c .structs ≤ 65536 → 1 ≤ c .functions → c .functions ≤ 65536 → c .text ≤ 0xFFFF_FFFF → (eqb (c .current) 0 || eqb (suc (c .current)) (c .functions)) ≡ true → countsOk c ≡ true
 unfolding countsOk
 counts-good c a b d e f g = rw (le-leb _ _ a, le-leb _ _ b, le-leb _ _ d, le-leb _ _ e, le-leb _ _ f) g
+
+-- ---- one constant more
 
 module _ (c : Counts) (n : ℕ) (cs : List ℕ) (g : constantsOk c cs ≡ true) (fits : c .constants < places 2 cs) (kind w : ℕ) (ok : constantOk (oneConstant n c) kind w ≡ true) where
   pair : 2 * c .constants + 2 ≤ length cs
@@ -213,3 +223,41 @@ constant-keeps c x lent s e =
     kept-if (leb constantLimit (c .constants)) _ _ (λ _. kept-refused 22 s) (λ few.
     kept-if (leb (places 2 (s .constants)) (c .constants)) _ _ (λ _. kept-refused 21 s) (λ fits. added-kept c s (good-of c s e) (leb-false _ _ few) (leb-false _ _ fits) x lent)))
     (λ _. kept-refused 19 s)
+
+-- ---- a patch, and the end of a function
+
+codes-same : (c : Counts) (fs m o m' o' : List ℕ) → length m' ≡ length m → length o' ≡ length o → insideCodes c fs m o ≡ true → insideCodes c fs m' o' ≡ true
+unfolding insideCodes
+codes-same c fs m o m' o' em eo e = rw (places-same 1 m' m em, places-same 1 o' o eo) e
+
+pub patch-keeps : (c : Counts) (at a : ℕ) (s : Stores) → programOk c s ≡ true → Kept (patchOf c at a s)
+unfolding patchOf patched withCode codeHere placesHere
+patch-keeps c at a s e =
+    let g = good-of c s e in
+    let w = start (codeWord (s .functions) (c .current)) + at in
+    kept-if (patchOrder c s) _ _ (λ _.
+    kept-if (ltb (sizeHere c s) (at + 2)) _ _ (λ _. kept-refused 23 s) (λ _. record {
+      kept = λ d i q.
+          let z : c ≡ d = cc in
+          rw (← z) (either-way (eqb (c .current) 0)
+          (λ t. rw t (of-good _ _ (record {
+            counts = g .counts; text = g .text; constants = g .constants; structs = g .structs; functions = g .functions; main = g .main; places = g .places;
+            codes = codes-same c (s .functions) (s .main) (s .other) (written (s .main) w (u16 a)) (s .other) (length-written (s .main) w (u16 a)) refl (g .codes);
+          })))
+          (λ f. rw f (of-good _ _ (record {
+            counts = g .counts; text = g .text; constants = g .constants; structs = g .structs; functions = g .functions; main = g .main; places = g .places;
+            codes = codes-same c (s .functions) (s .main) (s .other) (s .main) (written (s .other) w (u16 a)) refl (length-written (s .other) w (u16 a)) (g .codes);
+          }))));
+    }))
+    (λ _. kept-refused 19 s)
+
+pub end-keeps : (c : Counts) (s : Stores) → programOk c s ≡ true → (d : Counts) (n : ℕ) → endFunctionOf c ≡ Done d n → programOk d s ≡ true
+unfolding endFunctionOf textOk constantsOk constantOk insideText structsOk functionsOk functionOk insideCodes otherTaken
+end-keeps c s e d n q =
+    let g = good-of c s e in let l = limited c (g .counts) in
+    let f : Done (counts (c .constants) (c .structs) (c .functions) (c .text) 0) 0 ≡ Done d n = rw (g .counts) at q in
+    let z : counts (c .constants) (c .structs) (c .functions) (c .text) 0 ≡ d = cc in
+    rw (← z) (of-good _ _ (record {
+      counts = counts-good (counts (c .constants) (c .structs) (c .functions) (c .text) 0) (l .constants) (l .structs) (l .some) (l .functions) (l .text) refl;
+      text = g .text; constants = g .constants; structs = g .structs; functions = g .functions; main = g .main; codes = g .codes; places = g .places;
+    }))
