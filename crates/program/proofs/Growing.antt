@@ -7,7 +7,7 @@ use native.Mathlib.Omega.{arith}
 use lib.Dec.{eqb, leb, ltb}
 use lib.ListN.{length, getD, set, take, drop, length-set, length-drop, take-append-drop}
 use lib.Seq.{sets-eq, length-take-le, take-append-le, drop-append-le, drop-at, take-at, getD-set-same, getD-set-other}
-use borrow.Author.Tests.{le-leb, leb-true, leb-false, eqb-true, eqb-false}
+use borrow.Author.Tests.{le-leb, leb-true, leb-false, eq-eqb, eqb-true, eqb-false}
 use Rattle.model.specs.declared.Constant.{Constant}
 use Rattle.model.specs.declared.Constant.the-variants as k
 use Rattle.model.specs.declared.Counts.{Counts}
@@ -15,15 +15,16 @@ use Rattle.model.specs.declared.Emitted.{Emitted}
 use Rattle.model.specs.declared.Emitted.the-variants.{Done, Refused}
 use Rattle.model.specs.Basics.{if_then_else_, everyFrom}
 use Rattle.model.specs.Values.{places, textAt, kindAt, payloadAt, putWords, bit}
-use Rattle.model.specs.Programs.{constantLimit}
-use Rattle.model.specs.Stores.{Stores, start, size, pack, part, structWord, nameWord, codeWord, structsFrom, codeHere, placesHere, withCode, withConstants, withText}
-use Rattle.model.specs.Orders.{countsOk, textOk, insideText, constantOk, constantsOk, allDifferent, structsOk, functionOk, functionsOk, mainOk, otherTaken, insideCodes, programOk}
-use Rattle.model.specs.Emission.{Res, refuse, counts, oneConstant, written, textRoom, withConstant, withTextConstant, constantAdded, constantOrder, addConstantOf, u16, sizeHere, patchOrder, patched, patchOf, endFunctionOf}
+use Rattle.model.specs.Programs.{constantLimit, nameLimit}
+use Rattle.model.specs.Stores.{Stores, start, size, pack, part, structWord, nameWord, codeWord, codeEnd, structsFrom, codeHere, placesHere, withCode, withConstants, withFunctions, withText}
+use Rattle.model.specs.Orders.{countsOk, textOk, insideText, constantOk, constantsOk, allDifferent, structsOk, codeStart, functionOk, functionsOk, mainOk, mainTaken, otherTaken, insideCodes, programOk}
+use Rattle.model.specs.Emission.{Res, refuse, counts, oneConstant, written, textRoom, withConstant, withTextConstant, constantAdded, constantOrder, addConstantOf, u16, sizeHere, patchOrder, patched, patchOf, endFunctionOf, oneFunction, functionOrder, begun, beginFunctionOf}
 use Rattle.program.proofs.Bools.{either-way, and-left, and-right, and-both}
 use Rattle.program.proofs.Parts.{room-1, room-2, start-pack, size-pack}
 use Rattle.program.proofs.Every.{pass-all, passed-at}
-use Rattle.program.proofs.Known.{Limited, limited, text-within, text-inside, constants-known, function-known}
+use Rattle.program.proofs.Known.{Limited, limited, text-within, text-inside, constants-known, function-known, codes-behind}
 use Rattle.program.proofs.Writing.{length-written, length-words}
+use Rattle.program.proofs.Adding.{start-below}
 use Rattle.program.proofs.Keeping.{Good, good-of, of-good, inside-back, places-same, function-good, Kept, kept-if, kept-refused}
 
 -- ---- a text appended at a
@@ -261,3 +262,147 @@ end-keeps c s e d n q =
       counts = counts-good (counts (c .constants) (c .structs) (c .functions) (c .text) 0) (l .constants) (l .structs) (l .some) (l .functions) (l .text) refl;
       text = g .text; constants = g .constants; structs = g .structs; functions = g .functions; main = g .main; codes = g .codes; places = g .places;
     }))
+
+-- ---- a new function
+
+or-true : (a b : Bool) → b ≡ true → (a || b) ≡ true
+or-true true b e = refl
+or-true false b e = e
+
+module _ (c : Counts) (s : Stores) (g : Good c s) (few : c .functions < 65536) (fits : c .functions < places 2 (s .functions)) (n : ℕ) (u : List ℕ) (room : c .text + n ≤ places 1 u)
+    (same : (v : ℕ) → start v + size v ≤ c .text → part u v ≡ part (s .text) v) where
+  d : Counts
+  d = oneFunction n c
+
+  fs : List ℕ
+  fs = putWords (s .functions) (c .functions) (pack (c .text) n) (pack (otherTaken c (s .functions)) 0)
+
+  limits : Limited c
+  limits = limited c (g .counts)
+
+  two : 2 * c .functions + 2 ≤ length (s .functions)
+  two = let x = room-2 (s .functions) in omega arith
+
+  behind : otherTaken c (s .functions) ≤ 0xFFFF_FFFF
+  unfolding otherTaken
+  behind = start-below c (s .functions) (g .functions) (c .functions) (omega arith)
+
+  name-old : (i : ℕ) → (i ≡ c .functions → ⊥) → nameWord fs i ≡ nameWord (s .functions) i
+  unfolding nameWord fs
+  name-old i e = words-other (s .functions) (c .functions) (pack (c .text) n) (pack (otherTaken c (s .functions)) 0) two i e .0
+
+  code-old : (i : ℕ) → (i ≡ c .functions → ⊥) → codeWord fs i ≡ codeWord (s .functions) i
+  unfolding codeWord fs
+  code-old i e = words-other (s .functions) (c .functions) (pack (c .text) n) (pack (otherTaken c (s .functions)) 0) two i e .1
+
+  name-now : nameWord fs (c .functions) ≡ pack (c .text) n
+  unfolding nameWord fs
+  name-now = words-here (s .functions) (c .functions) (pack (c .text) n) (pack (otherTaken c (s .functions)) 0) two .0
+
+  code-now : codeWord fs (c .functions) ≡ pack (otherTaken c (s .functions)) 0
+  unfolding codeWord fs
+  code-now = words-here (s .functions) (c .functions) (pack (c .text) n) (pack (otherTaken c (s .functions)) 0) two .1
+
+  end-old : (i : ℕ) → (i ≡ c .functions → ⊥) → codeEnd fs i ≡ codeEnd (s .functions) i
+  unfolding codeEnd
+  end-old i e = rw (code-old i e)
+
+  start-old : (i : ℕ) → i ≤ c .functions → codeStart fs i ≡ codeStart (s .functions) i
+  unfolding codeStart
+  start-old zero h = refl
+  start-old (suc zero) h = refl
+  start-old (suc (suc i)) h = end-old (suc i) (λ (e : suc i ≡ c .functions). omega arith)
+
+  end-now : codeEnd fs (c .functions) ≡ otherTaken c (s .functions)
+  unfolding codeEnd
+  end-now =
+      let b = behind in let z : otherTaken c (s .functions) + 0 ≡ otherTaken c (s .functions) = omega arith in
+      rw (code-now, start-pack (otherTaken c (s .functions)) 0 (omega arith), size-pack (otherTaken c (s .functions)) 0 (omega arith), z)
+
+  old-good : (i : ℕ) → i < c .functions → functionOk d fs i ≡ true
+  unfolding d
+  old-good i h =
+      let e : i ≡ c .functions → ⊥ = λ q. omega arith in
+      let f = function-known c (s .functions) (g .functions) i h in let l = f .name in
+      function-good (oneFunction n c) fs i
+      (rw (name-old i e) (inside-back (oneFunction n c) (nameWord (s .functions) i) (omega arith)))
+      (rw (code-old i e, start-old i (omega arith)) (f .starts)) (rw (code-old i e) (f .short)) (rw (end-old i e) (f .ends))
+
+  new-good : functionOk d fs (c .functions) ≡ true
+  unfolding d otherTaken
+  new-good =
+      let x = room-1 u in let b = behind in
+      let t : c .text < 2 ^ 32 = (let y = limits .text in omega arith) in
+      let o : otherTaken c (s .functions) < 2 ^ 32 = omega arith in
+      function-good (oneFunction n c) fs (c .functions)
+      (rw name-now (inside-back (oneFunction n c) (pack (c .text) n) (rw (start-pack (c .text) n t, size-pack (c .text) n t) (omega arith))))
+      (rw (code-now, start-pack (otherTaken c (s .functions)) 0 o, start-old (c .functions) (omega arith)))
+      (rw (code-now, size-pack (otherTaken c (s .functions)) 0 o) (omega arith))
+      (rw end-now b)
+
+  same-length : length fs ≡ length (s .functions)
+  unfolding fs
+  same-length = length-words (s .functions) (c .functions) (pack (c .text) n) (pack (otherTaken c (s .functions)) 0)
+
+  all-good : functionsOk d fs ≡ true
+  unfolding functionsOk d
+  all-good =
+      let a : suc (c .functions) ≤ places 2 fs = rw (places-same 2 fs (s .functions) same-length) (omega arith) in
+      and-both (leb (suc (c .functions)) (places 2 fs)) (everyFrom (suc (c .functions)) 0 (functionOk (oneFunction n c) fs)) (le-leb _ _ a)
+      (pass-all (suc (c .functions)) 0 (functionOk (oneFunction n c) fs) (λ i h.
+      let z : 0 + i ≡ i = omega arith in
+      rw z (either-way (eqb i (c .functions))
+      (λ t. let e : i ≡ c .functions = eqb-true i (c .functions) t in rw e new-good)
+      (λ f. old-good i (below-or-same i (c .functions) h (eqb-false i (c .functions) f))))))
+
+  main-now : mainOk fs u ≡ true
+  unfolding mainOk
+  main-now =
+      let l = limits .some in
+      rw (name-old 0 (λ (e : 0 ≡ c .functions). omega arith)) (main-kept c (s .functions) (s .text) u (g .functions) l same (g .main))
+
+  taken : otherTaken (oneFunction n c) fs ≡ otherTaken c (s .functions)
+  unfolding otherTaken
+  taken = codes-behind fs (c .functions) (suc (c .functions)) (λ (q : c .functions ≡ 0). let l = limits .some in omega arith) refl ∙ end-now
+
+  codes-now : (m o : List ℕ) → insideCodes c (s .functions) m o ≡ true → insideCodes d fs m o ≡ true
+  unfolding insideCodes mainTaken d
+  codes-now m o e =
+      let l = limits .some in
+      let a = leb (codeEnd (s .functions) 0) (places 1 m) in let b = leb (otherTaken c (s .functions)) (places 1 o) in
+      and-both (leb (codeEnd fs 0) (places 1 m)) (leb (otherTaken (oneFunction n c) fs) (places 1 o))
+      (rw (end-old 0 (λ (q : 0 ≡ c .functions). omega arith)) (and-left a b e))
+      (rw taken (and-right a b e))
+
+  pub function-begun : Good (oneFunction n c) (withFunctions (putWords (s .functions) (c .functions) (pack (c .text) n) (pack (otherTaken c (s .functions)) 0)) (withText u s))
+  unfolding textOk d fs
+  function-begun =
+      let x = room-1 u in
+      record {
+        counts = counts-good (oneFunction n c) (limits .constants) (limits .structs) (omega arith) (omega arith) (omega arith) (or-true (eqb (c .functions) 0) (eqb (suc (c .functions)) (suc (c .functions))) (eq-eqb (suc (c .functions)) (suc (c .functions)) refl));
+        text = le-leb (c .text + n) (places 1 u) room;
+        constants = constants-more c (oneFunction n c) (omega arith) (s .constants) refl (g .constants);
+        structs = structs-more c (oneFunction n c) (omega arith) (s .structs) (s .text) u same refl (g .structs);
+        functions = all-good;
+        main = main-now;
+        codes = codes-now (s .main) (s .other) (g .codes);
+        places = codes-now (s .mainPlaces) (s .otherPlaces) (g .places);
+      }
+
+-- begin_function keeps good order
+pub begin-keeps : (c : Counts) (name : List ℕ) (s : Stores) → programOk c s ≡ true → Kept (beginFunctionOf c name s)
+unfolding beginFunctionOf begun textRoom
+begin-keeps c name s e =
+    kept-if (functionOrder c s) _ _ (λ _.
+    kept-if (leb nameLimit (c .functions)) _ _ (λ _. kept-refused 22 s) (λ few.
+    kept-if (leb (places 2 (s .functions)) (c .functions)) _ _ (λ _. kept-refused 21 s) (λ fits.
+    kept-if (leb (c .text + length name) (places 1 (s .text))) _ _ (λ t. record {
+      kept = λ d i q.
+          let z : oneFunction (length name) c ≡ d = cc in
+          let l : c .text + length name ≤ places 1 (s .text) = leb-true _ _ t in
+          let x = room-1 (s .text) in
+          let f : c .text + length name ≤ length (s .text) = omega arith in
+          let u : c .text + length name ≤ places 1 (written (s .text) (c .text) name) = rw (places-same 1 (written (s .text) (c .text) name) (s .text) (length-written (s .text) (c .text) name)) l in
+          rw (← z) (of-good _ _ (function-begun c s (good-of c s e) (leb-false _ _ few) (leb-false _ _ fits) (length name) (written (s .text) (c .text) name) u (part-kept (s .text) (c .text) name f)));
+    }) (λ _. kept-refused 21 s))))
+    (λ _. kept-refused 19 s)
