@@ -35,11 +35,11 @@ front p x o n h =
     ap (λ (q : List ℕ). take n q) (drop-append-le o p x (omega arith)) ∙ take-append-le n (drop o p) x (omega arith)
 
 module _ (t : List ℕ) (a : ℕ) (l : List ℕ) (h : a + length l ≤ length t) where
-  split : written t a l ≡ take a t ++ (l ++ drop (a + length l) t)
+  pub split : written t a l ≡ take a t ++ (l ++ drop (a + length l) t)
   unfolding written
   split = sets-eq l t a h ∙ append-assoc (take a t) l (drop (a + length l) t)
 
-  below : length (take a t) ≡ a
+  pub below : length (take a t) ≡ a
   below = length-take-le a t (omega arith)
 
   -- a part below is as it was
@@ -92,7 +92,7 @@ module _ (c d : Counts) (more : c .text ≤ d .text) where
 
   -- struct names, where the text changes no part below
   module _ (ss t u : List ℕ) (same : (w : ℕ) → start w + size w ≤ c .text → part u w ≡ part t w) where
-    names-same : (n i : ℕ) → everyFrom n i (λ j. insideText c (structWord ss j)) ≡ true → structsFrom n i ss u ≡ structsFrom n i ss t
+    pub names-same : (n i : ℕ) → everyFrom n i (λ j. insideText c (structWord ss j)) ≡ true → structsFrom n i ss u ≡ structsFrom n i ss t
     unfolding structsFrom everyFrom
     names-same zero i e = refl
     names-same (suc n) i e =

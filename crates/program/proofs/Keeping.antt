@@ -194,15 +194,15 @@ module _ (c : Counts) (s : Stores) (g : Good c s) (n : ℕ) (short : sizeHere c 
   lim : Limited c
   lim = limited c (g .counts)
 
-  now-longer : Longer (s .functions) (longer c n s) (c .current) (pack (start (codeWord (s .functions) (c .current))) (sizeHere c s + n))
+  pub now-longer : Longer (s .functions) (longer c n s) (c .current) (pack (start (codeWord (s .functions) (c .current))) (sizeHere c s + n))
   unfolding longer
   now-longer = set-longer (s .functions) (c .current) _ (function-known c (s .functions) (g .functions) (c .current) (lim .current) .within)
 
-  in-code : endHere c s + n ≤ places 1 (codeHere c s)
+  pub in-code : endHere c s + n ≤ places 1 (codeHere c s)
   unfolding codeRoom
   in-code = let h : min (places 1 (codeHere c s)) (places 1 (placesHere c s)) ≤ places 1 (codeHere c s) = min-le-left _ _ in omega arith
 
-  in-places : endHere c s + n ≤ places 1 (placesHere c s)
+  pub in-places : endHere c s + n ≤ places 1 (placesHere c s)
   unfolding codeRoom
   in-places = let h : min (places 1 (codeHere c s)) (places 1 (placesHere c s)) ≤ places 1 (placesHere c s) = min-le-right _ _ in omega arith
 

@@ -10,3 +10,4 @@ pub mod Searching
 pub mod Adding
 pub mod Keeping
 pub mod Growing
+pub mod Reading
