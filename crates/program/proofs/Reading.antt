@@ -13,7 +13,7 @@ use Rattle.model.specs.declared.Constant.the-variants as k
 use Rattle.model.specs.declared.Counts.{Counts}
 use Rattle.model.specs.Basics.{if_then_else_, everyFrom}
 use Rattle.model.specs.Values.{places, textAt, kindAt, payloadAt, putWords, bit}
-use Rattle.model.specs.Programs.{scalar, boolean, string, reference, Function, Program}
+use Rattle.model.specs.Programs.{scalar, boolean, string, reference, Function, functionAt, Program}
 use Rattle.model.specs.Programs as p
 use Rattle.model.specs.Stores.{Stores, start, size, pack, part, structWord, nameWord, codeWord, codeEnd, codeHere, placesHere, withCode, withFunctions, withMain, withOther, withConstants, withText, constantIn, constantsFrom, structsFrom, functionIn, functionsFrom, programIn}
 use Rattle.model.specs.Orders.{insideText, constantOk, constantsOk, structsOk, allDifferent, codeStart, functionsOk}
@@ -43,6 +43,10 @@ part-longer m l a z h =
 lower : (x y : ℕ) → x < suc y → (x ≡ y → ⊥) → x < y
 lower x y h d = either-way (ltb x y) (λ t. ltb-true x y t) (λ f. absurd (d (let z : y ≤ x = ltb-false x y f in omega arith)))
 
+positive : (j : ℕ) → (j ≡ 0 → ⊥) → 1 ≤ j
+positive zero h = absurd (h refl)
+positive (suc j) h = omega arith
+
 start-end : (c : Counts) (fs : List ℕ) (j : ℕ) → Known c fs j → codeStart fs j ≤ codeEnd fs j
 unfolding codeEnd
 start-end c fs j q = rw (← (q .starts)) (omega arith)
@@ -60,3 +64,129 @@ ascending c fs g i (suc (suc j)) a b d = either-way (eqb i (suc j))
     let r : codeEnd fs i ≤ codeStart fs (suc j) = ascending c fs g i (suc j) a l (omega arith) in
     let q : codeStart fs (suc j) ≤ codeEnd fs (suc j) = start-end c fs (suc j) (function-known c fs g (suc j) (omega arith)) in
     omega arith)
+
+start-small : (w : ℕ) → start w < 2 ^ 32
+unfolding start
+start-small w = omega arith
+
+part-more : (m l : List ℕ) (w n : ℕ) → length l ≡ n → start w + size w + n ≤ length m → part (written m (start w + size w) l) (pack (start w) (size w + n)) ≡ part m w ++ l
+unfolding part textAt
+part-more m l w n e h =
+    let x = start-small w in
+    rw (start-pack (start w) (size w + n) x, size-pack (start w) (size w + n) x, ← e) (part-longer m l (start w) (size w) (rw e h))
+
+-- ---- functions, number by number
+
+module _ (s s' : Stores) where
+  all-same : (n i : ℕ) → ((j : ℕ) → i ≤ j → j < i + n → functionIn s' j ≡ functionIn s j) → functionsFrom n i s' ≡ functionsFrom n i s
+  unfolding functionsFrom
+  all-same zero i h = refl
+  all-same (suc n) i h = rw (h i (omega arith) (omega arith), all-same n (suc i) (λ j a b. h j (omega arith) (omega arith)))
+
+  -- only function k is another one
+  one-other : (n i k : ℕ) → i ≤ k → k < i + n → ((j : ℕ) → j < i + n → (j ≡ k → ⊥) → functionIn s' j ≡ functionIn s j) → functionsFrom n i s' ≡ set (functionsFrom n i s) (k - i) (functionIn s' k)
+  unfolding functionsFrom
+  one-other zero i k a b h = absurd (let y : ⊥ = omega arith in y)
+  one-other (suc n) i k a b h = either-way (eqb i k)
+      (λ t.
+      let e : i ≡ k = eqb-true i k t in
+      let z : k - i ≡ 0 = omega arith in
+      rw (z, e) (ap (λ (q : List Function). functionIn s' k ∷ q) (rw e at (all-same n (suc i) (λ j u v. h j (omega arith) (λ (w : j ≡ k). omega arith))))))
+      (λ f.
+      let d : i ≡ k → ⊥ = eqb-false i k f in
+      let l : i < k = lower i k (omega arith) d in
+      let z : k - i ≡ suc (k - suc i) = omega arith in
+      rw (z, h i (omega arith) d) (ap (λ (q : List Function). functionIn s i ∷ q) (one-other n (suc i) k (omega arith) (omega arith) (λ j u v. h j (omega arith) v))))
+
+function-at : (s : Stores) (n i j : ℕ) → j < n → functionAt (functionsFrom n i s) j ≡ functionIn s (i + j)
+unfolding functionsFrom functionAt
+function-at s zero i j h = absurd (let y : ⊥ = omega arith in y)
+function-at s (suc n) i zero h = let z : i + 0 ≡ i = omega arith in rw z
+function-at s (suc n) i (suc j) h = let z : i + suc j ≡ suc i + j = omega arith in rw z (function-at s n (suc i) j (omega arith))
+
+-- a function with code appended, and the program with that function
+abbrev pub longerBy : Function → List ℕ → List ℕ → Function
+longerBy f bytes ps = record { name = f .name; code = f .code ++ bytes; places = f .places ++ ps }
+
+unfoldable pub withBytes : Program → ℕ → List ℕ → List ℕ → Program
+withBytes q i bytes ps = record { constants = q .constants; structs = q .structs; functions = set (q .functions) i (longerBy (functionAt (q .functions) i) bytes ps) }
+
+reads-by : (c : Counts) (s s' : Stores) (bytes ps : List ℕ) → c .current < c .functions → s' .constants ≡ s .constants → s' .structs ≡ s .structs → s' .text ≡ s .text
+    → functionIn s' (c .current) ≡ longerBy (functionIn s (c .current)) bytes ps → ((j : ℕ) → j < c .functions → (j ≡ c .current → ⊥) → functionIn s' j ≡ functionIn s j)
+    → programIn c s' ≡ withBytes (programIn c s) (c .current) bytes ps
+unfolding programIn withBytes
+reads-by c s s' bytes ps h ec es et here others =
+    let z : c .current - 0 ≡ c .current = omega arith in
+    let y : 0 + c .current ≡ c .current = omega arith in
+    let a : functionsFrom (c .functions) 0 s' ≡ set (functionsFrom (c .functions) 0 s) (c .current) (longerBy (functionIn s (c .current)) bytes ps) =
+        rw (z, here) at (one-other s s' (c .functions) 0 (c .current) (omega arith) (omega arith) (λ j u v. others j (omega arith) v)) in
+    let b : functionAt (functionsFrom (c .functions) 0 s) (c .current) ≡ functionIn s (c .current) = rw y at (function-at s (c .functions) 0 (c .current) h) in
+    rw (a, b, ec, es, et)
+
+module _ (c : Counts) (bytes : List ℕ) (place : ℕ) (s : Stores) (g : Good c s) (short : sizeHere c s + length bytes ≤ 65535) (fits : endHere c s + length bytes ≤ codeRoom c s) where
+  ps : List ℕ
+  ps = replicate (length bytes) place
+
+  lim : Limited c
+  lim = limited c (g .counts)
+
+  word : ℕ
+  word = codeWord (s .functions) (c .current)
+
+  words : Longer (s .functions) (longer c (length bytes) s) (c .current) (pack (start word) (size word + length bytes))
+  unfolding word sizeHere
+  words = now-longer c s g (length bytes) short fits
+
+  end-here : endHere c s ≡ start word + size word
+  unfolding word endHere codeEnd
+  end-here = refl
+
+  in-store : (m : List ℕ) → endHere c s + length bytes ≤ places 1 m → start word + size word + length bytes ≤ length m
+  in-store m h = let x = room-1 m in let e = end-here in omega arith
+
+  more-code : (m l : List ℕ) → length l ≡ length bytes → endHere c s + length bytes ≤ places 1 m → part (written m (endHere c s) l) (codeWord (longer c (length bytes) s) (c .current)) ≡ part m (codeWord (s .functions) (c .current)) ++ l
+  unfolding word
+  more-code m l e h = rw (words .here, end-here) (part-more m l word (length bytes) e (in-store m h))
+
+  same-code : (m l : List ℕ) (j : ℕ) → j < c .functions → (j ≡ c .current → ⊥) → 1 ≤ j → (c .current ≡ 0 → ⊥) → length l ≡ length bytes → endHere c s + length bytes ≤ places 1 m
+      → part (written m (endHere c s) l) (codeWord (s .functions) j) ≡ part m (codeWord (s .functions) j)
+  unfolding codeEnd word
+  same-code m l j h d one z e f =
+      let n = lim .newest z in
+      let b : j < c .current = lower j (c .current) (omega arith) d in
+      let q : codeEnd (s .functions) j ≤ codeStart (s .functions) (c .current) = ascending c (s .functions) (g .functions) j (c .current) one b (lim .current) in
+      let w = function-known c (s .functions) (g .functions) (c .current) (lim .current) .starts in
+      let x = room-1 m in let y = end-here in
+      part-kept m (endHere c s) l (omega arith) (codeWord (s .functions) j) (omega arith)
+
+  length-ps : length ps ≡ length bytes
+  unfolding ps
+  length-ps = length-replicate (length bytes) place
+
+  reads-main : c .current ≡ 0 → programIn c (withFunctions (longer c (length bytes) s) (withMain (written (s .main) (endHere c s) bytes) (written (s .mainPlaces) (endHere c s) ps) s)) ≡ withBytes (programIn c s) (c .current) bytes ps
+  unfolding functionIn codeHere placesHere
+  reads-main z =
+      let a : endHere c s + length bytes ≤ places 1 (s .main) = rw (eq-eqb (c .current) 0 z) at (in-code c s g (length bytes) short fits) in
+      let b : endHere c s + length bytes ≤ places 1 (s .mainPlaces) = rw (eq-eqb (c .current) 0 z) at (in-places c s g (length bytes) short fits) in
+      reads-by c s _ bytes ps (lim .current) refl refl refl
+      (rw (eq-eqb (c .current) 0 z, words .names (c .current), more-code (s .main) bytes refl a, more-code (s .mainPlaces) ps length-ps b))
+      (λ j h d. rw (ne-eqb j 0 (λ (q : j ≡ 0). d (q ∙ sym z)), words .names j, words .others j d))
+
+  reads-other : (c .current ≡ 0 → ⊥) → programIn c (withFunctions (longer c (length bytes) s) (withOther (written (s .other) (endHere c s) bytes) (written (s .otherPlaces) (endHere c s) ps) s)) ≡ withBytes (programIn c s) (c .current) bytes ps
+  unfolding functionIn codeHere placesHere
+  reads-other z =
+      let a : endHere c s + length bytes ≤ places 1 (s .other) = rw (ne-eqb (c .current) 0 z) at (in-code c s g (length bytes) short fits) in
+      let b : endHere c s + length bytes ≤ places 1 (s .otherPlaces) = rw (ne-eqb (c .current) 0 z) at (in-places c s g (length bytes) short fits) in
+      reads-by c s _ bytes ps (lim .current) refl refl refl
+      (rw (ne-eqb (c .current) 0 z, words .names (c .current), more-code (s .other) bytes refl a, more-code (s .otherPlaces) ps length-ps b))
+      (λ j h d. either-way (eqb j 0)
+      (λ t. rw (t, words .names j, words .others j d))
+      (λ f.
+      let one : 1 ≤ j = positive j (eqb-false j 0 f) in
+      rw (f, words .names j, words .others j d, same-code (s .other) bytes j h d one z refl a, same-code (s .otherPlaces) ps j h d one z length-ps b)))
+
+  -- the program then has the bytes, each with the place, at the end of the current function's code
+  pub appended-reads : programIn c (appended c bytes place s .stores) ≡ withBytes (programIn c s) (c .current) bytes (replicate (length bytes) place)
+  unfolding appended withCode codeHere placesHere ps
+  appended-reads = either-way (eqb (c .current) 0) (λ t. rw t (reads-main (eqb-true (c .current) 0 t))) (λ f. rw f (reads-other (eqb-false (c .current) 0 f)))
+
