@@ -7,7 +7,7 @@ use native.Mathlib.Omega.{arith}
 use lib.Dec.{eqb, leb, ltb}
 use lib.ListN.{length, set, take, drop, replicate, length-replicate, length-drop, length-take}
 use lib.Seq.{take-append-add, drop-append-le, take-add, drop-at, take-at, length-take-le}
-use borrow.Author.Tests.{eq-eqb, ne-eqb, eqb-true, eqb-false, ltb-true, ltb-false}
+use borrow.Author.Tests.{eq-eqb, ne-eqb, eqb-true, eqb-false, ltb-true, ltb-false, leb-true}
 use Rattle.model.specs.declared.Constant.{Constant}
 use Rattle.model.specs.declared.Constant.the-variants as k
 use Rattle.model.specs.declared.Counts.{Counts}
@@ -17,8 +17,9 @@ use Rattle.model.specs.Programs.{scalar, boolean, string, reference, Function, 
 use Rattle.model.specs.Programs as p
 use Rattle.model.specs.Stores.{Stores, start, size, pack, part, structWord, nameWord, codeWord, codeEnd, codeHere, placesHere, withCode, withFunctions, withMain, withOther, withConstants, withText, constantIn, constantsFrom, structsFrom, functionIn, functionsFrom, programIn}
 use Rattle.model.specs.Orders.{insideText, constantOk, constantsOk, structsOk, allDifferent, codeStart, functionsOk}
-use Rattle.model.specs.Emission.{oneConstant, written, sizeHere, endHere, codeRoom, longer, appended}
-use Rattle.program.proofs.Bools.{either-way, and-left, and-right}
+use Rattle.model.specs.declared.Emitted.the-variants.{Done, Refused}
+use Rattle.model.specs.Emission.{Res, refuse, oneConstant, textRoom, withConstant, withTextConstant, constantAdded, written, sizeHere, endHere, codeRoom, longer, appended}
+use Rattle.program.proofs.Bools.{apart, either-way, and-left, and-right}
 use Rattle.program.proofs.Parts.{room-1, room-2, start-pack, size-pack}
 use Rattle.program.proofs.Known.{Limited, limited, Known, function-known, constants-known, text-inside}
 use Rattle.program.proofs.Keeping.{Good, Longer, in-code, in-places, now-longer}
@@ -189,4 +190,105 @@ module _ (c : Counts) (bytes : List ℕ) (place : ℕ) (s : Stores) (g : Good c 
   pub appended-reads : programIn c (appended c bytes place s .stores) ≡ withBytes (programIn c s) (c .current) bytes (replicate (length bytes) place)
   unfolding appended withCode codeHere placesHere ps
   appended-reads = either-way (eqb (c .current) 0) (λ t. rw t (reads-main (eqb-true (c .current) 0 t))) (λ f. rw f (reads-other (eqb-false (c .current) 0 f)))
+
+-- ---- constants
+
+constants-snoc : (n i : ℕ) (cs t : List ℕ) → constantsFrom (suc n) i cs t ≡ constantsFrom n i cs t ++ (constantIn t (kindAt cs (i + n)) (payloadAt cs (i + n)) ∷ [])
+unfolding constantsFrom
+constants-snoc zero i cs t = let z : i + 0 ≡ i = omega arith in rw z
+constants-snoc (suc n) i cs t = let z : i + suc n ≡ suc i + n = omega arith in ap (λ (q : List p.Constant). constantIn t (kindAt cs i) (payloadAt cs i) ∷ q) (rw z (constants-snoc n (suc i) cs t))
+
+constants-alike : (n i : ℕ) (cs ds t u : List ℕ) → ((j : ℕ) → j < i + n → constantIn u (kindAt ds j) (payloadAt ds j) ≡ constantIn t (kindAt cs j) (payloadAt cs j)) → constantsFrom n i ds u ≡ constantsFrom n i cs t
+unfolding constantsFrom
+constants-alike zero i cs ds t u h = refl
+constants-alike (suc n) i cs ds t u h = rw (h i (omega arith), constants-alike n (suc i) cs ds t u (λ j l. h j (omega arith)))
+
+kinds-alike : (b0 b1 b2 b3 x y : Bool) (A B : p.Constant) (v w : List ℕ) → (if b0 then true else (if b1 then x else (if b3 then y else false))) ≡ true → (y ≡ true → v ≡ w)
+    → (if b0 then A else (if b1 then B else (if b2 then string v else reference v))) ≡ (if b0 then A else (if b1 then B else (if b2 then string w else reference w)))
+kinds-alike true b1 b2 b3 x y A B v w e h = refl
+kinds-alike false true b2 b3 x y A B v w e h = refl
+kinds-alike false false b2 true x y A B v w e h = rw (h e)
+kinds-alike false false b2 false x y A B v w e h = apart false e refl
+
+constant-alike : (c : Counts) (t u : List ℕ) → ((v : ℕ) → start v + size v ≤ c .text → part u v ≡ part t v) → (k a : ℕ) → constantOk c k a ≡ true → constantIn u k a ≡ constantIn t k a
+unfolding constantOk constantIn
+constant-alike c t u same k a e = kinds-alike (eqb k 0) (eqb k 1) (eqb k 2) (leb k 3) (ltb a 2) (insideText c a) (scalar a) (boolean (not (eqb a 0))) (part u a) (part t a) e (λ y. same a (text-inside c a y))
+
+-- a program with one constant more
+unfoldable pub withOne : Program → p.Constant → Program
+withOne q x = record { constants = q .constants ++ (x ∷ []); structs = q .structs; functions = q .functions }
+
+structs-inside : (c : Counts) (ss t : List ℕ) → structsOk c ss t ≡ true → everyFrom (c .structs) 0 (λ j. insideText c (structWord ss j)) ≡ true
+unfolding structsOk
+structs-inside c ss t e =
+    let a = leb (c .structs) (places 1 ss) in let b = everyFrom (c .structs) 0 (λ j. insideText c (structWord ss j)) in
+    and-right a b (and-left (a && b) (allDifferent (structsFrom (c .structs) 0 ss t)) e)
+
+module _ (c : Counts) (s : Stores) (g : Good c s) (fits : c .constants < places 2 (s .constants)) where
+  -- n bytes more of text that change no part below, and the words of the new constant
+  constant-reads : (n kind w : ℕ) (u : List ℕ) → ((v : ℕ) → start v + size v ≤ c .text → part u v ≡ part (s .text) v)
+      → programIn (oneConstant n c) (withConstants (putWords (s .constants) (c .constants) kind w) (withText u s)) ≡ withOne (programIn c s) (constantIn u kind w)
+  unfolding programIn withOne functionIn
+  constant-reads n kind w u same =
+      let k = c .constants in let cs = s .constants in
+      let two : 2 * k + 2 ≤ length cs = (let x = room-2 cs in omega arith) in
+      let z : 0 + k ≡ k = omega arith in
+      let h = words-here cs k kind w two in
+      let old : constantsFrom k 0 (putWords cs k kind w) u ≡ constantsFrom k 0 cs (s .text) =
+          constants-alike k 0 cs (putWords cs k kind w) (s .text) u (λ j l.
+          let x = words-other cs k kind w two j (λ (q : j ≡ k). omega arith) in
+          rw (x .0, x .1) (constant-alike c (s .text) u same (kindAt cs j) (payloadAt cs j) (constants-known c cs (g .constants) .each j (omega arith)))) in
+      let e1 : constantsFrom (suc k) 0 (putWords cs k kind w) u ≡ constantsFrom k 0 cs (s .text) ++ (constantIn u kind w ∷ []) = constants-snoc k 0 (putWords cs k kind w) u ∙ rw (z, h .0, h .1, old) in
+      let e2 : structsFrom (c .structs) 0 (s .structs) u ≡ structsFrom (c .structs) 0 (s .structs) (s .text) = names-same c c (omega arith) (s .structs) (s .text) u same (c .structs) 0 (structs-inside c (s .structs) (s .text) (g .structs)) in
+      let e3 : functionsFrom (c .functions) 0 (withConstants (putWords cs k kind w) (withText u s)) ≡ functionsFrom (c .functions) 0 s =
+          all-same s (withConstants (putWords cs k kind w) (withText u s)) (c .functions) 0 (λ j a b. rw (same (nameWord (s .functions) j) (function-known c (s .functions) (g .functions) j (omega arith) .name))) in
+      rw (e1, e2, e3)
+
+-- the constant that is meant
+unfoldable pub meant : Constant → List ℕ → p.Constant
+meant (k.Scalar w) lent = scalar w
+meant (k.Boolean b) lent = boolean b
+meant k.String lent = string lent
+meant k.FunctionReference lent = reference lent
+
+-- what an entry leaves when it is done stands for that program
+pub record Reads (want : Program) (r : Res) : Type 0 where
+  pub reads : (d : Counts) (i : ℕ) → r .answer ≡ Done d i → programIn d (r .stores) ≡ want
+
+reads-if : (want : Program) (b : Bool) (x y : Res) → (b ≡ true → Reads want x) → (b ≡ false → Reads want y) → Reads want (if b then x else y)
+reads-if want true x y h q = h refl
+reads-if want false x y h q = q refl
+
+reads-refused : (want : Program) (n : ℕ) (s : Stores) → Reads want (refuse n s)
+reads-refused want n s = record { reads = λ d i e. absurd (let z : _≡_ {A = ℕ} 0 1 = cc in let y : ⊥ = omega arith in y) }
+
+module _ (c : Counts) (s : Stores) (g : Good c s) (fits : c .constants < places 2 (s .constants)) where
+  plain-reads : (kind w : ℕ) → Reads (withOne (programIn c s) (constantIn (s .text) kind w)) (withConstant c kind w s)
+  unfolding withConstant
+  plain-reads kind w = record { reads = λ d i e. let z : oneConstant 0 c ≡ d = cc in rw (← z) (constant-reads c s g fits 0 kind w (s .text) (λ v q. refl)) }
+
+  text-reads : (kind : ℕ) (lent : List ℕ) (x : p.Constant) → ((t : List ℕ) → part t (pack (c .text) (length lent)) ≡ lent → constantIn t kind (pack (c .text) (length lent)) ≡ x) → Reads (withOne (programIn c s) x) (withTextConstant c kind lent s)
+  unfolding withTextConstant textRoom
+  text-reads kind lent x is =
+      reads-if (withOne (programIn c s) x) (leb (c .text + length lent) (places 1 (s .text))) _ _
+      (λ t. record {
+        reads = λ d i e.
+            let z : oneConstant (length lent) c ≡ d = cc in
+            let l : c .text + length lent ≤ places 1 (s .text) = leb-true _ _ t in
+            let y = room-1 (s .text) in
+            let b : c .text < 2 ^ 32 = omega arith in
+            let f : c .text + length lent ≤ length (s .text) = omega arith in
+            let o = is (written (s .text) (c .text) lent) (part-new (s .text) (c .text) lent f b) in
+            rw (← z) (constant-reads c s g fits (length lent) kind (pack (c .text) (length lent)) (written (s .text) (c .text) lent) (part-kept (s .text) (c .text) lent f) ∙ ap (λ (q : p.Constant). withOne (programIn c s) q) o);
+      })
+      (λ _. reads-refused (withOne (programIn c s) x) 21 s)
+
+  -- the program then has the constant behind the others
+  pub added-reads : (x : Constant) (lent : List ℕ) → Reads (withOne (programIn c s) (meant x lent)) (constantAdded c x lent s)
+  unfolding constantAdded meant constantIn
+  added-reads (k.Scalar w) lent = plain-reads 0 w
+  added-reads (k.Boolean true) lent = plain-reads 1 1
+  added-reads (k.Boolean false) lent = plain-reads 1 0
+  added-reads k.String lent = text-reads 2 lent (string lent) (λ t e. ap string e)
+  added-reads k.FunctionReference lent = text-reads 3 lent (reference lent) (λ t e. ap reference e)
 
