@@ -1,28 +1,27 @@
 -- Text that is appended changes no name below it. Each of the other entries but add_struct_info keeps good order.
 use mathlib.Core.Path.{_≡_, refl, sym, ap, _∙_}
 use mathlib.Core.Bool.{Bool, true, false, _&&_, _||_}
-use mathlib.Core.List.{List, [], _∷_, _++_, append-assoc}
+use mathlib.Core.List.{List, _++_, append-assoc}
 use Prim.Native.Nat.{ℕ, zero, suc, _+_, _-_, _*_, _≤_, _<_, _^_}
 use native.Mathlib.Omega.{arith}
 use lib.Dec.{eqb, leb, ltb}
-use lib.ListN.{length, getD, set, take, drop, length-set, length-drop, take-append-drop}
+use lib.ListN.{length, set, take, drop, length-set, length-drop, take-append-drop}
 use lib.Seq.{sets-eq, length-take-le, take-append-le, drop-append-le, drop-at, take-at, getD-set-same, getD-set-other}
 use borrow.Author.Tests.{le-leb, leb-true, leb-false, eq-eqb, eqb-true, eqb-false}
 use Rattle.model.specs.declared.Constant.{Constant}
 use Rattle.model.specs.declared.Constant.the-variants as k
 use Rattle.model.specs.declared.Counts.{Counts}
-use Rattle.model.specs.declared.Emitted.{Emitted}
-use Rattle.model.specs.declared.Emitted.the-variants.{Done, Refused}
+use Rattle.model.specs.declared.Emitted.the-variants.{Done}
 use Rattle.model.specs.Basics.{if_then_else_, everyFrom}
-use Rattle.model.specs.Values.{places, textAt, kindAt, payloadAt, putWords, bit}
+use Rattle.model.specs.Values.{places, textAt, kindAt, payloadAt, putWords}
 use Rattle.model.specs.Programs.{constantLimit, nameLimit}
 use Rattle.model.specs.Stores.{Stores, start, size, pack, part, structWord, nameWord, codeWord, codeEnd, structsFrom, codeHere, placesHere, withCode, withConstants, withFunctions, withText}
 use Rattle.model.specs.Orders.{countsOk, textOk, insideText, constantOk, constantsOk, allDifferent, structsOk, codeStart, functionOk, functionsOk, mainOk, mainTaken, otherTaken, insideCodes, programOk}
-use Rattle.model.specs.Emission.{Res, refuse, counts, oneConstant, written, textRoom, withConstant, withTextConstant, constantAdded, constantOrder, addConstantOf, u16, sizeHere, patchOrder, patched, patchOf, endFunctionOf, oneFunction, functionOrder, begun, beginFunctionOf}
+use Rattle.model.specs.Emission.{counts, oneConstant, written, textRoom, withConstant, withTextConstant, constantAdded, constantOrder, addConstantOf, u16, sizeHere, patchOrder, patched, patchOf, endFunctionOf, oneFunction, functionOrder, begun, beginFunctionOf}
 use Rattle.program.proofs.Bools.{either-way, and-left, and-right, and-both}
 use Rattle.program.proofs.Parts.{room-1, room-2, start-pack, size-pack}
 use Rattle.program.proofs.Every.{pass-all, passed-at}
-use Rattle.program.proofs.Known.{Limited, limited, text-within, text-inside, constants-known, function-known, codes-behind}
+use Rattle.program.proofs.Known.{Limited, limited, text-inside, constants-known, function-known, codes-behind}
 use Rattle.program.proofs.Writing.{length-written, length-words}
 use Rattle.program.proofs.Adding.{start-below}
 use Rattle.program.proofs.Keeping.{Good, good-of, of-good, inside-back, places-same, function-good, Kept, kept-if, kept-refused}
@@ -105,7 +104,7 @@ module _ (c d : Counts) (more : c .text ≤ d .text) where
         let a = leb (c .structs) (places 1 ss) in let b = everyFrom (c .structs) 0 (λ j. insideText c (structWord ss j)) in let f = allDifferent (structsFrom (c .structs) 0 ss t) in
         let x = and-left (a && b) f g in let y = and-right a b x in
         let v : everyFrom (c .structs) 0 (λ j. insideText d (structWord ss j)) ≡ true =
-            pass-all (c .structs) 0 (λ j. insideText d (structWord ss j)) (λ i h. inside-more (structWord ss (0 + i)) (passed-at (c .structs) 0 (λ j. insideText c (structWord ss j)) y i h)) in
+        pass-all (c .structs) 0 (λ j. insideText d (structWord ss j)) (λ i h. inside-more (structWord ss (0 + i)) (passed-at (c .structs) 0 (λ j. insideText c (structWord ss j)) y i h)) in
         rw (e, names-same (c .structs) 0 y, and-left a b x, v) (and-right (a && b) f g)
 
 pub main-kept : (c : Counts) (fs t u : List ℕ) → functionsOk c fs ≡ true → 1 ≤ c .functions → ((w : ℕ) → start w + size w ≤ c .text → part u w ≡ part t w) → mainOk fs t ≡ true → mainOk fs u ≡ true
@@ -118,15 +117,17 @@ module _ (cs : List ℕ) (i a b : ℕ) (h : 2 * i + 2 ≤ length cs) where
   pub words-here : (kindAt (putWords cs i a b) i ≡ a) × (payloadAt (putWords cs i a b) i ≡ b)
   unfolding putWords kindAt payloadAt
   words-here =
-      let l : length (set cs (2 * i) a) ≡ length cs = length-set cs (2 * i) a in
-      (getD-set-other (set cs (2 * i) a) (2 * i + 1) (2 * i) b 0 (λ (e : 2 * i ≡ 2 * i + 1). omega arith) ∙ getD-set-same cs (2 * i) a 0 (omega arith),
-      getD-set-same (set cs (2 * i) a) (2 * i + 1) b 0 (omega arith))
+      let l : length (set cs (2 * i) a) ≡ length cs = length-set cs (2 * i) a in (
+        getD-set-other (set cs (2 * i) a) (2 * i + 1) (2 * i) b 0 (λ (e : 2 * i ≡ 2 * i + 1). omega arith) ∙ getD-set-same cs (2 * i) a 0 (omega arith),
+        getD-set-same (set cs (2 * i) a) (2 * i + 1) b 0 (omega arith),
+      )
 
   pub words-other : (j : ℕ) → (j ≡ i → ⊥) → (kindAt (putWords cs i a b) j ≡ kindAt cs j) × (payloadAt (putWords cs i a b) j ≡ payloadAt cs j)
   unfolding putWords kindAt payloadAt
-  words-other j d =
-      (getD-set-other (set cs (2 * i) a) (2 * i + 1) (2 * j) b 0 (λ (e : 2 * j ≡ 2 * i + 1). omega arith) ∙ getD-set-other cs (2 * i) (2 * j) a 0 (λ (e : 2 * j ≡ 2 * i). d (omega arith)),
-      getD-set-other (set cs (2 * i) a) (2 * i + 1) (2 * j + 1) b 0 (λ (e : 2 * j + 1 ≡ 2 * i + 1). d (omega arith)) ∙ getD-set-other cs (2 * i) (2 * j + 1) a 0 (λ (e : 2 * j + 1 ≡ 2 * i). omega arith))
+  words-other j d = (
+    getD-set-other (set cs (2 * i) a) (2 * i + 1) (2 * j) b 0 (λ (e : 2 * j ≡ 2 * i + 1). omega arith) ∙ getD-set-other cs (2 * i) (2 * j) a 0 (λ (e : 2 * j ≡ 2 * i). d (omega arith)),
+    getD-set-other (set cs (2 * i) a) (2 * i + 1) (2 * j + 1) b 0 (λ (e : 2 * j + 1 ≡ 2 * i + 1). d (omega arith)) ∙ getD-set-other cs (2 * i) (2 * j + 1) a 0 (λ (e : 2 * j + 1 ≡ 2 * i). omega arith),
+  )
 
 below-or-same : (j n : ℕ) → j < suc n → (j ≡ n → ⊥) → j < n
 below-or-same j n h d = either-way (leb n j) (λ t. let l : n ≤ j = leb-true n j t in absurd (d (omega arith))) (λ f. leb-false n j f)
@@ -202,7 +203,7 @@ module _ (c : Counts) (s : Stores) (g : Good c s) (few : c .constants < 65535) (
             let b : c .text < 2 ^ 32 = omega arith in
             let f : c .text + length lent ≤ length (s .text) = omega arith in
             let o : insideText (oneConstant (length lent) c) (pack (c .text) (length lent)) ≡ true =
-                inside-back (oneConstant (length lent) c) (pack (c .text) (length lent)) (rw (start-pack (c .text) (length lent) b, size-pack (c .text) (length lent) b) (omega arith)) in
+            inside-back (oneConstant (length lent) c) (pack (c .text) (length lent)) (rw (start-pack (c .text) (length lent) b, size-pack (c .text) (length lent) b) (omega arith)) in
             let u : c .text + length lent ≤ places 1 (written (s .text) (c .text) lent) = rw (places-same 1 (written (s .text) (c .text) lent) (s .text) (length-written (s .text) (c .text) lent)) l in
             rw (← z) (of-good _ _ (constant-good (length lent) kind (pack (c .text) (length lent)) (written (s .text) (c .text) lent) u (part-kept (s .text) (c .text) lent f) (sym (is _) ∙ o)));
       })
@@ -242,11 +243,23 @@ patch-keeps c at a s e =
           let z : c ≡ d = cc in
           rw (← z) (either-way (eqb (c .current) 0)
           (λ t. rw t (of-good _ _ (record {
-            counts = g .counts; text = g .text; constants = g .constants; structs = g .structs; functions = g .functions; main = g .main; places = g .places;
+            counts = g .counts;
+            text = g .text;
+            constants = g .constants;
+            structs = g .structs;
+            functions = g .functions;
+            main = g .main;
+            places = g .places;
             codes = codes-same c (s .functions) (s .main) (s .other) (written (s .main) w (u16 a)) (s .other) (length-written (s .main) w (u16 a)) refl (g .codes);
           })))
           (λ f. rw f (of-good _ _ (record {
-            counts = g .counts; text = g .text; constants = g .constants; structs = g .structs; functions = g .functions; main = g .main; places = g .places;
+            counts = g .counts;
+            text = g .text;
+            constants = g .constants;
+            structs = g .structs;
+            functions = g .functions;
+            main = g .main;
+            places = g .places;
             codes = codes-same c (s .functions) (s .main) (s .other) (s .main) (written (s .other) w (u16 a)) refl (length-written (s .other) w (u16 a)) (g .codes);
           }))));
     }))
@@ -260,7 +273,13 @@ end-keeps c s e d n q =
     let z : counts (c .constants) (c .structs) (c .functions) (c .text) 0 ≡ d = cc in
     rw (← z) (of-good _ _ (record {
       counts = counts-good (counts (c .constants) (c .structs) (c .functions) (c .text) 0) (l .constants) (l .structs) (l .some) (l .functions) (l .text) refl;
-      text = g .text; constants = g .constants; structs = g .structs; functions = g .functions; main = g .main; codes = g .codes; places = g .places;
+      text = g .text;
+      constants = g .constants;
+      structs = g .structs;
+      functions = g .functions;
+      main = g .main;
+      codes = g .codes;
+      places = g .places;
     }))
 
 -- ---- a new function

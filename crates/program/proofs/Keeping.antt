@@ -1,26 +1,25 @@
 -- Emission of code keeps good order.
 use mathlib.Core.Path.{_≡_, refl, sym, ap, _∙_}
 use mathlib.Core.Bool.{Bool, true, false, _&&_}
-use mathlib.Core.List.{List, [], _∷_, _++_}
-use Prim.Native.Nat.{ℕ, zero, suc, _+_, _-_, _*_, _≤_, _<_, _^_, min}
+use mathlib.Core.List.{List}
+use Prim.Native.Nat.{ℕ, zero, suc, _+_, _*_, _≤_, _<_, _^_, min}
 use native.Mathlib.Omega.{arith}
 use native.Mathlib.Nat.{min-le-left, min-le-right}
 use lib.Dec.{eqb, leb, ltb}
-use lib.ListN.{length, set, replicate, length-set}
+use lib.ListN.{length, set, length-set}
 use lib.Seq.{getD-set-same, getD-set-other}
-use borrow.Author.Tests.{le-leb, leb-true, eq-eqb, ne-eqb, eqb-true, eqb-false, ltb-false}
+use borrow.Author.Tests.{le-leb, eq-eqb, ne-eqb, eqb-true, eqb-false, ltb-false}
 use Rattle.model.specs.declared.Counts.{Counts}
-use Rattle.model.specs.declared.Emitted.{Emitted}
-use Rattle.model.specs.declared.Emitted.the-variants.{Done, Refused}
+use Rattle.model.specs.declared.Emitted.the-variants.{Done}
 use Rattle.model.specs.Basics.{if_then_else_, everyFrom}
 use Rattle.model.specs.Values.{places, kindAt, payloadAt}
 use Rattle.model.specs.Programs.{codeLimit}
-use Rattle.model.specs.Stores.{Stores, start, size, pack, part, nameWord, codeWord, codeEnd, codeHere, placesHere, withCode, withFunctions, withMain, withOther}
+use Rattle.model.specs.Stores.{Stores, start, size, pack, nameWord, codeWord, codeEnd, codeHere, placesHere, withCode, withFunctions, withMain, withOther}
 use Rattle.model.specs.Orders.{countsOk, textOk, insideText, constantsOk, structsOk, codeStart, functionOk, functionsOk, mainOk, mainTaken, otherTaken, insideCodes, programOk}
-use Rattle.model.specs.Emission.{Res, refuse, written, u16, sizeHere, endHere, codeRoom, longer, appended, codeOrder, emitIn, emitOf, addOpOf, addOp1Of, addOp2Of, addOp3Of}
+use Rattle.model.specs.Emission.{Res, refuse, sizeHere, endHere, codeRoom, longer, appended, codeOrder, emitIn, emitOf}
 use Rattle.program.proofs.Bools.{either-way, and-left, and-right, and-both}
-use Rattle.program.proofs.Parts.{room-1, room-2, start-pack, size-pack}
-use Rattle.program.proofs.Every.{pass-all, passed-at}
+use Rattle.program.proofs.Parts.{room-1, start-pack, size-pack}
+use Rattle.program.proofs.Every.{pass-all}
 use Rattle.program.proofs.Known.{Limited, limited, Known, function-known, codes-behind}
 use Rattle.program.proofs.Writing.{length-written}
 
@@ -232,7 +231,12 @@ module _ (c : Counts) (s : Stores) (g : Good c s) (n : ℕ) (short : sizeHere c 
         let a : codeEnd (s .functions) (c .current) + n ≤ places 1 (s .main) = rw (eq-eqb (c .current) 0 z) at in-code in
         let b : codeEnd (s .functions) (c .current) + n ≤ places 1 (s .mainPlaces) = rw (eq-eqb (c .current) 0 z) at in-places in
         record {
-          counts = g .counts; text = g .text; constants = g .constants; structs = g .structs; functions = longer-good; main = main-here;
+          counts = g .counts;
+          text = g .text;
+          constants = g .constants;
+          structs = g .structs;
+          functions = longer-good;
+          main = main-here;
           codes = codes-longer _ _ _ _ now-longer c (g .functions) lim refl n word-here short-here ends-below (s .main) (s .other) code (s .other) (g .codes) ec refl (λ q. a) (λ q. absurd (q z));
           places = codes-longer _ _ _ _ now-longer c (g .functions) lim refl n word-here short-here ends-below (s .mainPlaces) (s .otherPlaces) places' (s .otherPlaces) (g .places) el refl (λ q. b) (λ q. absurd (q z));
         }
@@ -243,7 +247,12 @@ module _ (c : Counts) (s : Stores) (g : Good c s) (n : ℕ) (short : sizeHere c 
         let a : codeEnd (s .functions) (c .current) + n ≤ places 1 (s .other) = rw (ne-eqb (c .current) 0 z) at in-code in
         let b : codeEnd (s .functions) (c .current) + n ≤ places 1 (s .otherPlaces) = rw (ne-eqb (c .current) 0 z) at in-places in
         record {
-          counts = g .counts; text = g .text; constants = g .constants; structs = g .structs; functions = longer-good; main = main-here;
+          counts = g .counts;
+          text = g .text;
+          constants = g .constants;
+          structs = g .structs;
+          functions = longer-good;
+          main = main-here;
           codes = codes-longer _ _ _ _ now-longer c (g .functions) lim refl n word-here short-here ends-below (s .main) (s .other) (s .main) code (g .codes) refl ec (λ q. absurd (z q)) (λ q. a);
           places = codes-longer _ _ _ _ now-longer c (g .functions) lim refl n word-here short-here ends-below (s .mainPlaces) (s .otherPlaces) (s .mainPlaces) places' (g .places) refl el (λ q. absurd (z q)) (λ q. b);
         }

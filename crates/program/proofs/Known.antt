@@ -1,5 +1,5 @@
 -- What good order hands on.
-use mathlib.Core.Path.{_≡_, refl, sym, ap, _∙_}
+use mathlib.Core.Path.{_≡_, refl}
 use mathlib.Core.Bool.{Bool, true, false, _&&_, _||_}
 use mathlib.Core.List.{List}
 use Prim.Native.Nat.{ℕ, zero, suc, _+_, _*_, _≤_, _<_}
@@ -10,7 +10,7 @@ use borrow.Author.Tests.{leb-true, eqb-true}
 use Rattle.model.specs.declared.Counts.{Counts}
 use Rattle.model.specs.Basics.{everyFrom}
 use Rattle.model.specs.Values.{places, kindAt, payloadAt}
-use Rattle.model.specs.Programs.{codeLimit, constantLimit, nameLimit}
+use Rattle.model.specs.Programs.{codeLimit}
 use Rattle.model.specs.Stores.{start, size, nameWord, codeWord, codeEnd}
 use Rattle.model.specs.Orders.{countsOk, textOk, insideText, constantOk, constantsOk, codeStart, functionOk, functionsOk, mainTaken, otherTaken, insideCodes}
 use Rattle.program.proofs.Bools.{and-left, and-right}

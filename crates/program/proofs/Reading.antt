@@ -5,25 +5,25 @@ use mathlib.Core.List.{List, [], _∷_, _++_, append-assoc}
 use Prim.Native.Nat.{ℕ, zero, suc, _+_, _-_, _*_, _≤_, _<_, _^_}
 use native.Mathlib.Omega.{arith}
 use lib.Dec.{eqb, leb, ltb}
-use lib.ListN.{length, set, take, drop, replicate, length-replicate, length-drop, length-take}
-use lib.Seq.{take-append-add, drop-append-le, take-add, drop-at, take-at, length-take-le}
-use borrow.Author.Tests.{eq-eqb, ne-eqb, eqb-true, eqb-false, ltb-true, ltb-false, leb-true}
+use lib.ListN.{length, set, take, drop, replicate, length-replicate, length-drop}
+use lib.Seq.{take-append-add, take-add, drop-at, take-at, length-take-le}
+use borrow.Author.Tests.{eq-eqb, ne-eqb, eqb-true, eqb-false, ltb-true, ltb-false, leb-true, leb-false}
 use Rattle.model.specs.declared.Constant.{Constant}
 use Rattle.model.specs.declared.Constant.the-variants as k
 use Rattle.model.specs.declared.Counts.{Counts}
 use Rattle.model.specs.Basics.{if_then_else_, everyFrom}
-use Rattle.model.specs.Values.{places, textAt, kindAt, payloadAt, putWords, bit}
-use Rattle.model.specs.Programs.{scalar, boolean, string, reference, Function, functionAt, Program}
+use Rattle.model.specs.Values.{places, textAt, kindAt, payloadAt, putWords}
+use Rattle.model.specs.Programs.{scalar, boolean, string, reference, Function, functionAt, Program, codeLimit, constantLimit}
 use Rattle.model.specs.Programs as p
 use Rattle.model.specs.Stores.{Stores, start, size, pack, part, structWord, nameWord, codeWord, codeEnd, codeHere, placesHere, withCode, withFunctions, withMain, withOther, withConstants, withText, constantIn, constantsFrom, structsFrom, functionIn, functionsFrom, programIn}
-use Rattle.model.specs.Orders.{insideText, constantOk, constantsOk, structsOk, allDifferent, codeStart, functionsOk}
-use Rattle.model.specs.declared.Emitted.the-variants.{Done, Refused}
-use Rattle.model.specs.Emission.{Res, refuse, oneConstant, textRoom, withConstant, withTextConstant, constantAdded, written, sizeHere, endHere, codeRoom, longer, appended}
+use Rattle.model.specs.Orders.{insideText, constantOk, structsOk, allDifferent, codeStart, functionsOk, programOk}
+use Rattle.model.specs.declared.Emitted.the-variants.{Done}
+use Rattle.model.specs.Emission.{Res, refuse, oneConstant, textRoom, withConstant, withTextConstant, constantAdded, constantOrder, addConstantOf, codeOrder, emitIn, emitOf, written, sizeHere, endHere, codeRoom, longer, appended}
 use Rattle.program.proofs.Bools.{apart, either-way, and-left, and-right}
 use Rattle.program.proofs.Parts.{room-1, room-2, start-pack, size-pack}
 use Rattle.program.proofs.Known.{Limited, limited, Known, function-known, constants-known, text-inside}
-use Rattle.program.proofs.Keeping.{Good, Longer, in-code, in-places, now-longer}
-use Rattle.program.proofs.Growing.{split, below, part-kept, part-new, words-here, words-other, names-same}
+use Rattle.program.proofs.Keeping.{Good, good-of, Longer, in-code, in-places, now-longer}
+use Rattle.program.proofs.Growing.{split, part-kept, part-new, words-here, words-other, names-same}
 
 -- ---- code
 
@@ -120,7 +120,7 @@ reads-by c s s' bytes ps h ec es et here others =
     let z : c .current - 0 ≡ c .current = omega arith in
     let y : 0 + c .current ≡ c .current = omega arith in
     let a : functionsFrom (c .functions) 0 s' ≡ set (functionsFrom (c .functions) 0 s) (c .current) (longerBy (functionIn s (c .current)) bytes ps) =
-        rw (z, here) at (one-other s s' (c .functions) 0 (c .current) (omega arith) (omega arith) (λ j u v. others j (omega arith) v)) in
+    rw (z, here) at (one-other s s' (c .functions) 0 (c .current) (omega arith) (omega arith) (λ j u v. others j (omega arith) v)) in
     let b : functionAt (functionsFrom (c .functions) 0 s) (c .current) ≡ functionIn s (c .current) = rw y at (function-at s (c .functions) 0 (c .current) h) in
     rw (a, b, ec, es, et)
 
@@ -235,13 +235,13 @@ module _ (c : Counts) (s : Stores) (g : Good c s) (fits : c .constants < places 
       let z : 0 + k ≡ k = omega arith in
       let h = words-here cs k kind w two in
       let old : constantsFrom k 0 (putWords cs k kind w) u ≡ constantsFrom k 0 cs (s .text) =
-          constants-alike k 0 cs (putWords cs k kind w) (s .text) u (λ j l.
-          let x = words-other cs k kind w two j (λ (q : j ≡ k). omega arith) in
-          rw (x .0, x .1) (constant-alike c (s .text) u same (kindAt cs j) (payloadAt cs j) (constants-known c cs (g .constants) .each j (omega arith)))) in
+      constants-alike k 0 cs (putWords cs k kind w) (s .text) u (λ j l.
+      let x = words-other cs k kind w two j (λ (q : j ≡ k). omega arith) in
+      rw (x .0, x .1) (constant-alike c (s .text) u same (kindAt cs j) (payloadAt cs j) (constants-known c cs (g .constants) .each j (omega arith)))) in
       let e1 : constantsFrom (suc k) 0 (putWords cs k kind w) u ≡ constantsFrom k 0 cs (s .text) ++ (constantIn u kind w ∷ []) = constants-snoc k 0 (putWords cs k kind w) u ∙ rw (z, h .0, h .1, old) in
       let e2 : structsFrom (c .structs) 0 (s .structs) u ≡ structsFrom (c .structs) 0 (s .structs) (s .text) = names-same c c (omega arith) (s .structs) (s .text) u same (c .structs) 0 (structs-inside c (s .structs) (s .text) (g .structs)) in
       let e3 : functionsFrom (c .functions) 0 (withConstants (putWords cs k kind w) (withText u s)) ≡ functionsFrom (c .functions) 0 s =
-          all-same s (withConstants (putWords cs k kind w) (withText u s)) (c .functions) 0 (λ j a b. rw (same (nameWord (s .functions) j) (function-known c (s .functions) (g .functions) j (omega arith) .name))) in
+      all-same s (withConstants (putWords cs k kind w) (withText u s)) (c .functions) 0 (λ j a b. rw (same (nameWord (s .functions) j) (function-known c (s .functions) (g .functions) j (omega arith) .name))) in
       rw (e1, e2, e3)
 
 -- the constant that is meant
@@ -292,3 +292,27 @@ module _ (c : Counts) (s : Stores) (g : Good c s) (fits : c .constants < places 
   added-reads k.String lent = text-reads 2 lent (string lent) (λ t e. ap string e)
   added-reads k.FunctionReference lent = text-reads 3 lent (reference lent) (λ t e. ap reference e)
 
+-- ---- the entries
+
+appended-done : (c : Counts) (bytes : List ℕ) (place : ℕ) (s : Stores) {want : Program} → programIn c (appended c bytes place s .stores) ≡ want → Reads want (appended c bytes place s)
+unfolding appended
+appended-done c bytes place s {want} e = record { reads = λ d i q. let z : c ≡ d = cc in rw (← z) e }
+
+pub emit-reads : (c : Counts) (op : ℕ) (bytes : List ℕ) (place : ℕ) (s : Stores) → programOk c s ≡ true → Reads (withBytes (programIn c s) (c .current) bytes (replicate (length bytes) place)) (emitOf c op bytes place s)
+unfolding emitOf emitIn
+emit-reads c op bytes place s e =
+    let want = withBytes (programIn c s) (c .current) bytes (replicate (length bytes) place) in
+    reads-if want (codeOrder c s) _ _ (λ _.
+    reads-if want (ltb codeLimit (sizeHere c s + length bytes)) _ _ (λ _. reads-refused want 22 s) (λ short.
+    reads-if want (ltb (codeRoom c s) (endHere c s + length bytes)) _ _ (λ _. reads-refused want 21 s) (λ fits.
+    reads-if want (leb 38 op) _ _ (λ _. reads-refused want 1 s) (λ _. appended-done c bytes place s (appended-reads c bytes place s (good-of c s e) (ltb-false _ _ short) (ltb-false _ _ fits))))))
+    (λ _. reads-refused want 19 s)
+
+pub add-constant-reads : (c : Counts) (x : Constant) (lent : List ℕ) (s : Stores) → programOk c s ≡ true → Reads (withOne (programIn c s) (meant x lent)) (addConstantOf c x lent s)
+unfolding addConstantOf
+add-constant-reads c x lent s e =
+    let want = withOne (programIn c s) (meant x lent) in
+    reads-if want (constantOrder c s) _ _ (λ _.
+    reads-if want (leb constantLimit (c .constants)) _ _ (λ _. reads-refused want 22 s) (λ _.
+    reads-if want (leb (places 2 (s .constants)) (c .constants)) _ _ (λ _. reads-refused want 21 s) (λ fits. added-reads c s (good-of c s e) (leb-false _ _ fits) x lent)))
+    (λ _. reads-refused want 19 s)
