@@ -1,2 +1,3 @@
 pub mod Sane
 pub mod Paths
+pub mod Ordered
