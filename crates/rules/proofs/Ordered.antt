@@ -15,21 +15,21 @@ use Rattle.model.specs.declared.Last.{Last}
 use Rattle.model.specs.declared.Last.the-variants.{Nothing, Is}
 use Rattle.model.specs.Basics.{everyFrom}
 use Rattle.model.specs.Values.{places, kindAt, payloadAt, valueAt, vals, exactValue}
-use Rattle.model.specs.Heap.{Cell, heapOf, heapOk, exactCells, placedBelow}
+use Rattle.model.specs.Heap.{Cell, cellsFrom, heapOf, blocksFrom, heapOk, exactCells, placedBelow}
 use Rattle.model.specs.Steps.{World}
 use Rattle.model.specs.Runs.{begin}
 use Rattle.model.specs.Stores.{Stores, functionsFrom, worldIn}
 use Rattle.model.specs.Orders.{countsOk, textOk, constantsOk, structsOk, functionsOk, mainOk, insideCodes, programOk, cellsOk, stackOk, lastOk, frameStoreOk}
-use Rattle.model.specs.Machines.{Lent, frameRoom, machineIn, worldOf, runOrder}
+use Rattle.model.specs.Machines.{Lent, frameRoom, innermost, callersIn, machineIn, worldOf, runOrder}
 use Rattle.value.proofs.Coding.{and-left, and-right}
 use Rattle.value.proofs.Stores.{length-vals, vals-slot}
 use Rattle.cells.proofs.Order.{Placed, and-both}
 use Rattle.cells.proofs.Stands.{length-heap}
-use Rattle.rules.specs.Sane.{AllPlaced, LastPlaced, SaneWorld, Sane}
+use Rattle.rules.specs.Sane.{AllPlaced, LastPlaced, SaneWorld, CallersFit, Rooted, Sane}
 use Rattle.rules.specs.Ordered.{CodeBytes, runProgram, Ordered, Exact, Beside, Fresh}
 use Rattle.rules.proofs.Tests.{every-of, every-to}
 use Rattle.rules.proofs.Placed.{all-at}
-use Rattle.rules.proofs.Programs.{parts-of, length-text, program-world}
+use Rattle.rules.proofs.Programs.{length-functions, parts-of, has-main, length-text, program-world}
 use Rattle.rules.proofs.Frames.{FramesFit, frames-counted, frames-in, frames-back}
 
 -- ---- the parts of good order
@@ -168,3 +168,42 @@ module _ (m : Vm) (s : Stores) (l : Lent) where
         last = last-to (m .program .text) H (m .last) (rw t at (h .last));
         frames = frames-back (worldOf m s l) (m .frames) (l .frames) (x .frames) (h .frames) (record { frame = h .frame; callers = h .callers; root = h .root });
       })
+
+-- ---- a machine beside one in good order
+
+same-world : {m m' : Vm} {l l' : Lent} (s : Stores) → Beside m l m' l' → worldOf m' s l' ≡ worldOf m s l
+unfolding worldOf worldIn places frameRoom
+same-world s b = rw (b .program, b .stack, b .cells, b .frames)
+
+-- what the rules leave in good order, in exact words, is in good order for the next run
+pub sane-order : {m m' : Vm} {l l' : Lent} (s : Stores) (u : ℕ) → runOrder m s l ≡ true → Beside m l m' l' → Exact m' l' → Sane (worldOf m s l) (begin (machineIn m' l') u) → runOrder m' s l' ≡ true
+sane-order {m} {m'} {l} {l'} s u e b x h =
+    sane-ordered m' s l' u (rw (b .program) (order-of m s l e .program)) x (rw (same-world s b) h)
+
+-- ---- a machine that has not run
+
+fresh-exact : {m : Vm} {l : Lent} → Fresh m l → Exact m l
+unfolding exactCells
+fresh-exact f = record { cells = rw (f .cells); stack = (λ i h. absurd (let z : ⊥ = omega (arith, f .stack) in z)); frames = omega (arith, f .frames) }
+
+module _ (m : Vm) (s : Stores) (l : Lent) (p : runProgram (m .program) s ≡ true) (f : Fresh m l) where
+  pub fresh-sane : (u : ℕ) → Sane (worldOf m s l) (begin (machineIn m l) u)
+  unfolding worldOf worldIn machineIn innermost callersIn frameRoom vals heapOf cellsFrom heapOk blocksFrom AllPlaced LastPlaced CallersFit Rooted
+  fresh-sane u = record {
+    stack = rw (f .stack) (omega arith);
+    frames = rw (f .frames) (omega (arith, f .room));
+    cells = rw (f .cells) (omega arith);
+    heap = rw (f .cells) refl;
+    placed = rw (f .stack) tt;
+    last = rw (f .last) tt;
+    frame = rw (f .frames, f .frame) (record {
+      known = omega (arith, length-functions s (m .program .functions) 0, has-main (m .program) s (parts-of (m .program) s p));
+      base = omega arith;
+      position = omega arith;
+    });
+    callers = rw (f .frames) tt;
+    root = rw (f .frames, f .frame) (refl, refl);
+  }
+
+  pub fresh-order : runOrder m s l ≡ true
+  fresh-order = sane-ordered m s l 0 p (fresh-exact f) (fresh-sane 0)

@@ -1,6 +1,6 @@
 -- A program in good order is a world in good order.
 use mathlib.Core.Path.{_≡_, refl, sym, ap, subst, _∙_}
-use mathlib.Core.Bool.{Bool, true, false, _&&_, true≢false}
+use mathlib.Core.Bool.{Bool, true, false, _&&_, _||_, true≢false}
 use mathlib.Core.Logic.{_⊎_, inl, inr, ⊎-elim}
 use mathlib.Core.List.{List, [], _∷_}
 use Prim.Native.Nat.{ℕ, zero, suc, _+_, _≤_, _<_}
@@ -14,11 +14,11 @@ use Rattle.model.specs.declared.Value.{Value}
 use Rattle.model.specs.Basics.{if_then_else_, everyFrom}
 use Rattle.model.specs.Values.{places, mostPlaces, kindAt, payloadAt, valueOf, valueAt, valuesFrom, textAt}
 use Rattle.model.specs.Heap.{Cell, placedBelow}
-use Rattle.model.specs.Programs.{Function, functionAt}
+use Rattle.model.specs.Programs.{Function, functionAt, constantLimit, nameLimit}
 use Rattle.model.specs.Stores.{Stores, start, size, part, nameWord, codeWord, codeEnd, functionIn, functionsFrom, worldIn}
-use Rattle.model.specs.Orders.{countsOk, textOk, insideText, constantOk, constantsOk, codeStart, functionOk, functionsOk, mainOk, mainTaken, otherTaken, insideCodes}
+use Rattle.model.specs.Orders.{countsOk, textOk, insideText, constantOk, constantsOk, structsOk, programOk, codeStart, functionOk, functionsOk, mainOk, mainTaken, otherTaken, insideCodes}
 use Rattle.value.proofs.Coding.{and-left, and-right}
-use Rattle.cells.proofs.Order.{Placed, by-less}
+use Rattle.cells.proofs.Order.{Placed, and-both, by-less}
 use Rattle.rules.specs.Sane.{AllPlaced, CodesFit, SaneWorld}
 use Rattle.rules.specs.Ordered.{CodeBytes, runProgram}
 use Rattle.rules.proofs.Tests.{every-of}
@@ -110,6 +110,7 @@ module _ (c : Counts) (fs : List ℕ) (ok : functionsOk c fs ≡ true) where
 
 -- what a run's good order says of a program
 pub record Parts (c : Counts) (s : Stores) : Type 0 where
+  pub counts : countsOk c ≡ true
   pub text : textOk c (s .text) ≡ true
   pub constants : constantsOk c (s .constants) ≡ true
   pub functions : functionsOk c (s .functions) ≡ true
@@ -132,6 +133,7 @@ parts-of c s e =
     let e3 = and-left (counts && text && constants) functions e4 in
     let e2 = and-left (counts && text) constants e3 in
     record {
+      counts = and-left counts text e2;
       text = and-right counts text e2;
       constants = and-right (counts && text) constants e3;
       functions = and-right (counts && text && constants) functions e4;
@@ -140,6 +142,16 @@ parts-of c s e =
     }
 
 module _ (c : Counts) (s : Stores) (p : Parts c s) where
+  pub has-main : 1 ≤ c .functions
+  unfolding countsOk
+  has-main =
+      let x = leb (c .constants) constantLimit && leb (c .structs) nameLimit in
+      let y = leb 1 (c .functions) in
+      let z = leb (c .functions) nameLimit in
+      let t = leb (c .text) mostPlaces in
+      let n = eqb (c .current) 0 || eqb (suc (c .current)) (c .functions) in
+      leb-true 1 (c .functions) (and-right x y (and-left (x && y) z (and-left (x && y && z) t (and-left (x && y && z && t) n (p .counts)))))
+
   pub length-text : length (take (c .text) (s .text)) ≡ c .text
   unfolding textOk
   length-text = let z = within (c .text) (s .text) (p .text) in simp length-take (omega arith)
@@ -174,7 +186,7 @@ constant-placed c k a e =
     let known : Value → Type 0 = (λ x. Placed (c .text) [] 0 x) in
     either known (eqb k 0) _ _ (λ z. refl) (λ n0.
     either known (eqb k 1) _ _ (λ z. refl) (λ n1.
-    let (l, i) = known-inside _ _ (rw (n0, n1) at e) in
+    let (l, i) = known-inside (leb k 3) (insideText c a) (rw (n0, n1) at e) in
     either known (eqb k 2) _ _ (λ z. i) (λ n2.
     either known (eqb k 3) _ _ (λ z. i) (λ n3.
     absurd (let z : ⊥ = omega (arith, leb-true k 3 l, eqb-false k 0 n0, eqb-false k 1 n1, eqb-false k 2 n2, eqb-false k 3 n3) in z)))))
@@ -217,3 +229,23 @@ program-world c s stackRoom frameRoom cellRoom e b =
       codes = codes-fit c s p (c .functions) 0 (omega arith);
       bytes = code-bytes s b (c .functions);
     }
+
+-- ---- the whole of a program's good order is more than a run judges
+
+kept-and : (x y z : Bool) → (x ≡ true → y ≡ true) → x && z ≡ true → y && z ≡ true
+kept-and x y z f e = and-both y z (f (and-left x z e)) (and-right x z e)
+
+pub program-runs : (c : Counts) (s : Stores) → programOk c s ≡ true → runProgram c s ≡ true
+unfolding programOk runProgram
+program-runs c s e =
+    let first = countsOk c && textOk c (s .text) && constantsOk c (s .constants) in
+    let structs = structsOk c (s .structs) (s .text) in
+    let functions = functionsOk c (s .functions) in
+    let main = mainOk (s .functions) (s .text) in
+    let codes = insideCodes c (s .functions) (s .main) (s .other) in
+    let places = insideCodes c (s .functions) (s .mainPlaces) (s .otherPlaces) in
+    kept-and (first && structs && functions && main && codes) (first && functions && main && codes) places
+    (kept-and (first && structs && functions && main) (first && functions && main) codes
+    (kept-and (first && structs && functions) (first && functions) main
+    (kept-and (first && structs) first functions (and-left first structs))))
+    e
