@@ -18,3 +18,5 @@ pub mod Tests
 pub mod Programs
 pub mod Frames
 pub mod Ordered
+-- what a run that faults leaves
+pub mod Demands

@@ -101,9 +101,10 @@ module _ (t : ℕ) (H : List Cell) where
     stack-of e =
         let a = leb n (places 2 stack) in
         let b = everyFrom n 0 slotOk in
-        let at = every-of slotOk n 0 (and-right a b e) in
-        (leb-true _ _ (and-left a b e),
-        all-vals n stack (λ i h. and-right (exactValue (kindAt stack i) (payloadAt stack i)) (placedBelow t H (length H) (valueAt stack i)) (at i (omega arith) (omega arith))))
+        let at = every-of slotOk n 0 (and-right a b e) in (
+          leb-true _ _ (and-left a b e),
+          all-vals n stack (λ i h. and-right (exactValue (kindAt stack i) (payloadAt stack i)) (placedBelow t H (length H) (valueAt stack i)) (at i (omega arith) (omega arith))),
+        )
 
     stack-to : n ≤ places 2 stack → ((i : ℕ) → i < n → exactValue (kindAt stack i) (payloadAt stack i) ≡ true) → AllPlaced t H (vals n stack) → stackOk t H n stack ≡ true
     unfolding stackOk slotOk
