@@ -1,5 +1,5 @@
 -- A run that answers a fault has recovered.
-use mathlib.Core.Path.{_≡_, refl, sym, ap, _∙_}
+use mathlib.Core.Path.{_≡_, refl, sym, ap, subst, _∙_}
 use mathlib.Core.Bool.{false}
 use mathlib.Core.List.{List, _∷_}
 use Prim.Native.Nat.{ℕ, _-_}
@@ -13,8 +13,11 @@ use Rattle.model.specs.Steps.{World, State, went, returned, stepOf}
 use Rattle.model.specs.Runs.{Machine, begin, Mark, mark, Ended, ended, stopped, over, endOf, Entry, traceOf, fault, answered, recovered, settle, runOf}
 use Rattle.rules.specs.Paths.{Steps, none, on, ret, StoppedBy}
 use Rattle.rules.specs.Demand.{Quiet, stay, go, Since, start, return, Call, repliesOf, Recovered}
+use Rattle.rules.specs.Sane.{SaneWorld, Sane, Faults, Kept}
 use Rattle.rules.proofs.Ends.{end-of}
 use Rattle.rules.proofs.Paths.{run-path, marked, mark-last}
+use Rattle.rules.proofs.Keeps.{step-keeps}
+use Rattle.rules.proofs.Runs.{path-sane}
 
 module _ (w : World) where
   -- ---- where the mark of a path is from
@@ -73,3 +76,7 @@ module _ (w : World) where
     pub run-recovered : runOf w m u .reply ≡ fault n spent trace → Recovered w m u n spent trace
     unfolding runOf
     run-recovered e = settled-recovered (endOf w (begin m u)) refl e
+
+  -- in good order the step that faults drops and adds no frame, and its backtrace stands
+  pub recovered-faults : {m : Machine} {u n spent : ℕ} {trace : List Entry} → SaneWorld w → Sane w (begin m u) → (r : Recovered w m u n spent trace) → Faults w (r .at) (r .after)
+  recovered-faults good h r = subst (Kept w (r .at)) (r .stops) (step-keeps w (r .at) good (path-sane w good h (r .path)) (r .goes-on))

@@ -10,7 +10,7 @@ use lib.ListN.{length, getD, take, length-take, length-reverse}
 use lib.Seq.{take-suc}
 use Rattle.model.specs.declared.Frame.{Frame}
 use Rattle.model.specs.Values.{mostPlaces}
-use Rattle.model.specs.Programs.{functionAt}
+use Rattle.model.specs.Programs.{Function, functionAt}
 use Rattle.model.specs.Steps.{World}
 use Rattle.model.specs.Runs.{root}
 use Rattle.model.specs.Orders.{frameOk, callerOk, framesFrom, framesOk, frameStoreOk}
@@ -36,6 +36,11 @@ pub record FramesFit (w : World) (f : Frame) (cs : List Frame) : Type 0 where
   pub frame : FrameFits w f
   pub callers : CallersFit w cs
   pub root : Rooted f cs
+
+pub some-frame : (gs : List Function) (room n : ℕ) (fs : List Frame) → frameStoreOk gs room n fs ≡ true → 1 ≤ n
+unfolding frameStoreOk framesOk
+some-frame gs room zero fs e = absurd (true≢false (sym (and-right (leb 0 (min (length fs) mostPlaces)) false e)))
+some-frame gs room (suc n) fs e = omega arith
 
 module _ (w : World) where
   -- ---- one frame
@@ -125,15 +130,15 @@ module _ (w : World) where
   split-frames n fs h = let z : suc n - 1 ≡ n = omega arith in rw z (take-suc fs n (root 0) h)
 
   pub frames-counted : (n : ℕ) (fs : List Frame) → frameStoreOk (w .functions) (w .stackRoom) n fs ≡ true → suc (length (callersIn n fs)) ≤ frameRoom fs
-  unfolding frameStoreOk framesOk callersIn frameRoom
-  frames-counted zero fs e = absurd (true≢false (sym (and-right (leb 0 (min (length fs) mostPlaces)) false e)))
+  unfolding frameStoreOk callersIn frameRoom
+  frames-counted zero fs e = absurd (let z : ⊥ = omega (arith, some-frame (w .functions) (w .stackRoom) 0 fs e) in z)
   frames-counted (suc n) fs e =
       let z : suc n ≤ min (length fs) mostPlaces = leb-true _ _ (and-left (leb (suc n) (min (length fs) mostPlaces)) (framesOk (w .functions) (w .stackRoom) (take (suc n) fs)) e) in
       simp (length-reverse, length-take) (omega arith)
 
   pub frames-in : (n : ℕ) (fs : List Frame) → frameStoreOk (w .functions) (w .stackRoom) n fs ≡ true → FramesFit w (innermost n fs) (callersIn n fs)
-  unfolding frameStoreOk framesOk callersIn
-  frames-in zero fs e = absurd (true≢false (sym (and-right (leb 0 (min (length fs) mostPlaces)) false e)))
+  unfolding frameStoreOk callersIn
+  frames-in zero fs e = absurd (let z : ⊥ = omega (arith, some-frame (w .functions) (w .stackRoom) 0 fs e) in z)
   frames-in (suc n) fs e =
       let x = leb (suc n) (min (length fs) mostPlaces) in
       let y = framesOk (w .functions) (w .stackRoom) (take (suc n) fs) in

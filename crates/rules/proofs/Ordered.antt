@@ -17,7 +17,7 @@ use Rattle.model.specs.Basics.{everyFrom}
 use Rattle.model.specs.Values.{places, kindAt, payloadAt, valueAt, vals, exactValue}
 use Rattle.model.specs.Heap.{Cell, cellsFrom, heapOf, blocksFrom, heapOk, exactCells, placedBelow}
 use Rattle.model.specs.Steps.{World}
-use Rattle.model.specs.Runs.{begin}
+use Rattle.model.specs.Runs.{begin, runOf}
 use Rattle.model.specs.Stores.{Stores, functionsFrom, worldIn}
 use Rattle.model.specs.Orders.{countsOk, textOk, constantsOk, structsOk, functionsOk, mainOk, insideCodes, programOk, cellsOk, stackOk, lastOk, frameStoreOk}
 use Rattle.model.specs.Machines.{Lent, frameRoom, innermost, callersIn, machineIn, worldOf, runOrder}
@@ -29,8 +29,9 @@ use Rattle.rules.specs.Sane.{AllPlaced, LastPlaced, SaneWorld, CallersFi
 use Rattle.rules.specs.Ordered.{CodeBytes, runProgram, Ordered, Exact, Beside, Fresh}
 use Rattle.rules.proofs.Tests.{every-of, every-to}
 use Rattle.rules.proofs.Placed.{all-at}
+use Rattle.rules.proofs.Runs.{ran-sane}
 use Rattle.rules.proofs.Programs.{length-functions, parts-of, has-main, length-text, program-world}
-use Rattle.rules.proofs.Frames.{FramesFit, frames-counted, frames-in, frames-back}
+use Rattle.rules.proofs.Frames.{FramesFit, some-frame, frames-counted, frames-in, frames-back}
 
 -- ---- the parts of good order
 
@@ -77,6 +78,14 @@ module _ (t n : ℕ) (cells : List ℕ) where
       let c = heapOk t (heapOf n cells) in
       (leb-true _ _ (and-left a b (and-left (a && b) c e)), and-right (a && b) c e)
 
+  cells-exact : cellsOk t n cells ≡ true → exactCells n 0 cells ≡ true
+  unfolding cellsOk
+  cells-exact e =
+      let a = leb n (places 2 cells) in
+      let b = exactCells n 0 cells in
+      let c = heapOk t (heapOf n cells) in
+      and-right a b (and-left (a && b) c e)
+
   cells-to : n ≤ places 2 cells → exactCells n 0 cells ≡ true → heapOk t (heapOf n cells) ≡ true → cellsOk t n cells ≡ true
   unfolding cellsOk
   cells-to h e g = rw (le-leb n (places 2 cells) h, e) g
@@ -96,15 +105,17 @@ module _ (t : ℕ) (H : List Cell) where
     slotOk : ℕ → Bool
     slotOk i = exactValue (kindAt stack i) (payloadAt stack i) && placedBelow t H (length H) (valueAt stack i)
 
+    slots-of : stackOk t H n stack ≡ true → (i : ℕ) → i < n → (exactValue (kindAt stack i) (payloadAt stack i) ≡ true) × Placed t H (length H) (valueAt stack i)
+    unfolding stackOk slotOk
+    slots-of e i h =
+        let x = exactValue (kindAt stack i) (payloadAt stack i) in
+        let y = placedBelow t H (length H) (valueAt stack i) in
+        let z = every-of slotOk n 0 (and-right (leb n (places 2 stack)) (everyFrom n 0 slotOk) e) i (omega arith) (omega arith) in
+        (and-left x y z, and-right x y z)
+
     stack-of : stackOk t H n stack ≡ true → (n ≤ places 2 stack) × AllPlaced t H (vals n stack)
     unfolding stackOk slotOk
-    stack-of e =
-        let a = leb n (places 2 stack) in
-        let b = everyFrom n 0 slotOk in
-        let at = every-of slotOk n 0 (and-right a b e) in (
-          leb-true _ _ (and-left a b e),
-          all-vals n stack (λ i h. and-right (exactValue (kindAt stack i) (payloadAt stack i)) (placedBelow t H (length H) (valueAt stack i)) (at i (omega arith) (omega arith))),
-        )
+    stack-of e = (leb-true _ _ (and-left (leb n (places 2 stack)) (everyFrom n 0 slotOk) e), all-vals n stack (λ i h. slots-of e i h .1))
 
     stack-to : n ≤ places 2 stack → ((i : ℕ) → i < n → exactValue (kindAt stack i) (payloadAt stack i) ≡ true) → AllPlaced t H (vals n stack) → stackOk t H n stack ≡ true
     unfolding stackOk slotOk
@@ -155,6 +166,16 @@ module _ (m : Vm) (s : Stores) (l : Lent) where
         root = frames .root;
       }
 
+  pub order-exact : runOrder m s l ≡ true → Exact m l
+  order-exact e =
+      let o = order-of m s l e in
+      let H = heapOf (m .cells) (l .cells) in
+      record {
+        cells = cells-exact (m .program .text) (m .cells) (l .cells) (o .cells);
+        stack = (λ i h. slots-of (m .program .text) H (m .stack) (l .stack) (o .stack) i h .0);
+        frames = some-frame (functionsFrom (m .program .functions) 0 s) (places 2 (l .stack)) (m .frames) (l .frames) (o .frames);
+      }
+
   -- ---- and back
 
   pub sane-ordered : (u : ℕ) → runProgram (m .program) s ≡ true → Exact m l → Sane (worldOf m s l) (begin (machineIn m l) u) → runOrder m s l ≡ true
@@ -180,6 +201,12 @@ same-world s b = rw (b .program, b .stack, b .cells, b .frames)
 pub sane-order : {m m' : Vm} {l l' : Lent} (s : Stores) (u : ℕ) → runOrder m s l ≡ true → Beside m l m' l' → Exact m' l' → Sane (worldOf m s l) (begin (machineIn m' l') u) → runOrder m' s l' ≡ true
 sane-order {m} {m'} {l} {l'} s u e b x h =
     sane-ordered m' s l' u (rw (b .program) (order-of m s l e .program)) x (rw (same-world s b) h)
+
+-- so is what a run leaves, whether it ends or faults
+pub run-order : {m m' : Vm} {l l' : Lent} (s : Stores) (u : ℕ) → runOrder m s l ≡ true → CodeBytes s → Beside m l m' l' → Exact m' l'
+    → machineIn m' l' ≡ runOf (worldOf m s l) (machineIn m l) u .machine → runOrder m' s l' ≡ true
+run-order {m} {m'} {l} {l'} s u e c b x q =
+    sane-order s 0 e b x (rw q (ran-sane (worldOf m s l) (order-world m s l e c) (machineIn m l) u (order-sane m s l e u) 0))
 
 -- ---- a machine that has not run
 
