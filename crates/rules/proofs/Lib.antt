@@ -13,3 +13,10 @@ pub mod Keeps
 pub mod Runs
 -- more units
 pub mod More
+-- good order as a run judges it
+pub mod Tests
+pub mod Programs
+pub mod Frames
+pub mod Ordered
+-- what a run that faults leaves
+pub mod Demands

@@ -1,2 +1,4 @@
 pub mod Sane
 pub mod Paths
+pub mod Ordered
+pub mod Demand

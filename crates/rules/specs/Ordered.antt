@@ -1,0 +1,61 @@
+-- Good order as a run judges it, in parts; and what a machine needs to be in good order beside one that is.
+use mathlib.Core.Path.{_≡_}
+use mathlib.Core.Bool.{Bool, true, _&&_}
+use mathlib.Core.List.{List}
+use Prim.Native.Nat.{ℕ, _≤_, _<_}
+use lib.ListN.{length, getD}
+use Rattle.model.specs.declared.Counts.{Counts}
+use Rattle.model.specs.declared.Vm.{Vm}
+use Rattle.model.specs.declared.Last.the-variants.{Nothing}
+use Rattle.model.specs.Values.{places, kindAt, payloadAt, exactValue}
+use Rattle.model.specs.Heap.{heapOf, exactCells}
+use Rattle.model.specs.Runs.{root}
+use Rattle.model.specs.Stores.{Stores, functionsFrom}
+use Rattle.model.specs.Orders.{countsOk, textOk, constantsOk, functionsOk, mainOk, insideCodes, cellsOk, stackOk, lastOk, frameStoreOk}
+use Rattle.model.specs.Machines.{Lent}
+
+-- what the type of a byte slice says of the two code stores
+pub record CodeBytes (s : Stores) : Type 0 where
+  pub main : (j : ℕ) → j < length (s .main) → getD (s .main) j 0 < 256
+  pub other : (j : ℕ) → j < length (s .other) → getD (s .other) j 0 < 256
+
+-- what a run judges of the program
+unfoldable pub runProgram : Counts → Stores → Bool
+runProgram c s =
+    countsOk c
+    && textOk c (s .text)
+    && constantsOk c (s .constants)
+    && functionsOk c (s .functions)
+    && mainOk (s .functions) (s .text)
+    && insideCodes c (s .functions) (s .main) (s .other)
+    && insideCodes c (s .functions) (s .mainPlaces) (s .otherPlaces)
+
+-- all that a run judges: the program, then the machine's four parts
+pub record Ordered (m : Vm) (s : Stores) (l : Lent) : Type 0 where
+  pub program : runProgram (m .program) s ≡ true
+  pub cells : cellsOk (m .program .text) (m .cells) (l .cells) ≡ true
+  pub stack : stackOk (m .program .text) (heapOf (m .cells) (l .cells)) (m .stack) (l .stack) ≡ true
+  pub last : lastOk (m .program .text) (heapOf (m .cells) (l .cells)) (m .last) ≡ true
+  pub frames : frameStoreOk (functionsFrom (m .program .functions) 0 s) (places 2 (l .stack)) (m .frames) (l .frames) ≡ true
+
+-- the words below the counts are exactly those of their values and cells, and there is a frame
+pub record Exact (m : Vm) (l : Lent) : Type 0 where
+  pub cells : exactCells (m .cells) 0 (l .cells) ≡ true
+  pub stack : (i : ℕ) → i < m .stack → exactValue (kindAt (l .stack) i) (payloadAt (l .stack) i) ≡ true
+  pub frames : 1 ≤ m .frames
+
+-- m' over l' beside m over l: the same program, and stores of the same lengths
+pub record Beside (m : Vm) (l : Lent) (m' : Vm) (l' : Lent) : Type 0 where
+  pub program : m' .program ≡ m .program
+  pub stack : length (l' .stack) ≡ length (l .stack)
+  pub cells : length (l' .cells) ≡ length (l .cells)
+  pub frames : length (l' .frames) ≡ length (l .frames)
+
+-- a machine that has not run: nothing on the stack, no cells, no last result, and one frame at the start of main, which is written
+pub record Fresh (m : Vm) (l : Lent) : Type 0 where
+  pub stack : m .stack ≡ 0
+  pub cells : m .cells ≡ 0
+  pub last : m .last ≡ Nothing
+  pub frames : m .frames ≡ 1
+  pub room : 1 ≤ length (l .frames)
+  pub frame : getD (l .frames) 0 (root 0) ≡ root 0
