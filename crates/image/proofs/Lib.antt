@@ -1,0 +1,12 @@
+-- What is written reads back, and nothing else reads.
+pub mod Codecs
+pub mod Places
+pub mod Formats
+pub mod Trip
+-- What the code reads.
+pub mod Reading
+pub mod Items
+pub mod Passes
+pub mod Runs
+pub mod Functions
+pub mod Judges

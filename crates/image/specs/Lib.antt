@@ -1,0 +1,2 @@
+-- What the code's answers stand for.
+pub mod Links
