@@ -10,3 +10,8 @@ pub mod Passes
 pub mod Runs
 pub mod Functions
 pub mod Judges
+-- What the writing pass leaves in the stores.
+pub mod Written
+pub mod Filling
+pub mod Placing
+pub mod Loads
