@@ -15,3 +15,4 @@ pub mod Written
 pub mod Filling
 pub mod Placing
 pub mod Loads
+pub mod Held
