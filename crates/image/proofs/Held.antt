@@ -153,7 +153,7 @@ unfoldable pub Placed : List Function → Type 0
 Placed [] = Unit
 Placed (f ∷ l) = (length (f .places) ≡ length (f .code)) × Placed l
 
-places-sum : (l : List Function) → Placed l → length (joined (λ f. f .places) l) ≡ length (joined (λ f. f .code) l)
+pub places-sum : (l : List Function) → Placed l → length (joined (λ f. f .places) l) ≡ length (joined (λ f. f .code) l)
 unfolding Placed joined
 places-sum [] h = refl
 places-sum (f ∷ l) h =

@@ -2,7 +2,6 @@
 pub mod Codecs
 pub mod Places
 pub mod Formats
-pub mod Trip
 -- What the code reads.
 pub mod Reading
 pub mod Items
@@ -16,3 +15,6 @@ pub mod Filling
 pub mod Placing
 pub mod Loads
 pub mod Held
+pub mod Again
+-- The return trip: the statements to read.
+pub mod Trip
