@@ -1,20 +1,19 @@
 -- What was loaded is saved again as the same program: it is in good order, and stands for the program that was read.
 use mathlib.Core.Path.{_≡_, refl, sym, ap, subst, _∙_}
-use mathlib.Core.Bool.{Bool, true, false, not, _&&_, _||_}
-use mathlib.Core.List.{List, [], _∷_, _++_, append-assoc, append-nil}
-use Prim.Native.Nat.{ℕ, zero, suc, _+_, _-_, _*_, _<_, _≤_, _^_}
+use mathlib.Core.Bool.{Bool, true, false, not, _&&_}
+use mathlib.Core.List.{List, [], _∷_, _++_, append-assoc}
+use Prim.Native.Nat.{ℕ, zero, suc, _+_, _-_, _<_, _≤_, _^_}
 use native.Mathlib.Omega.{arith}
-use lib.Dec.{eqb, leb, ltb}
-use lib.ListN.{length, take, drop, length-append}
+use lib.Dec.{eqb, leb}
+use lib.ListN.{length, take, length-append}
 use borrow.Author.Tests.{leb-true, le-leb, eq-eqb, eqb-true, ne-eqb, not-true}
-use Rattle.model.specs.Basics.{if_then_else_, everyFrom}
-use Rattle.model.specs.Values.{places, bit, kindAt, payloadAt, textAt}
+use Rattle.model.specs.Basics.{everyFrom}
+use Rattle.model.specs.Values.{places, kindAt, payloadAt, textAt}
 use Rattle.model.specs.Equality.{sameBytes}
-use Rattle.model.specs.Programs.{Constant, scalar, boolean, string, reference, Function, Program, functionAt, among, mainName, codeLimit, constantLimit, nameLimit, codesWithin, withinLimits}
-use Rattle.model.specs.Images.{joined, Small, SoundConstant, SoundName, SoundFunction, Each, always, snoc, mainFirst, Sound}
-use Rattle.model.specs.Stores.{Stores, start, size, pack, part, structWord, nameWord, codeWord, codeEnd, constantsFrom, structsFrom, functionIn, functionsFrom, programIn}
+use Rattle.model.specs.Programs.{Constant, scalar, boolean, string, reference, Function, Program, functionAt, among, codesWithin, withinLimits}
+use Rattle.model.specs.Images.{joined, SoundName, SoundFunction, Each, snoc, mainFirst, Sound}
+use Rattle.model.specs.Stores.{Stores, start, size, pack, structWord, nameWord, codeWord, codeEnd, structsFrom, functionsFrom, programIn}
 use Rattle.model.specs.Orders.{countsOk, textOk, insideText, constantOk, constantsOk, allDifferent, structsOk, codeStart, functionOk, functionsOk, mainOk, mainTaken, otherTaken, insideCodes, programOk}
-use Rattle.model.specs.Emission.{written, counts}
 use Rattle.model.specs.Loading.{constantText, constantWords, constantsLaid, structsLaid, othersLaid, functionsLaid, constantTexts, structTexts, textsOf, mainOf, othersOf, laid, countsFor, roomFor}
 use Rattle.model.specs.declared.Counts.{Counts}
 use Rattle.program.proofs.Parts.{start-pack, size-pack}
@@ -62,10 +61,11 @@ function-fine : (c : Counts) (f : Function) (fs : List ℕ) (i o j : ℕ) → (n
 unfolding functionOk codeEnd
 function-fine c f fs i o j w e h s k m =
     let st : start (codeWord fs i) ≡ j = ap start (w .1) ∙ start-pack j (length (f .code)) (omega arith) in
-    let sz : size (codeWord fs i) ≡ length (f .code) = ap size (w .1) ∙ size-pack j (length (f .code)) (omega arith) in
-    (and-both _ _ (and-both _ _ (and-both _ _ (inside-pack c (nameWord fs i) o (length (f .name)) (w .0) (omega arith) h) (eq-eqb _ _ (st ∙ sym e)))
-      (rw sz (le-leb (length (f .code)) 65535 k))) (rw (st, sz) (le-leb (j + length (f .code)) 0xFFFF_FFFF (omega arith))),
-     rw (st, sz))
+    let sz : size (codeWord fs i) ≡ length (f .code) = ap size (w .1) ∙ size-pack j (length (f .code)) (omega arith) in (
+      and-both _ _ (and-both _ _ (and-both _ _ (inside-pack c (nameWord fs i) o (length (f .name)) (w .0) (omega arith) h) (eq-eqb _ _ (st ∙ sym e)))
+          (rw sz (le-leb (length (f .code)) 65535 k))) (rw (st, sz) (le-leb (j + length (f .code)) 0xFFFF_FFFF (omega arith))),
+      rw (st, sz),
+    )
 
 -- the others' codes stand one behind the other; where the next would start
 others-fine : (c : Counts) (l : List Function) (fs : List ℕ) (i o j : ℕ) → FunctionsAt fs (suc i) o j l → codeStart fs (suc i) ≡ j
@@ -298,10 +298,25 @@ module _ (cs : List Constant) (ss : List (List ℕ)) (f : Function) (l : List Fu
       × ((places 1 (y .text) ≡ places 1 (x .text)) × ((places 1 (y .main) ≡ places 1 (x .main)) × ((places 1 (y .mainPlaces) ≡ places 1 (x .mainPlaces))
       × ((places 1 (y .other) ≡ places 1 (x .other)) × (places 1 (y .otherPlaces) ≡ places 1 (x .otherPlaces))))))))
   unfolding y laid
-  same-places =
-      (places-same 2 _ (x .constants) (written-length (x .constants) 0 _), (places-same 1 _ (x .structs) (written-length (x .structs) 0 _), (places-same 2 _ (x .functions) (written-length (x .functions) 0 _),
-      (places-same 1 _ (x .text) (written-length (x .text) 0 _), (places-same 1 _ (x .main) (written-length (x .main) 0 _), (places-same 1 _ (x .mainPlaces) (written-length (x .mainPlaces) 0 _),
-      (places-same 1 _ (x .other) (written-length (x .other) 0 _), places-same 1 _ (x .otherPlaces) (written-length (x .otherPlaces) 0 _))))))))
+  same-places = (
+    places-same 2 _ (x .constants) (written-length (x .constants) 0 _),
+    (
+      places-same 1 _ (x .structs) (written-length (x .structs) 0 _),
+      (
+        places-same 2 _ (x .functions) (written-length (x .functions) 0 _),
+        (
+          places-same 1 _ (x .text) (written-length (x .text) 0 _),
+          (
+            places-same 1 _ (x .main) (written-length (x .main) 0 _),
+            (
+              places-same 1 _ (x .mainPlaces) (written-length (x .mainPlaces) 0 _),
+              (places-same 1 _ (x .other) (written-length (x .other) 0 _), places-same 1 _ (x .otherPlaces) (written-length (x .otherPlaces) 0 _)),
+            ),
+          ),
+        ),
+      ),
+    ),
+  )
 
   text-fine : textOk c (y .text) ≡ true
   unfolding textOk c countsFor
@@ -352,7 +367,7 @@ module _ (cs : List Constant) (ss : List (List ℕ)) (f : Function) (l : List Fu
   codes-ok a b h g =
       let m : codeEnd (y .functions) 0 ≡ length (f .code) = main-fine .1 ∙ (let z : 0 + length (f .code) ≡ length (f .code) = omega arith in z) in
       let o : codeStart (y .functions) (suc (length l)) ≡ length (joined (λ f. f .code) l) =
-        ap (codeStart (y .functions)) (let z : suc (length l) ≡ 1 + length l = omega arith in z) ∙ rest-fine .1 ∙ (let z : 0 + length (joined (λ f. f .code) l) ≡ length (joined (λ f. f .code) l) = omega arith in z) in
+      ap (codeStart (y .functions)) (let z : suc (length l) ≡ 1 + length l = omega arith in z) ∙ rest-fine .1 ∙ (let z : 0 + length (joined (λ f. f .code) l) ≡ length (joined (λ f. f .code) l) = omega arith in z) in
       let a′ : leb (codeEnd (y .functions) 0) (places 1 a) ≡ true = rw m (le-leb _ _ h) in
       let b′ : leb (codeStart (y .functions) (suc (length l))) (places 1 b) ≡ true = rw o (le-leb _ _ g) in
       and-both _ _ a′ b′

@@ -8,7 +8,6 @@ use lib.Dec.{leb}
 use lib.ListN.{length, take, drop, length-append, take-append-drop}
 use lib.Seq.{take-at, drop-at, length-take-le}
 use borrow.Author.Tests.{le-leb, leb-true}
-use Rattle.model.specs.Basics.{if_then_else_}
 use Rattle.model.specs.Numbers.{Step, got, bad, andThen, item, checked, Bytes, Codes}
 use Rattle.model.specs.Images.{joined, series, takes, Each}
 
@@ -99,10 +98,10 @@ module _ {A : Type 0} {ok : A → Type 0} {enc : A → List ℕ} {dec : List ℕ
   codes-made {C} mk un same = record {
     back = λ x r h. rw (c .back (un x) r (h .1)) (ap (λ (y : C). got y r) (h .0));
     only = λ b x r y e.
-      let g = made-only mk (dec b) x r e in
-      let o = c .only b (g .0) r y (g .2) in
-      let k : un x ≡ g .0 = ap un (sym (g .1)) ∙ same (g .0) in
-      (rw k (o .0), (ap mk k ∙ g .1, subst ok (sym k) (o .1)));
+        let g = made-only mk (dec b) x r e in
+        let o = c .only b (g .0) r y (g .2) in
+        let k : un x ≡ g .0 = ap un (sym (g .1)) ∙ same (g .0) in
+        (rw k (o .0), (ap mk k ∙ g .1, subst ok (sym k) (o .1)));
   }
 
   -- a first part that decides how the rest is read; the key of a value is its first part
@@ -113,12 +112,12 @@ module _ {A : Type 0} {ok : A → Type 0} {enc : A → List ℕ} {dec : List ℕ
   codes-seq {C} {okC} {encC} {decC} d key tells = record {
     back = λ x r h. rw (append-assoc, c .back (key x) (encC (key x) x ++ r) (h .0)) (d (key x) (h .0) .back x r (h .1));
     only = λ b x r y e.
-      let g = then-only (dec b) decC x r e in
-      let o = c .only b (g .0) (g .1) y (g .2) in
-      let y′ : Bytes (enc (g .0) ++ g .1) = subst Bytes (o .0) y in
-      let p = d (g .0) (o .1) .only (g .1) x r (bytes-rest (enc (g .0)) (g .1) y′) (g .3) in
-      let k : key x ≡ g .0 = tells (g .0) x (p .1) in
-      (rw (k, append-assoc, ← p .0) (o .0), (subst ok (sym k) (o .1), subst (λ (a : A). okC a x) (sym k) (p .1)));
+        let g = then-only (dec b) decC x r e in
+        let o = c .only b (g .0) (g .1) y (g .2) in
+        let y′ : Bytes (enc (g .0) ++ g .1) = subst Bytes (o .0) y in
+        let p = d (g .0) (o .1) .only (g .1) x r (bytes-rest (enc (g .0)) (g .1) y′) (g .3) in
+        let k : key x ≡ g .0 = tells (g .0) x (p .1) in
+        (rw (k, append-assoc, ← p .0) (o .0), (subst ok (sym k) (o .1), subst (λ (a : A). okC a x) (sym k) (p .1)));
   }
 
 pub codes-takes : (n : ℕ) → Codes (λ l. length l ≡ n) (λ l. l) (takes n)
@@ -126,11 +125,11 @@ unfolding takes
 codes-takes n = record {
   back = λ a r h. let g : n ≤ length (a ++ r) = (let z = length-append a r in omega arith) in rw (le-leb n (length (a ++ r)) g, take-at a r n h, drop-at a r n h);
   only = λ b a r y e.
-    by-test (leb n (length b))
-    (λ t. let g : got (take n b) (drop n b) ≡ got a r = rw t at e in
+      by-test (leb n (length b))
+      (λ t. let g : got (take n b) (drop n b) ≡ got a r = rw t at e in
       let p : take n b ≡ a = got-value g in let q : drop n b ≡ r = got-rest g in
       (rw (← p, ← q) (sym (take-append-drop n b)), rw (← p) (length-take-le n b (leb-true n (length b) t))))
-    (λ t. absurd (never (rw t at e)));
+      (λ t. absurd (never (rw t at e)));
 }
 
 -- a series, each element read by what those before it gave

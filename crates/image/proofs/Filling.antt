@@ -1,24 +1,22 @@
 -- The writing pass: constants, struct names, and the places of code.
 use mathlib.Core.Path.{_≡_, refl, sym, ap, subst, _∙_}
-use mathlib.Core.Bool.{Bool, true, false, not}
+use mathlib.Core.Bool.{not}
 use mathlib.Core.List.{List, [], _∷_, _++_, append-assoc, append-nil}
-use Prim.Native.Nat.{ℕ, zero, suc, _+_, _-_, _*_, _<_, _≤_, _^_}
+use Prim.Native.Nat.{ℕ, suc, _+_, _-_, _*_, _<_, _≤_, _^_}
 use native.Mathlib.Omega.{arith}
-use lib.Dec.{ltb}
 use lib.ListN.{length, take, drop, replicate, set, length-append}
 use borrow.Author.Tests.{lt-ltb, le-ltb}
-use Rattle.model.specs.Basics.{if_then_else_}
 use Rattle.model.specs.Numbers.{Step, got, bad, andThen, number}
-use Rattle.model.specs.Values.{bit, putWords}
+use Rattle.model.specs.Values.{putWords}
 use Rattle.model.specs.Programs.{Constant, scalar, boolean, string, reference, among}
-use Rattle.model.specs.Images.{joined, series, readText, readConstant, always, readConstants, readName, snoc, readStructs}
+use Rattle.model.specs.Images.{joined, series, readConstant, always, readConstants, readName, snoc, readStructs}
 use Rattle.model.specs.Stores.{pack}
 use Rattle.model.specs.Emission.{written}
 use Rattle.model.specs.Loading.{constantText, constantWords, constantsLaid, structsLaid}
 use Rattle.number.specs.Links.{NumPost}
 use Rattle.number.specs.declared.Num.{Num}
 use Rattle.number.specs.declared.Num.the-variants as n
-use Rattle.image.specs.Links.{Good, Bad, partOf, TextPost, constantAt, payloadAt, EntryAt, ItemPost, runsFor, RunPost}
+use Rattle.image.specs.Links.{Good, Bad, partOf, TextPost, constantAt, payloadAt, EntryAt, ItemPost, RunPost}
 use Rattle.image.specs.Fills.{Has, ConstantsFit, ConstantsFilled, StructsFit, StructsFilled, RunsFit, RunsFilled}
 use Rattle.image.specs.declared.Text.{Text}
 use Rattle.image.specs.declared.Text.the-variants as text
@@ -29,7 +27,7 @@ use Rattle.image.specs.declared.Run.{Run}
 use Rattle.image.specs.declared.NextRun.{NextRun}
 use Rattle.image.specs.declared.NextRun.the-variants as r
 use Rattle.image.proofs.Codecs.{by-test, never, got-value, then-only, made-only}
-use Rattle.image.proofs.Reading.{Along, along-start, along-end, along-within, along-bad, along-step, joined-length, joined-append, bad-first, bad-test, bad-tested, good-test, good-both, no-number, a-number, onto, onto-only}
+use Rattle.image.proofs.Reading.{Along, along-start, along-end, along-within, along-bad, along-step, joined-length, joined-append, bad-first, bad-test, bad-tested, good-test, good-both, no-number, onto}
 use Rattle.image.proofs.Items.{part-length, part-slice, text-is, text-not, entry-is, entry-not}
 use Rattle.image.proofs.Runs.{Running, runs-start, runs-good, runs-bad, runs-fits, runs-less, runs-step}
 use Rattle.image.proofs.Functions.{series-count}
@@ -72,12 +70,15 @@ module _ {S A : Type 0} (dec : S → List ℕ → Step A) (next : S → A → S)
   series-head l =
       let z : n - i ≡ suc (n - (i + 1)) = omega arith in
       let e : onto done (series dec next (suc (n - (i + 1))) x (drop cur s)) ≡ got held (has .rest) =
-        subst (λ (k : ℕ). onto done (series dec next k x (drop cur s)) ≡ got held (has .rest)) z (sym (h .means) ∙ has .means) in
+      subst (λ (k : ℕ). onto done (series dec next k x (drop cur s)) ≡ got held (has .rest)) z (sym (h .means) ∙ has .means) in
       let o = onto-value done _ held (has .rest) e in
       let g = then-only (dec x (drop cur s)) _ (o .0) (has .rest) (o .2) in
-      let m = made-only (λ (y : List A). g .0 ∷ y) (series dec next (n - (i + 1)) (next x (g .0)) (g .1)) (o .0) (has .rest) (g .3) in
-      (g .0, record { within = h .within; rest = g .1; means = g .2 }, m .0,
-        o .1 ∙ ap (λ (y : List A). done ++ y) (sym (m .1)) ∙ sym (append-assoc done (g .0 ∷ []) (m .0)))
+      let m = made-only (λ (y : List A). g .0 ∷ y) (series dec next (n - (i + 1)) (next x (g .0)) (g .1)) (o .0) (has .rest) (g .3) in (
+        g .0,
+        record { within = h .within; rest = g .1; means = g .2 },
+        m .0,
+        o .1 ∙ ap (λ (y : List A). done ++ y) (sym (m .1)) ∙ sym (append-assoc done (g .0 ∷ []) (m .0)),
+      )
     where
       onto-value : (d : List A) (y : Step (List A)) (l : List A) (r : List ℕ) → onto d y ≡ got l r → (m : List A) × (l ≡ d ++ m) × (y ≡ got m r)
       onto-value d (got q t) l r e = (q, sym (got-value e), ap (got q) (let z : t ≡ r = cc in z))
@@ -98,7 +99,7 @@ unfolding constantsLaid joined
 laid-more o [] c = append-nil (constantWords o c) ∙ (let z : o ≡ o + 0 = omega arith in ap (λ (k : ℕ). constantWords k c) z)
 laid-more o (x ∷ l) c =
     let z : o + length (constantText x) + length (joined constantText l) ≡ o + length (constantText x ++ joined constantText l) =
-      (let y = length-append (constantText x) (joined constantText l) in omega arith) in
+    (let y = length-append (constantText x) (joined constantText l) in omega arith) in
     ap (λ (y : List ℕ). constantWords o x ++ y) (laid-more (o + length (constantText x)) l c ∙ ap (λ (k : ℕ). constantsLaid (o + length (constantText x)) l ++ constantWords k c) z)
     ∙ sym (append-assoc (constantWords o x) (constantsLaid (o + length (constantText x)) l) _)
 
@@ -148,7 +149,9 @@ module _ (s : List ℕ) (at : ℕ) (cs₀ tx₀ : List ℕ) (fit : ConstantsFit 
       constants-filled l = record {
         held = h .done;
         good = good-both (λ k r. series readConstant always k tt r) count (along-end readConstant always k tt s first i tt next (h .done) (h .along) l);
-        text = h .sized; words = h .words; texts = h .texts;
+        text = h .sized;
+        words = h .words;
+        texts = h .texts;
       }
 
       module _ (l : i < k) (x : Item) (p : ItemPost (readConstant tt) s next x) where
@@ -189,10 +192,10 @@ module _ (s : List ℕ) (at : ℕ) (cs₀ tx₀ : List ℕ) (fit : ConstantsFit 
                 along = along-step readConstant always k tt s first i tt next (h .done) (h .along) l (constantAt s y) (y .next) (g .good);
                 sized = omega arith;
                 words = more-written cs₀ cs cs′ 0 (2 * i) (constantsLaid 0 (h .done)) (y .kind ∷ w ∷ []) (h .words) (omega arith) (ec ∙ written-two cs i (y .kind) w)
-                  ∙ ap (λ (z : List ℕ). written cs₀ 0 (constantsLaid 0 (h .done) ++ z)) (ap (λ (v : ℕ). y .kind ∷ v ∷ []) ew ∙ sym (g .words t) ∙ ap (λ (v : ℕ). constantWords v (constantAt s y)) (let z0 : t ≡ 0 + length (joined constantText (h .done)) = omega arith in z0))
-                  ∙ ap (written cs₀ 0) (sym (laid-more 0 (h .done) (constantAt s y)));
+                    ∙ ap (λ (z : List ℕ). written cs₀ 0 (constantsLaid 0 (h .done) ++ z)) (ap (λ (v : ℕ). y .kind ∷ v ∷ []) ew ∙ sym (g .words t) ∙ ap (λ (v : ℕ). constantWords v (constantAt s y)) (let z0 : t ≡ 0 + length (joined constantText (h .done)) = omega arith in z0))
+                    ∙ ap (written cs₀ 0) (sym (laid-more 0 (h .done) (constantAt s y)));
                 texts = more-joined constantText (h .done) (constantAt s y) tx₀ tx tx′ 0 t (h .texts) (omega arith)
-                  (et ∙ ap (written tx t) (part-slice s (y .from) (y .len) ∙ sym (g .text)));
+                    (et ∙ ap (written tx t) (part-slice s (y .from) (y .len) ∙ sym (g .text)));
               }
 
 -- ---- struct names
@@ -242,7 +245,9 @@ module _ (s : List ℕ) (at t₀ : ℕ) (ss₀ tx₀ : List ℕ) (fit : StructsF
       structs-filled l = record {
         held = h .done;
         good = good-both (λ k r. series readName snoc k [] r) count (along-end readName snoc k [] s first i (h .done) next (h .done) (h .along) l);
-        text = h .sized; words = h .words; texts = h .texts;
+        text = h .sized;
+        words = h .words;
+        texts = h .texts;
       }
 
       module _ (l : i < k) (x : Text) (p : TextPost s next x) where
@@ -258,8 +263,8 @@ module _ (s : List ℕ) (at t₀ : ℕ) (ss₀ tx₀ : List ℕ) (fit : StructsF
           named : Good (readName (h .done)) s next (y + m) (partOf s y m)
           unfolding readName
           named = by-test (not (among (partOf s y m) (h .done)))
-            (λ f. good-test (λ t. not (among t (h .done))) (text-is s next x p y m q .good) f)
-            (λ f. absurd (no next (bad-test (λ t. not (among t (h .done))) (text-is s next x p y m q .good) f)))
+              (λ f. good-test (λ t. not (among t (h .done))) (text-is s next x p y m q .good) f)
+              (λ f. absurd (no next (bad-test (λ t. not (among t (h .done))) (text-is s next x p y m q .good) f)))
 
           pub name-inside : y + m ≤ length s
           name-inside = named .within
@@ -286,8 +291,8 @@ module _ (s : List ℕ) (at t₀ : ℕ) (ss₀ tx₀ : List ℕ) (fit : StructsF
                 along = along-step readName snoc k [] s first i (h .done) next (h .done) (h .along) l (partOf s y m) (y + m) named;
                 sized = omega arith;
                 words = more-written ss₀ ss ss′ 0 i (structsLaid t₀ (h .done)) (w ∷ []) (h .words) (omega arith) (es ∙ written-one ss i w)
-                  ∙ ap (λ (v : ℕ). written ss₀ 0 (structsLaid t₀ (h .done) ++ (v ∷ []))) (ew ∙ ap (λ (v : ℕ). pack v m) sz ∙ ap (pack (t₀ + length (joined (λ n. n) (h .done)))) (sym z))
-                  ∙ ap (written ss₀ 0) (sym (structs-more t₀ (h .done) (partOf s y m)));
+                    ∙ ap (λ (v : ℕ). written ss₀ 0 (structsLaid t₀ (h .done) ++ (v ∷ []))) (ew ∙ ap (λ (v : ℕ). pack v m) sz ∙ ap (pack (t₀ + length (joined (λ n. n) (h .done)))) (sym z))
+                    ∙ ap (written ss₀ 0) (sym (structs-more t₀ (h .done) (partOf s y m)));
                 texts = more-joined (λ n. n) (h .done) (partOf s y m) tx₀ tx tx′ t₀ t (h .texts) sz (et ∙ ap (written tx t) (part-slice s y m));
               }
 

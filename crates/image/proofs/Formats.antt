@@ -8,11 +8,10 @@ use native.Mathlib.Nat.{pow-suc, div-lt-iff-lt-mul}
 use lib.Dec.{ltb, leb}
 use lib.ListN.{length}
 use borrow.Author.Tests.{lt-ltb, ltb-true, leb-true}
-use Rattle.model.specs.Basics.{if_then_else_}
-use Rattle.model.specs.Numbers.{Step, got, bad, andThen, checked, digits, groupsOf, number, Bytes, Codes}
+use Rattle.model.specs.Numbers.{Step, got, bad, andThen, digits, groupsOf, number, Bytes, Codes}
 use Rattle.model.specs.Programs.{Constant, scalar, boolean, string, reference, Function, Program, among}
 use Rattle.model.specs.Images as i
-use Rattle.model.specs.Images.{joined, counted, bytesOf, textImage, constantImage, runImage, runsOf, functionImage, imageOf, takes, readText, wordOf, readFlag, readKind, readBody, readConstant, always, readName, snoc, noPlace, readRuns, mainFirst, readFunction, readEnd, parse, Judged, fine, judgedStep, judge, Small, SoundConstant, SoundName, SoundFunction, AllSmall, Each, Sound}
+use Rattle.model.specs.Images.{joined, counted, bytesOf, textImage, constantImage, runImage, runsOf, functionImage, imageOf, takes, readText, wordOf, readFlag, readKind, readBody, readConstant, always, readName, snoc, noPlace, readRuns, mainFirst, readFunction, readEnd, parse, fine, judgedStep, judge, Small, SoundConstant, SoundName, SoundFunction, AllSmall, Each, Sound}
 use Rattle.number.proofs.Codes.{number-codes}
 use Rattle.image.proofs.Codecs.{never, got-value, got-rest, then-only, made-only, bytes-front, bytes-rest, codes-as, codes-item, codes-checked, codes-made, codes-seq, codes-takes, codes-series}
 use Rattle.image.proofs.Places.{codes-places}
@@ -85,6 +84,7 @@ codes-flag = record { back = λ a r h. back a r; only = λ b a r y e. (only b a 
     back : (a : Bool) (r : List ℕ) → readFlag (flagImage a ++ r) ≡ got a r
     back true r = refl
     back false r = refl
+
     only : (b : List ℕ) (a : Bool) (r : List ℕ) → readFlag b ≡ got a r → b ≡ flagImage a ++ r
     only [] a r e = absurd (never e)
     only (zero ∷ b) a r e = let p : false ≡ a = got-value e in let q : b ≡ r = got-rest e in rw (← p, q)
@@ -202,7 +202,7 @@ pub codes-function : (first : Bool) → Codes (SoundFunction first) functionImag
 unfolding functionImage readFunction OkName OkCode OkPlaces made
 codes-function first =
     codes-image (codes-as (codes-seq (codes-item (codes-checked codes-text (mainFirst first))) (λ nm h. codes-function-rest nm) (λ f. f .name)
-      (λ nm f h. sym (ap (λ (x : Function). x .name) (h .1 .1 .0))))
+    (λ nm f h. sym (ap (λ (x : Function). x .name) (h .1 .1 .0))))
     (λ f h. ((h .name, h .main), (h .code, (refl, (refl, (h .places, h .small))))))
     (λ f h. record { name = h .0 .0; main = h .0 .1; code = h .1 .0; places = h .1 .1 .1 .1 .0; small = h .1 .1 .1 .1 .1 }))
     (λ f. regroup (textImage (f .name)) (digits (length (f .code))) (f .code) (joined runImage (runsOf (f .places))))
@@ -218,11 +218,13 @@ codes-functions =
 pub parse-back : (p : Program) → Sound p → parse (imageOf p) ≡ got p []
 unfolding parse imageOf andThen readEnd
 parse-back p h =
-    rw (append-assoc (counted constantImage (p .constants)) (counted textImage (p .structs)) (counted functionImage (p .functions)),
+    rw (
+      append-assoc (counted constantImage (p .constants)) (counted textImage (p .structs)) (counted functionImage (p .functions)),
       codes-constants .back (p .constants) (counted textImage (p .structs) ++ counted functionImage (p .functions)) (h .constants),
       codes-structs .back (p .structs) (counted functionImage (p .functions)) (h .structs),
       ← append-nil (counted functionImage (p .functions)),
-      codes-functions .back (p .functions) [] (h .functions))
+      codes-functions .back (p .functions) [] (h .functions),
+    )
 
 end-only : (q : Program) (u : List ℕ) (p : Program) (r : List ℕ) → readEnd q u ≡ got p r → (q ≡ p) × (u ≡ [])
 unfolding readEnd
@@ -241,11 +243,12 @@ parse-only b p r y e =
     let g3 = then-only (i.readFunctions (g2 .1)) _ p r (g2 .3) in
     let o3 = codes-functions .only (g2 .1) (g3 .0) (g3 .1) y2 (g3 .2) in
     let z = end-only _ (g3 .1) p r (g3 .3) in
-    subst (λ (x : Program). (b ≡ imageOf x) × Sound x) (z .0)
-    (o1 .0 ∙ ap (λ (t : List ℕ). counted constantImage (g1 .0) ++ t) (o2 .0 ∙ ap (λ (t : List ℕ). counted textImage (g2 .0) ++ t)
-      (o3 .0 ∙ ap (λ (t : List ℕ). counted functionImage (g3 .0) ++ t) (z .1) ∙ append-nil _))
-      ∙ sym (append-assoc (counted constantImage (g1 .0)) (counted textImage (g2 .0)) (counted functionImage (g3 .0))),
-     record { constants = o1 .1; structs = o2 .1; functions = o3 .1 })
+    subst (λ (x : Program). (b ≡ imageOf x) × Sound x) (z .0) (
+      o1 .0 ∙ ap (λ (t : List ℕ). counted constantImage (g1 .0) ++ t) (o2 .0 ∙ ap (λ (t : List ℕ). counted textImage (g2 .0) ++ t)
+          (o3 .0 ∙ ap (λ (t : List ℕ). counted functionImage (g3 .0) ++ t) (z .1) ∙ append-nil _))
+          ∙ sym (append-assoc (counted constantImage (g1 .0)) (counted textImage (g2 .0)) (counted functionImage (g3 .0))),
+      record { constants = o1 .1; structs = o2 .1; functions = o3 .1 },
+    )
 
 pub judge-back : (p : Program) → Sound p → judge (imageOf p) ≡ fine p
 unfolding judge judgedStep

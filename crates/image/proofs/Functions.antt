@@ -1,22 +1,22 @@
 -- Functions: a head, then runs; main, then the others.
 use mathlib.Core.Path.{_≡_, refl, sym, ap, subst, _∙_}
-use mathlib.Core.Bool.{Bool, true, false, not, _&&_}
-use mathlib.Core.List.{List, [], _∷_, _++_, append-assoc, append-nil}
-use Prim.Native.Nat.{ℕ, zero, suc, _+_, _-_, _<_, _≤_, _^_}
+use mathlib.Core.Bool.{Bool, true, false, _&&_}
+use mathlib.Core.List.{List, [], _∷_, _++_}
+use Prim.Native.Nat.{ℕ, zero, suc, _+_, _-_, _<_, _≤_}
 use native.Mathlib.Omega.{arith}
 use native.Mathlib.Nat.{pos-of-ne-zero}
-use lib.Dec.{ltb, leb, eqb}
-use lib.ListN.{length, take, drop, getD, length-append}
-use borrow.Author.Tests.{lt-ltb, le-leb, lt-leb, eq-eqb, ne-eqb}
-use Rattle.model.specs.Basics.{if_then_else_, ascii}
-use Rattle.model.specs.Numbers.{Step, got, bad, andThen, item, checked, number}
+use lib.Dec.{ltb, leb}
+use lib.ListN.{length, take, drop, length-append}
+use borrow.Author.Tests.{lt-ltb}
+use Rattle.model.specs.Basics.{ascii}
+use Rattle.model.specs.Numbers.{Step, got, andThen, item, checked, number}
 use Rattle.model.specs.Equality.{sameBytes}
-use Rattle.model.specs.Programs.{Function, functionAt, mainName, codeLimit, codesWithin}
+use Rattle.model.specs.Programs.{Function, functionAt, mainName, codesWithin}
 use Rattle.model.specs.Images.{joined, series, takes, readText, noPlace, readRuns, mainFirst, readFunction, readFunctions}
 use Rattle.number.specs.Links.{NumPost}
 use Rattle.number.specs.declared.Num.{Num}
 use Rattle.number.specs.declared.Num.the-variants as n
-use Rattle.image.specs.Links.{Good, Bad, partOf, TextPost, runsFor, RunsAt, BehindIs, RunsPost, functionOf, HeadAt, BegunIs, HeadPost, SpanAt, SpannedIs, SpanPost, othersFor, OthersAt, RestIs, OthersPost, FunctionsAt, FunctionsPost}
+use Rattle.image.specs.Links.{Good, Bad, partOf, TextPost, runsFor, RunsAt, BehindIs, RunsPost, functionOf, HeadAt, BegunIs, HeadPost, SpanAt, SpannedIs, SpanPost, othersFor, OthersAt, RestIs, OthersPost, FunctionsPost}
 use Rattle.image.specs.declared.Text.{Text}
 use Rattle.image.specs.declared.Text.the-variants as t
 use Rattle.image.specs.declared.Behind.{Behind}
@@ -30,11 +30,9 @@ use Rattle.image.specs.declared.Spanned.the-variants as p
 use Rattle.image.specs.declared.Others.{Others}
 use Rattle.image.specs.declared.Rest.{Rest}
 use Rattle.image.specs.declared.Rest.the-variants as o
-use Rattle.image.specs.declared.Ended.{Ended}
-use Rattle.image.specs.declared.Coded.{Coded}
 use Rattle.image.specs.declared.Coded.the-variants as d
 use Rattle.image.proofs.Codecs.{got-value, then-only, made-only}
-use Rattle.image.proofs.Reading.{Along, along-start, along-end, along-within, along-bad, along-step, joined-length, bad-first, bad-second, good-both, bad-test, bad-tested, good-test, no-number, a-number}
+use Rattle.image.proofs.Reading.{Along, along-start, along-end, along-bad, along-step, joined-length, bad-first, bad-second, good-both, bad-test, bad-tested, good-test, no-number}
 use Rattle.image.proofs.Items.{part-length, part-slice, part-read, part-short, text-is, text-not}
 use Rattle.image.proofs.Passes.{counted-at}
 
@@ -100,10 +98,15 @@ module _ (first : Bool) (s : List ℕ) (at : ℕ) (x : Text) (q : TextPost s at 
         head-read l =
             let c = part-read s code size head-code l in
             let a = text-is s at x q nm len e .ahead in let z = sized .ahead in let cw = c .within in
-            record { is = record {
-              leads = rw (named .means, sized .means, c .means, part-length s code size (c .within));
-              name = head-behind; code = c .within; small = (text-is s at x q nm len e .small, k .1); room = omega arith;
-            } }
+            record {
+              is = record {
+                leads = rw (named .means, sized .means, c .means, part-length s code size (c .within));
+                name = head-behind;
+                code = c .within;
+                small = (text-is s at x q nm len e .small, k .1);
+                room = omega arith;
+              };
+            }
 
 pub head-is : (first : Bool) (s : List ℕ) (at : ℕ) (r : Begun) → HeadPost first s at r → (x : Head) → r ≡ h.Is x → HeadAt first s at x
 head-is first s at r w x e = subst (BegunIs first s at) e (w .is)
@@ -140,13 +143,15 @@ module _ (first : Bool) (s : List ℕ) (at : ℕ) (r : Begun) (w : HeadPost firs
       span-read next f =
           let g = runs-is s (x .code + x .size) (x .size) y v next f in let z = head-is first s at r w x e in
           let a = z .room in let c = g .good .ahead in
-          record { is = record {
-            held = functionOf s x (g .held);
-            good = record { means = z .leads ∙ rw (g .good .means); ahead = omega arith; within = g .good .within };
-            name = sym (part-length s (x .name) (x .len) (z .name));
-            code = sym (part-length s (x .code) (x .size) (z .code));
-            room = omega arith;
-          } }
+          record {
+            is = record {
+              held = functionOf s x (g .held);
+              good = record { means = z .leads ∙ rw (g .good .means); ahead = omega arith; within = g .good .within };
+              name = sym (part-length s (x .name) (x .len) (z .name));
+              code = sym (part-length s (x .code) (x .size) (z .code));
+              room = omega arith;
+            };
+          }
 
 pub span-is : (first : Bool) (s : List ℕ) (at : ℕ) (r : Spanned) → SpanPost first s at r → (z : Span) → r ≡ p.Is z → SpanAt first s at z
 span-is first s at r w z e = subst (SpannedIs first s at) e (w .is)
@@ -187,9 +192,16 @@ others-start n s at l = record { done = []; along = along-start readFunction beh
 module _ (n : ℕ) (s : List ℕ) (at cur text code : ℕ) (within : Bool) (i : ℕ) (w : Passing n s at cur text code within i) where
   pub others-end : n ≤ i → OthersPost n s at (o.Fine (record { next = cur; text = text; code = code; within = within }))
   unfolding othersFor
-  others-end l = record { is = record {
-    held = w .done; good = along-end readFunction behindMain n false s at i false cur (w .done) (w .along) l; text = w .names; code = w .bytes; within = w .codes; room = w .room;
-  } }
+  others-end l = record {
+    is = record {
+      held = w .done;
+      good = along-end readFunction behindMain n false s at i false cur (w .done) (w .along) l;
+      text = w .names;
+      code = w .bytes;
+      within = w .codes;
+      room = w .room;
+    };
+  }
 
   module _ (l : i < n) (r : Spanned) (q : SpanPost false s cur r) where
     pub others-bad : (k : ℕ) → r ≡ p.Broken k → OthersPost n s at (o.Broken k)
@@ -208,7 +220,9 @@ module _ (n : ℕ) (s : List ℕ) (at cur text code : ℕ) (within : Bool) (i : 
           record {
             done = w .done ++ (g .held ∷ []);
             along = along-step readFunction behindMain n false s at i false cur (w .done) (w .along) l (g .held) (z .next) (g .good);
-            names = omega arith; bytes = omega arith; room = omega arith;
+            names = omega arith;
+            bytes = omega arith;
+            room = omega arith;
             codes = ap (λ (x : Bool). x && leb (z .code) 65535) (w .codes) ∙ ap (λ (x : ℕ). codesWithin (w .done) && leb x 65535) (g .code) ∙ sym (codes-more (w .done) (g .held));
           }
 
@@ -295,13 +309,15 @@ module _ (s : List ℕ) (at : ℕ) (pre : at ≤ length s) (x : Num) (q : NumPos
                 let a = mg .room in let b = cg .room in let na = number-at .ahead in let ma = mg .good .ahead in let ca = cg .good .ahead in
                 let n1 = mg .name in let n2 = cg .text in
                 let la = length-append (mg .held .name) (joined (λ f. f .name) (cg .held)) in
-                record { is = record {
-                  held = mg .held ∷ cg .held;
-                  good = good-both allFor some (record { means = split (drop first s) ∙ rw (mg .good .means, cg .good .means); ahead = omega arith; within = cg .good .within });
-                  count = one ∙ ap suc (sym (series-count readFunction behindMain (count - 1) false (drop (m .next) s) (cg .held) (drop (c .next) s) (cg .good .means)));
-                  text = omega arith;
-                  main = mg .code;
-                  other = cg .code;
-                  within = ap (λ (j : ℕ). leb j 65535 && c .within) (mg .code) ∙ ap (λ (j : Bool). leb (length (mg .held .code)) 65535 && j) (cg .within);
-                  room = omega arith;
-                } }
+                record {
+                  is = record {
+                    held = mg .held ∷ cg .held;
+                    good = good-both allFor some (record { means = split (drop first s) ∙ rw (mg .good .means, cg .good .means); ahead = omega arith; within = cg .good .within });
+                    count = one ∙ ap suc (sym (series-count readFunction behindMain (count - 1) false (drop (m .next) s) (cg .held) (drop (c .next) s) (cg .good .means)));
+                    text = omega arith;
+                    main = mg .code;
+                    other = cg .code;
+                    within = ap (λ (j : ℕ). leb j 65535 && c .within) (mg .code) ∙ ap (λ (j : Bool). leb (length (mg .held .code)) 65535 && j) (cg .within);
+                    room = omega arith;
+                  };
+                }

@@ -1,18 +1,18 @@
 -- The stores of a loaded program hold that program.
 use mathlib.Core.Path.{_≡_, refl, sym, ap, subst, _∙_}
-use mathlib.Core.Bool.{Bool, true, false, not, _&&_}
-use mathlib.Core.List.{List, [], _∷_, _++_, append-assoc, append-nil}
-use Prim.Native.Nat.{ℕ, zero, suc, _+_, _-_, _*_, _<_, _≤_, _^_}
+use mathlib.Core.Bool.{true, false}
+use mathlib.Core.List.{List, [], _∷_, _++_, append-assoc}
+use Prim.Native.Nat.{ℕ, suc, _+_, _-_, _*_, _<_, _≤_, _^_}
 use native.Mathlib.Omega.{arith}
-use lib.Dec.{eqb, leb}
-use lib.ListN.{length, take, drop, getD, length-append}
-use lib.Seq.{sets, sets-eq, take-at, drop-at, getD-at}
+use lib.Dec.{eqb}
+use lib.ListN.{length, drop, getD, length-append}
+use lib.Seq.{sets-eq, take-at, drop-at, getD-at}
 use borrow.Author.Tests.{ne-eqb}
 use Rattle.model.specs.Basics.{if_then_else_}
 use Rattle.model.specs.Values.{bit, kindAt, payloadAt, textAt}
-use Rattle.model.specs.Programs.{Constant, scalar, boolean, string, reference, Function, Program, functionAt}
+use Rattle.model.specs.Programs.{Constant, scalar, boolean, string, reference, Function}
 use Rattle.model.specs.Images.{joined}
-use Rattle.model.specs.Stores.{Stores, start, size, pack, part, structWord, nameWord, codeWord, constantIn, constantsFrom, structsFrom, functionIn, functionsFrom}
+use Rattle.model.specs.Stores.{Stores, pack, part, structWord, nameWord, codeWord, constantIn, constantsFrom, structsFrom, functionIn, functionsFrom}
 use Rattle.model.specs.Emission.{written}
 use Rattle.model.specs.Loading.{constantText, constantWords, constantsLaid, structsLaid, othersLaid}
 use Rattle.program.proofs.Parts.{start-pack, size-pack}
@@ -48,9 +48,10 @@ pub pieces-here : {A : Type 0} (f : A → List ℕ) (l : List A) (t pre post : L
 unfolding Pieces joined textAt
 pieces-here f [] t pre post o e h = tt
 pieces-here f (a ∷ l) t pre post o e h =
-    let e1 = e ∙ ap (λ (z : List ℕ). pre ++ z) (append-assoc (f a) (joined f l) post) in
-    (rw (e1, drop-at pre (f a ++ (joined f l ++ post)) o h, take-at (f a) (joined f l ++ post) (length (f a)) refl),
-     pieces-here f l t (pre ++ f a) post (o + length (f a)) (e ∙ regroup pre (f a) (joined f l) post) (length-append pre (f a) ∙ ap (λ (k : ℕ). k + length (f a)) h))
+    let e1 = e ∙ ap (λ (z : List ℕ). pre ++ z) (append-assoc (f a) (joined f l) post) in (
+      rw (e1, drop-at pre (f a ++ (joined f l ++ post)) o h, take-at (f a) (joined f l ++ post) (length (f a)) refl),
+      pieces-here f l t (pre ++ f a) post (o + length (f a)) (e ∙ regroup pre (f a) (joined f l) post) (length-append pre (f a) ∙ ap (λ (k : ℕ). k + length (f a)) h),
+    )
 
 -- a word that names a piece
 pub named : (t : List ℕ) (o : ℕ) (x : List ℕ) (w : ℕ) → w ≡ pack o (length x) → o < 2 ^ 32 → textAt t o (length x) ≡ x → part t w ≡ x
@@ -78,12 +79,13 @@ constants-here (c ∷ l) cs pre post i o e h =
     let w = two-of o c in
     let rest : List ℕ = constantsLaid (o + length (constantText c)) l ++ post in
     let e1 : cs ≡ pre ++ (w .0 ∷ w .1 ∷ (constantsLaid (o + length (constantText c)) l ++ post)) =
-      e ∙ ap (λ (z : List ℕ). pre ++ ((z ++ constantsLaid (o + length (constantText c)) l) ++ post)) (w .2) in
-    let a = length-append pre (constantWords o c) in let b : length (constantWords o c) ≡ 2 = ap length (w .2) in
-    (pair-same (ap (λ (z : List ℕ). kindAt z i) e1 ∙ first-here pre (w .0) (w .1) (constantsLaid (o + length (constantText c)) l ++ post) i h)
-      (ap (λ (z : List ℕ). payloadAt z i) e1 ∙ second-here pre (w .0) (w .1) (constantsLaid (o + length (constantText c)) l ++ post) i h) ∙ sym (w .2),
-     constants-here l cs (pre ++ constantWords o c) post (suc i) (o + length (constantText c))
-       (e ∙ regroup pre (constantWords o c) (constantsLaid (o + length (constantText c)) l) post) (omega arith))
+    e ∙ ap (λ (z : List ℕ). pre ++ ((z ++ constantsLaid (o + length (constantText c)) l) ++ post)) (w .2) in
+    let a = length-append pre (constantWords o c) in let b : length (constantWords o c) ≡ 2 = ap length (w .2) in (
+      pair-same (ap (λ (z : List ℕ). kindAt z i) e1 ∙ first-here pre (w .0) (w .1) (constantsLaid (o + length (constantText c)) l ++ post) i h)
+          (ap (λ (z : List ℕ). payloadAt z i) e1 ∙ second-here pre (w .0) (w .1) (constantsLaid (o + length (constantText c)) l ++ post) i h) ∙ sym (w .2),
+      constants-here l cs (pre ++ constantWords o c) post (suc i) (o + length (constantText c))
+          (e ∙ regroup pre (constantWords o c) (constantsLaid (o + length (constantText c)) l) post) (omega arith),
+    )
   where
     pair-same : {a b c d : ℕ} → a ≡ c → b ≡ d → a ∷ b ∷ [] ≡ c ∷ d ∷ []
     pair-same e f = rw (e, f)
@@ -118,9 +120,10 @@ pub structs-here : (l : List (List ℕ)) (ss pre post : List ℕ) (i o : ℕ) �
 unfolding StructsAt structsLaid structWord
 structs-here [] ss pre post i o e h = tt
 structs-here (x ∷ l) ss pre post i o e h =
-    let a = length-append pre (pack o (length x) ∷ []) in
-    (ap (λ (z : List ℕ). getD z i 0) e ∙ getD-at pre (pack o (length x)) (structsLaid (o + length x) l ++ post) 0 i h,
-     structs-here l ss (pre ++ (pack o (length x) ∷ [])) post (suc i) (o + length x) (e ∙ sym (append-assoc pre (pack o (length x) ∷ []) (structsLaid (o + length x) l ++ post))) (omega arith))
+    let a = length-append pre (pack o (length x) ∷ []) in (
+      ap (λ (z : List ℕ). getD z i 0) e ∙ getD-at pre (pack o (length x)) (structsLaid (o + length x) l ++ post) 0 i h,
+      structs-here l ss (pre ++ (pack o (length x) ∷ [])) post (suc i) (o + length x) (e ∙ sym (append-assoc pre (pack o (length x) ∷ []) (structsLaid (o + length x) l ++ post))) (omega arith),
+    )
 
 pub structs-held : (l : List (List ℕ)) (ss t : List ℕ) (i o : ℕ) → StructsAt ss i o l → Pieces (λ n. n) t o l → o + length (joined (λ n. n) l) < 2 ^ 32 → structsFrom (length l) i ss t ≡ l
 unfolding structsFrom StructsAt Pieces joined
@@ -142,11 +145,14 @@ unfolding FunctionsAt othersLaid nameWord codeWord
 functions-here [] fs pre post i o j e h = tt
 functions-here (f ∷ l) fs pre post i o j e h =
     let k : ℕ = pack o (length (f .name)) in let c : ℕ = pack j (length (f .code)) in
-    let a = length-append pre (pack o (length (f .name)) ∷ pack j (length (f .code)) ∷ []) in
-    ((ap (λ (z : List ℕ). kindAt z i) e ∙ first-here pre (pack o (length (f .name))) (pack j (length (f .code))) (othersLaid (o + length (f .name)) (j + length (f .code)) l ++ post) i h,
-      ap (λ (z : List ℕ). payloadAt z i) e ∙ second-here pre (pack o (length (f .name))) (pack j (length (f .code))) (othersLaid (o + length (f .name)) (j + length (f .code)) l ++ post) i h),
-     functions-here l fs (pre ++ (pack o (length (f .name)) ∷ pack j (length (f .code)) ∷ [])) post (suc i) (o + length (f .name)) (j + length (f .code))
-       (e ∙ sym (append-assoc pre (pack o (length (f .name)) ∷ pack j (length (f .code)) ∷ []) (othersLaid (o + length (f .name)) (j + length (f .code)) l ++ post))) (omega arith))
+    let a = length-append pre (pack o (length (f .name)) ∷ pack j (length (f .code)) ∷ []) in (
+      (
+        ap (λ (z : List ℕ). kindAt z i) e ∙ first-here pre (pack o (length (f .name))) (pack j (length (f .code))) (othersLaid (o + length (f .name)) (j + length (f .code)) l ++ post) i h,
+        ap (λ (z : List ℕ). payloadAt z i) e ∙ second-here pre (pack o (length (f .name))) (pack j (length (f .code))) (othersLaid (o + length (f .name)) (j + length (f .code)) l ++ post) i h,
+      ),
+      functions-here l fs (pre ++ (pack o (length (f .name)) ∷ pack j (length (f .code)) ∷ [])) post (suc i) (o + length (f .name)) (j + length (f .code))
+          (e ∙ sym (append-assoc pre (pack o (length (f .name)) ∷ pack j (length (f .code)) ∷ []) (othersLaid (o + length (f .name)) (j + length (f .code)) l ++ post))) (omega arith),
+    )
 
 -- each has as many places as bytes of code
 unfoldable pub Placed : List Function → Type 0
@@ -185,4 +191,4 @@ others-held (f ∷ l) x i o j w tn tc tp s ho hj =
     let n : eqb (suc i) 0 ≡ false = ne-eqb (suc i) 0 (λ e. omega arith) in
     same-cons (function-held f x (suc i) o j (x .other) (x .otherPlaces) (rw n) (rw n) (w .0) (tn .0) (tc .0) (tp .0) (s .0) (omega arith) (omega arith))
     (others-held l x (suc i) (o + length (f .name)) (j + length (f .code)) (w .1) (tn .1) (tc .1)
-      (subst (λ (k : ℕ). Pieces (λ f. f .places) (x .otherPlaces) (j + k) l) (s .0) (tp .1)) (s .1) (omega arith) (omega arith))
+    (subst (λ (k : ℕ). Pieces (λ f. f .places) (x .otherPlaces) (j + k) l) (s .0) (tp .1)) (s .1) (omega arith) (omega arith))

@@ -1,19 +1,18 @@
 -- The readers of texts and constants.
 use mathlib.Core.Path.{_≡_, refl, sym, ap, subst, _∙_}
-use mathlib.Core.Bool.{Bool, true, false, not}
-use mathlib.Core.List.{List, [], _∷_, _++_}
+use mathlib.Core.Bool.{not}
+use mathlib.Core.List.{List, [], _∷_}
 use Prim.Native.Nat.{ℕ, zero, suc, _+_, _-_, _*_, _<_, _≤_, _^_}
 use native.Mathlib.Omega.{arith}
 use native.Mathlib.Nat.{pow-suc, pow-le-pow-right}
 use native.Mathlib.Numerals.{add-one}
-use lib.Dec.{ltb, leb, eqb}
+use lib.Dec.{leb, eqb}
 use lib.ListN.{length, take, drop, getD, length-drop, drop-of-length-le}
 use lib.Seq.{drop-cons, drop-drop, length-take-le}
-use borrow.Author.Tests.{le-ltb, lt-ltb, le-leb, lt-leb}
-use Rattle.model.specs.Basics.{if_then_else_}
+use borrow.Author.Tests.{le-ltb, le-leb, lt-leb}
 use Rattle.model.specs.Numbers.{Step, got, bad, andThen, item, checked, number}
 use Rattle.model.specs.Values.{bit}
-use Rattle.model.specs.Programs.{Constant, scalar, boolean, string, reference}
+use Rattle.model.specs.Programs.{Constant, scalar}
 use Rattle.model.specs.Images.{takes, readText, wordOf, readFlag, readKind, readBody, readConstant}
 use Rattle.model.specs.Stores.{pack}
 use Rattle.model.specs.Loading.{constantText, constantWords}
@@ -76,16 +75,21 @@ module _ (s : List ℕ) (at : ℕ) (pre : at ≤ length s) (r : Num) (p : NumPos
 
     pub text-short : length s - start < len → TextPost s at t.Broken
     unfolding readText item andThen
-    text-short l = record { is =
-      let b = part-short s start len (g .within) l in
-      record { means = rw (g .means, b .means) (ap bad (length-drop at s)); ahead = omega arith; within = pre } }
+    text-short l = record {
+      is =
+          let b = part-short s start len (g .within) l in
+          record { means = rw (g .means, b .means) (ap bad (length-drop at s)); ahead = omega arith; within = pre };
+    }
 
     pub text-read : len ≤ length s - start → TextPost s at (t.At start len)
     unfolding readText
-    text-read l = record { is = record {
-      good = good-item (good-both takes g (part-read s start len (g .within) l));
-      ahead = g .ahead; small = w .1;
-    } }
+    text-read l = record {
+      is = record {
+        good = good-item (good-both takes g (part-read s start len (g .within) l));
+        ahead = g .ahead;
+        small = w .1;
+      };
+    }
 
 -- ---- eight bytes
 
@@ -138,10 +142,16 @@ module _ (s : List ℕ) (at : ℕ) (pre : at ≤ length s) where
 
   pub scalar-read : 8 ≤ length s - at → (w : ℕ) → w ≡ wordOf (partOf s at 8) → ItemPost (readBody 0) s at (e.Is (record { kind = 0; word = w; from = at; len = 0; next = at + 8 }))
   unfolding readBody constantAt constantOf constantText constantWords payloadAt partOf
-  scalar-read l w q = record { is = record {
-    good = subst (λ (k : ℕ). Good (λ b. andThen (takes 8 b) (λ l r. got (scalar (wordOf l)) r)) s at (at + 8) (scalar k)) (sym q) (good-made (λ l. scalar (wordOf l)) (part-read s at 8 pre l));
-    text = refl; words = λ o. refl; inside = omega arith; small = let z : 0 < 2 ^ 32 = omega arith in z; room = omega arith;
-  } }
+  scalar-read l w q = record {
+    is = record {
+      good = subst (λ (k : ℕ). Good (λ b. andThen (takes 8 b) (λ l r. got (scalar (wordOf l)) r)) s at (at + 8) (scalar k)) (sym q) (good-made (λ l. scalar (wordOf l)) (part-read s at 8 pre l));
+      text = refl;
+      words = λ o. refl;
+      inside = omega arith;
+      small = let z : 0 < 2 ^ 32 = omega arith in z;
+      room = omega arith;
+    };
+  }
 
   pub flag-none : length s ≤ at → ItemPost (readBody 1) s at (e.Broken at)
   unfolding readBody readFlag andThen
@@ -170,17 +180,26 @@ module _ (s : List ℕ) (at : ℕ) (pre : at ≤ length s) where
 
     pub flag-bad : 1 < x → ItemPost (readBody 1) s at (e.Broken at)
     unfolding readBody andThen
-    flag-bad h = record { is = record {
-      means = rw (here, flag-two x (drop (at + 1) s) h) (ap bad (let z = length-drop (at + 1) s in let y : suc (length (drop (at + 1) s)) ≡ length s - at = omega arith in y));
-      ahead = omega arith; within = pre;
-    } }
+    flag-bad h = record {
+      is = record {
+        means = rw (here, flag-two x (drop (at + 1) s) h) (ap bad (let z = length-drop (at + 1) s in let y : suc (length (drop (at + 1) s)) ≡ length s - at = omega arith in y));
+        ahead = omega arith;
+        within = pre;
+      };
+    }
 
     pub flag-read : x ≤ 1 → ItemPost (readBody 1) s at (e.Is (record { kind = 1; word = x; from = at; len = 0; next = at + 1 }))
     unfolding readBody andThen constantAt constantOf constantText constantWords payloadAt partOf
-    flag-read h = record { is = record {
-      good = record { means = rw (here, flag-one x (drop (at + 1) s) h); ahead = omega arith; within = omega arith };
-      text = refl; words = λ o. ap (λ (y : ℕ). 1 ∷ y ∷ []) (flag-words x h); inside = omega arith; small = let z : 0 < 2 ^ 32 = omega arith in z; room = omega arith;
-    } }
+    flag-read h = record {
+      is = record {
+        good = record { means = rw (here, flag-one x (drop (at + 1) s) h); ahead = omega arith; within = omega arith };
+        text = refl;
+        words = λ o. ap (λ (y : ℕ). 1 ∷ y ∷ []) (flag-words x h);
+        inside = omega arith;
+        small = let z : 0 < 2 ^ 32 = omega arith in z;
+        room = omega arith;
+      };
+    }
 
   module _ (r : Text) (p : TextPost s at r) (k : ℕ) (two : 1 < k) (four : k < 4) where
     body : (j : ℕ) → 1 < j → j < 4 → (b : List ℕ) → readBody j b ≡ andThen (readText b) (λ t q. got (constantOf j 0 t) q)
@@ -206,20 +225,26 @@ module _ (s : List ℕ) (at : ℕ) (pre : at ≤ length s) where
 
     pub letters-none : r ≡ t.Broken → ItemPost (readBody k) s at (e.Broken at)
     unfolding andThen
-    letters-none q = record { is =
-      let b = text-not s at r p q in
-      record { means = body k two four (drop at s) ∙ rw (b .means); ahead = b .ahead; within = b .within } }
+    letters-none q = record {
+      is =
+          let b = text-not s at r p q in
+          record { means = body k two four (drop at s) ∙ rw (b .means); ahead = b .ahead; within = b .within };
+    }
 
     pub letters-read : (i n : ℕ) → r ≡ t.At i n → ItemPost (readBody k) s at (e.Is (record { kind = k; word = 0; from = i; len = n; next = i + n }))
     unfolding andThen constantAt payloadAt
     letters-read i n q =
         let g = text-is s at r p i n q in let a = g .ahead in
-        record { is = record {
-          good = record { means = body k two four (drop at s) ∙ rw (g .good .means); ahead = g .good .ahead; within = g .good .within };
-          text = has-text k two (partOf s i n);
-          words = λ o. has-words k two four o (partOf s i n) ∙ rw (le-ltb k 2 two, part-length s i n (g .good .within));
-          inside = g .good .within; small = g .small; room = omega arith;
-        } }
+        record {
+          is = record {
+            good = record { means = body k two four (drop at s) ∙ rw (g .good .means); ahead = g .good .ahead; within = g .good .within };
+            text = has-text k two (partOf s i n);
+            words = λ o. has-words k two four o (partOf s i n) ∙ rw (le-ltb k 2 two, part-length s i n (g .good .within));
+            inside = g .good .within;
+            small = g .small;
+            room = omega arith;
+          };
+        }
 
   -- a kind, and a body
   module _ (r : Num) (p : NumPost s at r) where
@@ -241,9 +266,15 @@ module _ (s : List ℕ) (at : ℕ) (pre : at ≤ length s) where
         where
           first : Good (λ b. item b (checked (λ k. leb k 3) (number b))) s at next k
           first = good-test (λ k. leb k 3) (a-number s at r p k next q) (le-leb k 3 h)
+
           by : (o : Item) → ItemIs (readBody k) s next o → ItemIs (readConstant tt) s at o
           by (e.Is y) g = let a = first .ahead in let b = g .room in record {
-            good = good-both readBody first (g .good); text = g .text; words = g .words; inside = g .inside; small = g .small; room = omega arith;
+            good = good-both readBody first (g .good);
+            text = g .text;
+            words = g .words;
+            inside = g .inside;
+            small = g .small;
+            room = omega arith;
           }
           by (e.Broken y) g = bad-second readBody first g
 

@@ -1,21 +1,20 @@
 -- The judging of a whole image.
-use mathlib.Core.Path.{_≡_, refl, sym, ap, subst, _∙_}
+use mathlib.Core.Path.{_≡_, refl, ap, subst, _∙_}
 use mathlib.Core.List.{List, [], _∷_, _++_}
-use Prim.Native.Nat.{ℕ, zero, suc, _+_, _-_, _<_, _≤_}
+use Prim.Native.Nat.{ℕ, _+_, _-_, _<_, _≤_}
 use native.Mathlib.Omega.{arith}
 use lib.ListN.{length, drop, length-append, length-drop, drop-of-length-le}
-use Rattle.model.specs.Numbers.{Step, got, bad, andThen}
+use Rattle.model.specs.Numbers.{Step, bad, andThen}
 use Rattle.model.specs.Programs.{Constant, Function, Program}
-use Rattle.model.specs.Images.{joined, readConstants, readStructs, readFunctions, readEnd, parse, Judged, fine, broken, judgedStep, judge}
+use Rattle.model.specs.Images.{joined, readConstants, readStructs, readFunctions, readEnd, parse, fine, broken, judgedStep, judge}
 use Rattle.model.specs.Loading.{constantText, constantTexts, structTexts, textsOf, mainOf, othersOf}
-use Rattle.image.specs.Links.{Good, Bad, SectionAt, CheckedIs, CheckPost, FunctionsAt, CodedIs, FunctionsPost, JudgementIs, JudgePost}
+use Rattle.image.specs.Links.{Good, Bad, SectionAt, CheckedIs, CheckPost, FunctionsAt, CodedIs, FunctionsPost, JudgePost}
 use Rattle.image.specs.declared.Section.{Section}
 use Rattle.image.specs.declared.Checked.{Checked}
 use Rattle.image.specs.declared.Checked.the-variants as c
 use Rattle.image.specs.declared.Ended.{Ended}
 use Rattle.image.specs.declared.Coded.{Coded}
 use Rattle.image.specs.declared.Coded.the-variants as d
-use Rattle.image.specs.declared.Judgement.{Judgement}
 use Rattle.image.specs.declared.Judgement.the-variants as j
 use Rattle.image.proofs.Reading.{bad-first, bad-second, good-both}
 
@@ -85,7 +84,7 @@ module _ (s : List ℕ) where
             pub judge-3 : (k : ℕ) → z ≡ d.Broken k → JudgePost s (j.Broken k)
             unfolding parse
             judge-3 k e = judged-bad k (bad-second afterConstants (cg .good) (bad-second (afterStructs (cg .held)) (sg .good)
-              (bad-first (afterFunctions (cg .held) (sg .held)) (functions-not s (ss .next) z hz k e))))
+                (bad-first (afterFunctions (cg .held) (sg .held)) (functions-not s (ss .next) z hz k e))))
 
             module _ (fs : Ended) (ez : z ≡ d.Fine fs) where
               fg : FunctionsAt s (ss .next) fs
@@ -103,21 +102,33 @@ module _ (s : List ℕ) where
               text-fits = let a = cg .room in let b = sg .room in let f = fg .room in let w = fg .good .within in omega arith
 
               pub judge-5 : length s ≤ fs .next → JudgePost s (j.Fine (record {
-                constants = cs .count; structs = ss .count; functions = fs .count; text = cs .text + ss .text + fs .text;
-                main = fs .main; other = fs .other; within = fs .within;
+                constants = cs .count;
+                structs = ss .count;
+                functions = fs .count;
+                text = cs .text + ss .text + fs .text;
+                main = fs .main;
+                other = fs .other;
+                within = fs .within;
               }))
               unfolding parse readEnd textsOf constantTexts structTexts mainOf othersOf
               judge-5 l =
                   let t1 = cg .text in let t2 = sg .text in let t3 = fg .text in
                   let a1 = length-append (joined constantText (cg .held) ++ joined (λ n. n) (sg .held)) (joined (λ f. f .name) (fg .held)) in
                   let a2 = length-append (joined constantText (cg .held)) (joined (λ n. n) (sg .held)) in
-                  record { is = record {
-                    program = record { constants = cg .held; structs = sg .held; functions = fg .held };
-                    judged = judged-fine _ (fs .next) (good-both afterConstants (cg .good) (good-both (afterStructs (cg .held)) (sg .good)
-                      (good-both (afterFunctions (cg .held) (sg .held)) (fg .good)
-                      (record { means = rw (drop-of-length-le s l); ahead = omega arith; within = fg .good .within }))));
-                    sizes = record {
-                      constants = cg .count; structs = sg .count; functions = fg .count; text = omega arith;
-                      main = fg .main; other = fg .other; within = fg .within;
+                  record {
+                    is = record {
+                      program = record { constants = cg .held; structs = sg .held; functions = fg .held };
+                      judged = judged-fine _ (fs .next) (good-both afterConstants (cg .good) (good-both (afterStructs (cg .held)) (sg .good)
+                          (good-both (afterFunctions (cg .held) (sg .held)) (fg .good)
+                          (record { means = rw (drop-of-length-le s l); ahead = omega arith; within = fg .good .within }))));
+                      sizes = record {
+                        constants = cg .count;
+                        structs = sg .count;
+                        functions = fg .count;
+                        text = omega arith;
+                        main = fg .main;
+                        other = fg .other;
+                        within = fg .within;
+                      };
                     };
-                  } }
+                  }

@@ -1,31 +1,28 @@
 -- Loading: judged, then the limits, then the room, then written.
-use mathlib.Core.Path.{_≡_, refl, sym, ap, subst, _∙_}
-use mathlib.Core.Bool.{Bool, true, false, not, _&&_}
+use mathlib.Core.Path.{_≡_, sym, ap, subst, _∙_}
+use mathlib.Core.Bool.{true, false, not, _&&_}
 use mathlib.Core.List.{List, [], _∷_, _++_}
-use Prim.Native.Nat.{ℕ, zero, suc, _+_, _-_, _*_, _/_, _<_, _≤_, _^_, min}
+use Prim.Native.Nat.{ℕ, _+_, _-_, _*_, _/_, _<_, _≤_, _^_, min}
 use native.Mathlib.Omega.{arith}
 use native.Mathlib.Nat.{min-le-left, min-le-right}
 use lib.Dec.{leb}
 use lib.ListN.{length, drop, length-append}
 use borrow.Author.Tests.{leb-true, not-true, not-false}
-use Rattle.model.specs.Basics.{if_then_else_}
-use Rattle.model.specs.Numbers.{Step, got, bad, andThen}
+use Rattle.model.specs.Numbers.{Step, got, bad}
 use Rattle.model.specs.Values.{places, mostPlaces}
-use Rattle.model.specs.Programs.{Constant, Function, Program, functionAt, withinLimits, codesWithin}
+use Rattle.model.specs.Programs.{Constant, Function, Program, functionAt, withinLimits}
 use Rattle.model.specs.Images.{joined, readConstants, readStructs, readFunctions, readEnd, parse, Judged, fine, broken, judgedStep, judge}
 use Rattle.model.specs.Stores.{Stores}
 use Rattle.model.specs.Emission.{written, counts}
-use Rattle.model.specs.Loading.{constantText, constantsLaid, structsLaid, functionsLaid, constantTexts, structTexts, textsOf, mainOf, othersOf, laid, countsFor, roomFor, LoadRes, loadJudged, loadOf}
-use Rattle.model.specs.declared.Loaded.{Loaded}
+use Rattle.model.specs.Loading.{constantText, constantsLaid, structsLaid, functionsLaid, constantTexts, structTexts, textsOf, mainOf, othersOf, laid, countsFor, roomFor, loadJudged, loadOf}
 use Rattle.model.specs.declared.Loaded.the-variants as l
-use Rattle.image.specs.Links.{Good, SizesOf, Says, JudgementIs, JudgePost}
-use Rattle.image.specs.Fills.{lent, Has, bytesIn, ConstantsFit, ConstantsFilled, StructsFit, StructsFilled, FunctionsFit, FunctionsFilled, Fits, LaidPost}
+use Rattle.image.specs.Links.{SizesOf, Says, JudgementIs, JudgePost}
+use Rattle.image.specs.Fills.{lent, bytesIn, ConstantsFit, ConstantsFilled, StructsFit, StructsFilled, FunctionsFit, FunctionsFilled, Fits, LaidPost}
 use Rattle.image.specs.declared.Sizes.{Sizes}
 use Rattle.image.specs.declared.Judgement.{Judgement}
 use Rattle.image.specs.declared.Judgement.the-variants as j
 use Rattle.image.specs.declared.loading.Filled.{Filled}
 use Rattle.image.proofs.Codecs.{both-true, never, then-only, got-value, got-rest}
-use Rattle.image.proofs.Filling.{has-same}
 use Rattle.image.proofs.Written.{kept-length, more-written}
 
 -- ---- the parts of a program that was judged
@@ -101,8 +98,14 @@ room-of p x h =
     let h7 = both-true _ _ h in let h6 = both-true _ _ (h7 .0) in let h5 = both-true _ _ (h6 .0) in let h4 = both-true _ _ (h5 .0) in
     let h3 = both-true _ _ (h4 .0) in let h2 = both-true _ _ (h3 .0) in let h1 = both-true _ _ (h2 .0) in
     record {
-      constants = leb-true _ _ (h1 .0); structs = leb-true _ _ (h1 .1); functions = leb-true _ _ (h2 .1); text = leb-true _ _ (h3 .1);
-      main = leb-true _ _ (h4 .1); mainPlaces = leb-true _ _ (h5 .1); other = leb-true _ _ (h6 .1); otherPlaces = leb-true _ _ (h7 .1);
+      constants = leb-true _ _ (h1 .0);
+      structs = leb-true _ _ (h1 .1);
+      functions = leb-true _ _ (h2 .1);
+      text = leb-true _ _ (h3 .1);
+      main = leb-true _ _ (h4 .1);
+      mainPlaces = leb-true _ _ (h5 .1);
+      other = leb-true _ _ (h6 .1);
+      otherPlaces = leb-true _ _ (h7 .1);
     }
 
 -- ---- the writing pass
@@ -129,8 +132,11 @@ module _ (s : List ℕ) (cs ss fs tx mn mp ot op : List ℕ) (fit : Fits s (lent
   fit-constants =
       let t = one-word _ tx (room .text) in let t0 = t .0 in let t1 = t .1 in let e = text-parts in
       record {
-        held = p .constants; has = record { within = omega arith; rest = q .rest₁; means = q .constants };
-        words = two-words _ cs (room .constants); text = omega arith; small = omega arith;
+        held = p .constants;
+        has = record { within = omega arith; rest = q .rest₁; means = q .constants };
+        words = two-words _ cs (room .constants);
+        text = omega arith;
+        small = omega arith;
       }
 
   module _ (z : Filled) (cs₁ tx₁ : List ℕ) (c : ConstantsFilled s 0 cs tx z cs₁ tx₁) where
@@ -144,8 +150,11 @@ module _ (s : List ℕ) (cs ss fs tx mn mp ot op : List ℕ) (fit : Fits s (lent
     fit-structs =
         let t = one-word _ tx (room .text) in let t0 = t .0 in let t1 = t .1 in let e = text-parts in let k = kept-length tx₁ tx 0 _ (c .texts) in let ct = c-text in
         record {
-          held = p .structs; has = record { within = c .good .within; rest = q .rest₂; means = ap readStructs (got-end (c .good .means) (q .constants)) ∙ q .structs };
-          words = one-word _ ss (room .structs) .0; text = omega arith; small = omega arith;
+          held = p .structs;
+          has = record { within = c .good .within; rest = q .rest₂; means = ap readStructs (got-end (c .good .means) (q .constants)) ∙ q .structs };
+          words = one-word _ ss (room .structs) .0;
+          text = omega arith;
+          small = omega arith;
         }
 
     module _ (y : Filled) (ss₁ tx₂ : List ℕ) (d : StructsFilled s (z .next) (z .text) ss tx₁ y ss₁ tx₂) where
@@ -167,8 +176,10 @@ module _ (s : List ℕ) (cs ss fs tx mn mp ot op : List ℕ) (fit : Fits s (lent
           let t = one-word _ tx (room .text) in let t0 = t .0 in let t1 = t .1 in let e = text-parts in
           let k1 = kept-length tx₁ tx 0 _ (c .texts) in let k2 = kept-length tx₂ tx₁ (z .text) _ (d .texts) in let st = s-text in
           record {
-            held = p .functions; has = record { within = d .good .within; rest = q .rest₃; means = functions-here };
-            words = two-words _ fs (room .functions); text = omega arith;
+            held = p .functions;
+            has = record { within = d .good .within; rest = q .rest₃; means = functions-here };
+            words = two-words _ fs (room .functions);
+            text = omega arith;
             small = (omega arith, (one-word _ mn (room .main) .1, one-word _ ot (room .other) .1));
             main = (one-word _ mn (room .main) .0, one-word _ mp (room .mainPlaces) .0);
             other = (one-word _ ot (room .other) .0, one-word _ op (room .otherPlaces) .0);
@@ -192,19 +203,21 @@ module _ (s : List ℕ) (cs ss fs tx mn mp ot op : List ℕ) (fit : Fits s (lent
         here : lent cs₁ ss₁ fs₁ tx₃ mn₁ mp₁ ot₁ op₁ ≡ laid p (lent cs ss fs tx mn mp ot op)
         unfolding laid constantTexts structTexts mainOf othersOf
         here = stores-same
-          (c .words ∙ ap (λ (v : List Constant). written cs 0 (constantsLaid 0 v)) same-constants)
-          (d .words ∙ ap (λ (v : List (List ℕ)). written ss 0 (structsLaid (z .text) v)) same-structs ∙ ap (λ (v : ℕ). written ss 0 (structsLaid v (p .structs))) c-text)
-          (f .words ∙ ap (λ (v : List Function). written fs 0 (functionsLaid (y .text) v)) same-functions ∙ ap (λ (v : ℕ). written fs 0 (functionsLaid v (p .functions))) s-text)
-          texts-laid
-          (f .main ∙ ap (λ (v : List Function). written mn 0 (functionAt v 0 .code)) same-functions)
-          (f .mainPlaces ∙ ap (λ (v : List Function). written mp 0 (functionAt v 0 .places)) same-functions)
-          (f .other ∙ ap (λ (v : List Function). written ot 0 (joined (λ g. g .code) (drop 1 v))) same-functions)
-          (f .otherPlaces ∙ ap (λ (v : List Function). written op 0 (joined (λ g. g .places) (drop 1 v))) same-functions)
+            (c .words ∙ ap (λ (v : List Constant). written cs 0 (constantsLaid 0 v)) same-constants)
+            (d .words ∙ ap (λ (v : List (List ℕ)). written ss 0 (structsLaid (z .text) v)) same-structs ∙ ap (λ (v : ℕ). written ss 0 (structsLaid v (p .structs))) c-text)
+            (f .words ∙ ap (λ (v : List Function). written fs 0 (functionsLaid (y .text) v)) same-functions ∙ ap (λ (v : ℕ). written fs 0 (functionsLaid v (p .functions))) s-text)
+            texts-laid
+            (f .main ∙ ap (λ (v : List Function). written mn 0 (functionAt v 0 .code)) same-functions)
+            (f .mainPlaces ∙ ap (λ (v : List Function). written mp 0 (functionAt v 0 .places)) same-functions)
+            (f .other ∙ ap (λ (v : List Function). written ot 0 (joined (λ g. g .code) (drop 1 v))) same-functions)
+            (f .otherPlaces ∙ ap (λ (v : List Function). written op 0 (joined (λ g. g .places) (drop 1 v))) same-functions)
 
         pub all-laid : LaidPost s (lent cs ss fs tx mn mp ot op) (lent cs₁ ss₁ fs₁ tx₃ mn₁ mp₁ ot₁ op₁)
         unfolding p
-        all-laid = record { laid = λ r e.
-          subst (λ (k : Program). lent cs₁ ss₁ fs₁ tx₃ mn₁ mp₁ ot₁ op₁ ≡ laid k (lent cs ss fs tx mn mp ot op)) (fine-one (fit .judged) e) here }
+        all-laid = record {
+          laid = λ r e.
+              subst (λ (k : Program). lent cs₁ ss₁ fs₁ tx₃ mn₁ mp₁ ot₁ op₁ ≡ laid k (lent cs ss fs tx mn mp ot op)) (fine-one (fit .judged) e) here;
+        }
 
 -- ---- loading
 
@@ -263,4 +276,4 @@ module _ (s : List ℕ) (x : Stores) (r : Judgement) (h : JudgePost s r) where
         pub load-done : (x′ : Stores) → LaidPost s x x′ → record { answer = l.Done (counts (z .constants) (z .structs) (z .functions) (z .text) 0); stores = x′ } ≡ loadOf s x
         unfolding loadOf loadJudged countsFor
         load-done x′ k = rw (g .judged, within, sym roomy ∙ not-false _ b, ← g .sizes .constants, ← g .sizes .structs, ← g .sizes .functions, ← g .sizes .text)
-          (ap (λ (y : Stores). record { answer = l.Done (counts (z .constants) (z .structs) (z .functions) (z .text) 0); stores = y }) (k .laid (g .program) (g .judged)))
+            (ap (λ (y : Stores). record { answer = l.Done (counts (z .constants) (z .structs) (z .functions) (z .text) 0); stores = y }) (k .laid (g .program) (g .judged)))

@@ -1,13 +1,13 @@
 -- The judging of a section: a count, and each with its text.
 use mathlib.Core.Path.{_≡_, refl, sym, ap, subst, _∙_}
 use mathlib.Core.Bool.{Bool, true, false, not}
-use mathlib.Core.List.{List, [], _∷_, _++_, append-assoc, append-nil}
+use mathlib.Core.List.{List, [], _∷_, _++_}
 use Prim.Native.Nat.{ℕ, zero, suc, _+_, _-_, _<_, _≤_}
 use native.Mathlib.Omega.{arith}
 use native.Mathlib.Numerals.{add-one}
 use lib.ListN.{length, take, drop}
 use Rattle.model.specs.Basics.{if_then_else_}
-use Rattle.model.specs.Numbers.{Step, got, bad, andThen, item, checked, number}
+use Rattle.model.specs.Numbers.{Step, got, andThen, number}
 use Rattle.model.specs.Equality.{sameBytes}
 use Rattle.model.specs.Programs.{Constant, among}
 use Rattle.model.specs.Images.{joined, series, readText, readConstant, always, readConstants, readName, snoc, readStructs}
@@ -21,7 +21,6 @@ use Rattle.image.specs.declared.Text.the-variants as t
 use Rattle.image.specs.declared.Entry.{Entry}
 use Rattle.image.specs.declared.Item.{Item}
 use Rattle.image.specs.declared.Item.the-variants as e
-use Rattle.image.specs.declared.Checked.{Checked}
 use Rattle.image.specs.declared.Checked.the-variants as c
 use Rattle.image.proofs.Codecs.{never, got-value, got-rest, then-only, made-only}
 use Rattle.image.proofs.Reading.{Along, along-start, along-end, along-within, along-bad, along-step, joined-length, bad-first, bad-second, good-both, bad-test, bad-tested, good-test, no-number, a-number}
@@ -105,7 +104,7 @@ module _ (s : List ℕ) (before at n : ℕ) (count : Good number s before at n) 
           record {
             done = h .done ++ (constantAt s y ∷ []);
             pass = pass-step readConstant always (λ l. tt) constantText s at n cur text i (h .done) (h .pass) l (constantAt s y) (y .next) (y .len) (g .good)
-              (sym (ap length (g .text) ∙ part-length s (y .from) (y .len) (g .inside))) (g .room) refl;
+                (sym (ap length (g .text) ∙ part-length s (y .from) (y .len) (g .inside))) (g .room) refl;
           }
 
 -- ---- a name among others
@@ -166,9 +165,11 @@ module _ (s : List ℕ) (from count : ℕ) (f : Texts s from count) (nm : List �
         slice = let z : k + m - k ≡ m = omega arith in rw z
 
         pub seek-found : (b : Bool) → b ≡ sameBytes nm (take (k + m - k) (drop k s)) → b ≡ true → SeenPost s from count nm true
-        seek-found b eb et = record { tells = λ l q g.
-          let w = along-within anyText always count tt s from (i + 1) tt (k + m) (h .done ++ (partOf s k m ∷ [])) next-along l q g in
-          sym (ap (among nm) (w .1) ∙ among-true nm (h .done) (partOf s k m) (w .0) (sym (ap (sameBytes nm) slice) ∙ sym eb ∙ et)) }
+        seek-found b eb et = record {
+          tells = λ l q g.
+              let w = along-within anyText always count tt s from (i + 1) tt (k + m) (h .done ++ (partOf s k m ∷ [])) next-along l q g in
+              sym (ap (among nm) (w .1) ∙ among-true nm (h .done) (partOf s k m) (w .0) (sym (ap (sameBytes nm) slice) ∙ sym eb ∙ et));
+        }
 
         pub seek-step : (b : Bool) → b ≡ sameBytes nm (take (k + m - k) (drop k s)) → b ≡ false → Seeking s from count nm (k + m) (i + 1)
         seek-step b eb ef = record {
@@ -256,9 +257,10 @@ module _ (s : List ℕ) (before at n : ℕ) (count : Good number s before at n) 
           record {
             done = h .done ++ (partOf s k m ∷ []);
             pass = pass-step readName snoc (λ l. l) (λ t. t) s at n cur text i (h .done) (h .pass) l (partOf s k m) (k + m) m
-              (good-test (λ t. not (among t (h .done))) (g .good) (ap not (sym (tells b w) ∙ f))) (sym (part-length s k m (g .good .within))) (omega arith) refl;
+                (good-test (λ t. not (among t (h .done))) (g .good) (ap not (sym (tells b w) ∙ f))) (sym (part-length s k m (g .good .within))) (omega arith) refl;
             texts = record {
               means = rw add-one (texts-more i (drop at s) (h .done) (drop cur s) (partOf s k m) (drop (k + m) s) (h .texts .means) (g .good .means));
-              ahead = omega arith; within = g .good .within;
+              ahead = omega arith;
+              within = g .good .within;
             };
           }

@@ -1,14 +1,13 @@
 -- Places of code: the runs that are written of them read back as them, and whatever runs read are those of the places read.
 use mathlib.Core.Path.{_≡_, refl, sym, ap, subst, _∙_}
-use mathlib.Core.Bool.{Bool, true, false, not, _&&_}
+use mathlib.Core.Bool.{true, not, _&&_}
 use mathlib.Core.List.{List, [], _∷_, _++_, append-assoc}
-use Prim.Native.Nat.{ℕ, zero, suc, _+_, _-_, _<_, _≤_, _^_}
+use Prim.Native.Nat.{ℕ, zero, suc, _+_, _-_, _<_, _≤_}
 use native.Mathlib.Omega.{arith}
 use lib.Dec.{ltb, leb, eqb}
 use lib.ListN.{length, replicate, length-append, length-replicate}
 use borrow.Author.Tests.{lt-ltb, ltb-true, le-leb, leb-true, eq-eqb, ne-eqb, eqb-true, eqb-false, not-true}
-use Rattle.model.specs.Basics.{if_then_else_}
-use Rattle.model.specs.Numbers.{Step, got, bad, andThen, digits, number, Bytes, Codes}
+use Rattle.model.specs.Numbers.{got, andThen, digits, Bytes, Codes}
 use Rattle.model.specs.Images.{joined, Run, run, joinRun, runsOf, runImage, noPlace, readRunBytes, readRunPlace, readRuns, Small, AllSmall}
 use Rattle.number.proofs.Codes.{number-codes}
 use Rattle.image.proofs.Codecs.{by-test, both-true, never, got-value, got-rest, then-only, made-only, bytes-rest, codes-item, codes-checked}
@@ -90,14 +89,18 @@ runs-good (p ∷ (p′ ∷ ps)) q s d = more (runsOf (p′ ∷ ps)) (λ q′ d�
         let same : (n : ℕ) → 0 < n → replicate n (r .place) ++ spread l ≡ p′ ∷ ps → r .place ≡ p′ = λ n. first n in
         by-test (eqb p (r .place))
         (λ t. let e : p ≡ r .place = eqb-true p (r .place) t in
-          let b0 = g .1 .0 .0 in let b1 = g .1 .0 .1 .0 in
-          let z : suc (suc (length ps)) - suc (r .bytes) ≡ suc (length ps) - r .bytes = omega arith in
-          rw t (ap (λ (x : List ℕ). p ∷ x) (ap (λ (k : ℕ). replicate (r .bytes) k ++ spread l) e ∙ g .0),
-            ((let y : 0 < suc (r .bytes) = omega arith in y, (let y : suc (r .bytes) ≤ suc (suc (length ps)) = omega arith in y, (s .0, d))),
-             rw (z, e) (g .1 .1))))
+        let b0 = g .1 .0 .0 in let b1 = g .1 .0 .1 .0 in
+        let z : suc (suc (length ps)) - suc (r .bytes) ≡ suc (length ps) - r .bytes = omega arith in
+        rw t (
+          ap (λ (x : List ℕ). p ∷ x) (ap (λ (k : ℕ). replicate (r .bytes) k ++ spread l) e ∙ g .0),
+          (
+            (let y : 0 < suc (r .bytes) = omega arith in y, (let y : suc (r .bytes) ≤ suc (suc (length ps)) = omega arith in y, (s .0, d))),
+            rw (z, e) (g .1 .1),
+          ),
+        ))
         (λ t. let n : p ≡ r .place → ⊥ = eqb-false p (r .place) t in
-          let h = f p (λ e. n (e ∙ sym (same (r .bytes) (g .1 .0 .0) (g .0)))) in
-          rw t (ap (λ (x : List ℕ). p ∷ x) (h .0), ((let y : 0 < 1 = omega arith in y, (let y : 1 ≤ suc (suc (length ps)) = omega arith in y, (s .0, d))), subst (λ (k : ℕ). Runs k p (r ∷ l)) (let y : suc (length ps) ≡ suc (suc (length ps)) - 1 = omega arith in y) (h .1))))
+        let h = f p (λ e. n (e ∙ sym (same (r .bytes) (g .1 .0 .0) (g .0)))) in
+        rw t (ap (λ (x : List ℕ). p ∷ x) (h .0), ((let y : 0 < 1 = omega arith in y, (let y : 1 ≤ suc (suc (length ps)) = omega arith in y, (s .0, d))), subst (λ (k : ℕ). Runs k p (r ∷ l)) (let y : suc (length ps) ≡ suc (suc (length ps)) - 1 = omega arith in y) (h .1))))
       where
         first : (n : ℕ) → 0 < n → replicate n (r .place) ++ spread l ≡ p′ ∷ ps → r .place ≡ p′
         first zero z e = absurd (let w : ⊥ = omega arith in w)
@@ -124,9 +127,14 @@ runs-back (suc fuel) left q (x ∷ l) r h s g =
     let t : (ltb 0 (x .bytes) && leb (x .bytes) left) ≡ true = rw (lt-ltb 0 (x .bytes) a, le-leb (x .bytes) left b) in
     let u : not (eqb q (x .place)) ≡ true = rw (ne-eqb q (x .place) (g .0 .1 .1 .1)) in
     let ih = runs-back fuel (left - x .bytes) (x .place) l r (omega arith) (omega arith) (g .1) in
-    rw (ne-eqb left 0 (λ e. omega arith), append-assoc, append-assoc,
+    rw (
+      ne-eqb left 0 (λ e. omega arith),
+      append-assoc,
+      append-assoc,
       codes-run-bytes left .back (x .bytes) (digits (x .place) ++ (joined runImage l ++ r)) (omega arith, t),
-      codes-run-place q .back (x .place) (joined runImage l ++ r) (g .0 .1 .1 .0, u), ih)
+      codes-run-place q .back (x .place) (joined runImage l ++ r) (g .0 .1 .1 .0, u),
+      ih,
+    )
 
 Read : ℕ → ℕ → List ℕ → List ℕ → List ℕ → Type 0
 Read left q b ps r = (l : List Run) × (b ≡ joined runImage l ++ r) × (ps ≡ spread l) × Runs left q l
@@ -138,13 +146,14 @@ runs-none left q b ps r z e = ([], got-rest e, sym (got-value e), z)
 runs-one : (left q : ℕ) (b ps r : List ℕ) (n p : ℕ) (b1 b2 ps1 : List ℕ) → b ≡ digits n ++ b1 → b1 ≡ digits p ++ b2 → 0 < n → n ≤ left → Small p → (q ≡ p → ⊥)
     → replicate n p ++ ps1 ≡ ps → Read (left - n) p b2 ps1 r → Read left q b ps r
 unfolding Read joined spread Runs runImage
-runs-one left q b ps r n p b1 b2 ps1 e1 e2 z f s d e ih =
-    (run n p ∷ ih .0,
-     e1 ∙ ap (λ (x : List ℕ). digits n ++ x) (e2 ∙ ap (λ (x : List ℕ). digits p ++ x) (ih .1))
-       ∙ sym (append-assoc (digits n) (digits p) (joined runImage (ih .0) ++ r))
-       ∙ sym (append-assoc (digits n ++ digits p) (joined runImage (ih .0)) r),
-     sym e ∙ ap (λ (x : List ℕ). replicate n p ++ x) (ih .2),
-     ((z, (f, (s, d))), ih .3))
+runs-one left q b ps r n p b1 b2 ps1 e1 e2 z f s d e ih = (
+  run n p ∷ ih .0,
+  e1 ∙ ap (λ (x : List ℕ). digits n ++ x) (e2 ∙ ap (λ (x : List ℕ). digits p ++ x) (ih .1))
+      ∙ sym (append-assoc (digits n) (digits p) (joined runImage (ih .0) ++ r))
+      ∙ sym (append-assoc (digits n ++ digits p) (joined runImage (ih .0)) r),
+  sym e ∙ ap (λ (x : List ℕ). replicate n p ++ x) (ih .2),
+  ((z, (f, (s, d))), ih .3),
+)
 
 runs-only : (fuel left q : ℕ) (b ps r : List ℕ) → Bytes b → readRuns fuel left q b ≡ got ps r → Read left q b ps r
 unfolding readRuns
@@ -152,16 +161,16 @@ runs-only zero left q b ps r y e = by-test (eqb left 0) (λ t. runs-none left q 
 runs-only (suc fuel) left q b ps r y e = by-test (eqb left 0)
     (λ t. runs-none left q b ps r (eqb-true left 0 t) (rw t at e))
     (λ t. let g1 = then-only (readRunBytes left b) _ ps r (rw t at e) in
-      let o1 = codes-run-bytes left .only b (g1 .0) (g1 .1) y (g1 .2) in
-      let y1 = bytes-rest (digits (g1 .0)) (g1 .1) (subst Bytes (o1 .0) y) in
-      let g2 = then-only (readRunPlace q (g1 .1)) _ ps r (g1 .3) in
-      let o2 = codes-run-place q .only (g1 .1) (g2 .0) (g2 .1) y1 (g2 .2) in
-      let y2 = bytes-rest (digits (g2 .0)) (g2 .1) (subst Bytes (o2 .0) y1) in
-      let m = made-only (λ x. replicate (g1 .0) (g2 .0) ++ x) (readRuns fuel (left - g1 .0) (g2 .0) (g2 .1)) ps r (g2 .3) in
-      let ih = runs-only fuel (left - g1 .0) (g2 .0) (g2 .1) (m .0) r y2 (m .2) in
-      let n = both-true _ _ (o1 .1 .1) in
-      runs-one left q b ps r (g1 .0) (g2 .0) (g1 .1) (g2 .1) (m .0) (o1 .0) (o2 .0) (ltb-true 0 (g1 .0) (n .0)) (leb-true (g1 .0) left (n .1)) (o2 .1 .0)
-      (eqb-false q (g2 .0) (not-true _ (o2 .1 .1))) (m .1) ih)
+    let o1 = codes-run-bytes left .only b (g1 .0) (g1 .1) y (g1 .2) in
+    let y1 = bytes-rest (digits (g1 .0)) (g1 .1) (subst Bytes (o1 .0) y) in
+    let g2 = then-only (readRunPlace q (g1 .1)) _ ps r (g1 .3) in
+    let o2 = codes-run-place q .only (g1 .1) (g2 .0) (g2 .1) y1 (g2 .2) in
+    let y2 = bytes-rest (digits (g2 .0)) (g2 .1) (subst Bytes (o2 .0) y1) in
+    let m = made-only (λ x. replicate (g1 .0) (g2 .0) ++ x) (readRuns fuel (left - g1 .0) (g2 .0) (g2 .1)) ps r (g2 .3) in
+    let ih = runs-only fuel (left - g1 .0) (g2 .0) (g2 .1) (m .0) r y2 (m .2) in
+    let n = both-true _ _ (o1 .1 .1) in
+    runs-one left q b ps r (g1 .0) (g2 .0) (g1 .1) (g2 .1) (m .0) (o1 .0) (o2 .0) (ltb-true 0 (g1 .0) (n .0)) (leb-true (g1 .0) left (n .1)) (o2 .1 .0)
+    (eqb-false q (g2 .0) (not-true _ (o2 .1 .1))) (m .1) ih)
 
 apart : (ps : List ℕ) → AllSmall ps → Apart noPlace ps
 unfolding AllSmall Apart
@@ -173,10 +182,11 @@ pub codes-places : (n : ℕ) → Small n → Codes (λ ps. (length ps ≡ n) × 
 unfolding Read
 codes-places n s = record {
   back = λ ps r h.
-    let g = runs-good ps noPlace (h .1) (apart ps (h .1)) in
-    runs-back n n noPlace (runsOf ps) r (omega arith) s (subst (λ (k : ℕ). Runs k noPlace (runsOf ps)) (h .0) (g .1)) ∙ ap (λ (x : List ℕ). got x r) (g .0);
+      let g = runs-good ps noPlace (h .1) (apart ps (h .1)) in
+      runs-back n n noPlace (runsOf ps) r (omega arith) s (subst (λ (k : ℕ). Runs k noPlace (runsOf ps)) (h .0) (g .1)) ∙ ap (λ (x : List ℕ). got x r) (g .0);
   only = λ b ps r y e.
-    let g = runs-only n n noPlace b ps r y e in
-    (g .1 ∙ ap (λ (x : List Run). joined runImage x ++ r) (sym (ap runsOf (g .2) ∙ runs-of-spread n noPlace (g .0) (g .3))),
-     (ap length (g .2) ∙ spread-length n noPlace (g .0) (g .3), subst AllSmall (sym (g .2)) (spread-small n noPlace (g .0) (g .3))));
+      let g = runs-only n n noPlace b ps r y e in (
+        g .1 ∙ ap (λ (x : List Run). joined runImage x ++ r) (sym (ap runsOf (g .2) ∙ runs-of-spread n noPlace (g .0) (g .3))),
+        (ap length (g .2) ∙ spread-length n noPlace (g .0) (g .3), subst AllSmall (sym (g .2)) (spread-small n noPlace (g .0) (g .3))),
+      );
 }

@@ -1,15 +1,14 @@
 -- The writing pass: functions, and the whole image.
 use mathlib.Core.Path.{_≡_, refl, sym, ap, subst, _∙_}
-use mathlib.Core.Bool.{Bool, true, false, not, _&&_}
-use mathlib.Core.List.{List, [], _∷_, _++_, append-assoc, append-nil}
-use Prim.Native.Nat.{ℕ, zero, suc, _+_, _-_, _*_, _<_, _≤_, _^_}
+use mathlib.Core.Bool.{Bool, true, false}
+use mathlib.Core.List.{List, [], _∷_, _++_}
+use Prim.Native.Nat.{ℕ, suc, _+_, _-_, _*_, _<_, _≤_, _^_}
 use native.Mathlib.Omega.{arith}
 use native.Mathlib.Nat.{pos-of-ne-zero}
 use lib.Dec.{ltb}
 use lib.ListN.{length, take, drop, length-append}
 use borrow.Author.Tests.{lt-ltb}
-use Rattle.model.specs.Basics.{if_then_else_}
-use Rattle.model.specs.Numbers.{Step, got, bad, andThen, item, checked, number}
+use Rattle.model.specs.Numbers.{Step, got, andThen, number}
 use Rattle.model.specs.Values.{putWords}
 use Rattle.model.specs.Programs.{Function, functionAt}
 use Rattle.model.specs.Images.{joined, series, readFunction, readFunctions}
@@ -19,14 +18,14 @@ use Rattle.model.specs.Loading.{othersLaid, functionsLaid}
 use Rattle.number.specs.Links.{NumPost}
 use Rattle.number.specs.declared.Num.{Num}
 use Rattle.number.specs.declared.Num.the-variants as n
-use Rattle.image.specs.Links.{Good, Bad, partOf, runsFor, functionOf, HeadAt, HeadPost, othersFor}
+use Rattle.image.specs.Links.{Good, partOf, runsFor, functionOf, HeadAt, HeadPost, othersFor}
 use Rattle.image.specs.Fills.{Has, bytesIn, RunsFit, RunsFilled, FunctionFits, FunctionFilled, OthersFit, OthersFilled, FunctionsFit, FunctionsFilled}
 use Rattle.image.specs.declared.Head.{Head}
 use Rattle.image.specs.declared.Begun.{Begun}
 use Rattle.image.specs.declared.Begun.the-variants as h
 use Rattle.image.specs.declared.Span.{Span}
-use Rattle.image.proofs.Codecs.{never, then-only, made-only}
-use Rattle.image.proofs.Reading.{Along, along-start, along-end, along-step, joined-length, joined-append, bad-first, bad-test, bad-tested, good-test, no-number}
+use Rattle.image.proofs.Codecs.{then-only, made-only}
+use Rattle.image.proofs.Reading.{Along, along-start, along-step, joined-length, joined-append, bad-first, bad-test, bad-tested, good-test, no-number}
 use Rattle.image.proofs.Items.{part-length, part-slice}
 use Rattle.image.proofs.Functions.{head-is, head-not, behindMain, series-count}
 use Rattle.image.proofs.Filling.{has-never, has-same, has-second, series-whole, series-head}
@@ -91,10 +90,11 @@ module _ (first : Bool) (s : List ℕ) (at i t c : ℕ) (fs tx cd pl : List ℕ)
         record {
           held = functionOf s y (z .held);
           good = record { means = g .leads ∙ rw (z .good .means); ahead = omega arith; within = z .good .within };
-          name = sym nm; code = sym cm;
+          name = sym nm;
+          code = sym cm;
           places = z .count ∙ sym cm;
           words = ef ∙ written-two fs i a b ∙ ap (λ (k : ℕ). written fs (2 * i) (k ∷ b ∷ [])) (ea ∙ ap (pack t) (sym nm))
-            ∙ ap (λ (k : ℕ). written fs (2 * i) (pack t (length (partOf s (y .name) (y .len))) ∷ k ∷ [])) (eb ∙ ap (pack c) (sym cm));
+              ∙ ap (λ (k : ℕ). written fs (2 * i) (pack t (length (partOf s (y .name) (y .len))) ∷ k ∷ [])) (eb ∙ ap (pack c) (sym cm));
           names = et ∙ ap (written tx t) (part-slice s (y .name) (y .len));
           codes = ec ∙ ap (written cd c) (part-slice s (y .code) (y .size));
           placed = z .stored;
@@ -109,12 +109,12 @@ others-more o j [] f = ap (λ (k : ℕ). pack k (length (f .name)) ∷ pack j (l
     ∙ ap (λ (k : ℕ). pack (o + 0) (length (f .name)) ∷ pack k (length (f .code)) ∷ []) (let z : j ≡ j + 0 = omega arith in z)
 others-more o j (x ∷ l) f =
     let z1 : o + length (x .name) + length (joined (λ f. f .name) l) ≡ o + length (x .name ++ joined (λ f. f .name) l) =
-      (let a = length-append (x .name) (joined (λ f. f .name) l) in omega arith) in
+    (let a = length-append (x .name) (joined (λ f. f .name) l) in omega arith) in
     let z2 : j + length (x .code) + length (joined (λ f. f .code) l) ≡ j + length (x .code ++ joined (λ f. f .code) l) =
-      (let a = length-append (x .code) (joined (λ f. f .code) l) in omega arith) in
+    (let a = length-append (x .code) (joined (λ f. f .code) l) in omega arith) in
     ap (λ (w : List ℕ). pack o (length (x .name)) ∷ pack j (length (x .code)) ∷ w) (others-more (o + length (x .name)) (j + length (x .code)) l f
-      ∙ ap (λ (k : ℕ). othersLaid (o + length (x .name)) (j + length (x .code)) l ++ (pack k (length (f .name)) ∷ pack (j + length (x .code) + length (joined (λ f. f .code) l)) (length (f .code)) ∷ [])) z1
-      ∙ ap (λ (k : ℕ). othersLaid (o + length (x .name)) (j + length (x .code)) l ++ (pack (o + length (x .name ++ joined (λ f. f .name) l)) (length (f .name)) ∷ pack k (length (f .code)) ∷ [])) z2)
+    ∙ ap (λ (k : ℕ). othersLaid (o + length (x .name)) (j + length (x .code)) l ++ (pack k (length (f .name)) ∷ pack (j + length (x .code) + length (joined (λ f. f .code) l)) (length (f .code)) ∷ [])) z1
+    ∙ ap (λ (k : ℕ). othersLaid (o + length (x .name)) (j + length (x .code)) l ++ (pack (o + length (x .name ++ joined (λ f. f .name) l)) (length (f .name)) ∷ pack k (length (f .code)) ∷ [])) z2)
 
 pub others-length : (o j : ℕ) (l : List Function) → length (othersLaid o j l) ≡ 2 * length l
 unfolding othersLaid
@@ -140,8 +140,15 @@ module _ (k : ℕ) (s : List ℕ) (at t₀ : ℕ) (fs₀ tx₀ cd₀ pl₀ : Lis
   pub others-begin : FillingOthers k s at t₀ fs₀ tx₀ cd₀ pl₀ fs₀ tx₀ cd₀ pl₀ at t₀ 0 0
   unfolding joined othersLaid
   others-begin = record {
-    done = []; along = along-start readFunction behindMain k false s at (fit .has .within); text = omega arith; code = refl; same = refl;
-    words = written-none fs₀ 2; names = written-none tx₀ t₀; codes = written-none cd₀ 0; placed = written-none pl₀ 0;
+    done = [];
+    along = along-start readFunction behindMain k false s at (fit .has .within);
+    text = omega arith;
+    code = refl;
+    same = refl;
+    words = written-none fs₀ 2;
+    names = written-none tx₀ t₀;
+    codes = written-none cd₀ 0;
+    placed = written-none pl₀ 0;
   }
 
   module _ (fs tx cd pl : List ℕ) (next t c i : ℕ) (w : FillingOthers k s at t₀ fs₀ tx₀ cd₀ pl₀ fs tx cd pl next t c i) where
@@ -169,7 +176,13 @@ module _ (k : ℕ) (s : List ℕ) (at t₀ : ℕ) (fs₀ tx₀ cd₀ pl₀ : Lis
           let f1 = fit .words in let f2 = fit .text in let f3 = fit .code in let f4 = fit .places in let f5 = fit .small .0 in let f6 = fit .small .1 in
           let t1 = w .text in let c1 = w .code in
           record {
-            held = o .0; has = o .1; words = omega arith; name = omega arith; code = omega arith; places = omega arith; small = (omega arith, omega arith);
+            held = o .0;
+            has = o .1;
+            words = omega arith;
+            name = omega arith;
+            code = omega arith;
+            places = omega arith;
+            small = (omega arith, omega arith);
           }
 
       module _ (z : Span) (fs′ tx′ cd′ pl′ : List ℕ) (q : FunctionFilled false s next (i + 1) t c fs tx cd pl z fs′ tx′ cd′ pl′) where
@@ -192,12 +205,14 @@ module _ (k : ℕ) (s : List ℕ) (at t₀ : ℕ) (fs₀ tx₀ cd₀ pl₀ : Lis
             record {
               done = w .done ++ (q .held ∷ []);
               along = along-step readFunction behindMain k false s at i false next (w .done) (w .along) l (q .held) (z .next) (q .good);
-              text = omega arith; code = omega arith; same = omega arith;
+              text = omega arith;
+              code = omega arith;
+              same = omega arith;
               words = more-written fs₀ fs fs′ 2 (2 * (i + 1)) (othersLaid t₀ 0 (w .done)) (pack t (length (q .held .name)) ∷ pack c (length (q .held .code)) ∷ []) (w .words) (omega arith) (q .words)
-                ∙ ap (λ (x : ℕ). written fs₀ 2 (othersLaid t₀ 0 (w .done) ++ (pack x (length (q .held .name)) ∷ pack c (length (q .held .code)) ∷ []))) t1
-                ∙ ap (λ (x : ℕ). written fs₀ 2 (othersLaid t₀ 0 (w .done) ++ (pack (t₀ + length (joined (λ f. f .name) (w .done))) (length (q .held .name)) ∷ pack x (length (q .held .code)) ∷ [])))
+                  ∙ ap (λ (x : ℕ). written fs₀ 2 (othersLaid t₀ 0 (w .done) ++ (pack x (length (q .held .name)) ∷ pack c (length (q .held .code)) ∷ []))) t1
+                  ∙ ap (λ (x : ℕ). written fs₀ 2 (othersLaid t₀ 0 (w .done) ++ (pack (t₀ + length (joined (λ f. f .name) (w .done))) (length (q .held .name)) ∷ pack x (length (q .held .code)) ∷ [])))
                   (let y : c ≡ 0 + length (joined (λ f. f .code) (w .done)) = omega arith in y)
-                ∙ ap (written fs₀ 2) (sym (others-more t₀ 0 (w .done) (q .held)));
+                  ∙ ap (written fs₀ 2) (sym (others-more t₀ 0 (w .done) (q .held)));
               names = more-joined (λ f. f .name) (w .done) (q .held) tx₀ tx tx′ t₀ t (w .names) t1 (q .names);
               codes = more-joined (λ f. f .code) (w .done) (q .held) cd₀ cd cd′ 0 c (w .codes) (omega arith) (q .codes);
               placed = more-joined (λ f. f .places) (w .done) (q .held) pl₀ pl pl′ 0 c (w .placed) (omega arith) (q .placed);
@@ -228,7 +243,7 @@ module _ (s : List ℕ) (at t : ℕ) (fs tx mn mp ot op : List ℕ) (fit : Funct
       whole : Has (allFor (suc (k - 1))) s first (fit .held)
       unfolding readFunctions
       whole = subst (λ (j : ℕ). Has (allFor j) s first (fit .held)) one
-        (has-second allFor s at first k (fit .held) (fit .has) (good-test someTest count (lt-ltb 0 k (pos-of-ne-zero z))))
+          (has-second allFor s at first k (fit .held) (fit .has) (good-test someTest count (lt-ltb 0 k (pos-of-ne-zero z))))
 
       -- main, and the others behind it
       parts : (f : Function) × (m : Has (readFunction true) s first f) × (l : List Function) × (fit .held ≡ f ∷ l)
@@ -236,10 +251,17 @@ module _ (s : List ℕ) (at t : ℕ) (fs tx mn mp ot op : List ℕ) (fit : Funct
       unfolding series othersFor
       parts =
           let g = then-only (readFunction true (drop first s)) _ (fit .held) (whole .rest) (whole .means) in
-          let m = made-only (λ (y : List Function). g .0 ∷ y) (series readFunction behindMain (k - 1) false (g .1)) (fit .held) (whole .rest) (g .3) in
-          (g .0, record { within = whole .within; rest = g .1; means = g .2 }, m .0, sym (m .1),
-           λ next y. record { within = y .within; rest = whole .rest;
-             means = ap (series readFunction behindMain (k - 1) false) (let q : drop next s ≡ g .1 = got-end (y .means) (g .2) in q) ∙ m .2 })
+          let m = made-only (λ (y : List Function). g .0 ∷ y) (series readFunction behindMain (k - 1) false (g .1)) (fit .held) (whole .rest) (g .3) in (
+            g .0,
+            record { within = whole .within; rest = g .1; means = g .2 },
+            m .0,
+            sym (m .1),
+            λ next y. record {
+              within = y .within;
+              rest = whole .rest;
+              means = ap (series readFunction behindMain (k - 1) false) (let q : drop next s ≡ g .1 = got-end (y .means) (g .2) in q) ∙ m .2;
+            },
+          )
         where
           got-end : {a b : Function} {u v : List ℕ} {c : Step Function} → c ≡ got a u → c ≡ got b v → u ≡ v
           got-end e f = cc
@@ -272,7 +294,13 @@ module _ (s : List ℕ) (at t : ℕ) (fs tx mn mp ot op : List ℕ) (fit : Funct
           let m = ap (λ (f : Function). length (f .code)) main-is in
           let m0 = fit .main .0 in let m1 = fit .main .1 in let s0 = fit .small .0 in let s1 = fit .small .1 .0 in
           record {
-            held = parts .0; has = parts .1; words = omega arith; name = omega arith; code = omega arith; places = omega arith; small = (omega arith, omega arith);
+            held = parts .0;
+            has = parts .1;
+            words = omega arith;
+            name = omega arith;
+            code = omega arith;
+            places = omega arith;
+            small = (omega arith, omega arith);
           }
 
       module _ (y : Span) (fs₁ tx₁ mn₁ mp₁ : List ℕ) (q : FunctionFilled true s first 0 t 0 fs tx mn mp y fs₁ tx₁ mn₁ mp₁) where
@@ -294,8 +322,13 @@ module _ (s : List ℕ) (at t : ℕ) (fs tx mn mp ot op : List ℕ) (fit : Funct
             let r = ap (λ (l : List Function). length (joined (λ f. f .code) l)) others-are in
             let o0 = fit .other .0 in let o1 = fit .other .1 in let s0 = fit .small .0 in let s1 = fit .small .1 .1 in
             record {
-              held = parts .2; has = parts .4 (y .next) (subst (Good (readFunction true) s first (y .next)) same-main (q .good));
-              words = omega arith; text = omega arith; code = omega arith; places = omega arith; small = (omega arith, omega arith);
+              held = parts .2;
+              has = parts .4 (y .next) (subst (Good (readFunction true) s first (y .next)) same-main (q .good));
+              words = omega arith;
+              text = omega arith;
+              code = omega arith;
+              places = omega arith;
+              small = (omega arith, omega arith);
             }
 
         pub functions-filled : (fs₂ tx₂ ot₂ op₂ : List ℕ) → OthersFilled (k - 1) s (y .next) (t + y .name) fs₁ tx₁ ot op fs₂ tx₂ ot₂ op₂
@@ -308,10 +341,12 @@ module _ (s : List ℕ) (at t : ℕ) (fs tx mn mp ot op : List ℕ) (fit : Funct
               held = q .held ∷ v .held;
               has = subst (Has readFunctions s at) (sym e) (fit .has);
               words = more-written fs fs₁ fs₂ 0 2 (pack t (length (q .held .name)) ∷ pack 0 (length (q .held .code)) ∷ []) (othersLaid (t + y .name) 0 (v .held)) (q .words) refl (v .words)
-                ∙ ap (λ (j : ℕ). written fs 0 (pack t (length (q .held .name)) ∷ pack 0 (length (q .held .code)) ∷ othersLaid (t + j) 0 (v .held))) (q .name);
+                  ∙ ap (λ (j : ℕ). written fs 0 (pack t (length (q .held .name)) ∷ pack 0 (length (q .held .code)) ∷ othersLaid (t + j) 0 (v .held))) (q .name);
               names = more-written tx tx₁ tx₂ t (t + y .name) (q .held .name) (joined (λ f. f .name) (v .held)) (q .names) (ap (λ (j : ℕ). t + j) (q .name)) (v .names);
-              main = q .codes; mainPlaces = q .placed;
-              other = v .codes; otherPlaces = v .placed;
+              main = q .codes;
+              mainPlaces = q .placed;
+              other = v .codes;
+              otherPlaces = v .placed;
             }
           where
             has-one : {a b : List Function} {u w : List ℕ} {c : Step (List Function)} → c ≡ got a u → c ≡ got b w → a ≡ b

@@ -2,10 +2,9 @@
 use mathlib.Core.Path.{_≡_, refl, sym, ap, subst, _∙_}
 use mathlib.Core.Bool.{Bool, true, false}
 use mathlib.Core.List.{List, [], _∷_, _++_, append-assoc, append-nil}
-use Prim.Native.Nat.{ℕ, zero, suc, _+_, _-_, _<_, _≤_, _^_}
+use Prim.Native.Nat.{ℕ, suc, _+_, _-_, _<_, _≤_, _^_}
 use native.Mathlib.Omega.{arith}
 use lib.ListN.{length, drop, length-drop, length-append}
-use Rattle.model.specs.Basics.{if_then_else_}
 use Rattle.model.specs.Numbers.{Step, got, bad, andThen, item, checked, number}
 use Rattle.model.specs.Images.{joined, series}
 use Rattle.number.specs.Links.{NumPost, numOf, Ahead}
@@ -118,7 +117,10 @@ module _ {S A : Type 0} (dec : S → List ℕ → Step A) (next : S → A → S)
 
   pub along-start : at ≤ length s → Along 0 s₀ at []
   along-start h = record {
-    most = omega arith; count = refl; ahead = omega arith; within = h;
+    most = omega arith;
+    count = refl;
+    ahead = omega arith;
+    within = h;
     means = let z : n - 0 ≡ n = omega arith in rw z (onto-nil (series dec next n s₀ (drop at s)));
   }
 
@@ -127,7 +129,8 @@ module _ {S A : Type 0} (dec : S → List ℕ → Step A) (next : S → A → S)
     unfolding series
     along-end l = record {
       means = let z : n - i ≡ 0 = omega arith in h .means ∙ onto-got done _ (drop cur s) (rw z);
-      ahead = h .ahead; within = h .within;
+      ahead = h .ahead;
+      within = h .within;
     }
 
     -- what was read is the front of the whole
@@ -139,7 +142,8 @@ module _ {S A : Type 0} (dec : S → List ℕ → Step A) (next : S → A → S)
       unfolding series andThen
       along-bad o g = record {
         means = let z : n - i ≡ suc (n - (i + 1)) = omega arith in h .means ∙ onto-bad done _ (length s - o) (rw (z, g .means));
-        ahead = let a = h .ahead in let b = g .ahead in omega arith; within = g .within;
+        ahead = let a = h .ahead in let b = g .ahead in omega arith;
+        within = g .within;
       }
 
       pub along-step : (a : A) (to : ℕ) → Good (dec x) s cur to a → Along (i + 1) (next x a) to (done ++ (a ∷ []))
@@ -148,7 +152,8 @@ module _ {S A : Type 0} (dec : S → List ℕ → Step A) (next : S → A → S)
         most = omega arith;
         count = length-append done (a ∷ []) ∙ (let z = h .count in omega arith);
         means = let z : n - i ≡ suc (n - (i + 1)) = omega arith in h .means ∙ rw (z, g .means) (onto-more done (a ∷ []) (series dec next (n - (i + 1)) (next x a) (drop to s)));
-        ahead = let b = h .ahead in let d = g .ahead in omega arith; within = g .within;
+        ahead = let b = h .ahead in let d = g .ahead in omega arith;
+        within = g .within;
       }
 
 -- ---- what is joined of one more

@@ -1,27 +1,25 @@
 -- The runs of a function's code.
 use mathlib.Core.Path.{_≡_, refl, sym, ap, subst, _∙_}
-use mathlib.Core.Bool.{Bool, true, false, not, _&&_}
-use mathlib.Core.List.{List, [], _∷_, _++_, append-assoc, append-nil}
-use Prim.Native.Nat.{ℕ, zero, suc, _+_, _-_, _<_, _≤_, _^_}
+use mathlib.Core.Bool.{Bool, not, _&&_}
+use mathlib.Core.List.{List, [], _++_}
+use Prim.Native.Nat.{ℕ, zero, suc, _+_, _-_, _<_, _≤_}
 use native.Mathlib.Omega.{arith}
 use native.Mathlib.Nat.{pos-of-ne-zero}
 use lib.Dec.{ltb, leb, eqb}
 use lib.ListN.{length, drop, replicate, length-append, length-replicate}
 use borrow.Author.Tests.{lt-ltb, le-leb, lt-leb, eq-eqb, ne-eqb}
-use Rattle.model.specs.Basics.{if_then_else_}
-use Rattle.model.specs.Numbers.{Step, got, bad, andThen, item, checked, number}
+use Rattle.model.specs.Numbers.{Step, got, bad, andThen, number}
 use Rattle.model.specs.Images as i
 use Rattle.model.specs.Images.{run, noPlace, readRunBytes, readRunPlace, readRuns}
 use Rattle.number.specs.Links.{NumPost}
 use Rattle.number.specs.declared.Num.{Num}
 use Rattle.number.specs.declared.Num.the-variants as n
-use Rattle.image.specs.Links.{Good, Bad, oneRun, RunAt, NextRunIs, RunPost, runsFor, RunsAt, RunsPost}
+use Rattle.image.specs.Links.{Good, Bad, oneRun, RunAt, NextRunIs, RunPost, runsFor, RunsPost}
 use Rattle.image.specs.declared.Run.{Run}
 use Rattle.image.specs.declared.NextRun.{NextRun}
 use Rattle.image.specs.declared.NextRun.the-variants as r
-use Rattle.image.specs.declared.Behind.{Behind}
 use Rattle.image.specs.declared.Behind.the-variants as b
-use Rattle.image.proofs.Reading.{onto, onto-nil, onto-more, onto-bad, onto-got, onto-only, bad-first, bad-second, good-both, bad-test, bad-tested, good-test, good-made, no-number, a-number}
+use Rattle.image.proofs.Reading.{onto, onto-nil, onto-more, onto-bad, onto-got, bad-first, bad-second, good-both, bad-test, bad-tested, good-test, good-made, no-number, a-number}
 use Rattle.image.proofs.Passes.{counted-at}
 
 -- ---- one run
@@ -80,11 +78,14 @@ module _ (s : List ℕ) (at left q : ℕ) (pre : at ≤ length s) (x : Num) (p :
 
           pub run-read : (q ≡ u′ → ⊥) → RunPost s at left q (r.Is (record { bytes = m; place = u; next = next }))
           unfolding readRunPlace oneRun
-          run-read d = record { is = record {
-            good = good-both (λ n b. andThen (readRunPlace q b) (λ y u. got (run n y) u)) first
-              (good-made (λ y. run m y) (good-test (λ y. not (eqb q y)) (a-number s mid y o u next f) (rw (ne-eqb q u (λ j. d (j ∙ sym k))))));
-            some = pos-of-ne-zero z; most = l;
-          } }
+          run-read d = record {
+            is = record {
+              good = good-both (λ n b. andThen (readRunPlace q b) (λ y u. got (run n y) u)) first
+                  (good-made (λ y. run m y) (good-test (λ y. not (eqb q y)) (a-number s mid y o u next f) (rw (ne-eqb q u (λ j. d (j ∙ sym k))))));
+              some = pos-of-ne-zero z;
+              most = l;
+            };
+          }
 
 pub run-is : (s : List ℕ) (at left q : ℕ) (x : NextRun) → RunPost s at left q x → (p : Run) → x ≡ r.Is p → RunAt s at left q p
 run-is s at left q x h p e = subst (NextRunIs s at left q) e (h .is)
@@ -111,8 +112,12 @@ both-items (bad o) f k = refl
 opens : (fuel left : ℕ) → left ≤ fuel → 0 < left → (f : ℕ) × (fuel ≡ suc f) × ((q : ℕ) (b : List ℕ) → readRuns fuel left q b ≡ andThen (oneRun left q b) (thenRuns f left))
 unfolding readRuns oneRun thenRuns
 opens zero left h p = absurd (let w : ⊥ = omega arith in w)
-opens (suc f) left h p = (f, refl, λ q b. rw (ne-eqb left 0 (λ e. omega arith))
-    (both-items (readRunBytes left b) (readRunPlace q) (λ n p s. andThen (readRuns f (left - n) p s) (λ l t. got (replicate n p ++ l) t))))
+opens (suc f) left h p = (
+  f,
+  refl,
+  λ q b. rw (ne-eqb left 0 (λ e. omega arith))
+      (both-items (readRunBytes left b) (readRunPlace q) (λ n p s. andThen (readRuns f (left - n) p s) (λ l t. got (replicate n p ++ l) t))),
+)
 
 shuts : (fuel left q : ℕ) (b : List ℕ) → left ≡ 0 → readRuns fuel left q b ≡ got [] b
 unfolding readRuns
@@ -144,7 +149,8 @@ module _ (s : List ℕ) (at size cur left q : ℕ) (done : List ℕ) (h : Runnin
   pub runs-good : left ≤ 0 → Good (runsFor size) s at cur done
   runs-good l = record {
     means = h .means ∙ onto-got done _ (drop cur s) (shuts (h .fuel) left q (drop cur s) (let z : left ≡ 0 = omega arith in z));
-    ahead = h .ahead; within = h .within;
+    ahead = h .ahead;
+    within = h .within;
   }
 
   module _ (l : 0 < left) (x : NextRun) (p : RunPost s cur left q x) where
@@ -156,7 +162,8 @@ module _ (s : List ℕ) (at size cur left q : ℕ) (done : List ℕ) (h : Runnin
         let b = run-not s cur left q x p k e in
         record {
           means = h .means ∙ onto-bad done _ (length s - k) (o .2 q (drop cur s) ∙ then-bad _ (thenRuns (o .0) left) (length s - k) (b .means));
-          ahead = let y = h .ahead in let z = b .ahead in omega arith; within = b .within;
+          ahead = let y = h .ahead in let z = b .ahead in omega arith;
+          within = b .within;
         }
 
     module _ (y : Run) (e : x ≡ r.Is y) where
@@ -177,9 +184,10 @@ module _ (s : List ℕ) (at size cur left q : ℕ) (done : List ℕ) (h : Runnin
             fuel = o .0;
             enough = omega arith;
             means = h .means ∙ ap (onto done) (o .2 q (drop cur s) ∙ then-got _ (thenRuns (o .0) left) (run (y .bytes) (y .place)) (drop (y .next) s) (f .means))
-              ∙ onto-more done (replicate (y .bytes) (y .place)) (readRuns (o .0) (left - y .bytes) (y .place) (drop (y .next) s))
-              ∙ ap (λ (z : ℕ). onto (done ++ replicate (y .bytes) (y .place)) (readRuns (o .0) (left - y .bytes) z (drop (y .next) s))) (sym ek);
-            ahead = omega arith; within = f .within;
+                ∙ onto-more done (replicate (y .bytes) (y .place)) (readRuns (o .0) (left - y .bytes) (y .place) (drop (y .next) s))
+                ∙ ap (λ (z : ℕ). onto (done ++ replicate (y .bytes) (y .place)) (readRuns (o .0) (left - y .bytes) z (drop (y .next) s))) (sym ek);
+            ahead = omega arith;
+            within = f .within;
             total = omega arith;
           }
 

@@ -1,19 +1,17 @@
 -- THE RETURN TRIP: a program's image says that program; whatever bytes are accepted are the image of the program that they say; one program has
 -- one image; and what was loaded is saved again as the same bytes.
-use mathlib.Core.Path.{_≡_, refl, sym, ap, subst, _∙_}
-use mathlib.Core.Bool.{Bool, true, false}
+use mathlib.Core.Path.{_≡_, refl, sym, ap, _∙_}
+use mathlib.Core.Bool.{true}
 use mathlib.Core.List.{List}
 use Prim.Native.Nat.{ℕ}
 use native.Mathlib.Omega.{arith}
-use Rattle.model.specs.Basics.{if_then_else_}
 use Rattle.model.specs.Numbers.{Bytes}
 use Rattle.model.specs.Programs.{Program, withinLimits}
 use Rattle.model.specs.Images.{imageOf, Judged, fine, broken, judge, Sound}
 use Rattle.model.specs.Stores.{Stores, programIn}
 use Rattle.model.specs.Orders.{programOk}
-use Rattle.model.specs.Loading.{laid, countsFor, roomFor, LoadRes, loadJudged, loadOf, OutRes, putOut, saveOf}
+use Rattle.model.specs.Loading.{laid, countsFor, roomFor, LoadRes, loadJudged, loadOf, putOut, saveOf}
 use Rattle.model.specs.declared.Counts.{Counts}
-use Rattle.model.specs.declared.Loaded.{Loaded}
 use Rattle.model.specs.declared.Loaded.the-variants as l
 use Rattle.image.proofs.Codecs.{by-test}
 use Rattle.image.proofs.Formats.{judge-back, judge-only}
@@ -55,12 +53,12 @@ done-only (broken i) x c y e = absurd (not-broken (ap (λ (k : LoadRes). k .answ
 done-only (fine p) x c y e =
     by-test (withinLimits p)
     (λ h. by-test (roomFor p x)
-      (λ r. let g : _≡_ {A = LoadRes} (record { answer = l.Done (countsFor p); stores = laid p x }) (record { answer = l.Done c; stores = y }) = rw (h, r) at e in
-        (p, refl, h, r, done-same (ap (λ (k : LoadRes). k .answer) g), ap (λ (k : LoadRes). k .stores) g))
-      (λ r. let g : _≡_ {A = LoadRes} (record { answer = l.Refused 21; stores = x }) (record { answer = l.Done c; stores = y }) = rw (h, r) at e in
-        absurd (not-done (ap (λ (k : LoadRes). k .answer) g))))
+    (λ r. let g : _≡_ {A = LoadRes} (record { answer = l.Done (countsFor p); stores = laid p x }) (record { answer = l.Done c; stores = y }) = rw (h, r) at e in
+    (p, refl, h, r, done-same (ap (λ (k : LoadRes). k .answer) g), ap (λ (k : LoadRes). k .stores) g))
+    (λ r. let g : _≡_ {A = LoadRes} (record { answer = l.Refused 21; stores = x }) (record { answer = l.Done c; stores = y }) = rw (h, r) at e in
+    absurd (not-done (ap (λ (k : LoadRes). k .answer) g))))
     (λ h. let g : _≡_ {A = LoadRes} (record { answer = l.Refused 22; stores = x }) (record { answer = l.Done c; stores = y }) = rw h at e in
-      absurd (not-done (ap (λ (k : LoadRes). k .answer) g)))
+    absurd (not-done (ap (λ (k : LoadRes). k .answer) g)))
 
 -- saving stores that stand for p
 saved : (p : Program) (c : Counts) (y : Stores) (out : List ℕ) → programOk c y ≡ true → programIn c y ≡ p → saveOf c y out ≡ putOut (imageOf p) out

@@ -1,12 +1,12 @@
 -- The writing pass of loading: what it asks for, and what it leaves in the stores.
 use mathlib.Core.Path.{_≡_}
 use mathlib.Core.Bool.{Bool, true}
-use mathlib.Core.List.{List, [], _∷_, _++_}
+use mathlib.Core.List.{List, [], _∷_}
 use Prim.Native.Nat.{ℕ, _+_, _*_, _≤_, _<_, _^_}
 use lib.ListN.{length, drop}
 use Rattle.model.specs.Numbers.{Step, got}
 use Rattle.model.specs.Programs.{Constant, Function, Program, functionAt}
-use Rattle.model.specs.Images.{joined, readConstants, readStructs, readFunction, readFunctions, Judged, fine, judge}
+use Rattle.model.specs.Images.{joined, readConstants, readStructs, readFunction, readFunctions, fine, judge}
 use Rattle.model.specs.Stores.{Stores, pack}
 use Rattle.model.specs.Emission.{written}
 use Rattle.model.specs.Loading.{constantText, constantsLaid, structsLaid, othersLaid, functionsLaid, laid, roomFor}

@@ -1,7 +1,7 @@
 -- What the answers of the code stand for. `s` is the image, and a place is an offset in it.
 use mathlib.Core.Path.{_≡_}
-use mathlib.Core.Bool.{Bool, true, false, not}
-use mathlib.Core.List.{List, [], _∷_, _++_}
+use mathlib.Core.Bool.{Bool, false, not}
+use mathlib.Core.List.{List, [], _∷_}
 use Prim.Native.Nat.{ℕ, zero, suc, _+_, _-_, _≤_, _<_, _^_}
 use lib.Dec.{ltb, eqb}
 use lib.ListN.{length, take, drop}
@@ -9,7 +9,7 @@ use Rattle.model.specs.Basics.{if_then_else_}
 use Rattle.model.specs.Numbers.{Step, got, bad, andThen}
 use Rattle.model.specs.Programs.{Constant, scalar, boolean, string, reference, Function, Program, functionAt, codesWithin, among}
 use Rattle.model.specs.Images as i
-use Rattle.model.specs.Images.{joined, run, series, readText, always, noPlace, readRunBytes, readRunPlace, readRuns, readFunction, readFunctions, Judged, fine, broken, judge}
+use Rattle.model.specs.Images.{joined, run, series, readText, always, noPlace, readRunBytes, readRunPlace, readRuns, readFunction, readFunctions, fine, broken, judge}
 use Rattle.model.specs.Stores.{pack}
 use Rattle.model.specs.Loading.{constantText, constantWords, textsOf, mainOf, othersOf}
 use Rattle.image.specs.declared.Text.{Text}

@@ -1,5 +1,6 @@
 // The rule image: judged, then loaded into lent stores, and saved from them. A place is an offset in the image.
 mod loading; // loading.rt: the writing pass of loading
+
 use model::Counts;
 use model::Loaded;
 use number::Num;
@@ -536,13 +537,26 @@ pub fn judge(image: &[u8]) -> Judgement
 // ---- loading
 
 // Loads an image: judged whole, then the limits, then the room, then written.
-pub fn load(image: &[u8], constants: &mut [u64], structs: &mut [u64], functions: &mut [u64], text: &mut [u8], main: &mut [u8], main_places: &mut [u32], other: &mut [u8], other_places: &mut [u32]) -> Loaded
+pub fn load(
+    image: &[u8],
+    constants: &mut [u64],
+    structs: &mut [u64],
+    functions: &mut [u64],
+    text: &mut [u8],
+    main: &mut [u8],
+    main_places: &mut [u32],
+    other: &mut [u8],
+    other_places: &mut [u32],
+) -> Loaded
     ensures { λ r. ⌜ record { answer = r; stores = lent (now (constants .exit)) (now (structs .exit)) (now (functions .exit)) (now (text .exit)) (now (main .exit)) (now («main_places» .exit)) (now (other .exit)) (now («other_places» .exit)) } ≡ loadOf (now (image .entry)) (lent (now (constants .entry)) (now (structs .entry)) (now (functions .entry)) (now (text .entry)) (now (main .entry)) (now («main_places» .entry)) (now (other .entry)) (now («other_places» .entry))) ⌝ }
 {
     match judge(image) {
         Judgement::Broken(o) => Loaded::Broken(o),
         Judgement::Fine(z) => {
-            let within = (z.constants <= 65535) & (z.structs <= 65536) & (z.functions <= 65536) & z.within;
+            let within = (z.constants <= 65535)
+                & (z.structs <= 65536)
+                & (z.functions <= 65536)
+                & z.within;
             if !within {
                 return Loaded::Refused(22);
             }
@@ -557,14 +571,25 @@ pub fn load(image: &[u8], constants: &mut [u64], structs: &mut [u64], functions:
             if !fits {
                 return Loaded::Refused(21);
             }
-            loading::load_all(image, constants, structs, functions, text, main, main_places, other, other_places);
-            Loaded::Done(Counts {
+            loading::load_all(
+                image,
+                constants,
+                structs,
+                functions,
+                text,
+                main,
+                main_places,
+                other,
+                other_places,
+            );
+            let counts = Counts {
                 constants: z.constants,
                 structs: z.structs,
                 functions: z.functions,
                 text: z.text,
                 current: 0,
-            })
+            };
+            Loaded::Done(counts)
         }
     }
 }

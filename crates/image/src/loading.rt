@@ -1,15 +1,15 @@
 // The writing pass of loading: the items that judging passed are read again, and written into the stores.
-use crate::read_constant;
-use crate::read_head;
-use crate::read_run;
-use crate::read_text;
-use crate::wide;
 use crate::Begun;
 use crate::Entry;
 use crate::Item;
 use crate::NextRun;
 use crate::Span;
 use crate::Text;
+use crate::read_constant;
+use crate::read_head;
+use crate::read_run;
+use crate::read_text;
+use crate::wide;
 use number::Num;
 use program::words::pack;
 use program::writes::put_bytes;
@@ -113,7 +113,18 @@ fn load_runs(image: &[u8], at: usize, size: usize, places: &mut [u32], c: usize)
 }
 
 // Function i, its name from t on and its code from c on.
-fn load_function(image: &[u8], at: usize, first: bool, functions: &mut [u64], i: usize, text: &mut [u8], t: usize, code: &mut [u8], places: &mut [u32], c: usize) -> Span
+fn load_function(
+    image: &[u8],
+    at: usize,
+    first: bool,
+    functions: &mut [u64],
+    i: usize,
+    text: &mut [u8],
+    t: usize,
+    code: &mut [u8],
+    places: &mut [u32],
+    c: usize,
+) -> Span
     requires { ⌜ FunctionFits first (now image) at i t c (now functions) (now text) (now code) (now places) ⌝ }
     ensures { λ r. ⌜ FunctionFilled first (now (image .entry)) at i t c (now (functions .entry)) (now (text .entry)) (now (code .entry)) (now (places .entry)) r (now (functions .exit)) (now (text .exit)) (now (code .exit)) (now (places .exit)) ⌝ }
 {
@@ -144,7 +155,16 @@ fn load_function(image: &[u8], at: usize, first: bool, functions: &mut [u64], i:
 }
 
 // The n functions behind main, their names from t0 on.
-fn load_others(image: &[u8], at: usize, n: usize, functions: &mut [u64], text: &mut [u8], t0: usize, code: &mut [u8], places: &mut [u32])
+fn load_others(
+    image: &[u8],
+    at: usize,
+    n: usize,
+    functions: &mut [u64],
+    text: &mut [u8],
+    t0: usize,
+    code: &mut [u8],
+    places: &mut [u32],
+)
     requires { ⌜ OthersFit n (now image) at t0 (now functions) (now text) (now code) (now places) ⌝ }
     ensures { λ _. ⌜ OthersFilled n (now (image .entry)) at t0 (now (functions .entry)) (now (text .entry)) (now (code .entry)) (now (places .entry)) (now (functions .exit)) (now (text .exit)) (now (code .exit)) (now (places .exit)) ⌝ }
 {
@@ -154,7 +174,18 @@ fn load_others(image: &[u8], at: usize, n: usize, functions: &mut [u64], text: &
     let mut i: usize = 0;
     while i < n {
         let number = i + 1;
-        let f = load_function(image, next, false, functions, number, text, t, code, places, c);
+        let f = load_function(
+            image,
+            next,
+            false,
+            functions,
+            number,
+            text,
+            t,
+            code,
+            places,
+            c,
+        );
         t = t + f.name;
         c = c + f.code;
         next = f.next;
@@ -163,7 +194,17 @@ fn load_others(image: &[u8], at: usize, n: usize, functions: &mut [u64], text: &
 }
 
 // All functions, their names from t on.
-fn load_functions(image: &[u8], at: usize, functions: &mut [u64], text: &mut [u8], t: usize, main: &mut [u8], main_places: &mut [u32], other: &mut [u8], other_places: &mut [u32])
+fn load_functions(
+    image: &[u8],
+    at: usize,
+    functions: &mut [u64],
+    text: &mut [u8],
+    t: usize,
+    main: &mut [u8],
+    main_places: &mut [u32],
+    other: &mut [u8],
+    other_places: &mut [u32],
+)
     requires { ⌜ FunctionsFit (now image) at t (now functions) (now text) (now main) (now «main_places») (now other) (now «other_places») ⌝ }
     ensures { λ _. ⌜ FunctionsFilled (now (image .entry)) at t (now (functions .entry)) (now (text .entry)) (now (main .entry)) (now («main_places» .entry)) (now (other .entry)) (now («other_places» .entry)) (now (functions .exit)) (now (text .exit)) (now (main .exit)) (now («main_places» .exit)) (now (other .exit)) (now («other_places» .exit)) ⌝ }
 {
@@ -174,16 +215,56 @@ fn load_functions(image: &[u8], at: usize, functions: &mut [u64], text: &mut [u8
     if count == 0 {
         return;
     }
-    let m = load_function(image, first, true, functions, 0, text, t, main, main_places, 0);
-    load_others(image, m.next, count - 1, functions, text, t + m.name, other, other_places);
+    let m = load_function(
+        image,
+        first,
+        true,
+        functions,
+        0,
+        text,
+        t,
+        main,
+        main_places,
+        0,
+    );
+    load_others(
+        image,
+        m.next,
+        count - 1,
+        functions,
+        text,
+        t + m.name,
+        other,
+        other_places,
+    );
 }
 
 // The whole image, which was judged and fits.
-pub fn load_all(image: &[u8], constants: &mut [u64], structs: &mut [u64], functions: &mut [u64], text: &mut [u8], main: &mut [u8], main_places: &mut [u32], other: &mut [u8], other_places: &mut [u32])
+pub fn load_all(
+    image: &[u8],
+    constants: &mut [u64],
+    structs: &mut [u64],
+    functions: &mut [u64],
+    text: &mut [u8],
+    main: &mut [u8],
+    main_places: &mut [u32],
+    other: &mut [u8],
+    other_places: &mut [u32],
+)
     requires { ⌜ Fits (now image) (lent (now constants) (now structs) (now functions) (now text) (now main) (now «main_places») (now other) (now «other_places»)) ⌝ }
     ensures { λ _. ⌜ LaidPost (now (image .entry)) (lent (now (constants .entry)) (now (structs .entry)) (now (functions .entry)) (now (text .entry)) (now (main .entry)) (now («main_places» .entry)) (now (other .entry)) (now («other_places» .entry))) (lent (now (constants .exit)) (now (structs .exit)) (now (functions .exit)) (now (text .exit)) (now (main .exit)) (now («main_places» .exit)) (now (other .exit)) (now («other_places» .exit))) ⌝ }
 {
     let c = load_constants(image, 0, constants, text);
     let s = load_structs(image, c.next, structs, text, c.text);
-    load_functions(image, s.next, functions, text, s.text, main, main_places, other, other_places);
+    load_functions(
+        image,
+        s.next,
+        functions,
+        text,
+        s.text,
+        main,
+        main_places,
+        other,
+        other_places,
+    );
 }

@@ -1,10 +1,6 @@
+-- `image::check_constants` meets its contract.
 use Rattle.image.proofs.check_constants.Statement.{statement}
 use Rattle.image.proofs.check_constants.Tie as tie
-use Rattle.image.proofs.check_constants.Reads as reads
-use Rattle.image.proofs.check_constants.Lts as lts
-use Rattle.image.proofs.read_constant.Reads as read-constant-reads
-use Rattle.image.proofs.wide.Reads as wide-reads
-use Rattle.number.proofs.read_number.Reads as read-number-reads
 use borrow.Author.Needs.{needs}
 use native.Mathlib.Omega.{arith}
 use Prim.Native.Nat.{_-_}

@@ -1,10 +1,7 @@
+-- `image::check_function` meets its contract.
 use borrow.Author.Needs.{needs}
 use Rattle.image.proofs.check_function.Statement.{statement}
 use Rattle.image.proofs.check_function.Tie as tie
-use Rattle.image.proofs.check_function.Reads as reads
-use Rattle.image.proofs.check_function.Lts as lts
-use Rattle.image.proofs.check_runs.Reads as check-runs-reads
-use Rattle.image.proofs.read_head.Reads as read-head-reads
 use native.Mathlib.Omega.{arith}
 use Rattle.image.proofs.Functions.{span-none, span-runs, span-bad, span-read}
 

@@ -1,12 +1,7 @@
+-- `image::check_functions` meets its contract.
 use borrow.Author.Needs.{needs}
 use Rattle.image.proofs.check_functions.Statement.{statement}
 use Rattle.image.proofs.check_functions.Tie as tie
-use Rattle.image.proofs.check_functions.Reads as reads
-use Rattle.image.proofs.check_functions.Lts as lts
-use Rattle.image.proofs.check_function.Reads as check-function-reads
-use Rattle.image.proofs.check_others.Reads as check-others-reads
-use Rattle.image.proofs.wide.Reads as wide-reads
-use Rattle.number.proofs.read_number.Reads as read-number-reads
 use native.Mathlib.Omega.{arith}
 use Rattle.image.proofs.Functions.{all-none, all-first, all-zero, all-bad, all-next, all-bad-2, all-fit, all-read}
 

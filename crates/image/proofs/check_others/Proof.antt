@@ -1,8 +1,6 @@
+-- `image::check_others` meets its contract.
 use Rattle.image.proofs.check_others.Statement.{statement}
 use Rattle.image.proofs.check_others.Tie as tie
-use Rattle.image.proofs.check_others.Reads as reads
-use Rattle.image.proofs.check_others.Lts as lts
-use Rattle.image.proofs.check_function.Reads as check-function-reads
 use borrow.Author.Needs.{needs}
 use native.Mathlib.Omega.{arith}
 use Prim.Native.Nat.{_-_}

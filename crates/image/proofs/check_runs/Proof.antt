@@ -1,11 +1,7 @@
+-- `image::check_runs` meets its contract.
 use Rattle.image.proofs.check_runs.Statement.{statement}
 use Rattle.image.proofs.check_runs.Tie as tie
-use Rattle.image.proofs.check_runs.Reads as reads
-use Rattle.image.proofs.check_runs.Lts as lts
-use Rattle.image.proofs.read_run.Reads as read-run-reads
-use Rattle.image.proofs.wide.Reads as wide-reads
 use borrow.Author.Needs.{needs}
-use native.Mathlib.Omega.{arith}
 use Rattle.image.proofs.Runs.{Judging, judging-start, judging-end, judging-bad, judging-fits, judging-step}
 
 abbrev Inv-loop : tie.InvT-loop

@@ -1,11 +1,6 @@
+-- `image::check_structs` meets its contract.
 use Rattle.image.proofs.check_structs.Statement.{statement}
 use Rattle.image.proofs.check_structs.Tie as tie
-use Rattle.image.proofs.check_structs.Reads as reads
-use Rattle.image.proofs.check_structs.Lts as lts
-use Rattle.image.proofs.read_text.Reads as read-text-reads
-use Rattle.image.proofs.seen.Reads as seen-reads
-use Rattle.image.proofs.wide.Reads as wide-reads
-use Rattle.number.proofs.read_number.Reads as read-number-reads
 use borrow.Author.Needs.{needs}
 use native.Mathlib.Omega.{arith}
 use Prim.Native.Nat.{_-_}

@@ -1,11 +1,7 @@
+-- `image::judge` meets its contract.
 use borrow.Author.Needs.{needs}
 use Rattle.image.proofs.judge.Statement.{statement}
 use Rattle.image.proofs.judge.Tie as tie
-use Rattle.image.proofs.judge.Reads as reads
-use Rattle.image.proofs.judge.Lts as lts
-use Rattle.image.proofs.check_constants.Reads as check-constants-reads
-use Rattle.image.proofs.check_functions.Reads as check-functions-reads
-use Rattle.image.proofs.check_structs.Reads as check-structs-reads
 use native.Mathlib.Omega.{arith}
 use Rattle.image.proofs.Judges.{judge-1, structs-at, judge-2, functions-at, judge-3, judge-4, text-fits, judge-5}
 

@@ -1,11 +1,7 @@
+-- `image::load` meets its contract.
 use borrow.Author.Needs.{needs}
 use Rattle.image.proofs.load.Statement.{statement}
 use Rattle.image.proofs.load.Tie as tie
-use Rattle.image.proofs.load.Reads as reads
-use Rattle.image.proofs.load.Lts as lts
-use Rattle.image.proofs.judge.Reads as judge-reads
-use Rattle.image.proofs.loading.load_all.Reads as load-all-reads
-use Rattle.program.proofs.words.room.Reads as room-reads
 use mathlib.Core.Path.{refl}
 use Rattle.image.specs.Fills.{lent}
 use Rattle.image.proofs.Loads.{load-broken, load-22, load-21, load-fits, load-done}

@@ -1,9 +1,7 @@
+-- `image::may_be` meets its contract.
 use borrow.Author.Needs.{needs}
 use Rattle.image.proofs.may_be.Statement.{statement}
 use Rattle.image.proofs.may_be.Tie as tie
-use Rattle.image.proofs.may_be.Reads as reads
-use Rattle.image.proofs.may_be.Lts as lts
-use Rattle.program.proofs.words.same_bytes.Reads as same-bytes-reads
 use Rattle.image.proofs.Functions.{may-main, may-other}
 
 slice-aggregate-same-bytes : tie.Need-slice-aggregate-same-bytes

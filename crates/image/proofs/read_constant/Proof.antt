@@ -1,13 +1,7 @@
+-- `image::read_constant` meets its contract.
 use borrow.Author.Needs.{needs}
 use Rattle.image.proofs.read_constant.Statement.{statement}
 use Rattle.image.proofs.read_constant.Tie as tie
-use Rattle.image.proofs.read_constant.Reads as reads
-use Rattle.image.proofs.read_constant.Lts as lts
-use Rattle.image.proofs.read_flag.Reads as read-flag-reads
-use Rattle.image.proofs.read_letters.Reads as read-letters-reads
-use Rattle.image.proofs.read_scalar.Reads as read-scalar-reads
-use Rattle.number.proofs.read_number.Reads as read-number-reads
-use native.Mathlib.Omega.{arith}
 use mathlib.Core.Path.{refl}
 use Rattle.image.proofs.Items.{constant-none, constant-next, constant-kind, constant-read, two-left}
 

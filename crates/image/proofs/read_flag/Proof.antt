@@ -1,9 +1,7 @@
+-- `image::read_flag` meets its contract.
 use borrow.Author.Needs.{needs}
 use Rattle.image.proofs.read_flag.Statement.{statement}
 use Rattle.image.proofs.read_flag.Tie as tie
-use Rattle.image.proofs.read_flag.Reads as reads
-use Rattle.image.proofs.read_flag.Lts as lts
-use Rattle.image.proofs.byte.Reads as byte-reads
 use Rattle.image.proofs.Items.{flag-none, flag-bad, flag-read}
 
 returns : tie.Need-returns

@@ -1,13 +1,8 @@
+-- `image::read_head` meets its contract.
 use borrow.Author.Needs.{needs}
 use Rattle.image.proofs.read_head.Statement.{statement}
 use Rattle.image.proofs.read_head.Tie as tie
-use Rattle.image.proofs.read_head.Reads as reads
-use Rattle.image.proofs.read_head.Lts as lts
-use Rattle.image.proofs.may_be.Reads as may-be-reads
-use Rattle.image.proofs.read_text.Reads as read-text-reads
-use Rattle.image.proofs.wide.Reads as wide-reads
-use Rattle.number.proofs.read_number.Reads as read-number-reads
-use Rattle.image.proofs.Functions.{head-none, head-behind, head-other, head-no-size, head-code, head-short, head-read}
+use Rattle.image.proofs.Functions.{head-none, head-other, head-no-size, head-code, head-short, head-read}
 use native.Mathlib.Omega.{arith}
 use Rattle.image.proofs.Items.{text-end}
 

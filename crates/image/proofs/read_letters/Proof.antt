@@ -1,9 +1,7 @@
+-- `image::read_letters` meets its contract.
 use borrow.Author.Needs.{needs}
 use Rattle.image.proofs.read_letters.Statement.{statement}
 use Rattle.image.proofs.read_letters.Tie as tie
-use Rattle.image.proofs.read_letters.Reads as reads
-use Rattle.image.proofs.read_letters.Lts as lts
-use Rattle.image.proofs.read_text.Reads as read-text-reads
 use native.Mathlib.Omega.{arith}
 use Rattle.image.proofs.Items.{text-end, letters-none, letters-read}
 

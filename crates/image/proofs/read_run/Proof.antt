@@ -1,11 +1,8 @@
+-- `image::read_run` meets its contract.
 use borrow.Author.Needs.{needs}
 use Rattle.image.proofs.read_run.Statement.{statement}
 use Rattle.image.proofs.read_run.Tie as tie
-use Rattle.image.proofs.read_run.Reads as reads
-use Rattle.image.proofs.read_run.Lts as lts
-use Rattle.image.proofs.wide.Reads as wide-reads
-use Rattle.number.proofs.read_number.Reads as read-number-reads
-use Rattle.image.proofs.Runs.{run-none, run-zero, run-long, run-mid, run-no-place, run-again, run-read}
+use Rattle.image.proofs.Runs.{run-none, run-zero, run-long, run-no-place, run-again, run-read}
 
 read-number-requires : tie.Need-read-number-requires
 read-number-requires c κs = search needs

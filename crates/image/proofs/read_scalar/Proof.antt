@@ -1,9 +1,7 @@
+-- `image::read_scalar` meets its contract.
 use borrow.Author.Needs.{needs}
 use Rattle.image.proofs.read_scalar.Statement.{statement}
 use Rattle.image.proofs.read_scalar.Tie as tie
-use Rattle.image.proofs.read_scalar.Reads as reads
-use Rattle.image.proofs.read_scalar.Lts as lts
-use Rattle.image.proofs.word_at.Reads as word-at-reads
 use Rattle.image.proofs.Items.{scalar-short, scalar-read}
 
 sub-if1 : tie.Need-sub-if1

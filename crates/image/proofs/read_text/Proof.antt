@@ -1,10 +1,7 @@
+-- `image::read_text` meets its contract.
 use borrow.Author.Needs.{needs}
 use Rattle.image.proofs.read_text.Statement.{statement}
 use Rattle.image.proofs.read_text.Tie as tie
-use Rattle.image.proofs.read_text.Reads as reads
-use Rattle.image.proofs.read_text.Lts as lts
-use Rattle.image.proofs.wide.Reads as wide-reads
-use Rattle.number.proofs.read_number.Reads as read-number-reads
 use Rattle.image.proofs.Items.{text-none, text-starts, text-short, text-read}
 
 read-number-requires : tie.Need-read-number-requires

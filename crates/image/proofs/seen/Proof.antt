@@ -1,9 +1,6 @@
+-- `image::seen` meets its contract.
 use Rattle.image.proofs.seen.Statement.{statement}
 use Rattle.image.proofs.seen.Tie as tie
-use Rattle.image.proofs.seen.Reads as reads
-use Rattle.image.proofs.seen.Lts as lts
-use Rattle.image.proofs.read_text.Reads as read-text-reads
-use Rattle.program.proofs.words.same_bytes.Reads as same-bytes-reads
 use borrow.Author.Needs.{needs}
 use native.Mathlib.Omega.{arith}
 use Prim.Native.Nat.{_-_}

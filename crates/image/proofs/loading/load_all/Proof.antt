@@ -1,11 +1,7 @@
+-- `image::loading::load_all` meets its contract.
 use borrow.Author.Needs.{needs}
 use Rattle.image.proofs.loading.load_all.Statement.{statement}
 use Rattle.image.proofs.loading.load_all.Tie as tie
-use Rattle.image.proofs.loading.load_all.Reads as reads
-use Rattle.image.proofs.loading.load_all.Lts as lts
-use Rattle.image.proofs.loading.load_constants.Reads as load-constants-reads
-use Rattle.image.proofs.loading.load_functions.Reads as load-functions-reads
-use Rattle.image.proofs.loading.load_structs.Reads as load-structs-reads
 use Rattle.image.proofs.Loads.{fit-constants, fit-structs, fit-functions, all-laid}
 
 -- src/loading.rt:186:9

@@ -1,17 +1,9 @@
+-- `image::loading::load_constants` meets its contract.
 use Rattle.image.proofs.loading.load_constants.Statement.{statement}
 use Rattle.image.proofs.loading.load_constants.Tie as tie
-use Rattle.image.proofs.loading.load_constants.Reads as reads
-use Rattle.image.proofs.loading.load_constants.Lts as lts
-use Rattle.image.proofs.loading.payload.Reads as payload-reads
-use Rattle.image.proofs.read_constant.Reads as read-constant-reads
-use Rattle.image.proofs.wide.Reads as wide-reads
-use Rattle.number.proofs.read_number.Reads as read-number-reads
-use Rattle.program.proofs.writes.put_bytes.Reads as put-bytes-reads
-use Rattle.program.proofs.writes.put_words.Reads as put-words-reads
 use borrow.Author.Needs.{needs}
 use native.Mathlib.Omega.{arith}
 use Prim.Native.Nat.{_-_}
-use Rattle.image.specs.Fills.{ConstantsFit}
 use Rattle.image.proofs.Passes.{counted-at}
 use Rattle.image.proofs.Filling.{constants-no-count, FillingConstants, constants-begin, constants-same, constants-filled, constants-never, constants-room, entry-inside, entry-small, slice-length, constants-next}
 

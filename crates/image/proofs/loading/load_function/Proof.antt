@@ -1,13 +1,7 @@
+-- `image::loading::load_function` meets its contract.
 use borrow.Author.Needs.{needs}
 use Rattle.image.proofs.loading.load_function.Statement.{statement}
 use Rattle.image.proofs.loading.load_function.Tie as tie
-use Rattle.image.proofs.loading.load_function.Reads as reads
-use Rattle.image.proofs.loading.load_function.Lts as lts
-use Rattle.image.proofs.loading.load_runs.Reads as load-runs-reads
-use Rattle.image.proofs.read_head.Reads as read-head-reads
-use Rattle.program.proofs.words.pack.Reads as pack-reads
-use Rattle.program.proofs.writes.put_bytes.Reads as put-bytes-reads
-use Rattle.program.proofs.writes.put_words.Reads as put-words-reads
 use native.Mathlib.Omega.{arith}
 use Rattle.image.proofs.Placing.{function-never, function-packs, function-inside, function-room, function-runs, function-filled}
 

@@ -1,12 +1,7 @@
+-- `image::loading::load_functions` meets its contract.
 use borrow.Author.Needs.{needs}
 use Rattle.image.proofs.loading.load_functions.Statement.{statement}
 use Rattle.image.proofs.loading.load_functions.Tie as tie
-use Rattle.image.proofs.loading.load_functions.Reads as reads
-use Rattle.image.proofs.loading.load_functions.Lts as lts
-use Rattle.image.proofs.loading.load_function.Reads as load-function-reads
-use Rattle.image.proofs.loading.load_others.Reads as load-others-reads
-use Rattle.image.proofs.wide.Reads as wide-reads
-use Rattle.number.proofs.read_number.Reads as read-number-reads
 use native.Mathlib.Omega.{arith}
 use Rattle.image.proofs.Passes.{counted-at}
 use Rattle.image.proofs.Placing.{functions-no-count, functions-none, main-fits, others-at, others-fits, functions-filled}

@@ -1,8 +1,6 @@
+-- `image::loading::load_others` meets its contract.
 use Rattle.image.proofs.loading.load_others.Statement.{statement}
 use Rattle.image.proofs.loading.load_others.Tie as tie
-use Rattle.image.proofs.loading.load_others.Reads as reads
-use Rattle.image.proofs.loading.load_others.Lts as lts
-use Rattle.image.proofs.loading.load_function.Reads as load-function-reads
 use native.Mathlib.Omega.{arith}
 use Prim.Native.Nat.{_-_}
 use Rattle.image.proofs.Placing.{FillingOthers, others-begin, others-same, others-filled, others-fit, others-small, others-next}

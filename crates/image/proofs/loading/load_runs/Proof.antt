@@ -1,10 +1,6 @@
+-- `image::loading::load_runs` meets its contract.
 use Rattle.image.proofs.loading.load_runs.Statement.{statement}
 use Rattle.image.proofs.loading.load_runs.Tie as tie
-use Rattle.image.proofs.loading.load_runs.Reads as reads
-use Rattle.image.proofs.loading.load_runs.Lts as lts
-use Rattle.image.proofs.read_run.Reads as read-run-reads
-use Rattle.image.proofs.wide.Reads as wide-reads
-use Rattle.program.proofs.writes.put_places.Reads as put-places-reads
 use borrow.Author.Needs.{needs}
 use native.Mathlib.Omega.{arith}
 use Rattle.image.proofs.Filling.{FillingRuns, runs-begin, runs-same, runs-left, runs-filled, runs-never, runs-most, runs-room, runs-next}

@@ -1,12 +1,6 @@
+-- `image::loading::load_structs` meets its contract.
 use Rattle.image.proofs.loading.load_structs.Statement.{statement}
 use Rattle.image.proofs.loading.load_structs.Tie as tie
-use Rattle.image.proofs.loading.load_structs.Reads as reads
-use Rattle.image.proofs.loading.load_structs.Lts as lts
-use Rattle.image.proofs.read_text.Reads as read-text-reads
-use Rattle.image.proofs.wide.Reads as wide-reads
-use Rattle.number.proofs.read_number.Reads as read-number-reads
-use Rattle.program.proofs.words.pack.Reads as pack-reads
-use Rattle.program.proofs.writes.put_bytes.Reads as put-bytes-reads
 use borrow.Author.Needs.{needs}
 use native.Mathlib.Omega.{arith}
 use Prim.Native.Nat.{_-_}

@@ -1,9 +1,7 @@
+-- `image::loading::payload` meets its contract.
 use borrow.Author.Needs.{needs}
 use Rattle.image.proofs.loading.payload.Statement.{statement}
 use Rattle.image.proofs.loading.payload.Tie as tie
-use Rattle.image.proofs.loading.payload.Reads as reads
-use Rattle.image.proofs.loading.payload.Lts as lts
-use Rattle.program.proofs.words.pack.Reads as pack-reads
 use Rattle.image.proofs.Filling.{payload-word, payload-text}
 
 -- src/loading.rt:35:9
