@@ -1,0 +1,78 @@
+-- THE RETURN TRIP: a program's image says that program; whatever bytes are accepted are the image of the program that they say; one program has
+-- one image; and what was loaded is saved again as the same bytes.
+use mathlib.Core.Path.{_≡_, refl, sym, ap, _∙_}
+use mathlib.Core.Bool.{true}
+use mathlib.Core.List.{List}
+use Prim.Native.Nat.{ℕ}
+use native.Mathlib.Omega.{arith}
+use Rattle.model.specs.Numbers.{Bytes}
+use Rattle.model.specs.Programs.{Program, withinLimits}
+use Rattle.model.specs.Images.{imageOf, Judged, fine, broken, judge, Sound}
+use Rattle.model.specs.Stores.{Stores, programIn}
+use Rattle.model.specs.Orders.{programOk}
+use Rattle.model.specs.Loading.{laid, countsFor, roomFor, LoadRes, loadJudged, loadOf, putOut, saveOf}
+use Rattle.model.specs.declared.Counts.{Counts}
+use Rattle.model.specs.declared.Loaded.the-variants as l
+use Rattle.image.proofs.Codecs.{by-test}
+use Rattle.image.proofs.Formats.{judge-back, judge-only}
+use Rattle.image.proofs.Again.{laid-again}
+
+pub image-back : (p : Program) → Sound p → judge (imageOf p) ≡ fine p
+image-back = judge-back
+
+pub image-only : (b : List ℕ) (p : Program) → Bytes b → judge b ≡ fine p → (b ≡ imageOf p) × Sound p
+image-only = judge-only
+
+same-program : (p q : Program) → fine p ≡ fine q → p ≡ q
+same-program p q e = cc
+
+pub one-image : (p q : Program) → Sound p → Sound q → imageOf p ≡ imageOf q → p ≡ q
+one-image p q sp sq e = same-program p q (sym (image-back p sp) ∙ ap judge e ∙ image-back q sq)
+
+-- in the stores where it was loaded, a program is in good order and stands for itself
+pub loaded-stands : (p : Program) (x : Stores) → Sound p → withinLimits p ≡ true → roomFor p x ≡ true
+    → (programOk (countsFor p) (laid p x) ≡ true) × (programIn (countsFor p) (laid p x) ≡ p)
+loaded-stands = laid-again
+
+-- what loading says when it is done
+Done : Judged → Stores → Counts → Stores → Type 0
+Done r x c y = (p : Program) × (r ≡ fine p) × (withinLimits p ≡ true) × (roomFor p x ≡ true) × (countsFor p ≡ c) × (laid p x ≡ y)
+
+done-same : {a b : Counts} → l.Done a ≡ l.Done b → a ≡ b
+done-same e = cc
+
+not-done : {n : ℕ} {c : Counts} → l.Refused n ≡ l.Done c → ⊥
+not-done e = let z : _≡_ {A = ℕ} 0 1 = cc in omega arith
+
+not-broken : {n : ℕ} {c : Counts} → l.Broken n ≡ l.Done c → ⊥
+not-broken e = let z : _≡_ {A = ℕ} 0 1 = cc in omega arith
+
+done-only : (r : Judged) (x : Stores) (c : Counts) (y : Stores) → loadJudged r x ≡ record { answer = l.Done c; stores = y } → Done r x c y
+unfolding loadJudged Done
+done-only (broken i) x c y e = absurd (not-broken (ap (λ (k : LoadRes). k .answer) e))
+done-only (fine p) x c y e =
+    by-test (withinLimits p)
+    (λ h. by-test (roomFor p x)
+    (λ r. let g : _≡_ {A = LoadRes} (record { answer = l.Done (countsFor p); stores = laid p x }) (record { answer = l.Done c; stores = y }) = rw (h, r) at e in
+    (p, refl, h, r, done-same (ap (λ (k : LoadRes). k .answer) g), ap (λ (k : LoadRes). k .stores) g))
+    (λ r. let g : _≡_ {A = LoadRes} (record { answer = l.Refused 21; stores = x }) (record { answer = l.Done c; stores = y }) = rw (h, r) at e in
+    absurd (not-done (ap (λ (k : LoadRes). k .answer) g))))
+    (λ h. let g : _≡_ {A = LoadRes} (record { answer = l.Refused 22; stores = x }) (record { answer = l.Done c; stores = y }) = rw h at e in
+    absurd (not-done (ap (λ (k : LoadRes). k .answer) g)))
+
+-- saving stores that stand for p
+saved : (p : Program) (c : Counts) (y : Stores) (out : List ℕ) → programOk c y ≡ true → programIn c y ≡ p → saveOf c y out ≡ putOut (imageOf p) out
+unfolding saveOf
+saved p c y out o e = rw (o, e)
+
+-- what was loaded is saved again as the same bytes
+pub load-then-save : (b : List ℕ) (x y : Stores) (c : Counts) (out : List ℕ) → Bytes b → loadOf b x ≡ record { answer = l.Done c; stores = y } → saveOf c y out ≡ putOut b out
+unfolding loadOf Done
+load-then-save b x y c out h e =
+    let d = done-only (judge b) x c y e in
+    let o = image-only b (d .0) h (d .1) in
+    let s = loaded-stands (d .0) x (o .1) (d .2) (d .3) in
+    saved (d .0) c y out
+    (ap (λ (k : Counts). programOk k y) (sym (d .4)) ∙ ap (programOk (countsFor (d .0))) (sym (d .5)) ∙ s .0)
+    (ap (λ (k : Counts). programIn k y) (sym (d .4)) ∙ ap (programIn (countsFor (d .0))) (sym (d .5)) ∙ s .1)
+    ∙ ap (λ (k : List ℕ). putOut k out) (sym (o .0))

@@ -1,0 +1,104 @@
+-- `image::check_structs` meets its contract.
+use Rattle.image.proofs.check_structs.Statement.{statement}
+use Rattle.image.proofs.check_structs.Tie as tie
+use borrow.Author.Needs.{needs}
+use native.Mathlib.Omega.{arith}
+use Prim.Native.Nat.{_-_}
+use Rattle.image.proofs.Passes.{counted-at, Names, names-start, names-none, names-end, names-texts, names-bad, names-in, names-seen, names-fit, names-step}
+
+abbrev Inv-loop : tie.InvT-loop
+Inv-loop image at n first count next₀ text₀ i₀ next text i = Names image first count next text i
+
+abbrev μ-loop : tie.MeasureT-loop
+μ-loop image at n first count next₀ text₀ i₀ next text i = count - i
+
+read-number-requires : tie.Need-read-number-requires Inv-loop μ-loop
+read-number-requires c κs = search needs
+
+enum-known-n : tie.Need-enum-known-n Inv-loop μ-loop
+enum-known-n c = search needs
+
+enum-told : tie.Need-enum-told Inv-loop μ-loop
+enum-told c = search needs
+
+returns : tie.Need-returns Inv-loop μ-loop
+returns c = names-none _ _ (c .before .before .before .before .pre) _ (c .before .before .read-number .ensures) (c .enum-told .given .1)
+
+wide-requires : tie.Need-wide-requires Inv-loop μ-loop
+wide-requires c κs = search needs
+
+loop-holds : tie.Need-loop-holds Inv-loop μ-loop
+loop-holds c = names-start _ _ _ (counted-at _ _ _ (c .before .before .before .before .read-number .ensures) _ _ _ (c .before .before .n .given .1) (c .wide .ensures) .within)
+
+read-text-requires : tie.Need-read-text-requires Inv-loop μ-loop
+read-text-requires c κs = c .before .loop .inv .pass .along .within
+
+enum-known-here : tie.Need-enum-known-here Inv-loop μ-loop
+enum-known-here c = search needs
+
+enum-told-2 : tie.Need-enum-told-2 Inv-loop μ-loop
+enum-told-2 c = search needs
+
+returns-2 : tie.Need-returns-2 Inv-loop μ-loop
+returns-2 c = names-bad _ _ _ _ (counted-at _ _ _ (c .before .before .before .before .before .before .before .before .before .read-number .ensures) _ _ _ (c .before .before .before .before .before .before .before .n .given .1) (c .before .before .before .before .before .wide .ensures)) _ _ _ (c .before .before .before .before .loop .inv) (c .before .before .before .loop-test .taken) _ (c .before .before .read-text .ensures) (c .enum-told2 .given .1)
+
+add-behind : tie.Need-add-behind Inv-loop μ-loop
+add-behind c = let z = names-in _ _ _ _ (counted-at _ _ _ (c .before .before .before .before .before .before .before .before .before .before .read-number .ensures) _ _ _ (c .before .before .before .before .before .before .before .before .n .given .1) (c .before .before .before .before .before .before .wide .ensures)) _ _ _ (c .before .before .before .before .before .loop .inv) (c .before .before .before .before .loop-test .taken) _ (c .before .before .before .read-text .ensures) _ _ (c .before .here .given .1) in omega arith
+
+sub-seen : tie.Need-sub-seen Inv-loop μ-loop
+sub-seen c = omega arith
+
+part-seen-start : tie.Need-part-seen-start Inv-loop μ-loop
+part-seen-start c = let z = names-in _ _ _ _ (counted-at _ _ _ (c .before .before .before .before .before .before .before .before .before .before .read-number .ensures) _ _ _ (c .before .before .before .before .before .before .before .before .n .given .1) (c .before .before .before .before .before .before .wide .ensures)) _ _ _ (c .before .before .before .before .before .loop .inv) (c .before .before .before .before .loop-test .taken) _ (c .before .before .before .read-text .ensures) _ _ (c .before .here .given .1) in omega arith
+
+part-seen-end : tie.Need-part-seen-end Inv-loop μ-loop
+part-seen-end c = let z = names-in _ _ _ _ (counted-at _ _ _ (c .before .before .before .before .before .before .before .before .before .before .read-number .ensures) _ _ _ (c .before .before .before .before .before .before .before .before .n .given .1) (c .before .before .before .before .before .before .wide .ensures)) _ _ _ (c .before .before .before .before .before .loop .inv) (c .before .before .before .before .loop-test .taken) _ (c .before .before .before .read-text .ensures) _ _ (c .before .here .given .1) in omega arith
+
+seen-requires : tie.Need-seen-requires Inv-loop μ-loop
+seen-requires c κs = names-texts _ _ _ _ (counted-at _ _ _ (c .before .before .before .before .before .before .before .before .before .before .before .read-number .ensures) _ _ _ (c .before .before .before .before .before .before .before .before .before .n .given .1) (c .before .before .before .before .before .before .before .wide .ensures)) _ _ _ (c .before .before .before .before .before .before .loop .inv)
+
+returns-3 : tie.Need-returns-3 Inv-loop μ-loop
+returns-3 c = names-seen _ _ _ _ (counted-at _ _ _ (c .before .before .before .before .before .before .before .before .before .before .before .before .before .read-number .ensures) _ _ _ (c .before .before .before .before .before .before .before .before .before .before .before .n .given .1) (c .before .before .before .before .before .before .before .before .before .wide .ensures)) _ _ _ (c .before .before .before .before .before .before .before .before .loop .inv) (c .before .before .before .before .before .before .before .loop-test .taken) _ (c .before .before .before .before .before .before .read-text .ensures) _ _ (c .before .before .before .before .here .given .1) _ (c .before .seen .ensures) (c .if1 .taken)
+
+add-text : tie.Need-add-text Inv-loop μ-loop
+add-text c = let z = names-fit _ _ _ _ (counted-at _ _ _ (c .before .before .before .before .before .before .before .before .before .before .before .before .before .read-number .ensures) _ _ _ (c .before .before .before .before .before .before .before .before .before .before .before .n .given .1) (c .before .before .before .before .before .before .before .before .before .wide .ensures)) _ _ _ (c .before .before .before .before .before .before .before .before .loop .inv) (c .before .before .before .before .before .before .before .loop-test .taken) _ (c .before .before .before .before .before .before .read-text .ensures) _ _ (c .before .before .before .before .here .given .1) in omega arith
+
+add-i : tie.Need-add-i Inv-loop μ-loop
+add-i c = let z = c .before .before .before .before .before .before .before .loop-test .taken in omega arith
+
+loop-less : tie.Need-loop-less Inv-loop μ-loop
+loop-less c = let z = c .before .before .before .before .before .before .before .loop-test .taken in omega arith
+
+loop-again : tie.Need-loop-again Inv-loop μ-loop
+loop-again c = names-step _ _ _ _ (counted-at _ _ _ (c .before .before .before .before .before .before .before .before .before .before .before .before .before .read-number .ensures) _ _ _ (c .before .before .before .before .before .before .before .before .before .before .before .n .given .1) (c .before .before .before .before .before .before .before .before .before .wide .ensures)) _ _ _ (c .before .before .before .before .before .before .before .before .loop .inv) (c .before .before .before .before .before .before .before .loop-test .taken) _ (c .before .before .before .before .before .before .read-text .ensures) _ _ (c .before .before .before .before .here .given .1) _ (c .before .seen .ensures) (c .if1 .left)
+
+returns-4 : tie.Need-returns-4 Inv-loop μ-loop
+returns-4 c = names-end _ _ _ _ (counted-at _ _ _ (c .before .before .before .before .before .before .read-number .ensures) _ _ _ (c .before .before .before .before .n .given .1) (c .before .before .wide .ensures)) _ _ _ (c .before .loop .inv) (c .loop-test .left)
+
+pub check-structs-spec : {M : Type 1} → statement M
+check-structs-spec =
+    tie.close
+    (tie.spec
+    Inv-loop
+    μ-loop
+    read-number-requires
+    enum-known-n
+    enum-told
+    returns
+    wide-requires
+    loop-holds
+    read-text-requires
+    enum-known-here
+    enum-told-2
+    returns-2
+    add-behind
+    sub-seen
+    part-seen-start
+    part-seen-end
+    seen-requires
+    returns-3
+    add-text
+    add-i
+    loop-less
+    loop-again
+    returns-4)

@@ -1,0 +1,20 @@
+-- `image::may_be` meets its contract.
+use borrow.Author.Needs.{needs}
+use Rattle.image.proofs.may_be.Statement.{statement}
+use Rattle.image.proofs.may_be.Tie as tie
+use Rattle.image.proofs.Functions.{may-main, may-other}
+
+slice-aggregate-same-bytes : tie.Need-slice-aggregate-same-bytes
+slice-aggregate-same-bytes c = search needs
+
+same-bytes-requires : tie.Need-same-bytes-requires
+same-bytes-requires c κs = search needs
+
+returns : tie.Need-returns
+returns c = may-main _ _ _ (c .before .before .if1 .taken) (c .same-bytes .ensures)
+
+returns-2 : tie.Need-returns-2
+returns-2 c = may-other _ _ (c .if1 .left)
+
+pub may-be-spec : {M : Type 1} → statement M
+may-be-spec = tie.close (tie.spec slice-aggregate-same-bytes same-bytes-requires returns returns-2)

@@ -1,0 +1,28 @@
+-- `image::read_letters` meets its contract.
+use borrow.Author.Needs.{needs}
+use Rattle.image.proofs.read_letters.Statement.{statement}
+use Rattle.image.proofs.read_letters.Tie as tie
+use native.Mathlib.Omega.{arith}
+use Rattle.image.proofs.Items.{text-end, letters-none, letters-read}
+
+read-text-requires : tie.Need-read-text-requires
+read-text-requires c κs = search needs
+
+enum-known-from : tie.Need-enum-known-from
+enum-known-from c = search needs
+
+enum-told : tie.Need-enum-told
+enum-told c = search needs
+
+returns : tie.Need-returns
+returns c = letters-none _ _ (c .before .before .before .before .pre .0) _ (c .before .before .read-text .ensures) _ (c .before .before .before .before .pre .1 .0) (c .before .before .before .before .pre .1 .1) (c .enum-told .given .1)
+
+add-t7 : tie.Need-add-t7
+add-t7 c = let z = text-end _ _ _ (c .before .before .before .read-text .ensures) _ _ (c .before .from .given .1) in omega arith
+
+returns-2 : tie.Need-returns-2
+returns-2 c = letters-read _ _ (c .before .before .before .before .before .pre .0) _ (c .before .before .before .read-text .ensures) _ (c .before .before .before .before .before .pre .1 .0) (c .before .before .before .before .before .pre .1 .1) _ _ (c .before .from .given .1)
+
+pub read-letters-spec : {M : Type 1} → statement M
+read-letters-spec =
+    tie.close (tie.spec read-text-requires enum-known-from enum-told returns add-t7 returns-2)

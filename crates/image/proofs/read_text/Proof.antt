@@ -1,0 +1,42 @@
+-- `image::read_text` meets its contract.
+use borrow.Author.Needs.{needs}
+use Rattle.image.proofs.read_text.Statement.{statement}
+use Rattle.image.proofs.read_text.Tie as tie
+use Rattle.image.proofs.Items.{text-none, text-starts, text-short, text-read}
+
+read-number-requires : tie.Need-read-number-requires
+read-number-requires c κs = search needs
+
+enum-known-n : tie.Need-enum-known-n
+enum-known-n c = search needs
+
+enum-told : tie.Need-enum-told
+enum-told c = search needs
+
+returns : tie.Need-returns
+returns c = text-none _ _ (c .before .before .before .before .pre) _ (c .before .before .read-number .ensures) (c .enum-told .given .1)
+
+wide-requires : tie.Need-wide-requires
+wide-requires c κs = search needs
+
+sub-if1 : tie.Need-sub-if1
+sub-if1 c = text-starts _ _ (c .before .before .before .before .before .before .pre) _ (c .before .before .before .before .read-number .ensures) _ _ _ (c .before .before .n .given .1) (c .wide .ensures)
+
+returns-2 : tie.Need-returns-2
+returns-2 c = text-short _ _ (c .before .before .before .before .before .before .before .pre) _ (c .before .before .before .before .before .read-number .ensures) _ _ _ (c .before .before .before .n .given .1) (c .before .wide .ensures) (c .if1 .taken)
+
+returns-3 : tie.Need-returns-3
+returns-3 c = text-read _ _ (c .before .before .before .before .before .before .before .pre) _ (c .before .before .before .before .before .read-number .ensures) _ _ _ (c .before .before .before .n .given .1) (c .before .wide .ensures) (c .if1 .left)
+
+pub read-text-spec : {M : Type 1} → statement M
+read-text-spec =
+    tie.close
+    (tie.spec
+    read-number-requires
+    enum-known-n
+    enum-told
+    returns
+    wide-requires
+    sub-if1
+    returns-2
+    returns-3)
