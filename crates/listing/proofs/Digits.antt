@@ -72,7 +72,7 @@ length-many n l h = let e = longer (decimal (n / 10)) (48 + n % 10) in ap length
 
 -- ---- with as many digits as another number has, or more
 
-abbrev like : ℕ → ℕ → List ℕ
+abbrev pub like : ℕ → ℕ → List ℕ
 like m n = digitsOrMore (length (decimal m)) n
 
 one-again : (x k : ℕ) → replicate k x ++ (x ∷ []) ≡ x ∷ replicate k x

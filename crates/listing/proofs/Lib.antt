@@ -1,2 +1,5 @@
 pub mod Puts
 pub mod Digits
+pub mod Names
+pub mod Pieces
+pub mod Lent

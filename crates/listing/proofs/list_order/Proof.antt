@@ -1,3 +1,6 @@
+-- `list_order`: the five checks.
+use mathlib.Core.Path.{refl}
+use Rattle.listing.proofs.Lent.{order-is}
 use borrow.Author.Needs.{needs}
 use Rattle.listing.proofs.list_order.Statement.{statement}
 use Rattle.listing.proofs.list_order.Tie as tie
@@ -31,7 +34,7 @@ inside-codes-requires c κs = search needs
 
 -- src/lib.rt:81:1
 returns : tie.Need-returns
-returns c = ?
+returns c = order-is _ _ _ _ _ (c .before .before .before .before .counts-ok .ensures) (c .before .before .before .text-ok .ensures) (c .before .before .functions-ok .ensures) (c .before .main-ok .ensures) (c .inside-codes .ensures _ _ refl refl)
 
 pub list-order-spec : {M : Type 1} → statement M
 list-order-spec =

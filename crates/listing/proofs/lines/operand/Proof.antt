@@ -1,40 +1,34 @@
+-- `operand`: a byte is below 256.
+use native.Mathlib.Omega.{arith}
+use Prim.Native.Nat.{_+_}
 use borrow.Author.Needs.{needs}
+use Rattle.listing.proofs.Pieces.{word-is}
 use Rattle.listing.proofs.lines.operand.Statement.{statement}
 use Rattle.listing.proofs.lines.operand.Tie as tie
-use Rattle.listing.proofs.lines.operand.Reads as reads
-use Rattle.listing.proofs.lines.operand.Lts as lts
 
--- src/lines.rt:39:5
 shared-slice-read-result : tie.Need-shared-slice-read-result
 shared-slice-read-result c = search needs
 
--- src/lines.rt:39:5
 cast-result : tie.Need-cast-result
-cast-result c = ?
+cast-result c = omega (arith, c .shared-slice-known .given (c .before .args .i))
 
--- src/lines.rt:39:36
 add-result : tie.Need-add-result
 add-result c = search needs
 
--- src/lines.rt:39:31
 shared-slice-read-result-2 : tie.Need-shared-slice-read-result-2
 shared-slice-read-result-2 c = search needs
 
--- src/lines.rt:39:31
 cast-result-2 : tie.Need-cast-result-2
-cast-result-2 c = ?
+cast-result-2 c = omega (arith, c .shared-slice-known2 .given (c .before .before .args .i + 1))
 
--- src/lines.rt:39:24
 mul-result : tie.Need-mul-result
-mul-result c = ?
+mul-result c = omega (arith, c .shared-slice-known2 .given (c .before .before .args .i + 1))
 
--- src/lines.rt:39:5
 add-result-2 : tie.Need-add-result-2
-add-result-2 c = ?
+add-result-2 c = omega (arith, c .shared-slice-known2 .given (c .before .before .args .i), c .shared-slice-known2 .given (c .before .before .args .i + 1))
 
--- src/lines.rt:35:1
 returns : tie.Need-returns
-returns c = ?
+returns c = word-is _ _
 
 pub operand-spec : {M : Type 1} → statement M
 operand-spec =

@@ -1,52 +1,48 @@
+-- `write_name`: a letter or a space a turn.
+use mathlib.Core.Path.{sym, _∙_}
+use Prim.Native.Nat.{_-_}
+use native.Mathlib.Omega.{arith}
+use borrow.Author.Needs.{needs}
+use lib.ListN.{length}
+use Rattle.model.specs.Opcodes.{opcodeAt}
+use Rattle.model.specs.Listings.{paddedTo}
+use Rattle.listing.proofs.Puts.{Along, at-first, another, whole, within, kept}
+use Rattle.listing.proofs.Names.{letter, goes-on, ends, short}
 use Rattle.listing.proofs.lines.write_name.Statement.{statement}
 use Rattle.listing.proofs.lines.write_name.Tie as tie
-use Rattle.listing.proofs.lines.write_name.Reads as reads
-use Rattle.listing.proofs.lines.write_name.Lts as lts
-use Rattle.listing.proofs.texts.put_byte.Reads as put-byte-reads
-use Rattle.opcode.proofs.name_byte.Reads as name-byte-reads
-use Rattle.opcode.proofs.name_len.Reads as name-len-reads
 
 abbrev Inv-loop : tie.InvT-loop
-Inv-loop b out₀ at len i₀ next₀ out i next = ?
+Inv-loop b out₀ at len i₀ next₀ out i next = Along (paddedTo 13 (opcodeAt b .name)) out₀ at out i next
 
 abbrev μ-loop : tie.MeasureT-loop
-μ-loop b out₀ at len i₀ next₀ out i next = ?
+μ-loop b out₀ at len i₀ next₀ out i next = length (paddedTo 13 (opcodeAt b .name)) - i
 
--- src/lines.rt:24:9
 name-len-requires : tie.Need-name-len-requires Inv-loop μ-loop
-name-len-requires c κs = ?
+name-len-requires c κs = search needs
 
--- src/lines.rt:27:5
 loop-holds : tie.Need-loop-holds Inv-loop μ-loop
-loop-holds c = ?
+loop-holds c = at-first _ _ _
 
--- src/lines.rt:28:25
 name-byte-requires : tie.Need-name-byte-requires Inv-loop μ-loop
-name-byte-requires c κs = ?
+name-byte-requires c κs = search needs
 
--- src/lines.rt:28:9
 put-byte-requires : tie.Need-put-byte-requires Inv-loop μ-loop
-put-byte-requires c κs = ?
+put-byte-requires c κs = omega (arith, short (c .before .before .before .before .before .before .args .b) (search needs), goes-on (opcodeAt (c .before .before .before .before .before .before .args .b) .name) (c .before .before .before .before .name-len .result) (c .before .before .before .before .name-len .ensures) (c .before .before .before .loop .i) (c .before .before .loop-test .taken))
 
--- src/lines.rt:29:9
 add-i : tie.Need-add-i Inv-loop μ-loop
-add-i c = ?
+add-i c = omega (arith, short (c .before .before .before .before .before .before .before .before .before .args .b) (search needs), goes-on (opcodeAt (c .before .before .before .before .before .before .before .before .before .args .b) .name) (c .before .before .before .before .before .before .before .name-len .result) (c .before .before .before .before .before .before .before .name-len .ensures) (c .before .before .before .before .before .before .loop .i) (c .before .before .before .before .before .loop-test .taken))
 
--- src/lines.rt:27:5
 loop-less : tie.Need-loop-less Inv-loop μ-loop
-loop-less c = ?
+loop-less c = omega (arith, goes-on (opcodeAt (c .before .before .before .before .before .before .before .before .before .args .b) .name) (c .before .before .before .before .before .before .before .name-len .result) (c .before .before .before .before .before .before .before .name-len .ensures) (c .before .before .before .before .before .before .loop .i) (c .before .before .before .before .before .loop-test .taken))
 
--- src/lines.rt:27:5
 loop-again : tie.Need-loop-again Inv-loop μ-loop
-loop-again c = ?
+loop-again c = let g = goes-on (opcodeAt (c .before .before .before .before .before .before .before .before .before .args .b) .name) (c .before .before .before .before .before .before .before .name-len .result) (c .before .before .before .before .before .before .before .name-len .ensures) (c .before .before .before .before .before .before .loop .i) (c .before .before .before .before .before .loop-test .taken) in another (c .before .before .before .before .before .before .loop .inv) _ 0 (c .before .before .before .before .name-byte .ensures ∙ sym (letter 13 _ 0 _ g)) g (c .before .before .put-byte .ensures)
 
--- src/lines.rt:20:1
 same-length : tie.Need-same-length Inv-loop μ-loop
-same-length c = ?
+same-length c = kept (c .before .loop .inv .put)
 
--- src/lines.rt:20:1
 returns : tie.Need-returns Inv-loop μ-loop
-returns c = ?
+returns c = within (whole (c .before .loop .inv) (ends _ _ (c .before .before .name-len .ensures) _ (c .loop-test .left))) 19 (short (c .before .before .before .before .args .b) (search needs))
 
 pub write-name-spec : {M : Type 1} → statement M
 write-name-spec =
