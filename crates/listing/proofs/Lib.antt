@@ -3,3 +3,5 @@ pub mod Digits
 pub mod Names
 pub mod Pieces
 pub mod Lent
+pub mod Judging
+pub mod Turns

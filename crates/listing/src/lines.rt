@@ -82,7 +82,8 @@ pub fn write_lines(code: &[u8], out: &mut [u8], at: usize) -> Told
             return Told::Refused(1);
         }
         let n = num_operands(b);
-        if code.len() - i - 1 < 2 * n {
+        let left = (code.len() - i - 1) / 2;
+        if left < n {
             return Told::Refused(3);
         }
         next = write_line(code, i, b, out, next);

@@ -1,3 +1,8 @@
+-- `write_line`: its pieces one behind the other.
+use native.Mathlib.Omega.{arith}
+use Rattle.model.specs.Opcodes.{opcodeAt}
+use Rattle.listing.proofs.Pieces.{line-is}
+use Rattle.listing.proofs.Turns.{behind-is}
 use borrow.Author.Needs.{needs}
 use Rattle.listing.proofs.lines.write_line.Statement.{statement}
 use Rattle.listing.proofs.lines.write_line.Tie as tie
@@ -36,7 +41,7 @@ put-byte-requires-2 c κs = search needs
 
 -- src/lines.rt:68:36
 add-write-operands : tie.Need-add-write-operands
-add-write-operands c = ?
+add-write-operands c = omega (arith, behind-is (c .before .before .before .before .before .before .before .before .before .before .before .before .before .before .before .before .before .before .before .before .before .before .before .args .i) (opcodeAt (c .before .before .before .before .before .before .before .before .before .before .before .before .before .before .before .before .before .before .before .before .before .before .before .args .b) .listed))
 
 -- src/lines.rt:68:43
 num-operands-requires : tie.Need-num-operands-requires
@@ -44,7 +49,7 @@ num-operands-requires c κs = search needs
 
 -- src/lines.rt:68:9
 write-operands-requires : tie.Need-write-operands-requires
-write-operands-requires c κs = ?
+write-operands-requires c κs = let h = behind-is (c .before .before .before .before .before .before .before .before .before .before .before .before .before .before .before .before .before .before .before .before .before .before .before .before .before .args .i) (opcodeAt (c .before .before .before .before .before .before .before .before .before .before .before .before .before .before .before .before .before .before .before .before .before .before .before .before .before .args .b) .listed) in (omega arith, omega arith)
 
 -- src/lines.rt:69:5
 put-byte-requires-3 : tie.Need-put-byte-requires-3
@@ -56,7 +61,7 @@ same-length c = search needs
 
 -- src/lines.rt:59:1
 returns : tie.Need-returns
-returns c = ?
+returns c = line-is _ _ _ _ (c .before .before .before .before .before .before .before .before .num-operands .ensures) (c .before .before .before .before .before .before .before .before .before .before .before .before .before .before .before .before .before .before .before .before .before .before .before .before .before .before .before .put-text .ensures) (c .before .before .before .before .before .before .before .before .before .before .before .before .before .before .before .before .before .before .before .before .before .before .before .write-decimal .ensures) (c .before .before .before .before .before .before .before .before .before .before .before .before .before .before .before .before .before .before .before .put-byte .ensures) (c .before .before .before .before .before .before .before .before .before .before .before .before .before .before .before .write-name .ensures) (c .before .before .before .before .before .before .before .before .before .before .before .put-byte2 .ensures) (c .before .before .before .before .before .before .write-operands .ensures) (c .before .before .put-byte3 .ensures)
 
 pub write-line-spec : {M : Type 1} → statement M
 write-line-spec =

@@ -40,39 +40,35 @@ returns c = ?
 num-operands-requires : tie.Need-num-operands-requires Inv-loop μ-loop
 num-operands-requires c κs = ?
 
--- src/lines.rt:85:12
-sub-if1 : tie.Need-sub-if1 Inv-loop μ-loop
-sub-if1 c = ?
+-- src/lines.rt:85:21
+sub-left : tie.Need-sub-left Inv-loop μ-loop
+sub-left c = ?
 
--- src/lines.rt:85:12
-sub-if1-2 : tie.Need-sub-if1-2 Inv-loop μ-loop
-sub-if1-2 c = ?
+-- src/lines.rt:85:21
+sub-left-2 : tie.Need-sub-left-2 Inv-loop μ-loop
+sub-left-2 c = ?
 
--- src/lines.rt:85:33
-mul-if1 : tie.Need-mul-if1 Inv-loop μ-loop
-mul-if1 c = ?
-
--- src/lines.rt:86:13
+-- src/lines.rt:87:13
 same-length-2 : tie.Need-same-length-2 Inv-loop μ-loop
 same-length-2 c = ?
 
--- src/lines.rt:86:13
+-- src/lines.rt:87:13
 returns-2 : tie.Need-returns-2 Inv-loop μ-loop
 returns-2 c = ?
 
--- src/lines.rt:88:9
+-- src/lines.rt:89:9
 write-line-requires : tie.Need-write-line-requires Inv-loop μ-loop
 write-line-requires c κs = ?
 
--- src/lines.rt:89:13
+-- src/lines.rt:90:13
 add-i : tie.Need-add-i Inv-loop μ-loop
 add-i c = ?
 
--- src/lines.rt:89:21
+-- src/lines.rt:90:21
 mul-i : tie.Need-mul-i Inv-loop μ-loop
 mul-i c = ?
 
--- src/lines.rt:89:13
+-- src/lines.rt:90:13
 add-i-2 : tie.Need-add-i-2 Inv-loop μ-loop
 add-i-2 c = ?
 
@@ -105,9 +101,8 @@ write-lines-spec =
     same-length
     returns
     num-operands-requires
-    sub-if1
-    sub-if1-2
-    mul-if1
+    sub-left
+    sub-left-2
     same-length-2
     returns-2
     write-line-requires
