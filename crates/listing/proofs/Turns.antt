@@ -5,6 +5,9 @@ use mathlib.Core.List.{List, [], _∷_, _++_}
 use Prim.Native.Nat.{ℕ, zero, suc, _+_, _-_, _*_, _/_, _≤_, _<_}
 use native.Mathlib.Omega.{arith}
 use lib.ListN.{length, getD}
+use denote.Enum.Declared.{tagOf}
+use types.Run.{OneOf, miss}
+use Rattle.model.proofs.Decoded.{the-type}
 use borrow.Author.Tests.{lt-ltb, le-ltb, le-leb, lt-leb}
 use Rattle.model.specs.declared.Op.{Op}
 use Rattle.model.specs.declared.Decoded.{Decoded}
@@ -43,16 +46,14 @@ unfolding linesFor lineThen
 one-left f code i h = rw (lt-ltb _ _ h)
 
 -- known, whether carried or not
-abbrev pub Known : Decoded → Type 0
-Known (Carried o) = Unit
-Known NotCarried = Unit
-Known Unknown = ⊥
+abbrev Known : Decoded → Type 0
+Known d = OneOf (0 ∷ 1 ∷ []) (tagOf the-type d)
 
 known-then : (k : ℕ → Listed) (code : List ℕ) (i : ℕ) (c : Opcode) (d : Decoded) → Known d → opcodeThen k code i c d ≡ knownThen k code i c
 unfolding opcodeThen
 known-then k code i c (Carried o) h = refl
 known-then k code i c NotCarried h = refl
-known-then k code i c Unknown h = absurd h
+known-then k code i c Unknown h = absurd (miss (0 ∷ 1 ∷ []) 2 tt h)
 
 module _ {code s : List ℕ} {at : ℕ} {s' : List ℕ} {i r : ℕ} (h : Turn code s at s' i r) where
   pub last-turn : length code ≤ i → Listing (64 * length code) (linesFor (length code) code 0) s at s' (Number r)

@@ -1,0 +1,91 @@
+use Rattle.listing.proofs.write_all.Statement.{statement}
+use Rattle.listing.proofs.write_all.Tie as tie
+use Rattle.listing.proofs.write_all.Reads as reads
+use Rattle.listing.proofs.write_all.Lts as lts
+use Rattle.listing.proofs.code_of.Reads as code-of-reads
+use Rattle.listing.proofs.write_function.Reads as write-function-reads
+use Rattle.program.proofs.words.first.Reads as first-reads
+use Rattle.program.proofs.words.part.Reads as part-reads
+
+abbrev Inv-loop : tie.InvT-loop
+Inv-loop functions text main other out₀ n next₀ i₀ out next i = ?
+
+abbrev μ-loop : tie.MeasureT-loop
+μ-loop functions text main other out₀ n next₀ i₀ out next i = ?
+
+-- src/lib.rt:67:5
+loop-holds : tie.Need-loop-holds Inv-loop μ-loop
+loop-holds c = ?
+
+-- src/lib.rt:68:31
+first-requires : tie.Need-first-requires Inv-loop μ-loop
+first-requires c κs = ?
+
+-- src/lib.rt:68:13
+part-requires : tie.Need-part-requires Inv-loop μ-loop
+part-requires c κs = ?
+
+-- src/lib.rt:69:13
+code-of-requires : tie.Need-code-of-requires Inv-loop μ-loop
+code-of-requires c κs = ?
+
+-- src/lib.rt:70:13
+write-function-requires : tie.Need-write-function-requires Inv-loop μ-loop
+write-function-requires c κs = ?
+
+-- src/lib.rt:71:26
+enum-known-told : tie.Need-enum-known-told Inv-loop μ-loop
+enum-known-told c = ?
+
+-- src/lib.rt:72:13
+enum-told : tie.Need-enum-told Inv-loop μ-loop
+enum-told c = ?
+
+-- src/lib.rt:72:13
+same-length : tie.Need-same-length Inv-loop μ-loop
+same-length c = ?
+
+-- src/lib.rt:72:13
+returns : tie.Need-returns Inv-loop μ-loop
+returns c = ?
+
+-- src/lib.rt:75:9
+add-i : tie.Need-add-i Inv-loop μ-loop
+add-i c = ?
+
+-- src/lib.rt:67:5
+loop-less : tie.Need-loop-less Inv-loop μ-loop
+loop-less c = ?
+
+-- src/lib.rt:67:5
+loop-again : tie.Need-loop-again Inv-loop μ-loop
+loop-again c = ?
+
+-- src/lib.rt:60:1
+same-length-2 : tie.Need-same-length-2 Inv-loop μ-loop
+same-length-2 c = ?
+
+-- src/lib.rt:60:1
+returns-2 : tie.Need-returns-2 Inv-loop μ-loop
+returns-2 c = ?
+
+pub write-all-spec : {M : Type 1} → statement M
+write-all-spec =
+    tie.close
+    (tie.spec
+    Inv-loop
+    μ-loop
+    loop-holds
+    first-requires
+    part-requires
+    code-of-requires
+    write-function-requires
+    enum-known-told
+    enum-told
+    same-length
+    returns
+    add-i
+    loop-less
+    loop-again
+    same-length-2
+    returns-2)
