@@ -5,3 +5,4 @@ pub mod Pieces
 pub mod Lent
 pub mod Judging
 pub mod Turns
+pub mod Functions

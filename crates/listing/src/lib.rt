@@ -47,7 +47,7 @@ fn write_function(i: usize, name: &[u8], code: &[u8], out: &mut [u8], at: usize)
 
 // The code of function i: main and the others have separate stores.
 fn code_of<'a>(functions: &[u64], main: &'a [u8], other: &'a [u8], i: usize) -> &'a [u8]
-    ensures { λ r. ⌜ now r ≡ codeIn (now (functions .entry)) (now (main .entry)) (now (other .entry)) i ⌝ }
+    ensures { λ r. ⌜ (now r ≡ codeIn (now (functions .entry)) (now (main .entry)) (now (other .entry)) i) × (length (now r) < 2 ^ 32) ⌝ }
 {
     let word = second(functions, i);
     if i == 0 {

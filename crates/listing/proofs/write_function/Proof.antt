@@ -1,3 +1,5 @@
+-- `write_function`: the lines behind the header.
+use Rattle.listing.proofs.Judging.{then}
 use borrow.Author.Needs.{needs}
 use Rattle.listing.proofs.write_function.Statement.{statement}
 use Rattle.listing.proofs.write_function.Tie as tie
@@ -20,7 +22,7 @@ same-length c = search needs
 
 -- src/lib.rt:40:1
 returns : tie.Need-returns
-returns c = ?
+returns c = then _ (c .before .before .before .before .before .before .write-header .ensures) (c .before .before .write-lines .ensures)
 
 pub write-function-spec : {M : Type 1} → statement M
 write-function-spec =
