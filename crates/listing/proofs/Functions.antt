@@ -8,12 +8,11 @@ use lib.ListN.{length}
 use denote.Enum.Declared.{tagOf}
 use types.Run.{OneOf, miss}
 use Rattle.model.proofs.Told.{the-type}
-use Rattle.model.specs.declared.Counts.{Counts}
 use Rattle.model.specs.declared.Told.{Told}
 use Rattle.model.specs.declared.Told.the-variants.{Number, Refused}
 use Rattle.model.specs.Values.{kindAt}
-use Rattle.model.specs.Listings.{Listed, text, unlisted, inFront, andListed, headerLine, linesFor, listingFrom, listingOf}
-use Rattle.model.specs.Stores.{Stores, part, nameWord, functionIn, functionsFrom, programIn}
+use Rattle.model.specs.Listings.{Listed, text, unlisted, inFront, andListed, headerLine, linesFor, listingFrom}
+use Rattle.model.specs.Stores.{Stores, part, nameWord, functionIn, functionsFrom}
 use Rattle.listing.specs.Links.{Put, Listing, lent, codeIn}
 use Rattle.listing.proofs.Puts.{kept}
 use Rattle.listing.proofs.Judging.{front-and, wrote, not-wrote, Sofar, at-start, onward, stops, completes}
@@ -37,10 +36,6 @@ module _ (fs t m o : List ℕ) where
   pub none-yet : (n : ℕ) (s : List ℕ) → Passed n s s 0 0
   none-yet n s = let z : n - 0 ≡ n = omega arith in record { inside = omega arith; near = omega arith; same = refl; so-far = λ rest. rw z (at-start _ s 0) }
 
-  pub whole : (c : Counts) (rest : Stores) → from (c .functions) 0 rest ≡ listingOf (programIn c (lent rest fs t m o))
-  unfolding listingOf programIn
-  whole c rest = refl
-
   module _ {n : ℕ} {s s' : List ℕ} {i r : ℕ} (h : Passed n s s' i r) where
     pub all-passed : n ≤ i → n ≤ 65536 → (rest : Stores) → Listing (65536 * 2 ^ 40) (from n 0 rest) s 0 s' (Number r)
     unfolding listingFrom functionsFrom
@@ -56,10 +51,10 @@ module _ (fs t m o : List ℕ) where
       one-stops (Number q) x l rest = absurd (miss (1 ∷ []) 0 tt x)
       one-stops (Refused q) x l rest = stops (h .so-far rest) (ahead rest ∙ ap (λ (y : Listed). andListed y (from (n - suc i) (suc i) rest)) (not-wrote _ l))
 
-      pub one-more : {k q : ℕ} {u : List ℕ} → Listing k (one i name code) s' r u (Number q) → k ≤ 2 ^ 40 → Passed n s u (i + 1) q
+      pub one-more : {k : ℕ} {u : List ℕ} {told : Told} {q : ℕ} → Listing k (one i name code) s' r u told → told ≡ Number q → k ≤ 2 ^ 40 → Passed n s u (i + 1) q
       unfolding andListed
-      one-more {k} {q} {u} l f =
-          let p = wrote _ l in
+      one-more l d f =
+          let p = wrote _ (rw d at l) in
           let x = p .put .near in
           let y = h .near in
           record {

@@ -18,7 +18,7 @@ part-requires c κs = search needs
 
 -- src/lib.rt:54:9
 returns : tie.Need-returns
-returns c = main-code _ _ _ _ _ (c .before .before .second .ensures) _ (c .before .if1 .taken) (c .part .ensures)
+returns c = main-code _ _ _ _ _ (c .before .before .second .ensures) (search needs) _ (c .before .if1 .taken) (c .part .ensures)
 
 -- src/lib.rt:56:5
 part-requires-2 : tie.Need-part-requires-2
@@ -26,7 +26,7 @@ part-requires-2 c κs = search needs
 
 -- src/lib.rt:49:1
 returns-2 : tie.Need-returns-2
-returns-2 c = other-code _ _ _ _ _ (c .before .before .second .ensures) _ (c .before .if1 .left) (c .part2 .ensures)
+returns-2 c = other-code _ _ _ _ _ (c .before .before .second .ensures) (search needs) _ (c .before .if1 .left) (c .part2 .ensures)
 
 pub code-of-spec : {M : Type 1} → statement M
 code-of-spec = tie.close (tie.spec second-requires part-requires returns part-requires-2 returns-2)
