@@ -106,7 +106,7 @@ like-many m n l k h =
     let b = short (n / 10) in
     let e = length-many n k h in
     let z : length (decimal m) - length (decimal n) ≡ length (decimal (m / 10)) - length (decimal (n / 10)) =
-      by-lt m 10 (λ g. let x = length-one m g in let y = length-one (m / 10) (omega arith) in omega arith) (λ g. let x = length-many m l g in omega arith) in
+    by-lt m 10 (λ g. let x = length-one m g in let y = length-one (m / 10) (omega arith) in omega arith) (λ g. let x = length-many m l g in omega arith) in
     rw (z, decimal-many n k h, append-assoc)
 
 like-more : (m n : ℕ) → m < 2 ^ 64 → n < 2 ^ 64 → (ltb n 10 && ltb m 10) ≡ false → like m n ≡ like (m / 10) (n / 10) ++ ((48 + n % 10) ∷ [])

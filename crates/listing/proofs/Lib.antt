@@ -6,3 +6,4 @@ pub mod Lent
 pub mod Judging
 pub mod Turns
 pub mod Functions
+pub mod Entry

@@ -35,8 +35,14 @@ pub record Listing (k : ℕ) (w : Listed) (s : List ℕ) (i : ℕ) (s' : List �
 -- functions, text and the code of main and of the others, over any rest
 unfoldable pub lent : Stores → List ℕ → List ℕ → List ℕ → List ℕ → Stores
 lent rest fs t m o = record {
-  constants = rest .constants; structs = rest .structs; functions = fs; text = t;
-  main = m; mainPlaces = rest .mainPlaces; other = o; otherPlaces = rest .otherPlaces;
+  constants = rest .constants;
+  structs = rest .structs;
+  functions = fs;
+  text = t;
+  main = m;
+  mainPlaces = rest .mainPlaces;
+  other = o;
+  otherPlaces = rest .otherPlaces;
 }
 
 -- the code of function i in these stores

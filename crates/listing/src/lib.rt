@@ -1,6 +1,7 @@
 // The listing of a program: the `.CODE` part of disassemble.
-pub mod texts; // texts.rt: bytes, texts and numbers put into a lent store
-pub mod lines; // lines.rt: the lines of one function's code
+mod texts; // texts.rt: bytes, texts and numbers put into a lent store
+mod lines; // lines.rt: the lines of one function's code
+
 use crate::lines::write_lines;
 use crate::texts::put_text;
 use crate::texts::write_decimal;
@@ -57,7 +58,14 @@ fn code_of<'a>(functions: &[u64], main: &'a [u8], other: &'a [u8], i: usize) -> 
 }
 
 // The functions in order, from the store's start on.
-fn write_all<'a>(c: Counts, functions: &[u64], text: &[u8], main: &'a [u8], other: &'a [u8], out: &mut [u8]) -> Told
+fn write_all<'a>(
+    c: Counts,
+    functions: &[u64],
+    text: &[u8],
+    main: &'a [u8],
+    other: &'a [u8],
+    out: &mut [u8],
+) -> Told
     requires { ⌜ c .functions ≤ 65536 ⌝ }
     ensures { λ r. ⌜ ((rest : Stores) → Listing (65536 * 2 ^ 40) (listingOf (programIn c (lent rest (now (functions .entry)) (now (text .entry)) (now (main .entry)) (now (other .entry))))) (now (out .entry)) 0 (now (out .exit)) r) ⌝ }
 {
@@ -89,7 +97,14 @@ fn list_order(c: Counts, functions: &[u64], text: &[u8], main: &[u8], other: &[u
 }
 
 // The listing of a program, into out: how long it is. It is judged and measured first, into no room at all, so that a refusal writes nothing.
-pub fn disassemble<'a>(c: Counts, functions: &[u64], text: &[u8], main: &'a [u8], other: &'a [u8], out: &mut [u8]) -> Told
+pub fn disassemble<'a>(
+    c: Counts,
+    functions: &[u64],
+    text: &[u8],
+    main: &'a [u8],
+    other: &'a [u8],
+    out: &mut [u8],
+) -> Told
     ensures { λ r. ⌜ ((rest : Stores) → record { answer = r; out = now (out .exit) } ≡ listOf c (lent rest (now (functions .entry)) (now (text .entry)) (now (main .entry)) (now (other .entry))) (now (out .entry))) ⌝ }
 {
     let ok = list_order(c, functions, text, main, other);

@@ -3,28 +3,19 @@ use Rattle.listing.proofs.Lent.{main-code, other-code}
 use borrow.Author.Needs.{needs}
 use Rattle.listing.proofs.code_of.Statement.{statement}
 use Rattle.listing.proofs.code_of.Tie as tie
-use Rattle.listing.proofs.code_of.Reads as reads
-use Rattle.listing.proofs.code_of.Lts as lts
-use Rattle.program.proofs.words.part.Reads as part-reads
-use Rattle.program.proofs.words.second.Reads as second-reads
 
--- src/lib.rt:52:9
 second-requires : tie.Need-second-requires
 second-requires c κs = search needs
 
--- src/lib.rt:54:9
 part-requires : tie.Need-part-requires
 part-requires c κs = search needs
 
--- src/lib.rt:54:9
 returns : tie.Need-returns
 returns c = main-code _ _ _ _ _ (c .before .before .second .ensures) (search needs) _ (c .before .if1 .taken) (c .part .ensures)
 
--- src/lib.rt:56:5
 part-requires-2 : tie.Need-part-requires-2
 part-requires-2 c κs = search needs
 
--- src/lib.rt:49:1
 returns-2 : tie.Need-returns-2
 returns-2 c = other-code _ _ _ _ _ (c .before .before .second .ensures) (search needs) _ (c .before .if1 .left) (c .part2 .ensures)
 

@@ -4,35 +4,22 @@ use Rattle.listing.proofs.Lent.{order-is}
 use borrow.Author.Needs.{needs}
 use Rattle.listing.proofs.list_order.Statement.{statement}
 use Rattle.listing.proofs.list_order.Tie as tie
-use Rattle.listing.proofs.list_order.Reads as reads
-use Rattle.listing.proofs.list_order.Lts as lts
-use Rattle.program.proofs.order.counts_ok.Reads as counts-ok-reads
-use Rattle.program.proofs.order.functions_ok.Reads as functions-ok-reads
-use Rattle.program.proofs.order.inside_codes.Reads as inside-codes-reads
-use Rattle.program.proofs.order.main_ok.Reads as main-ok-reads
-use Rattle.program.proofs.order.text_ok.Reads as text-ok-reads
 
--- src/lib.rt:84:5
 counts-ok-requires : tie.Need-counts-ok-requires
 counts-ok-requires c κs = search needs
 
--- src/lib.rt:85:11
 text-ok-requires : tie.Need-text-ok-requires
 text-ok-requires c κs = search needs
 
--- src/lib.rt:86:11
 functions-ok-requires : tie.Need-functions-ok-requires
 functions-ok-requires c κs = search needs
 
--- src/lib.rt:87:11
 main-ok-requires : tie.Need-main-ok-requires
 main-ok-requires c κs = search needs
 
--- src/lib.rt:88:11
 inside-codes-requires : tie.Need-inside-codes-requires
 inside-codes-requires c κs = search needs
 
--- src/lib.rt:81:1
 returns : tie.Need-returns
 returns c = order-is _ _ _ _ _ (c .before .before .before .before .counts-ok .ensures) (c .before .before .before .text-ok .ensures) (c .before .before .functions-ok .ensures) (c .before .main-ok .ensures) (c .inside-codes .ensures _ _ refl refl)
 

@@ -8,12 +8,6 @@ use Rattle.listing.proofs.Lent.{short}
 use Rattle.listing.proofs.Functions.{Passed, none-yet, all-passed, one-stops, one-more}
 use Rattle.listing.proofs.write_all.Statement.{statement}
 use Rattle.listing.proofs.write_all.Tie as tie
-use Rattle.listing.proofs.write_all.Reads as reads
-use Rattle.listing.proofs.write_all.Lts as lts
-use Rattle.listing.proofs.code_of.Reads as code-of-reads
-use Rattle.listing.proofs.write_function.Reads as write-function-reads
-use Rattle.program.proofs.words.first.Reads as first-reads
-use Rattle.program.proofs.words.part.Reads as part-reads
 
 abbrev Inv-loop : tie.InvT-loop
 Inv-loop functions text main other out₀ n next₀ i₀ out next i = Passed functions text main other n out₀ out i next
@@ -21,60 +15,46 @@ Inv-loop functions text main other out₀ n next₀ i₀ out next i = Passed fun
 abbrev μ-loop : tie.MeasureT-loop
 μ-loop functions text main other out₀ n next₀ i₀ out next i = n - i
 
--- src/lib.rt:67:5
 loop-holds : tie.Need-loop-holds Inv-loop μ-loop
 loop-holds c = none-yet _ _ _ _ _ _
 
--- src/lib.rt:68:31
 first-requires : tie.Need-first-requires Inv-loop μ-loop
 first-requires c κs = search needs
 
--- src/lib.rt:68:13
 part-requires : tie.Need-part-requires Inv-loop μ-loop
 part-requires c κs = search needs
 
--- src/lib.rt:69:13
 code-of-requires : tie.Need-code-of-requires Inv-loop μ-loop
 code-of-requires c κs = search needs
 
--- src/lib.rt:70:13
 write-function-requires : tie.Need-write-function-requires Inv-loop μ-loop
 write-function-requires c κs = omega (arith, short _ _ (search needs) _ (c .before .before .part .ensures), c .before .code-of .ensures .1)
 
--- src/lib.rt:71:26
 enum-known-told : tie.Need-enum-known-told Inv-loop μ-loop
 enum-known-told c = search needs
 
--- src/lib.rt:72:13
 enum-told : tie.Need-enum-told Inv-loop μ-loop
 enum-told c = search needs
 
--- src/lib.rt:72:13
 same-length : tie.Need-same-length Inv-loop μ-loop
 same-length c = search needs
 
--- src/lib.rt:72:13
 returns : tie.Need-returns Inv-loop μ-loop
 unfolding listingOf programIn
 returns c = one-stops _ _ _ _ (c .before .before .before .before .before .before .before .before .before .before .loop .inv) (c .before .before .before .before .before .before .before .before .before .loop-test .taken) _ (c .before .before .before .before .before .before .before .before .first .ensures) _ _ (c .before .before .before .before .before .before .before .part .ensures) (c .before .before .before .before .before .before .code-of .ensures .0) _ (c .before .match .keys2) (c .before .before .before .before .write-function .ensures)
 
--- src/lib.rt:75:9
 add-i : tie.Need-add-i Inv-loop μ-loop
 add-i c = search needs
 
--- src/lib.rt:67:5
 loop-less : tie.Need-loop-less Inv-loop μ-loop
 loop-less c = search needs
 
--- src/lib.rt:67:5
 loop-again : tie.Need-loop-again Inv-loop μ-loop
 loop-again c = one-more _ _ _ _ (c .before .before .before .before .before .before .before .before .before .before .before .loop .inv) (c .before .before .before .before .before .before .before .before .before .before .loop-test .taken) _ (c .before .before .before .before .before .before .before .before .before .first .ensures) _ _ (c .before .before .before .before .before .before .before .before .part .ensures) (c .before .before .before .before .before .before .before .code-of .ensures .0) (c .before .before .before .before .before .write-function .ensures) (c .before .told .given .1) (omega (arith, short _ _ (search needs) _ (c .before .before .before .before .before .before .before .before .part .ensures), c .before .before .before .before .before .before .before .code-of .ensures .1))
 
--- src/lib.rt:60:1
 same-length-2 : tie.Need-same-length-2 Inv-loop μ-loop
 same-length-2 c = search needs
 
--- src/lib.rt:60:1
 returns-2 : tie.Need-returns-2 Inv-loop μ-loop
 unfolding listingOf programIn
 returns-2 c = all-passed _ _ _ _ (c .before .loop .inv) (c .loop-test .left) (c .before .before .before .before .before .before .before .pre)

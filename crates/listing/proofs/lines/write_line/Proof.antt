@@ -6,60 +6,40 @@ use Rattle.listing.proofs.Turns.{behind-is}
 use borrow.Author.Needs.{needs}
 use Rattle.listing.proofs.lines.write_line.Statement.{statement}
 use Rattle.listing.proofs.lines.write_line.Tie as tie
-use Rattle.listing.proofs.lines.write_line.Reads as reads
-use Rattle.listing.proofs.lines.write_line.Lts as lts
-use Rattle.listing.proofs.lines.write_name.Reads as write-name-reads
-use Rattle.listing.proofs.lines.write_operands.Reads as write-operands-reads
-use Rattle.listing.proofs.texts.put_byte.Reads as put-byte-reads
-use Rattle.listing.proofs.texts.put_text.Reads as put-text-reads
-use Rattle.listing.proofs.texts.write_decimal.Reads as write-decimal-reads
-use Rattle.opcode.proofs.num_operands.Reads as num-operands-reads
 
--- src/lines.rt:63:27
 slice-aggregate-put-text : tie.Need-slice-aggregate-put-text
 slice-aggregate-put-text c = search needs
 
--- src/lines.rt:63:9
 put-text-requires : tie.Need-put-text-requires
 put-text-requires c κs = search needs
 
--- src/lines.rt:64:9
 write-decimal-requires : tie.Need-write-decimal-requires
 write-decimal-requires c κs = search needs
 
--- src/lines.rt:65:9
 put-byte-requires : tie.Need-put-byte-requires
 put-byte-requires c κs = search needs
 
--- src/lines.rt:66:9
 write-name-requires : tie.Need-write-name-requires
 write-name-requires c κs = search needs
 
--- src/lines.rt:67:9
 put-byte-requires-2 : tie.Need-put-byte-requires-2
 put-byte-requires-2 c κs = search needs
 
--- src/lines.rt:68:36
 add-write-operands : tie.Need-add-write-operands
 add-write-operands c = omega (arith, behind-is (c .before .before .before .before .before .before .before .before .before .before .before .before .before .before .before .before .before .before .before .before .before .before .before .args .i) (opcodeAt (c .before .before .before .before .before .before .before .before .before .before .before .before .before .before .before .before .before .before .before .before .before .before .before .args .b) .listed))
 
--- src/lines.rt:68:43
 num-operands-requires : tie.Need-num-operands-requires
 num-operands-requires c κs = search needs
 
--- src/lines.rt:68:9
 write-operands-requires : tie.Need-write-operands-requires
 write-operands-requires c κs = let h = behind-is (c .before .before .before .before .before .before .before .before .before .before .before .before .before .before .before .before .before .before .before .before .before .before .before .before .before .args .i) (opcodeAt (c .before .before .before .before .before .before .before .before .before .before .before .before .before .before .before .before .before .before .before .before .before .before .before .before .before .args .b) .listed) in (omega arith, omega arith)
 
--- src/lines.rt:69:5
 put-byte-requires-3 : tie.Need-put-byte-requires-3
 put-byte-requires-3 c κs = search needs
 
--- src/lines.rt:59:1
 same-length : tie.Need-same-length
 same-length c = search needs
 
--- src/lines.rt:59:1
 returns : tie.Need-returns
 returns c = line-is _ _ _ _ (c .before .before .before .before .before .before .before .before .num-operands .ensures) (c .before .before .before .before .before .before .before .before .before .before .before .before .before .before .before .before .before .before .before .before .before .before .before .before .before .before .before .put-text .ensures) (c .before .before .before .before .before .before .before .before .before .before .before .before .before .before .before .before .before .before .before .before .before .before .before .write-decimal .ensures) (c .before .before .before .before .before .before .before .before .before .before .before .before .before .before .before .before .before .before .before .put-byte .ensures) (c .before .before .before .before .before .before .before .before .before .before .before .before .before .before .before .write-name .ensures) (c .before .before .before .before .before .before .before .before .before .before .before .put-byte2 .ensures) (c .before .before .before .before .before .before .write-operands .ensures) (c .before .before .put-byte3 .ensures)
 

@@ -8,11 +8,6 @@ use Rattle.listing.proofs.Puts.{kept}
 use Rattle.listing.proofs.Turns.{Turn, first-turn, last-turn, unknown, cut-short, next-turn, behind-is}
 use Rattle.listing.proofs.lines.write_lines.Statement.{statement}
 use Rattle.listing.proofs.lines.write_lines.Tie as tie
-use Rattle.listing.proofs.lines.write_lines.Reads as reads
-use Rattle.listing.proofs.lines.write_lines.Lts as lts
-use Rattle.listing.proofs.lines.write_line.Reads as write-line-reads
-use Rattle.opcode.proofs.decode.Reads as decode-reads
-use Rattle.opcode.proofs.num_operands.Reads as num-operands-reads
 
 abbrev Inv-loop : tie.InvT-loop
 Inv-loop code out₀ at i₀ next₀ out i next = Turn code out₀ at out i next
@@ -20,79 +15,60 @@ Inv-loop code out₀ at i₀ next₀ out i next = Turn code out₀ at out i next
 abbrev μ-loop : tie.MeasureT-loop
 μ-loop code out₀ at i₀ next₀ out i next = length code - i
 
--- src/lines.rt:79:5
 loop-holds : tie.Need-loop-holds Inv-loop μ-loop
 loop-holds c = first-turn _ _ _
 
--- src/lines.rt:80:17
 shared-slice-read-b : tie.Need-shared-slice-read-b Inv-loop μ-loop
 shared-slice-read-b c = search needs
 
--- src/lines.rt:81:35
 decode-requires : tie.Need-decode-requires Inv-loop μ-loop
 decode-requires c κs = search needs
 
--- src/lines.rt:82:13
 enum-told : tie.Need-enum-told Inv-loop μ-loop
 enum-told c = c .match .keys1
 
--- src/lines.rt:82:13
 same-length : tie.Need-same-length Inv-loop μ-loop
 same-length c = kept (c .before .before .before .before .before .loop .inv .so-far .put)
 
--- src/lines.rt:82:13
 returns : tie.Need-returns Inv-loop μ-loop
 returns c = unknown (c .before .before .before .before .before .loop .inv) (c .before .before .before .before .loop-test .taken) _ (c .before .before .decode .ensures) (c .enum-told .given .1)
 
--- src/lines.rt:84:13
 num-operands-requires : tie.Need-num-operands-requires Inv-loop μ-loop
 num-operands-requires c κs = search needs
 
--- src/lines.rt:85:21
 sub-left : tie.Need-sub-left Inv-loop μ-loop
 sub-left c = search needs
 
--- src/lines.rt:85:21
 sub-left-2 : tie.Need-sub-left-2 Inv-loop μ-loop
 sub-left-2 c = search needs
 
--- src/lines.rt:87:13
 same-length-2 : tie.Need-same-length-2 Inv-loop μ-loop
 same-length-2 c = kept (c .before .before .before .before .before .before .loop .inv .so-far .put)
 
--- src/lines.rt:87:13
 returns-2 : tie.Need-returns-2 Inv-loop μ-loop
 returns-2 c = cut-short (c .before .before .before .before .before .before .loop .inv) (c .before .before .before .before .before .loop-test .taken) _ (c .before .before .before .decode .ensures) (c .before .before .match .keys2) _ (c .before .num-operands .ensures) (c .if1 .taken)
 
--- src/lines.rt:89:9
 write-line-requires : tie.Need-write-line-requires Inv-loop μ-loop
 write-line-requires c κs = let h = behind-is (c .before .before .before .before .before .before .before .loop .i) (opcodeAt (getD (c .before .before .before .before .before .before .before .before .before .before .args .code .now) (c .before .before .before .before .before .before .before .loop .i) 0) .listed) in (omega arith, omega arith)
 
--- src/lines.rt:90:13
 add-i : tie.Need-add-i Inv-loop μ-loop
 add-i c = search needs
 
--- src/lines.rt:90:21
 mul-i : tie.Need-mul-i Inv-loop μ-loop
 mul-i c = search needs
 
--- src/lines.rt:90:13
 add-i-2 : tie.Need-add-i-2 Inv-loop μ-loop
 add-i-2 c = search needs
 
--- src/lines.rt:79:5
 loop-less : tie.Need-loop-less Inv-loop μ-loop
 loop-less c = search needs
 
--- src/lines.rt:79:5
 loop-again : tie.Need-loop-again Inv-loop μ-loop
 loop-again c = next-turn (c .before .before .before .before .before .before .before .before .before .before .loop .inv) (c .before .before .before .before .before .before .before .before .before .loop-test .taken) _ (c .before .before .before .before .before .before .before .decode .ensures) (c .before .before .before .before .before .before .match .keys2) _ (c .before .before .before .before .before .num-operands .ensures) (c .before .before .before .before .if1 .left) (c .before .before .write-line .ensures)
 
--- src/lines.rt:73:1
 same-length-3 : tie.Need-same-length-3 Inv-loop μ-loop
 same-length-3 c = kept (c .before .loop .inv .so-far .put)
 
--- src/lines.rt:73:1
 returns-3 : tie.Need-returns-3 Inv-loop μ-loop
 returns-3 c = last-turn (c .before .loop .inv) (c .loop-test .left)
 
