@@ -96,7 +96,8 @@ fn list_order(c: Counts, functions: &[u64], text: &[u8], main: &[u8], other: &[u
         & inside_codes(c, functions, main.len(), other.len())
 }
 
-// The listing of a program, into out: how long it is. It is judged and measured first, into no room at all, so that a refusal writes nothing.
+// The listing of a program, into out, and how long it is. It is judged and measured first, with no room to write into, so that a refusal
+// writes nothing.
 pub fn disassemble<'a>(
     c: Counts,
     functions: &[u64],
@@ -111,7 +112,8 @@ pub fn disassemble<'a>(
     if !ok {
         return Told::Refused(19);
     }
-    let measured = write_all(c, functions, text, main, other, &mut out[..0]);
+    let none = 0;
+    let measured = write_all(c, functions, text, main, other, &mut out[..none]);
     let Told::Number(n) = measured else {
         return measured;
     };
