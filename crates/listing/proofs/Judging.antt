@@ -1,0 +1,91 @@
+-- What is listed, part by part: the text so far was put, and what is left decides the whole.
+use mathlib.Core.Path.{_≡_, refl, sym, ap, _∙_}
+use mathlib.Core.List.{List, [], _∷_, _++_, append-assoc, append-nil}
+use Prim.Native.Nat.{ℕ, zero, suc, _+_, _*_, _≤_, _<_}
+use native.Mathlib.Omega.{arith}
+use Rattle.model.specs.declared.Told.{Told}
+use Rattle.model.specs.declared.Told.the-variants.{Number, Refused}
+use Rattle.model.specs.Listings.{Listed, text, unlisted, inFront, andListed}
+use Rattle.model.specs.Emission.{written}
+use Rattle.listing.specs.Links.{Put, Listing, toldOf, Near}
+use Rattle.listing.proofs.Puts.{is, within, both, nothing}
+
+-- ---- the model's joints
+
+front-none : (x : Listed) → inFront [] x ≡ x
+unfolding inFront
+front-none (text l) = refl
+front-none (unlisted n) = refl
+
+front-front : (a b : List ℕ) (x : Listed) → inFront a (inFront b x) ≡ inFront (a ++ b) x
+unfolding inFront
+front-front a b (text l) = ap text (sym (append-assoc a b l))
+front-front a b (unlisted n) = refl
+
+pub front-and : (a : List ℕ) (x y : Listed) → inFront a (andListed x y) ≡ andListed (inFront a x) y
+unfolding inFront andListed
+front-and a (text l) y = front-front a l y
+front-and a (unlisted n) y = refl
+
+-- ---- an answer taken apart, and put together
+
+-- the whole is a text, and it was put
+pub record Wrote (k : ℕ) (w : Listed) (s : List ℕ) (i : ℕ) (s' : List ℕ) (r : ℕ) : Type 0 where
+  pub l : List ℕ
+  pub is-text : w ≡ text l
+  pub put : Put k l s i s' r
+
+pub wrote : {k : ℕ} (w : Listed) {s : List ℕ} {i : ℕ} {s' : List ℕ} {r : ℕ} → Listing k w s i s' (Number r) → Wrote k w s i s' r
+wrote (text l) h = record { l = l; is-text = refl; put = record { stored = h .stored l refl; next = let e = h .means in cc; near = h .near } }
+wrote (unlisted n) h = absurd (let e = h .means in let z : _≡_ {A = ℕ} 0 1 = cc in let y : ⊥ = omega arith in y)
+
+pub not-wrote : {k : ℕ} (w : Listed) {s : List ℕ} {i : ℕ} {s' : List ℕ} {n : ℕ} → Listing k w s i s' (Refused n) → w ≡ unlisted n
+not-wrote (text l) h = absurd (let e = h .means in let z : _≡_ {A = ℕ} 0 1 = cc in let y : ⊥ = omega arith in y)
+not-wrote (unlisted n) h = let e = h .means in cc
+
+pub listed : {k : ℕ} {w : Listed} {l s : List ℕ} {i : ℕ} {s' : List ℕ} {r : ℕ} → w ≡ text l → Put k l s i s' r → Listing k w s i s' (Number r)
+listed {l = l} {s} {i} e p = record {
+  means = rw e (ap Number (p .next));
+  stored = λ m f. let z : l ≡ m = cc in p .stored ∙ ap (written s i) z;
+  near = p .near;
+}
+
+pub not-listed : {k : ℕ} {w : Listed} {n : ℕ} {s : List ℕ} {i : ℕ} {s' : List ℕ} → w ≡ unlisted n → Listing k w s i s' (Refused n)
+not-listed e = record {
+  means = rw e;
+  stored = λ m f. absurd (let z : _≡_ {A = ℕ} 0 1 = cc in let y : ⊥ = omega arith in y);
+  near = tt;
+}
+
+-- a text, and a listing behind it
+pub then : {k m : ℕ} {a : List ℕ} {w : Listed} {s : List ℕ} {i : ℕ} {s' : List ℕ} {j : ℕ} {t : List ℕ} (r : Told) → Put k a s i s' j → Listing m w s' j t r → Listing (k + m) (inFront a w) s i t r
+unfolding inFront
+then (Number r) p h = let q = wrote _ h in listed (ap (inFront _) (q .is-text)) (both p (q .put))
+then (Refused n) p h = not-listed (ap (inFront _) (not-wrote _ h))
+
+-- ---- a loop
+
+-- the text so far is done, and x is left of the whole
+pub record Sofar (k : ℕ) (whole x : Listed) (s : List ℕ) (at : ℕ) (s' : List ℕ) (r : ℕ) : Type 0 where
+  pub done : List ℕ
+  pub put : Put k done s at s' r
+  pub splits : whole ≡ inFront done x
+
+pub at-start : (w : Listed) (s : List ℕ) (at : ℕ) → Sofar 0 w w s at s at
+at-start w s at = record { done = []; put = nothing s at; splits = sym (front-none w) }
+
+module _ {k : ℕ} {w x : Listed} {s : List ℕ} {at : ℕ} {s' : List ℕ} {r : ℕ} (h : Sofar k w x s at s' r) where
+  pub onward : {m : ℕ} {l : List ℕ} {y : Listed} {t : List ℕ} {q : ℕ} → x ≡ inFront l y → Put m l s' r t q → (n : ℕ) → k + m ≤ n → Sofar n w y s at t q
+  onward {l = l} {y} e p n g = record {
+    done = h .done ++ l;
+    put = within (both (h .put) p) n g;
+    splits = h .splits ∙ ap (inFront (h .done)) e ∙ front-front (h .done) l y;
+  }
+
+  pub stops : {n : ℕ} → x ≡ unlisted n → {m : ℕ} {t : List ℕ} → Listing m w s at t (Refused n)
+  unfolding inFront
+  stops e = not-listed (h .splits ∙ ap (inFront (h .done)) e)
+
+  pub completes : x ≡ text [] → (n : ℕ) → k ≤ n → Listing n w s at s' (Number r)
+  unfolding inFront
+  completes e n g = listed (h .splits ∙ ap (inFront (h .done)) e ∙ ap text (append-nil (h .done))) (within (h .put) n g)

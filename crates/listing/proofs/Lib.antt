@@ -1,0 +1,9 @@
+pub mod Puts
+pub mod Digits
+pub mod Names
+pub mod Pieces
+pub mod Lent
+pub mod Judging
+pub mod Turns
+pub mod Functions
+pub mod Entry

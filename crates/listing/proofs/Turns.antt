@@ -1,0 +1,98 @@
+-- The loop over the instructions of a code.
+use mathlib.Core.Path.{_≡_, refl, sym, ap, _∙_}
+use mathlib.Core.Bool.{Bool, true, false}
+use mathlib.Core.List.{List, [], _∷_, _++_}
+use Prim.Native.Nat.{ℕ, zero, suc, _+_, _-_, _*_, _/_, _≤_, _<_}
+use native.Mathlib.Omega.{arith}
+use lib.ListN.{length, getD}
+use denote.Enum.Declared.{tagOf}
+use types.Run.{OneOf, miss}
+use Rattle.model.proofs.Decoded.{the-type}
+use borrow.Author.Tests.{lt-ltb, le-ltb, le-leb, lt-leb}
+use Rattle.model.specs.declared.Op.{Op}
+use Rattle.model.specs.declared.Decoded.{Decoded}
+use Rattle.model.specs.declared.Decoded.the-variants.{Carried, NotCarried, Unknown}
+use Rattle.model.specs.declared.Told.the-variants.{Number, Refused}
+use Rattle.model.specs.Opcodes.{Opcode, opcodeAt}
+use Rattle.model.specs.Programs.{behind}
+use Rattle.model.specs.Listings.{Listed, text, unlisted, inFront, lineOf, knownThen, opcodeThen, lineThen, linesFor}
+use Rattle.listing.specs.Links.{Put, Listing}
+use Rattle.listing.proofs.Judging.{Sofar, at-start, onward, stops, completes}
+
+pub behind-is : (i n : ℕ) → behind i n ≡ i + 1 + 2 * n
+unfolding behind
+behind-is i n = omega arith
+
+-- the lines before position i were put; the instructions left are enough
+pub record Turn (code s : List ℕ) (at : ℕ) (s' : List ℕ) (i r : ℕ) : Type 0 where
+  pub left : ℕ
+  pub enough : length code ≤ i + left
+  pub inside : i ≤ length code
+  pub near : r ≤ at + 64 * i
+  pub so-far : Sofar (64 * i) (linesFor (length code) code 0) (linesFor left code i) s at s' r
+
+pub first-turn : (code s : List ℕ) (at : ℕ) → Turn code s at s 0 at
+first-turn code s at = record { left = length code; enough = omega arith; inside = omega arith; near = omega arith; so-far = at-start _ s at }
+
+-- nothing is left at the end
+none-left : (f : ℕ) (code : List ℕ) (i : ℕ) → length code ≤ i → linesFor f code i ≡ text []
+unfolding linesFor lineThen
+none-left zero code i h = refl
+none-left (suc f) code i h = rw (le-ltb _ _ h)
+
+-- an instruction is left before it
+one-left : (f : ℕ) (code : List ℕ) (i : ℕ) → i < length code → linesFor (suc f) code i ≡ opcodeThen (linesFor f code) code i (opcodeAt (getD code i 0)) (opcodeAt (getD code i 0) .what)
+unfolding linesFor lineThen
+one-left f code i h = rw (lt-ltb _ _ h)
+
+-- known, whether carried or not
+abbrev Known : Decoded → Type 0
+Known d = OneOf (0 ∷ 1 ∷ []) (tagOf the-type d)
+
+known-then : (k : ℕ → Listed) (code : List ℕ) (i : ℕ) (c : Opcode) (d : Decoded) → Known d → opcodeThen k code i c d ≡ knownThen k code i c
+unfolding opcodeThen
+known-then k code i c (Carried o) h = refl
+known-then k code i c NotCarried h = refl
+known-then k code i c Unknown h = absurd (miss (0 ∷ 1 ∷ []) 2 tt h)
+
+module _ {code s : List ℕ} {at : ℕ} {s' : List ℕ} {i r : ℕ} (h : Turn code s at s' i r) where
+  pub last-turn : length code ≤ i → Listing (64 * length code) (linesFor (length code) code 0) s at s' (Number r)
+  last-turn g = let z = h .inside in completes (h .so-far) (none-left (h .left) code i g) _ (omega arith)
+
+  module _ (g : i < length code) (d : Decoded) (e : d ≡ opcodeAt (getD code i 0) .what) where
+    one-fewer : {f : ℕ} → h .left ≡ suc f → linesFor (h .left) code i ≡ opcodeThen (linesFor f code) code i (opcodeAt (getD code i 0)) d
+    one-fewer {f} z = ap (λ (n : ℕ). linesFor n code i) z ∙ one-left f code i g ∙ rw e
+
+    some-left : h .left ≡ suc (h .left - 1)
+    some-left = let z = h .enough in omega arith
+
+    pub unknown : d ≡ Unknown → {t : List ℕ} → Listing (64 * length code) (linesFor (length code) code 0) s at t (Refused 1)
+    unfolding opcodeThen
+    unknown f = stops (h .so-far) (one-fewer some-left ∙ rw f)
+
+    module _ (k : Known d) (n : ℕ) (w : n ≡ opcodeAt (getD code i 0) .listed) where
+      known : linesFor (h .left) code i ≡ knownThen (linesFor (h .left - 1) code) code i (opcodeAt (getD code i 0))
+      known = one-fewer some-left ∙ known-then (linesFor (h .left - 1) code) code i (opcodeAt (getD code i 0)) d k
+
+      pub cut-short : (length code - i - 1) / 2 < n → {t : List ℕ} → Listing (64 * length code) (linesFor (length code) code 0) s at t (Refused 3)
+      unfolding knownThen
+      cut-short f =
+          let b = behind-is i n in
+          let z : length code < behind i n = omega arith in
+          stops (h .so-far) (known ∙ rw (← w, lt-leb _ _ z))
+
+      pub next-turn : n ≤ (length code - i - 1) / 2 → {t : List ℕ} {q : ℕ} → Put (64 + 21 * opcodeAt (getD code i 0) .listed) (lineOf code i (opcodeAt (getD code i 0))) s' r t q → Turn code s at t (i + 1 + 2 * n) q
+      unfolding knownThen
+      next-turn f p =
+          let b = behind-is i n in
+          let z : behind i n ≤ length code = omega arith in
+          let y = h .enough in
+          let x = h .near in
+          let v = p .near in
+          record {
+            left = h .left - 1;
+            enough = omega arith;
+            inside = omega arith;
+            near = omega arith;
+            so-far = onward (h .so-far) (known ∙ rw (← w, le-leb _ _ z, b)) p _ (omega arith);
+          }

@@ -1,0 +1,61 @@
+-- `write_line`: its pieces one behind the other.
+use native.Mathlib.Omega.{arith}
+use Rattle.model.specs.Opcodes.{opcodeAt}
+use Rattle.listing.proofs.Pieces.{line-is}
+use Rattle.listing.proofs.Turns.{behind-is}
+use borrow.Author.Needs.{needs}
+use Rattle.listing.proofs.lines.write_line.Statement.{statement}
+use Rattle.listing.proofs.lines.write_line.Tie as tie
+
+slice-aggregate-put-text : tie.Need-slice-aggregate-put-text
+slice-aggregate-put-text c = search needs
+
+put-text-requires : tie.Need-put-text-requires
+put-text-requires c κs = search needs
+
+write-decimal-requires : tie.Need-write-decimal-requires
+write-decimal-requires c κs = search needs
+
+put-byte-requires : tie.Need-put-byte-requires
+put-byte-requires c κs = search needs
+
+write-name-requires : tie.Need-write-name-requires
+write-name-requires c κs = search needs
+
+put-byte-requires-2 : tie.Need-put-byte-requires-2
+put-byte-requires-2 c κs = search needs
+
+add-write-operands : tie.Need-add-write-operands
+add-write-operands c = omega (arith, behind-is (c .before .before .before .before .before .before .before .before .before .before .before .before .before .before .before .before .before .before .before .before .before .before .before .args .i) (opcodeAt (c .before .before .before .before .before .before .before .before .before .before .before .before .before .before .before .before .before .before .before .before .before .before .before .args .b) .listed))
+
+num-operands-requires : tie.Need-num-operands-requires
+num-operands-requires c κs = search needs
+
+write-operands-requires : tie.Need-write-operands-requires
+write-operands-requires c κs = let h = behind-is (c .before .before .before .before .before .before .before .before .before .before .before .before .before .before .before .before .before .before .before .before .before .before .before .before .before .args .i) (opcodeAt (c .before .before .before .before .before .before .before .before .before .before .before .before .before .before .before .before .before .before .before .before .before .before .before .before .before .args .b) .listed) in (omega arith, omega arith)
+
+put-byte-requires-3 : tie.Need-put-byte-requires-3
+put-byte-requires-3 c κs = search needs
+
+same-length : tie.Need-same-length
+same-length c = search needs
+
+returns : tie.Need-returns
+returns c = line-is _ _ _ _ (c .before .before .before .before .before .before .before .before .num-operands .ensures) (c .before .before .before .before .before .before .before .before .before .before .before .before .before .before .before .before .before .before .before .before .before .before .before .before .before .before .before .put-text .ensures) (c .before .before .before .before .before .before .before .before .before .before .before .before .before .before .before .before .before .before .before .before .before .before .before .write-decimal .ensures) (c .before .before .before .before .before .before .before .before .before .before .before .before .before .before .before .before .before .before .before .put-byte .ensures) (c .before .before .before .before .before .before .before .before .before .before .before .before .before .before .before .write-name .ensures) (c .before .before .before .before .before .before .before .before .before .before .before .put-byte2 .ensures) (c .before .before .before .before .before .before .write-operands .ensures) (c .before .before .put-byte3 .ensures)
+
+pub write-line-spec : {M : Type 1} → statement M
+write-line-spec =
+    tie.close
+    (tie.spec
+    slice-aggregate-put-text
+    put-text-requires
+    write-decimal-requires
+    put-byte-requires
+    write-name-requires
+    put-byte-requires-2
+    add-write-operands
+    num-operands-requires
+    write-operands-requires
+    put-byte-requires-3
+    same-length
+    returns)

@@ -1,0 +1,99 @@
+-- `write_lines`: an instruction a turn.
+use Prim.Native.Nat.{_-_}
+use native.Mathlib.Omega.{arith}
+use borrow.Author.Needs.{needs}
+use lib.ListN.{length, getD}
+use Rattle.model.specs.Opcodes.{opcodeAt}
+use Rattle.listing.proofs.Puts.{kept}
+use Rattle.listing.proofs.Turns.{Turn, first-turn, last-turn, unknown, cut-short, next-turn, behind-is}
+use Rattle.listing.proofs.lines.write_lines.Statement.{statement}
+use Rattle.listing.proofs.lines.write_lines.Tie as tie
+
+abbrev Inv-loop : tie.InvT-loop
+Inv-loop code out₀ at i₀ next₀ out i next = Turn code out₀ at out i next
+
+abbrev μ-loop : tie.MeasureT-loop
+μ-loop code out₀ at i₀ next₀ out i next = length code - i
+
+loop-holds : tie.Need-loop-holds Inv-loop μ-loop
+loop-holds c = first-turn _ _ _
+
+shared-slice-read-b : tie.Need-shared-slice-read-b Inv-loop μ-loop
+shared-slice-read-b c = search needs
+
+decode-requires : tie.Need-decode-requires Inv-loop μ-loop
+decode-requires c κs = search needs
+
+enum-told : tie.Need-enum-told Inv-loop μ-loop
+enum-told c = c .match .keys1
+
+same-length : tie.Need-same-length Inv-loop μ-loop
+same-length c = kept (c .before .before .before .before .before .loop .inv .so-far .put)
+
+returns : tie.Need-returns Inv-loop μ-loop
+returns c = unknown (c .before .before .before .before .before .loop .inv) (c .before .before .before .before .loop-test .taken) _ (c .before .before .decode .ensures) (c .enum-told .given .1)
+
+num-operands-requires : tie.Need-num-operands-requires Inv-loop μ-loop
+num-operands-requires c κs = search needs
+
+sub-left : tie.Need-sub-left Inv-loop μ-loop
+sub-left c = search needs
+
+sub-left-2 : tie.Need-sub-left-2 Inv-loop μ-loop
+sub-left-2 c = search needs
+
+same-length-2 : tie.Need-same-length-2 Inv-loop μ-loop
+same-length-2 c = kept (c .before .before .before .before .before .before .loop .inv .so-far .put)
+
+returns-2 : tie.Need-returns-2 Inv-loop μ-loop
+returns-2 c = cut-short (c .before .before .before .before .before .before .loop .inv) (c .before .before .before .before .before .loop-test .taken) _ (c .before .before .before .decode .ensures) (c .before .before .match .keys2) _ (c .before .num-operands .ensures) (c .if1 .taken)
+
+write-line-requires : tie.Need-write-line-requires Inv-loop μ-loop
+write-line-requires c κs = let h = behind-is (c .before .before .before .before .before .before .before .loop .i) (opcodeAt (getD (c .before .before .before .before .before .before .before .before .before .before .args .code .now) (c .before .before .before .before .before .before .before .loop .i) 0) .listed) in (omega arith, omega arith)
+
+add-i : tie.Need-add-i Inv-loop μ-loop
+add-i c = search needs
+
+mul-i : tie.Need-mul-i Inv-loop μ-loop
+mul-i c = search needs
+
+add-i-2 : tie.Need-add-i-2 Inv-loop μ-loop
+add-i-2 c = search needs
+
+loop-less : tie.Need-loop-less Inv-loop μ-loop
+loop-less c = search needs
+
+loop-again : tie.Need-loop-again Inv-loop μ-loop
+loop-again c = next-turn (c .before .before .before .before .before .before .before .before .before .before .loop .inv) (c .before .before .before .before .before .before .before .before .before .loop-test .taken) _ (c .before .before .before .before .before .before .before .decode .ensures) (c .before .before .before .before .before .before .match .keys2) _ (c .before .before .before .before .before .num-operands .ensures) (c .before .before .before .before .if1 .left) (c .before .before .write-line .ensures)
+
+same-length-3 : tie.Need-same-length-3 Inv-loop μ-loop
+same-length-3 c = kept (c .before .loop .inv .so-far .put)
+
+returns-3 : tie.Need-returns-3 Inv-loop μ-loop
+returns-3 c = last-turn (c .before .loop .inv) (c .loop-test .left)
+
+pub write-lines-spec : {M : Type 1} → statement M
+write-lines-spec =
+    tie.close
+    (tie.spec
+    Inv-loop
+    μ-loop
+    loop-holds
+    shared-slice-read-b
+    decode-requires
+    enum-told
+    same-length
+    returns
+    num-operands-requires
+    sub-left
+    sub-left-2
+    same-length-2
+    returns-2
+    write-line-requires
+    add-i
+    mul-i
+    add-i-2
+    loop-less
+    loop-again
+    same-length-3
+    returns-3)

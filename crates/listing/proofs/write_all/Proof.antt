@@ -1,0 +1,81 @@
+-- `write_all`: a function a turn.
+use Prim.Native.Nat.{_-_}
+use native.Mathlib.Omega.{arith}
+use borrow.Author.Needs.{needs}
+use Rattle.model.specs.Listings.{listingOf}
+use Rattle.model.specs.Stores.{programIn}
+use Rattle.listing.proofs.Lent.{short}
+use Rattle.listing.proofs.Functions.{Passed, none-yet, all-passed, one-stops, one-more}
+use Rattle.listing.proofs.write_all.Statement.{statement}
+use Rattle.listing.proofs.write_all.Tie as tie
+
+abbrev Inv-loop : tie.InvT-loop
+Inv-loop functions text main other out₀ n next₀ i₀ out next i = Passed functions text main other n out₀ out i next
+
+abbrev μ-loop : tie.MeasureT-loop
+μ-loop functions text main other out₀ n next₀ i₀ out next i = n - i
+
+loop-holds : tie.Need-loop-holds Inv-loop μ-loop
+loop-holds c = none-yet _ _ _ _ _ _
+
+first-requires : tie.Need-first-requires Inv-loop μ-loop
+first-requires c κs = search needs
+
+part-requires : tie.Need-part-requires Inv-loop μ-loop
+part-requires c κs = search needs
+
+code-of-requires : tie.Need-code-of-requires Inv-loop μ-loop
+code-of-requires c κs = search needs
+
+write-function-requires : tie.Need-write-function-requires Inv-loop μ-loop
+write-function-requires c κs = omega (arith, short _ _ (search needs) _ (c .before .before .part .ensures), c .before .code-of .ensures .1)
+
+enum-known-told : tie.Need-enum-known-told Inv-loop μ-loop
+enum-known-told c = search needs
+
+enum-told : tie.Need-enum-told Inv-loop μ-loop
+enum-told c = search needs
+
+same-length : tie.Need-same-length Inv-loop μ-loop
+same-length c = search needs
+
+returns : tie.Need-returns Inv-loop μ-loop
+unfolding listingOf programIn
+returns c = one-stops _ _ _ _ (c .before .before .before .before .before .before .before .before .before .before .loop .inv) (c .before .before .before .before .before .before .before .before .before .loop-test .taken) _ (c .before .before .before .before .before .before .before .before .first .ensures) _ _ (c .before .before .before .before .before .before .before .part .ensures) (c .before .before .before .before .before .before .code-of .ensures .0) _ (c .before .match .keys2) (c .before .before .before .before .write-function .ensures)
+
+add-i : tie.Need-add-i Inv-loop μ-loop
+add-i c = search needs
+
+loop-less : tie.Need-loop-less Inv-loop μ-loop
+loop-less c = search needs
+
+loop-again : tie.Need-loop-again Inv-loop μ-loop
+loop-again c = one-more _ _ _ _ (c .before .before .before .before .before .before .before .before .before .before .before .loop .inv) (c .before .before .before .before .before .before .before .before .before .before .loop-test .taken) _ (c .before .before .before .before .before .before .before .before .before .first .ensures) _ _ (c .before .before .before .before .before .before .before .before .part .ensures) (c .before .before .before .before .before .before .before .code-of .ensures .0) (c .before .before .before .before .before .write-function .ensures) (c .before .told .given .1) (omega (arith, short _ _ (search needs) _ (c .before .before .before .before .before .before .before .before .part .ensures), c .before .before .before .before .before .before .before .code-of .ensures .1))
+
+same-length-2 : tie.Need-same-length-2 Inv-loop μ-loop
+same-length-2 c = search needs
+
+returns-2 : tie.Need-returns-2 Inv-loop μ-loop
+unfolding listingOf programIn
+returns-2 c = all-passed _ _ _ _ (c .before .loop .inv) (c .loop-test .left) (c .before .before .before .before .before .before .before .pre)
+
+pub write-all-spec : {M : Type 1} → statement M
+write-all-spec =
+    tie.close
+    (tie.spec
+    Inv-loop
+    μ-loop
+    loop-holds
+    first-requires
+    part-requires
+    code-of-requires
+    write-function-requires
+    enum-known-told
+    enum-told
+    same-length
+    returns
+    add-i
+    loop-less
+    loop-again
+    same-length-2
+    returns-2)

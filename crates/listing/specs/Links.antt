@@ -1,0 +1,50 @@
+-- What was put into a store, what an answer stands for, and the stores that the listing is lent.
+use mathlib.Core.Path.{_≡_}
+use mathlib.Core.List.{List}
+use Prim.Native.Nat.{ℕ, _+_, _≤_}
+use lib.Dec.{eqb}
+use lib.ListN.{length}
+use Rattle.model.specs.declared.Told.{Told}
+use Rattle.model.specs.declared.Told.the-variants.{Number, Refused}
+use Rattle.model.specs.Basics.{if_then_else_}
+use Rattle.model.specs.Listings.{Listed, text, unlisted}
+use Rattle.model.specs.Stores.{Stores, part, codeWord}
+use Rattle.model.specs.Emission.{written}
+
+-- the text l was put into s from place i on, as far as s reaches; r is the place behind it, at most k further
+pub record Put (k : ℕ) (l s : List ℕ) (i : ℕ) (s' : List ℕ) (r : ℕ) : Type 0 where
+  pub stored : s' ≡ written s i l
+  pub next : r ≡ i + length l
+  pub near : r ≤ i + k
+
+-- the answer where a listing begins at place i: the place behind it, or its refusal
+abbrev pub toldOf : ℕ → Listed → Told
+toldOf i (text l) = Number (i + length l)
+toldOf i (unlisted n) = Refused n
+
+abbrev pub Near : ℕ → Told → Type 0
+Near m (Number n) = n ≤ m
+Near m (Refused n) = Unit
+
+-- a listing was put into s from place i on, or refused; r answers, at most k further
+pub record Listing (k : ℕ) (w : Listed) (s : List ℕ) (i : ℕ) (s' : List ℕ) (r : Told) : Type 0 where
+  pub means : r ≡ toldOf i w
+  pub stored : (l : List ℕ) → w ≡ text l → s' ≡ written s i l
+  pub near : Near (i + k) r
+
+-- functions, text and the code of main and of the others, over any rest
+unfoldable pub lent : Stores → List ℕ → List ℕ → List ℕ → List ℕ → Stores
+lent rest fs t m o = record {
+  constants = rest .constants;
+  structs = rest .structs;
+  functions = fs;
+  text = t;
+  main = m;
+  mainPlaces = rest .mainPlaces;
+  other = o;
+  otherPlaces = rest .otherPlaces;
+}
+
+-- the code of function i in these stores
+unfoldable pub codeIn : List ℕ → List ℕ → List ℕ → ℕ → List ℕ
+codeIn fs m o i = part (if eqb i 0 then m else o) (codeWord fs i)
