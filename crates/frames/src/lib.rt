@@ -1,4 +1,6 @@
 // Call frames: records in a slice that the host lends.
+pub mod order; // order.rt: whether the frames are in good order
+
 use model::Frame;
 ghost use mathlib.Core.Path.{_≡_};
 ghost use Prim.Native.Nat.{_<_};

@@ -20,7 +20,7 @@ use types.Kit.{Given, ‵, ⋆, _$_, _∵_, !, qed, by, move, keep, rewrite, fsp
 use types.Part.{look-in}
 use types.Run.{look-raw, stop, hop, from, load, of-opd, bin}
 use denote.Laws.{Is, shows}
-use denote.Plain.{uint-tells, uint-makes}
+use denote.Plain.{uint-makes}
 use denote.Builtin.{usize}
 use denote.Ref.{now}
 use denote.Slice.{Room}
@@ -34,14 +34,14 @@ use Rattle.frames.proofs.Frames.{R, fval, tells, place-frame, times-fit
 use Rattle.frames.proofs.Locals.{Locals, enters, leaves, sets, of, here}
 use Rattle.frames.proofs.Slices as Slices
 use Rattle.frames.proofs.Slices.{Sl, sl, sval, Arg, val, Holds, Toks, Owns, lfts, shares, denots, valss, values, takes, gives, passing}
-use Rattle.frames.proofs.Closing.{Kind, own, shr, stays, Passed, Known, closed}
+use Rattle.frames.proofs.Closing.{Kind, number, shr, stays, Passed, Known, closed}
 use Rattle.frames.proofs.read_frame.Key.{name as #me}
 use Rattle.frames.proofs.read_frame as me
 use Rattle.frames.proofs.read_frame.Statement as stated
 use Rattle.frames.proofs.read_frame.Code as code
 
 abbrev kinds : List (Kind 1)
-kinds = shr 0 tt R ∷ own usize (vint w64) (uint-tells w64) (λ x f. refl) ∷ []
+kinds = shr 0 tt R ∷ number ∷ []
 
 module _ {M : Type 1} (𝓤 : URA M) (H : Heap 𝓤) (A : Atoms 𝓤) (W : Given 𝓤 H A) (mem : Memory → SProp 𝓤) (run : Routine → Fun 𝓤) (𝓣 : Tables 𝓤 H) (κs : Lfts 1) (qs : Shares 1) (a : Passed kinds R κs) (is : Known kinds R κs a) where
   abbrev s : Sl

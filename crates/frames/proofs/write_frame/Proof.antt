@@ -21,7 +21,7 @@ use types.Kit.{Given, ‵, ⋆, _$_, _∵_, !, qed, by, move, keep, drop, rewrit
 use types.Part.{look-in}
 use types.Run.{store-raw, stop, hop, from, of-opd, bin, assigns}
 use denote.Laws.{Is, shows}
-use denote.Plain.{Nothing, uint-tells, uint-makes}
+use denote.Plain.{Nothing, uint-makes}
 use denote.Builtin.{usize}
 use denote.Ref.{now}
 use denote.Slice.{Room}
@@ -36,14 +36,14 @@ use Rattle.frames.proofs.Lends.{opens, shuts}
 use Rattle.frames.proofs.Locals.{Locals, enters, leaves, sets, of, here}
 use Rattle.frames.proofs.Slices as Slices
 use Rattle.frames.proofs.Slices.{Sl, sl, sval, Arg, val, Holds, Toks, Owns, lfts, shares, denots, valss, values, takes, gives, passing}
-use Rattle.frames.proofs.Closing.{Kind, own, mut, stays, Passed, Known, closed}
+use Rattle.frames.proofs.Closing.{Kind, number, own, mut, stays, Passed, Known, closed}
 use Rattle.frames.proofs.write_frame.Key.{name as #me}
 use Rattle.frames.proofs.write_frame as me
 use Rattle.frames.proofs.write_frame.Statement as stated
 use Rattle.frames.proofs.write_frame.Code as code
 
 abbrev kinds : List (Kind 1)
-kinds = mut 0 tt R ∷ own usize (vint w64) (uint-tells w64) (λ x f. refl) ∷ own R fval tells (λ x f. refl) ∷ []
+kinds = mut 0 tt R ∷ number ∷ own R fval tells (λ x f. refl) ∷ []
 
 module _ {M : Type 1} (𝓤 : URA M) (H : Heap 𝓤) (A : Atoms 𝓤) (W : Given 𝓤 H A) (mem : Memory → SProp 𝓤) (run : Routine → Fun 𝓤) (𝓣 : Tables 𝓤 H) (κs : Lfts 1) (qs : Shares 1) (a : Passed kinds Nothing κs) (is : Known kinds Nothing κs a) where
   abbrev s : Sl
