@@ -5,8 +5,12 @@ pub mod Slices
 pub mod Calls
 pub mod Loops
 pub mod Closing
+pub mod Walk
 -- a frame in a slice
 pub mod Frames
 pub mod FrameCalls
+pub mod Scans
 -- what the definitions say to the code
 pub mod Orders
+pub mod Traces
+pub mod Meaning

@@ -23,11 +23,11 @@ left-true false b h = h
 pub false-true : false ≡ true → ⊥
 false-true e = let z : _≡_ {A = ℕ} 0 1 = ap (λ (b : Bool). if b then 1 else 0) e in omega arith
 
-is-true : (b : Bool) → T b → b ≡ true
+pub is-true : (b : Bool) → T b → b ≡ true
 is-true true h = refl
 is-true false h = absurd h
 
-is-false : (b : Bool) → T (not b) → b ≡ false
+pub is-false : (b : Bool) → T (not b) → b ≡ false
 is-false true h = absurd h
 is-false false h = refl
 
