@@ -1,5 +1,5 @@
 -- A function's parameters as a list of kinds, and what the logic asks of them at the entry and the exit, once for every function whose parameters are plain values and slices of plain values. It says nothing of frames.
---     Kind             a plain value, with its machine value; a `&'j [T]`; a `&'j mut [T]`
+--     Kind             a plain value, with its machine value (own; of a `usize`, number); a `&'j [T]` (shared); a `&'j mut [T]` (unique)
 --     stays            what the walk still has of the parameters at its end: of each `&mut [T]` the slice
 --     closed           a walk of the function's MIR is the function's theorem
 -- Assumes nothing.
@@ -36,8 +36,8 @@ use denote.Exit.{yes, Last, left}
 
 pub data Kind (n : ℕ) : Type 2 where
   own : (R : RattleType) (v : R .Denot → Val) → Tells R (Is R) (λ x. v x ∷ []) → ((x : R .Denot) (f : Last (R .exit yes) x) → left (R .exit yes) x f ≡ ftrue) → Kind n
-  shr : (j : ℕ) → Within n j → RattleType → Kind n
-  mut : (j : ℕ) → Within n j → RattleType → Kind n
+  shared : (j : ℕ) → Within n j → RattleType → Kind n
+  unique : (j : ℕ) → Within n j → RattleType → Kind n
 
 module _ {n : ℕ} where
   -- a `usize`
@@ -47,39 +47,39 @@ module _ {n : ℕ} where
   abbrev slots : List (Kind n) → List (Slot n)
   slots [] = []
   slots (own R v t q ∷ ks) = plain (λ _. R) ∷ slots ks
-  slots (shr j ok R ∷ ks) = shrSliceOf (j ∷ []) ok (plain (λ _. R)) ∷ slots ks
-  slots (mut j ok R ∷ ks) = mutSliceOf (j ∷ []) ok (plain (λ _. R)) ∷ slots ks
+  slots (shared j ok R ∷ ks) = shrSliceOf (j ∷ []) ok (plain (λ _. R)) ∷ slots ks
+  slots (unique j ok R ∷ ks) = mutSliceOf (j ∷ []) ok (plain (λ _. R)) ∷ slots ks
 
   abbrev keeps : (ks : List (Kind n)) → Kepts (slots ks)
   keeps [] = tt
   keeps (own R v t q ∷ ks) = (yes, keeps ks)
-  keeps (shr j ok R ∷ ks) = (yes, keeps ks)
-  keeps (mut j ok R ∷ ks) = (yes, keeps ks)
+  keeps (shared j ok R ∷ ks) = (yes, keeps ks)
+  keeps (unique j ok R ∷ ks) = (yes, keeps ks)
 
   abbrev pub stays : (ks : List (Kind n)) → Stays (slots ks) (keeps ks)
   stays [] = tt
   stays (own R v t q ∷ ks) = (stay-none (λ _. R) yes, stays ks)
-  stays (shr j ok R ∷ ks) = (stay-none-slice (j ∷ []) ok (plain (λ _. R)) yes, stays ks)
-  stays (mut j ok R ∷ ks) = (stay-slice (j ∷ []) ok (plain (λ _. R)), stays ks)
+  stays (shared j ok R ∷ ks) = (stay-none-slice (j ∷ []) ok (plain (λ _. R)) yes, stays ks)
+  stays (unique j ok R ∷ ks) = (stay-slice (j ∷ []) ok (plain (λ _. R)), stays ks)
 
   abbrev spells : (ks : List (Kind n)) (κs : Lfts n) → Spells (typesAt (slots ks) κs)
   spells [] κs = tt
   spells (own R v t q ∷ ks) κs = (λ x. v x ∷ [], spells ks κs)
-  spells (shr j ok R ∷ ks) κs = (slice-vals, spells ks κs)
-  spells (mut j ok R ∷ ks) κs = (slice-vals, spells ks κs)
+  spells (shared j ok R ∷ ks) κs = (slice-vals, spells ks κs)
+  spells (unique j ok R ∷ ks) κs = (slice-vals, spells ks κs)
 
   telling : (ks : List (Kind n)) (κs : Lfts n) → Tellss (typesAt (slots ks) κs) (Ises (typesAt (slots ks) κs)) (spells ks κs)
   telling [] κs = tt
   telling (own R v t q ∷ ks) κs = (t, telling ks κs)
-  telling (shr j ok R ∷ ks) κs = (shr-slice-tells (named j) (lftAt n j ok κs) R, telling ks κs)
-  telling (mut j ok R ∷ ks) κs = (mut-slice-tells (named j) (lftAt n j ok κs) R, telling ks κs)
+  telling (shared j ok R ∷ ks) κs = (shr-slice-tells (named j) (lftAt n j ok κs) R, telling ks κs)
+  telling (unique j ok R ∷ ks) κs = (mut-slice-tells (named j) (lftAt n j ok κs) R, telling ks κs)
 
   module _ {M : Type 1} (𝓤 : URA M) (H : Heap 𝓤) (A : Atoms 𝓤) (W : Given 𝓤 H A) where
     going : (ks : List (Kind n)) → AllGo 𝓤 H A W n (slots ks) (keeps ks) (stays ks)
     going [] = tt
     going (own R v t q ∷ ks) = (goes-none 𝓤 H A W n (λ _. R) yes (λ κs. q), going ks)
-    going (shr j ok R ∷ ks) = (goes-none-slice 𝓤 H A W n (j ∷ []) ok (plain (λ _. R)) yes, going ks)
-    going (mut j ok R ∷ ks) = (goes-slice 𝓤 H A W n j ok (plain (λ _. R)), going ks)
+    going (shared j ok R ∷ ks) = (goes-none-slice 𝓤 H A W n (j ∷ []) ok (plain (λ _. R)) yes, going ks)
+    going (unique j ok R ∷ ks) = (goes-slice 𝓤 H A W n j ok (plain (λ _. R)), going ks)
 
   module _ (ks : List (Kind n)) (Q : RattleType) where
     abbrev pub sig : Signature

@@ -1,23 +1,27 @@
 -- What the contracts' definitions are in the model's words, where the functions' words stand for the functions.
 --     frames-are-good      good order of the frames
+--     trace-is-good        whether there can be a backtrace
+--     trace-is             the backtrace in numbers
 -- Assumes nothing.
 use mathlib.Core.Path.{_≡_, refl, sym, ap, _∙_}
 use mathlib.Core.Bool.{Bool, true, false, _&&_}
 use mathlib.Core.List.{List, [], _∷_}
-use Prim.Native.Nat.{ℕ, zero, suc, _+_, _<_, _≤_, min}
+use Prim.Native.Nat.{ℕ, zero, suc, _+_, _-_, _<_, _≤_, min}
 use native.Mathlib.Numerals.{add-one}
 use native.Mathlib.Omega.{arith}
-use lib.Dec.{ltb, leb, eqb·suc-zero}
+use lib.Dec.{ltb, leb, eqb, eqb·suc-zero}
 use lib.ListN.{length, getD, take, drop}
-use lib.Seq.{drop-cons}
+use lib.Seq.{drop-cons, getD-take, getD-drop}
 use borrow.Author.Tests.{ltb-true, lt-ltb, le-ltb, le-leb, leb-true}
 use Rattle.model.specs.declared.Frame.{Frame}
-use Rattle.model.specs.Basics.{everyFrom}
-use Rattle.model.specs.Values.{mostPlaces}
+use Rattle.model.specs.Basics.{if_then_else_, everyFrom}
+use Rattle.model.specs.Values.{mostPlaces, textAt}
 use Rattle.model.specs.Programs.{Function, functionAt}
-use Rattle.model.specs.Stores.{size, codeWord}
+use Rattle.model.specs.Stores.{start, size, part, codeWord}
 use Rattle.model.specs.Orders.{frameOk, callerOk, framesFrom, framesOk, frameStoreOk}
-use Rattle.frames.specs.Links.{noFrame, frameGood, firstGood, callerGood, placeGood, framesGood}
+use Rattle.model.specs.Runs.{traceOf, traceable}
+use Rattle.frames.specs.Links.{noFrame, frameGood, firstGood, callerGood, placeGood, framesGood, callersOf, placesOf, placeAt, placeOf, traceWords, entryWords, insideGood, traceGood}
+use Rattle.frames.proofs.Orders.{false-true}
 
 never : (b : Bool) → (b && false) ≡ false
 never true = refl
@@ -35,6 +39,10 @@ in-front true true c x = refl
 in-front true false c x = refl
 in-front false true c x = refl
 in-front false false c x = refl
+
+both-true : (a b : Bool) → (a && b) ≡ true → (a ≡ true) × (b ≡ true)
+both-true true b h = (refl, h)
+both-true false b h = absurd (false-true h)
 
 not-first : (i : ℕ) (r : Frame) (x : Bool) → (firstGood (suc i) r && x) ≡ x
 unfolding firstGood
@@ -78,3 +86,36 @@ module _ (words : List ℕ) (count slots : ℕ) (fs : List Function) (counted : 
   unfolding framesGood frameStoreOk framesOk
   frames-are-good zero frames = sym (never (leb 0 (min (length frames) mostPlaces)))
   frames-are-good (suc m) frames = by-room m frames (leb (suc m) (min (length frames) mostPlaces)) refl
+
+-- ---- the backtrace
+
+-- every frame's function is known
+abbrev pub AllKnown : ℕ → List Frame → Type 0
+AllKnown count [] = Unit {0}
+AllKnown count (r ∷ rs) = (r .function < count) × AllKnown count rs
+
+pub known-callers : (count n : ℕ) (frames : List Frame) → ((i : ℕ) → i < n → getD frames i noFrame .function < count) → AllKnown count (callersOf n frames)
+unfolding callersOf
+known-callers count zero frames h = tt
+known-callers count (suc n) frames h = (h n (omega arith), known-callers count n frames (λ i l. h i (omega arith)))
+
+module _ (words : List ℕ) (count : ℕ) (fs : List Function) (sizes : (i : ℕ) → i < count → length (functionAt fs i .code) ≡ size (codeWord words i)) where
+  pub trace-is-good : (rs : List Frame) → AllKnown count rs → traceGood words rs ≡ traceable fs rs
+  unfolding traceGood traceable insideGood
+  trace-is-good [] k = refl
+  trace-is-good (r ∷ rs) k = rw (sizes (r .function) (k .0), trace-is-good rs (k .1))
+
+  -- main and other are the places of main and of the others: each function's are the part that its word names
+  module _ (main other : List ℕ) (places : (i : ℕ) → i < count → functionAt fs i .places ≡ part (if eqb i 0 then main else other) (codeWord words i)) where
+    place-is : (r : Frame) → r .function < count → r .position - 1 < size (codeWord words (r .function)) → placeOf words main other r ≡ getD (functionAt fs (r .function) .places) (r .position - 1) 0
+    unfolding placeOf placesOf placeAt part textAt
+    place-is r k l =
+        sym (ap (λ (s : List ℕ). getD s (r .position - 1) 0) (places (r .function) k)
+        ∙ getD-take (size (codeWord words (r .function))) (drop (start (codeWord words (r .function))) (if eqb (r .function) 0 then main else other)) (r .position - 1) 0 l
+        ∙ getD-drop (start (codeWord words (r .function))) (if eqb (r .function) 0 then main else other) (r .position - 1) 0)
+
+    pub trace-is : (rs : List Frame) → AllKnown count rs → traceGood words rs ≡ true → traceWords words main other rs ≡ entryWords (traceOf fs rs)
+    unfolding traceWords entryWords traceOf traceGood insideGood
+    trace-is [] k g = refl
+    trace-is (r ∷ rs) k g =
+        rw (place-is r (k .0) (ltb-true (r .position - 1) (size (codeWord words (r .function))) (both-true _ (traceGood words rs) g .0)), trace-is rs (k .1) (both-true (ltb (r .position - 1) (size (codeWord words (r .function)))) (traceGood words rs) g .1))

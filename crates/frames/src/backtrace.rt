@@ -132,7 +132,7 @@ fn inside(functions: &[u64], i: usize, f: Frame) -> Scan
 {
     let good = inside_ok(functions, f);
     if good {
-        if i > 0 {
+        if 0 < i {
             return Scan {
                 at: i - 1,
                 more: true,

@@ -2,7 +2,7 @@
 -- Assumes nothing.
 use Rattle.frames.proofs.Walk.{_≡_, refl, sym, ap, _∙_, subst, List, [], _∷_, Option, none, some, ℕ, _+_, _*_, _<_, _≤_, _^_, T, length, getD, URA, w64, Val, WT, hasTy, vunit, vint, SProp, ent, id⊢, Memory, Routine, Heap, Tables, WpFn, Atoms, Lfts, Shares, Fun, givenOf, tables, tablesOf, FmC, fmOf}
 use Rattle.frames.proofs.Walk.{Given, Sq, ‵, ⋆, runs, atRet, _$_, _∵_, !, qed, by, move, keep, feqI, suffices, frame, done, agg, addr, of-opd, Is, Nothing, uint-makes, u32, u64, usize, now, Room, onEntry, tripleOf, Contract, Triple, cited, says, needs, walkOf, ends-at}
-use Rattle.frames.proofs.Walk.{Blocks, envAt, Locals, of, ofs, behind, sets, sets-last, lands-in, enters, leaves, trims, Sl, sl, sval, Arg, val, Holds, Toks, Owns, lfts, shares, denots, valss, values, passing, lent, takes, gives, splits, joins, Rule, call-with, asked, Loop, Turn, rounds, whiles, again, Kind, own, number, stays, Passed, Known, closed}
+use Rattle.frames.proofs.Walk.{Blocks, envAt, Locals, of, ofs, behind, sets, sets-last, lands-in, enters, leaves, trims, Sl, sl, sval, Arg, val, shr, mut, Holds, Toks, Owns, lfts, shares, denots, valss, values, passing, lent, takes, gives, splits, joins, Rule, call-with, asked, Loop, Turn, rounds, whiles, again, Kind, own, number, shared, unique, stays, Passed, Known, closed}
 use native.Mathlib.Omega.{arith}
 use denote.Struct.Laws as LL
 use Rattle.model.specs.declared.Frame.{Frame}
@@ -13,8 +13,6 @@ use Rattle.frames.proofs.backtrace.Left.Laws as TL′
 use Rattle.frames.proofs.Traces.{toWrite, Writing, writes, writes-at, writes-on, writes-less, wrote-all}
 use Rattle.frames.proofs.Frames.{R, fval, tells, frame-typed, frame-makes}
 use Rattle.frames.proofs.FrameCalls.{Read, call-read}
-use Rattle.frames.proofs.Slices as Slices
-use Rattle.frames.proofs.Closing as Closing
 use Rattle.frames.proofs.read_frame.Symbol as read-def
 use Rattle.frames.proofs.read_frame.Symbol.{name as #read}
 use Rattle.frames.proofs.read_frame.Met as read-thm
@@ -29,7 +27,7 @@ use Rattle.frames.proofs.backtrace.trace.Code as code
 use Rattle.frames.proofs.backtrace.trace.Code.Mir as cm
 
 abbrev kinds : List (Kind 5)
-kinds = Closing.shr 0 tt u64 ∷ Closing.shr 1 tt u32 ∷ Closing.shr 2 tt u32 ∷ own R fval tells (λ x f. refl) ∷ number ∷ Closing.shr 3 tt R ∷ Closing.mut 4 tt u32 ∷ []
+kinds = shared 0 tt u64 ∷ shared 1 tt u32 ∷ shared 2 tt u32 ∷ own R fval tells (λ x f. refl) ∷ number ∷ shared 3 tt R ∷ unique 4 tt u32 ∷ []
 
 abbrev leftVal : Left → Val
 leftVal = TL′.lowered
@@ -108,19 +106,19 @@ module _ {M : Type 1} (𝓤 : URA M) (H : Heap 𝓤) (A : Atoms 𝓤) (W : Given
 
     -- all of them, and in groups: what is read, the frames, and what is written
     abbrev xs : List ℕ → List Arg
-    xs zs = Slices.shr u64 s0 words ∷ Slices.shr u32 s1 main ∷ Slices.shr u32 s2 other ∷ val R inner (fval inner) ∷ val usize callers (vint w64 callers) ∷ Slices.shr R s3 ys ∷ Slices.mut u32 s4 zs ∷ []
+    xs zs = shr u64 s0 words ∷ shr u32 s1 main ∷ shr u32 s2 other ∷ val R inner (fval inner) ∷ val usize callers (vint w64 callers) ∷ shr R s3 ys ∷ mut u32 s4 zs ∷ []
 
     abbrev stores : List Arg
-    stores = Slices.shr u64 s0 words ∷ Slices.shr u32 s1 main ∷ Slices.shr u32 s2 other ∷ []
+    stores = shr u64 s0 words ∷ shr u32 s1 main ∷ shr u32 s2 other ∷ []
 
     abbrev frames : List Arg
-    frames = Slices.shr R s3 ys ∷ []
+    frames = shr R s3 ys ∷ []
 
     abbrev trail : List ℕ → List Arg
-    trail zs = Slices.mut u32 s4 zs ∷ []
+    trail zs = mut u32 s4 zs ∷ []
 
     abbrev entries : List ℕ → List Arg
-    entries zs = Slices.shr u64 s0 words ∷ Slices.shr u32 s1 main ∷ Slices.shr u32 s2 other ∷ Slices.mut u32 s4 zs ∷ []
+    entries zs = shr u64 s0 words ∷ shr u32 s1 main ∷ shr u32 s2 other ∷ mut u32 s4 zs ∷ []
 
     abbrev goal : List ℕ
     goal = written out 0 (traceWords words main other (inner ∷ callersOf callers ys))
@@ -131,12 +129,12 @@ module _ {M : Type 1} (𝓤 : URA M) (H : Heap 𝓤) (A : Atoms 𝓤) (W : Given
     exits : (zs : List ℕ) → length zs ≡ s4 .count → zs ≡ goal → ent 𝓤 (⋆ 𝓤 H A (‵ (Holds (entries zs)) ∷ ‵ (Holds frames) ∷ [])) (Post vunit)
     exits zs len said =
         qed W (‵ (Holds (entries zs)) ∷ ‵ (Holds frames) ∷ []) ∵ suffices ! _ (ends-at 𝓤 H A me.ended (stays kinds) (me.clauses 𝓤 H A mem run) W (passing (xs out)) vunit tt (tt, (tt, (tt, (tt, (tt, (tt, (zs, tt))))))) (tt, (tt, (tt, (tt, (tt, (tt, (len, tt)))))))) $ says ! said $
-        splits ! stores (trail zs) (move ! (2 ∷ 1 ∷ []) $ joins ! frames (trail zs) (move ! (1 ∷ []) $ joins ! stores (Slices.shr R s3 ys ∷ Slices.mut u32 s4 zs ∷ [])
+        splits ! stores (trail zs) (move ! (2 ∷ 1 ∷ []) $ joins ! frames (trail zs) (move ! (1 ∷ []) $ joins ! stores (shr R s3 ys ∷ mut u32 s4 zs ∷ [])
         (gives ! (xs zs) (frame-makes 𝓤 H A W inner _ is-inner, (uint-makes 𝓤 H A W w64 callers _ callers-fit, tt)) (frame ! $ feqI ! (List Val) (vunit ∷ []) (vunit ∷ []) refl $ keep ! (1 ∷ 0 ∷ []) $ done !))))
 
     -- the call of `put_entry`
     abbrev passed : ℕ → Frame → List ℕ → List Arg
-    passed i f zs = Slices.shr u64 s0 words ∷ Slices.shr u32 s1 main ∷ Slices.shr u32 s2 other ∷ val usize callers (vint w64 callers) ∷ val usize i (vint w64 i) ∷ val R f (fval f) ∷ Slices.mut u32 s4 zs ∷ []
+    passed i f zs = shr u64 s0 words ∷ shr u32 s1 main ∷ shr u32 s2 other ∷ val usize callers (vint w64 callers) ∷ val usize i (vint w64 i) ∷ val R f (fval f) ∷ mut u32 s4 zs ∷ []
 
     call-put : (i : ℕ) (f : Frame) (zs : List ℕ) → length zs ≡ s4 .count → i < 2 ^ 64 → Is R f (fval f ∷ []) → Readable words main other f × (i ≤ callers) × (2 * callers + 2 ≤ length zs)
         → Rule 𝓤 H A W (passed i f zs) PutEntry TL.the-row leftVal (λ s ws. Put words main other callers i f zs (ws .1 .1 .1 .1 .1 .1 .0) s)
@@ -180,7 +178,7 @@ module _ {M : Type 1} (𝓤 : URA M) (H : Heap 𝓤) (A : Atoms 𝓤) (W : Given
 
     walk : TraceFits words main other inner callers ys (length out) → ent 𝓤 (onEntry 𝓤 H A me.signature (lfts (xs out)) (shares (xs out)) (denots (xs out)) (valss (xs out))) (WpFn 𝓤 H (𝓣 .C) (𝓣 .Λ) code.function (values (xs out)) Post)
     walk can =
-        qed W (‵ (Toks (xs out)) ∷ ‵ (Owns (xs out)) ∷ []) ∵ takes ! (xs out) (splits ! stores (Slices.shr R s3 ys ∷ Slices.mut u32 s4 out ∷ []) (move ! (1 ∷ []) $ splits ! frames (trail out) (move ! (2 ∷ 1 ∷ []) $ joins ! stores (trail out)
+        qed W (‵ (Toks (xs out)) ∷ ‵ (Owns (xs out)) ∷ []) ∵ takes ! (xs out) (splits ! stores (shr R s3 ys ∷ mut u32 s4 out ∷ []) (move ! (1 ∷ []) $ splits ! frames (trail out) (move ! (2 ∷ 1 ∷ []) $ joins ! stores (trail out)
         (enters ! (𝓣 .C) (𝓣 .Λ) code.function (values (xs out)) Post
         ((tt, (tt, (record { fits = room0 .0 }, tt))), ((tt, (tt, (record { fits = room1 .0 }, tt))), ((tt, (tt, (record { fits = room2 .0 }, tt))), (frame-typed 𝓤 H A W inner is-inner, ((tt, record { fits = callers-fit .1 }), ((tt, (tt, (record { fits = room3 .0 }, tt))), ((tt, (tt, (record { fits = room4 .0 }, tt))), tt))))))) (λ ls.
         sets ! (addr ! (behind ! refl refl)) (tt, tt) $ sets ! (agg ! (ofs ! refl)) (tt, (tt, (record { fits = room4 .0 }, tt))) $

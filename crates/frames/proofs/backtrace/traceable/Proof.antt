@@ -2,7 +2,7 @@
 -- Assumes nothing.
 use Rattle.frames.proofs.Walk.{_≡_, refl, sym, ap, _∙_, subst, Bool, List, [], _∷_, Option, none, some, ℕ, _<_, _≤_, _^_, length, getD, URA, w64, Val, vbool, vint, SProp, ent, id⊢, Memory, Routine, Heap, Tables, WpFn, Atoms, Lfts, Shares, Fun, givenOf, tables, tablesOf, FmC, fmOf}
 use Rattle.frames.proofs.Walk.{Given, Sq, ‵, ⋆, runs, atRet, _$_, _∵_, !, qed, by, move, keep, feqI, suffices, frame, done, of-opd, Is, Boolean, uint-makes, u64, usize, now, Room, onEntry, tripleOf, Contract, Triple, cited, says, needs, walkOf, ends-at}
-use Rattle.frames.proofs.Walk.{Blocks, envAt, Locals, of, sets, sets-last, lands-in, enters, leaves, trims, Sl, sl, sval, Arg, val, Holds, Toks, Owns, lfts, shares, denots, valss, values, passing, lent, takes, gives, splits, joins, Rule, call-with, unasked, Loop, Turn, rounds, whiles, again, Kind, own, number, stays, Passed, Known, closed}
+use Rattle.frames.proofs.Walk.{Blocks, envAt, Locals, of, sets, sets-last, lands-in, enters, leaves, trims, Sl, sl, sval, Arg, val, shr, Holds, Toks, Owns, lfts, shares, denots, valss, values, passing, lent, takes, gives, splits, joins, Rule, call-with, unasked, Loop, Turn, rounds, whiles, again, Kind, own, number, shared, stays, Passed, Known, closed}
 use native.Mathlib.Omega.{arith}
 use Rattle.model.specs.declared.Frame.{Frame}
 use Rattle.frames.specs.declared.order.Scan.{Scan}
@@ -11,8 +11,6 @@ use Rattle.frames.proofs.Traces.{toJudge, Judging, judges, judges-at, j
 use Rattle.frames.proofs.Scans.{ScanRow, scanVal, IsScan, scan-tells, scan-fits, scan-typed}
 use Rattle.frames.proofs.Frames.{R, fval, tells, frame-typed, frame-makes}
 use Rattle.frames.proofs.FrameCalls.{Read, call-read}
-use Rattle.frames.proofs.Slices as Slices
-use Rattle.frames.proofs.Closing as Closing
 use Rattle.frames.proofs.read_frame.Symbol as read-def
 use Rattle.frames.proofs.read_frame.Symbol.{name as #read}
 use Rattle.frames.proofs.read_frame.Met as read-thm
@@ -27,7 +25,7 @@ use Rattle.frames.proofs.backtrace.traceable.Code as code
 use Rattle.frames.proofs.backtrace.traceable.Code.Mir as cm
 
 abbrev kinds : List (Kind 2)
-kinds = Closing.shr 0 tt u64 ∷ own R fval tells (λ x f. refl) ∷ number ∷ Closing.shr 1 tt R ∷ []
+kinds = shared 0 tt u64 ∷ own R fval tells (λ x f. refl) ∷ number ∷ shared 1 tt R ∷ []
 
 module _ {M : Type 1} (𝓤 : URA M) (H : Heap 𝓤) (A : Atoms 𝓤) (W : Given 𝓤 H A) (mem : Memory → SProp 𝓤) (run : Routine → Fun 𝓤) where
   abbrev Inside : Contract 𝓤
@@ -60,13 +58,13 @@ module _ {M : Type 1} (𝓤 : URA M) (H : Heap 𝓤) (A : Atoms 𝓤) (W : Given
     room1 = is .1 .1 .1 .0 .0 .1
 
     abbrev functions : List Arg
-    functions = Slices.shr u64 s0 words ∷ []
+    functions = shr u64 s0 words ∷ []
 
     abbrev frames : List Arg
-    frames = Slices.shr R s1 ys ∷ []
+    frames = shr R s1 ys ∷ []
 
     abbrev xs : List Arg
-    xs = Slices.shr u64 s0 words ∷ val R inner (fval inner) ∷ val usize callers (vint w64 callers) ∷ Slices.shr R s1 ys ∷ []
+    xs = shr u64 s0 words ∷ val R inner (fval inner) ∷ val usize callers (vint w64 callers) ∷ shr R s1 ys ∷ []
 
     abbrev goal : Bool
     goal = traceGood words (inner ∷ callersOf callers ys)
@@ -81,7 +79,7 @@ module _ {M : Type 1} (𝓤 : URA M) (H : Heap 𝓤) (A : Atoms 𝓤) (W : Given
 
     -- the call of `inside`
     abbrev passed : ℕ → Frame → List Arg
-    passed i f = Slices.shr u64 s0 words ∷ val usize i (vint w64 i) ∷ val R f (fval f) ∷ []
+    passed i f = shr u64 s0 words ∷ val usize i (vint w64 i) ∷ val R f (fval f) ∷ []
 
     call-inside : (i : ℕ) (f : Frame) → i < 2 ^ 64 → Is R f (fval f ∷ []) → Rule 𝓤 H A W (passed i f) Inside ScanRow scanVal (λ s zs. s ≡ insideOf (insideGood words f) i)
     call-inside i f fits isf = call-with 𝓤 H A W (passed i f) Inside ScanRow scanVal (λ s zs. s ≡ insideOf (insideGood words f) i) scan-tells (λ ns. passing (lent (passed i f) ns)) (λ ns. refl)
