@@ -15,7 +15,6 @@ use mir.Syntax.{Body, seq, cond, skip, exit, block, loop, Opd as Operand}
 use mir.Val.{vbool}
 use prog.Wp.{Heap, Env, Tables, Wp, next, afterSeq, afterBlock, afterTurn}
 use ghost.Atoms.{Atoms}
-use types.Kit as Kit
 use types.Kit.{Given, Item, Post, post, anyQ, prop, runs, Seq, _$_}
 use types.Run as Run
 use types.Run.{Opd, Below, first, branches, skips, jumps, blocks, loops}

@@ -25,8 +25,7 @@ pub use sound.WpLaws.{FmC, fmOf}
 -- ---- its calculus, and the rules that the laws below leave to it
 pub use types.Kit.{Given, Sq, ‵, ⋆, runs, atRet, _$_, _∵_, !, qed, by, move, keep, drop, rewrite, fsplit, fjoin, feqI, suffices, frame, done}
 pub use types.Part.{agg, sub, look-in}
-pub use types.Match.{vrt, look-tag, in-variant, by-variants}
-pub use types.Run.{look-raw, store-raw, stop, hop, fld, from, load, addr, of-opd, bin, assigns, switches}
+pub use types.Run.{look-raw, store-raw, stop, hop, fld, from, load, addr, of-opd, bin, assigns}
 -- ---- types, and what a contract is made of
 pub use denote.Laws.{Is, shows}
 pub use denote.Plain.{Boolean, bool-tells, Nothing, uint-makes}
@@ -44,4 +43,5 @@ pub use Rattle.frames.proofs.Locals.{Blocks, envAt, Locals, here, of, o
 pub use Rattle.frames.proofs.Slices.{Sl, sl, sval, Arg, val, shr, mut, peek, Holds, Toks, Owns, Lists, Lens, lfts, shares, denots, valss, values, passing, lent, after, takes, gives, splits, joins}
 pub use Rattle.frames.proofs.Calls.{Rule, call-with, asked, unasked}
 pub use Rattle.frames.proofs.Loops.{Loop, Turn, rounds, whiles, again}
+pub use Rattle.frames.proofs.Matches.{tag-of, payload-of, matches}
 pub use Rattle.frames.proofs.Closing.{Kind, own, number, shared, unique, stays, Passed, Known, closed}

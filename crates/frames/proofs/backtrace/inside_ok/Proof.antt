@@ -3,24 +3,16 @@ use native.Mathlib.Omega.{arith}
 use Rattle.frames.proofs.Traces.{judged, no-function}
 use Rattle.frames.proofs.backtrace.inside_ok.Statement.{statement}
 use Rattle.frames.proofs.backtrace.inside_ok.Tie as tie
-use Rattle.frames.proofs.backtrace.inside_ok.Reads as reads
-use Rattle.frames.proofs.backtrace.inside_ok.Lts as lts
-use Rattle.frames.proofs.backtrace.byte_before.Reads as byte-before-reads
-use Rattle.frames.proofs.order.code_length.Reads as code-length-reads
 
--- src/backtrace.rt:95:9
 returns : tie.Need-returns
 returns c = no-function _ _ (omega arith)
 
--- src/backtrace.rt:97:9
 code-length-requires : tie.Need-code-length-requires
 code-length-requires c κs = search needs
 
--- src/backtrace.rt:99:9
 byte-before-requires : tie.Need-byte-before-requires
 byte-before-requires c κs = search needs
 
--- src/backtrace.rt:90:1
 returns-2 : tie.Need-returns-2
 returns-2 c = judged _ _ _ _ (c .before .code-length .ensures) (c .byte-before .ensures)
 

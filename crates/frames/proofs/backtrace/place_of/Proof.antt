@@ -2,33 +2,22 @@ use borrow.Author.Needs.{needs}
 use Rattle.frames.proofs.Traces.{from-main, from-other, in-main, in-other}
 use Rattle.frames.proofs.backtrace.place_of.Statement.{statement}
 use Rattle.frames.proofs.backtrace.place_of.Tie as tie
-use Rattle.frames.proofs.backtrace.place_of.Reads as reads
-use Rattle.frames.proofs.backtrace.place_of.Lts as lts
-use Rattle.frames.proofs.backtrace.byte_before.Reads as byte-before-reads
-use Rattle.frames.proofs.backtrace.code_start.Reads as code-start-reads
-use Rattle.frames.proofs.backtrace.number_at.Reads as number-at-reads
 
--- src/backtrace.rt:52:9
 code-start-requires : tie.Need-code-start-requires
 code-start-requires c κs = search needs
 
--- src/backtrace.rt:54:9
 byte-before-requires : tie.Need-byte-before-requires
 byte-before-requires c κs = search needs
 
--- src/backtrace.rt:56:9
 number-at-requires : tie.Need-number-at-requires
 number-at-requires c κs = in-main _ _ _ _ _ _ (c .before .before .code-start .ensures) (c .before .byte-before .ensures) (c .before .before .before .before .before .before .pre) (c .if1 .taken)
 
--- src/backtrace.rt:56:9
 returns : tie.Need-returns
 returns c = from-main _ _ _ _ _ _ (c .before .before .before .code-start .ensures) (c .before .before .byte-before .ensures) _ (c .before .if1 .taken) (c .number-at .ensures)
 
--- src/backtrace.rt:58:5
 number-at-requires-2 : tie.Need-number-at-requires-2
 number-at-requires-2 c κs = in-other _ _ _ _ _ _ (c .before .before .code-start .ensures) (c .before .byte-before .ensures) (c .before .before .before .before .before .before .pre) (c .if1 .left)
 
--- src/backtrace.rt:47:1
 returns-2 : tie.Need-returns-2
 returns-2 c = from-other _ _ _ _ _ _ (c .before .before .before .code-start .ensures) (c .before .before .byte-before .ensures) _ (c .before .if1 .left) (c .number-at2 .ensures)
 

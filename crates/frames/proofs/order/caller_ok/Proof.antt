@@ -3,27 +3,19 @@ use native.Mathlib.Omega.{arith}
 use Rattle.frames.proofs.Orders.{at-start, behind, code-length, innermost}
 use Rattle.frames.proofs.order.caller_ok.Statement.{statement}
 use Rattle.frames.proofs.order.caller_ok.Tie as tie
-use Rattle.frames.proofs.order.caller_ok.Reads as reads
-use Rattle.frames.proofs.order.caller_ok.Lts as lts
-use Rattle.frames.proofs.order.code_length.Reads as code-length-reads
 
--- src/order.rt:55:8
 add-if1 : tie.Need-add-if1
 add-if1 c = search needs
 
--- src/order.rt:56:9
 returns : tie.Need-returns
 returns c = innermost _ _ _ _ (omega arith)
 
--- src/order.rt:59:9
 code-length-requires : tie.Need-code-length-requires
 code-length-requires c κs = search needs
 
--- src/order.rt:61:9
 returns-2 : tie.Need-returns-2
 returns-2 c = at-start _ _ _ _ (omega arith) (omega arith)
 
--- src/order.rt:51:1
 returns-3 : tie.Need-returns-3
 returns-3 c = behind _ _ _ _ _ (omega arith) (omega arith) (c .before .before .before .code-length .ensures)
 

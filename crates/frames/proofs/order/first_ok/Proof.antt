@@ -2,18 +2,13 @@ use native.Mathlib.Omega.{arith}
 use Rattle.frames.proofs.Orders.{main, not-first, not-main}
 use Rattle.frames.proofs.order.first_ok.Statement.{statement}
 use Rattle.frames.proofs.order.first_ok.Tie as tie
-use Rattle.frames.proofs.order.first_ok.Reads as reads
-use Rattle.frames.proofs.order.first_ok.Lts as lts
 
--- src/order.rt:43:9
 returns : tie.Need-returns
 returns c = not-first _ _ (c .if1 .taken)
 
--- src/order.rt:46:9
 returns-2 : tie.Need-returns-2
 returns-2 c = not-main _ _ (omega arith) (c .if2 .taken)
 
--- src/order.rt:39:1
 returns-3 : tie.Need-returns-3
 returns-3 c = main _ _ (omega arith) (omega arith)
 

@@ -4,31 +4,22 @@ use native.Mathlib.Omega.{arith}
 use Rattle.frames.proofs.Orders.{bad, on, over}
 use Rattle.frames.proofs.order.look.Statement.{statement}
 use Rattle.frames.proofs.order.look.Tie as tie
-use Rattle.frames.proofs.order.look.Reads as reads
-use Rattle.frames.proofs.order.look.Lts as lts
-use Rattle.frames.proofs.order.place_ok.Reads as place-ok-reads
 
--- src/order.rt:101:9
 place-ok-requires : tie.Need-place-ok-requires
 place-ok-requires c κs = search needs
 
--- src/order.rt:103:12
 add-if2 : tie.Need-add-if2
 add-if2 c = search needs
 
--- src/order.rt:104:31
 add-t11 : tie.Need-add-t11
 add-t11 c = search needs
 
--- src/order.rt:104:13
 returns : tie.Need-returns
 returns c = on _ _ _ (sym (c .before .before .place-ok .ensures) ∙ c .before .if1 .taken) (omega arith)
 
--- src/order.rt:106:9
 returns-2 : tie.Need-returns-2
 returns-2 c = over _ _ _ (sym (c .before .before .place-ok .ensures) ∙ c .before .if1 .taken) (omega arith)
 
--- src/order.rt:97:1
 returns-3 : tie.Need-returns-3
 returns-3 c = bad _ _ _ (sym (c .before .place-ok .ensures) ∙ c .if1 .left)
 

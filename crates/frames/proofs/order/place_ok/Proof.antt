@@ -4,33 +4,22 @@ use native.Mathlib.Omega.{arith}
 use Rattle.frames.proofs.Orders.{all-good, bad-first, bad-frame, function-known}
 use Rattle.frames.proofs.order.place_ok.Statement.{statement}
 use Rattle.frames.proofs.order.place_ok.Tie as tie
-use Rattle.frames.proofs.order.place_ok.Reads as reads
-use Rattle.frames.proofs.order.place_ok.Lts as lts
-use Rattle.frames.proofs.order.caller_ok.Reads as caller-ok-reads
-use Rattle.frames.proofs.order.first_ok.Reads as first-ok-reads
-use Rattle.frames.proofs.order.frame_ok.Reads as frame-ok-reads
 
--- src/order.rt:71:9
 frame-ok-requires : tie.Need-frame-ok-requires
 frame-ok-requires c κs = search needs
 
--- src/order.rt:73:13
 first-ok-requires : tie.Need-first-ok-requires
 first-ok-requires c κs = search needs
 
--- src/order.rt:75:13
 caller-ok-requires : tie.Need-caller-ok-requires
 caller-ok-requires c κs = omega (arith, function-known _ _ _ (sym (c .before .before .before .frame-ok .ensures) ∙ c .before .before .if1 .taken))
 
--- src/order.rt:75:13
 returns : tie.Need-returns
 returns c = all-good _ _ _ _ _ _ _ (sym (c .before .before .before .if1 .taken) ∙ c .before .before .before .before .frame-ok .ensures) (sym (c .before .if2 .taken) ∙ c .before .before .first-ok .ensures) (c .caller-ok .ensures)
 
--- src/order.rt:77:9
 returns-2 : tie.Need-returns-2
 returns-2 c = bad-first _ _ _ _ _ _ (sym (c .before .before .if1 .taken) ∙ c .before .before .before .frame-ok .ensures) (sym (c .if2 .left) ∙ c .before .first-ok .ensures)
 
--- src/order.rt:67:1
 returns-3 : tie.Need-returns-3
 returns-3 c = bad-frame _ _ _ _ _ _ (sym (c .if1 .left) ∙ c .before .frame-ok .ensures)
 
