@@ -21,10 +21,12 @@ fn enters(k: Fixed, g: Going, i: usize, n: usize, sp: usize, stack: &[u64]) -> A
     if sp < n {
         return Answer::Stopped(g, Fault::TooFewValues);
     }
-    if k.frames <= g.callers + 1 {
+    let count = g.callers + 1;
+    if k.frames <= count {
         return Answer::Stopped(g, Fault::FramesFull);
     }
-    Answer::Call(Going { sp, ..g }, i, sp - n)
+    let base = sp - n;
+    Answer::Call(Going { sp, ..g }, i, base)
 }
 
 // Call i n.
@@ -55,16 +57,18 @@ pub fn go_back(k: Fixed, g: Going, stack: &mut [u64]) -> Answer
     let Found::Got(v) = pops::pop(stack, sp) else {
         return Answer::Stopped(g, Fault::TooFewValues);
     };
+    let below = sp - 1;
     if g.callers == 0 {
         let going = Going {
-            sp: sp - 1,
+            sp: below,
             kind: words::kind_of(v),
             payload: words::payload_of(v),
             ..g
         };
         return Answer::Returned(Completed { going, value: v });
     }
-    let at = smaller(g.base, sp - 1);
+    let at = smaller(g.base, below);
+    let count = at + 1;
     words::write_value(stack, at, v);
-    Answer::Back(Going { sp: at + 1, ..g })
+    Answer::Back(Going { sp: count, ..g })
 }

@@ -33,8 +33,9 @@ pub fn logical(and: bool, k: Fixed, g: Going, stack: &mut [u64]) -> Answer
     match pops::two_booleans(stack, sp) {
         Booleans::Bad(f) => Answer::Stopped(g, f),
         Booleans::Two(x, y) => {
-            words::write_value(stack, sp - 2, Value::Boolean(joined(and, x, y)));
-            Answer::Went(Going { sp: sp - 1, ..g })
+            let count = sp - 1;
+            words::write_value(stack, count - 1, Value::Boolean(joined(and, x, y)));
+            Answer::Went(Going { sp: count, ..g })
         }
     }
 }
@@ -60,11 +61,8 @@ pub fn jump(k: Fixed, g: Going, a: usize, stack: &[u64]) -> Answer
     requires { ⌜ (Within k g (now stack)) × ((g .position < 0x1_0000_0000) × (a < 0x1_0000_0000)) ⌝ }
     ensures { λ r. ⌜ ArmPost (jumpStep a) k g (now (stack .entry)) r (now (stack .entry)) ⌝ }
 {
-    let position = g.position;
-    Answer::Went(Going {
-        position: position + a,
-        ..g
-    })
+    let position = g.position + a;
+    Answer::Went(Going { position, ..g })
 }
 
 // JumpIfFalse a: the boolean is popped either way.
@@ -73,19 +71,20 @@ pub fn jump_if_false(k: Fixed, g: Going, a: usize, stack: &[u64]) -> Answer
     ensures { λ r. ⌜ ArmPost (jumpIfFalseStep a) k g (now (stack .entry)) r (now (stack .entry)) ⌝ }
 {
     let sp = g.sp;
-    let position = g.position;
     let Found::Got(v) = pops::pop(stack, sp) else {
         return Answer::Stopped(g, Fault::TooFewValues);
     };
     let Value::Boolean(x) = v else {
         return Answer::Stopped(g, Fault::WrongKind(v));
     };
+    let count = sp - 1;
     if x {
-        return Answer::Went(Going { sp: sp - 1, ..g });
+        return Answer::Went(Going { sp: count, ..g });
     }
+    let position = g.position + a;
     Answer::Went(Going {
-        sp: sp - 1,
-        position: position + a,
+        sp: count,
+        position,
         ..g
     })
 }

@@ -21,8 +21,9 @@ pub fn push(k: Fixed, g: Going, v: Value, stack: &mut [u64]) -> Answer
     if k.slots <= sp {
         return Answer::Stopped(g, Fault::StackFull);
     }
+    let count = sp + 1;
     words::write_value(stack, sp, v);
-    Answer::Went(Going { sp: sp + 1, ..g })
+    Answer::Went(Going { sp: count, ..g })
 }
 
 // LoadConstant a.

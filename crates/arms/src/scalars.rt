@@ -42,8 +42,9 @@ pub fn arithmetic(which: Arith, k: Fixed, g: Going, stack: &mut [u64]) -> Answer
             if scalars::zero_divisor(which, y) {
                 return Answer::Stopped(g, Fault::ZeroDivisor);
             }
-            words::write_value(stack, sp - 2, Value::Scalar(scalars::arithmetic(which, x, y)));
-            Answer::Went(Going { sp: sp - 1, ..g })
+            let count = sp - 1;
+            words::write_value(stack, count - 1, Value::Scalar(scalars::arithmetic(which, x, y)));
+            Answer::Went(Going { sp: count, ..g })
         }
     }
 }
@@ -57,8 +58,9 @@ pub fn ordering(which: Order, k: Fixed, g: Going, stack: &mut [u64]) -> Answer
     match pops::two_scalars(stack, sp) {
         Scalars::Bad(f) => Answer::Stopped(g, f),
         Scalars::Two(x, y) => {
-            words::write_value(stack, sp - 2, Value::Boolean(scalars::ordering(which, x, y)));
-            Answer::Went(Going { sp: sp - 1, ..g })
+            let count = sp - 1;
+            words::write_value(stack, count - 1, Value::Boolean(scalars::ordering(which, x, y)));
+            Answer::Went(Going { sp: count, ..g })
         }
     }
 }
