@@ -62,8 +62,8 @@ unfolding exactStack putCell
 exact-written {s} {i} {x} w h e =
     every-more _ i 0
     (exact-all i _ (λ j b.
-        rw (w .stored, kind-other s i (kind x) (payload x) j (λ d. omega arith), payload-other s i (kind x) (payload x) j (λ d. omega arith))
-        (exact-at i s e j b)))
+    rw (w .stored, kind-other s i (kind x) (payload x) j (λ d. omega arith), payload-other s i (kind x) (payload x) j (λ d. omega arith))
+    (exact-at i s e j b)))
     (let z : 0 + i ≡ i = omega arith in
     rw (z, w .stored, kind-same s i (kind x) (payload x) h, payload-same s i (kind x) (payload x) h) (words-exact x (w .fine)))
 
@@ -77,13 +77,18 @@ module _ {k : Fixed} {g : Going} {s : List ℕ} (w : Within k g s) where
   -- values are dropped
   pub fewer : {n : Going} → n .sp ≤ g .sp → n .callers ≡ g .callers → Within k n s
   fewer {n} h c = record {
-      count = omega arith; room = w .room; exact = exact-fewer (g .sp) s (w .exact) (n .sp) h; callers = omega arith }
+    count = omega arith;
+    room = w .room;
+    exact = exact-fewer (g .sp) s (w .exact) (n .sp) h;
+    callers = omega arith;
+  }
 
   -- and one is written on top of the i that are left
   pub topped : {i : ℕ} {x : Value} {t : List ℕ} {n : Going} → Written s i (item x) t → i ≤ g .sp → i < k .slots → n .sp ≡ suc i → n .callers ≡ g .callers
       → Within k n t
   topped {i} {t = t} {n} p l h e c = record {
-      count = omega arith;
-      room = let z : length t ≡ length s = written-length p in omega arith;
-      exact = rw e (exact-written p (place h) (exact-fewer (g .sp) s (w .exact) i l));
-      callers = omega arith }
+    count = omega arith;
+    room = let z : length t ≡ length s = written-length p in omega arith;
+    exact = rw e (exact-written p (place h) (exact-fewer (g .sp) s (w .exact) i l));
+    callers = omega arith;
+  }

@@ -26,7 +26,7 @@ use Rattle.model.specs.Basics.{if_then_else_}
 use Rattle.model.specs.Values.{kind, vals, popOf, popping, poppingScalar, poppingBoolean, ifScalar, ifBoolean}
 use Rattle.model.specs.Scalars.{arithOf, zeroDivisor, orderOf, scalarsOf, booleansOf}
 use Rattle.model.specs.Heap.{item}
-use Rattle.model.specs.Steps.{World, State, Outcome, went, faulted, withStack, at, position, pushing, onFound, negateStep, arithmeticStep, orderingStep, logicStep, notStep, jumpStep, jumpIfFalseStep, enter, callStep, returnTo, returnStep}
+use Rattle.model.specs.Steps.{World, State, Outcome, went, faulted, withStack, at, position, pushing, onFound, constantOf, slotOf, lastOf, loadStep, slotStep, lastStep, negateStep, arithmeticStep, orderingStep, logicStep, notStep, jumpStep, jumpIfFalseStep, enter, callStep, returnTo, returnStep}
 use Rattle.value.specs.Links.{PayloadOf, Written}
 use Rattle.value.proofs.Stores.{length-vals, pushed}
 use Rattle.value.proofs.Operands.{got-some, is-boolean}
@@ -41,32 +41,34 @@ use Rattle.arms.proofs.Rules.{no-top, top, no-scalars, scalars, two-sca
 -- the machine with n values on its stack
 abbrev pub withCount : ℕ → Going → Going
 withCount n g = record {
-    sp = n;
-    function = g .function;
-    position = g .position;
-    base = g .base;
-    callers = g .callers;
-    used = g .used;
-    units = g .units;
-    kind = g .kind;
-    payload = g .payload;
-    mark = g .mark;
-    answered = g .answered }
+  sp = n;
+  function = g .function;
+  position = g .position;
+  base = g .base;
+  callers = g .callers;
+  used = g .used;
+  units = g .units;
+  kind = g .kind;
+  payload = g .payload;
+  mark = g .mark;
+  answered = g .answered;
+}
 
 -- the machine at position i
 abbrev pub withPosition : ℕ → Going → Going
 withPosition i g = record {
-    sp = g .sp;
-    function = g .function;
-    position = i;
-    base = g .base;
-    callers = g .callers;
-    used = g .used;
-    units = g .units;
-    kind = g .kind;
-    payload = g .payload;
-    mark = g .mark;
-    answered = g .answered }
+  sp = g .sp;
+  function = g .function;
+  position = i;
+  base = g .base;
+  callers = g .callers;
+  used = g .used;
+  units = g .units;
+  kind = g .kind;
+  payload = g .payload;
+  mark = g .mark;
+  answered = g .answered;
+}
 
 -- the rule goes another way to the same outcome
 pub same-rule : {rule other : State → Outcome} {k : Fixed} {g : Going} {s : List ℕ} {r : Answer} {t : List ℕ}
@@ -79,17 +81,22 @@ module _ {k : Fixed} {g : Going} {s : List ℕ} (w : Within k g s) where
       → ((x : List ℕ) (cs : List Frame) → length cs ≡ g .callers → rule (stateOf g s x cs) ≡ faulted n (stateOf g s x cs))
       → ArmPost rule k g s (Stopped g n) s
   refused e = record {
-      means = λ x cs h. sym (e x cs h); within = w; kept = record { callers = refl; mark = refl; answered = refl }; used = refl }
+    means = λ x cs h. sym (e x cs h);
+    within = w;
+    kept = record { callers = refl; mark = refl; answered = refl };
+    used = refl;
+  }
 
   -- values are dropped, and the position is another
   pub moved : {rule : State → Outcome} {n i : ℕ} → n ≤ g .sp
       → ((x : List ℕ) (cs : List Frame) → rule (stateOf g s x cs) ≡ went (stateOf (withPosition i (withCount n g)) s x cs))
       → ArmPost rule k g s (Went (withPosition i (withCount n g))) s
   moved l e = record {
-      means = λ x cs h. sym (e x cs);
-      within = fewer w l refl;
-      kept = record { callers = refl; mark = refl; answered = refl };
-      used = refl }
+    means = λ x cs h. sym (e x cs);
+    within = fewer w l refl;
+    kept = record { callers = refl; mark = refl; answered = refl };
+    used = refl;
+  }
 
   -- a value is written on top of the i values that are left
   module _ {i : ℕ} {v : Value} {t : List ℕ} (p : Written s i (item v) t) (l : i ≤ g .sp) (h : i < k .slots) {n : ℕ} (e : n ≡ suc i) where
@@ -100,12 +107,30 @@ module _ {k : Fixed} {g : Going} {s : List ℕ} (w : Within k g s) where
         → ((x : List ℕ) (cs : List Frame) → rule (stateOf g s x cs) ≡ went (withStack (v ∷ vals i s) (stateOf g s x cs)))
         → ArmPost rule k g s (Went (withCount n g)) t
     settled q = record {
-        means = λ x cs h. rw values (sym (q x cs));
-        within = topped w p l h e refl;
-        kept = record { callers = refl; mark = refl; answered = refl };
-        used = refl }
+      means = λ x cs h. rw values (sym (q x cs));
+      within = topped w p l h e refl;
+      kept = record { callers = refl; mark = refl; answered = refl };
+      used = refl;
+    }
 
 -- ---- pushes
+
+-- the rule pushes what it looks up
+pub record Looks (u : World) (rule : State → Outcome) (look : State → Found) : Type 0 where
+  pub is : (t : State) → rule t ≡ onFound (look t) t (λ v. pushing u v t)
+
+module _ (u : World) where
+  pub loads : (a : ℕ) → Looks u (loadStep u a) (λ t. constantOf (u .constants) a)
+  unfolding loadStep
+  loads a = record { is = λ t. refl }
+
+  pub gets-slot : (i : ℕ) → Looks u (slotStep u i) (λ t. slotOf (t .stack) i)
+  unfolding slotStep
+  gets-slot i = record { is = λ t. refl }
+
+  pub gets-last : Looks u (lastStep u) (λ t. lastOf (t .last))
+  unfolding lastStep
+  gets-last = record { is = λ t. refl }
 
 module _ {k : Fixed} {g : Going} {s : List ℕ} (w : Within k g s) {u : World} (c : Suits k u) where
   pub full : (v : Value) → k .slots ≤ g .sp → ArmPost (pushing u v) k g s (Stopped g f.StackFull) s
@@ -118,18 +143,15 @@ module _ {k : Fixed} {g : Going} {s : List ℕ} (w : Within k g s) {u : World} (
   pushes h p e = settled w p (omega arith) h e (λ x cs. rw (length-vals (g .sp) s, c .stackRoom, lt-ltb (g .sp) (k .slots) h))
 
   -- what is looked up is pushed
-  module _ (look : State → Found) where
-    abbrev pub looked : State → Outcome
-    looked t = onFound (look t) t (λ v. pushing u v t)
-
-    pub missing : {n : Fault} → ((x : List ℕ) (cs : List Frame) → look (stateOf g s x cs) ≡ Bad n) → ArmPost looked k g s (Stopped g n) s
+  module _ {rule : State → Outcome} {look : State → Found} (o : Looks u rule look) where
+    pub missing : {n : Fault} → ((x : List ℕ) (cs : List Frame) → look (stateOf g s x cs) ≡ Bad n) → ArmPost rule k g s (Stopped g n) s
     unfolding onFound
-    missing e = refused w (λ x cs h. rw (e x cs))
+    missing e = refused w (λ x cs h. o .is _ ∙ rw (e x cs))
 
     pub found : {v : Value} {r : Answer} {t : List ℕ} → ((x : List ℕ) (cs : List Frame) → look (stateOf g s x cs) ≡ Got v) → ArmPost (pushing u v) k g s r t
-        → ArmPost looked k g s r t
+        → ArmPost rule k g s r t
     unfolding onFound
-    found e p = same-rule (λ x cs. rw (e x cs)) p
+    found e p = same-rule (λ x cs. o .is _ ∙ rw (e x cs)) p
 
   -- ---- calls: the function i is entered with n of the first m values
 
@@ -139,17 +161,18 @@ module _ {k : Fixed} {g : Going} {s : List ℕ} (w : Within k g s) {u : World} (
     few h = refused w (λ x cs d. rw (length-vals m s, lt-ltb m n h))
 
     module _ (h : n ≤ m) where
-      pub no-frame : k .frames ≤ suc (g .callers) → ArmPost (enter u i n (vals m s)) k g s (Stopped g f.FramesFull) s
+      pub no-frame : k .frames ≤ g .callers + 1 → ArmPost (enter u i n (vals m s)) k g s (Stopped g f.FramesFull) s
       unfolding enter
-      no-frame o = refused w (λ x cs d. rw (length-vals m s, le-ltb m n h, c .frameRoom, d, le-leb (k .frames) (suc (g .callers)) o))
+      no-frame o = refused w (λ x cs d. rw (length-vals m s, le-ltb m n h, c .frameRoom, d, le-leb (k .frames) (suc (g .callers)) (omega arith)))
 
-      pub enters : suc (g .callers) < k .frames → ArmPost (enter u i n (vals m s)) k g s (Call (withCount m g) i (m - n)) s
+      pub enters : g .callers + 1 < k .frames → ArmPost (enter u i n (vals m s)) k g s (Call (withCount m g) i (m - n)) s
       unfolding enter
       enters o = record {
-          means = λ x cs d. sym (rw (length-vals m s, le-ltb m n h, c .frameRoom, d, lt-leb (k .frames) (suc (g .callers)) o));
-          within = fewer w l refl;
-          kept = record { callers = refl; mark = refl; answered = refl };
-          used = refl }
+        means = λ x cs d. sym (rw (length-vals m s, le-ltb m n h, c .frameRoom, d, lt-leb (k .frames) (suc (g .callers)) (omega arith)));
+        within = fewer w l refl;
+        kept = record { callers = refl; mark = refl; answered = refl };
+        used = refl;
+      }
 
   module _ (i n : ℕ) where
     pub no-number : k .functions ≤ i → ArmPost (callStep u i n) k g s (Stopped g f.OutOfRange) s
@@ -269,17 +292,18 @@ module _ {k : Fixed} {g : Going} {s : List ℕ} (w : Within k g s) where
 -- the machine with the last result in two words
 abbrev pub withResult : ℕ → ℕ → Going → Going
 withResult a b g = record {
-    sp = g .sp;
-    function = g .function;
-    position = g .position;
-    base = g .base;
-    callers = g .callers;
-    used = g .used;
-    units = g .units;
-    kind = a;
-    payload = b;
-    mark = g .mark;
-    answered = g .answered }
+  sp = g .sp;
+  function = g .function;
+  position = g .position;
+  base = g .base;
+  callers = g .callers;
+  used = g .used;
+  units = g .units;
+  kind = a;
+  payload = b;
+  mark = g .mark;
+  answered = g .answered;
+}
 
 module _ {k : Fixed} {g : Going} {s : List ℕ} (w : Within k g s) {r : Found} (p : r ≡ popOf (vals (g .sp) s)) where
   pub returns-none : {t : Fault} → r ≡ Bad t → ArmPost returnStep k g s (Stopped g f.TooFewValues) s
@@ -299,7 +323,11 @@ module _ {k : Fixed} {g : Going} {s : List ℕ} (w : Within k g s) {r : Found} (
 
       pub returns-last : ArmPost returnStep k g s at-root s
       returns-last = record {
-          means = root-means; within = fewer w (omega arith) refl; kept = record { callers = refl; mark = refl; answered = refl }; used = refl }
+        means = root-means;
+        within = fewer w (omega arith) refl;
+        kept = record { callers = refl; mark = refl; answered = refl };
+        used = refl;
+      }
 
     -- with a caller
     module _ {i n : ℕ} {t : List ℕ} (z : g .callers ≡ 0 → ⊥) (c : i ≡ min (g .base) (g .sp - 1)) (d : n ≡ suc i) (q : Written s i (item v) t) where
@@ -314,7 +342,8 @@ module _ {k : Fixed} {g : Going} {s : List ℕ} (w : Within k g s) {r : Found} (
 
       pub returns-back : ArmPost returnStep k g s (Back (withCount n g)) t
       returns-back = record {
-          means = back-means;
-          within = topped w q (omega arith) inside d refl;
-          kept = record { callers = refl; mark = refl; answered = refl };
-          used = refl }
+        means = back-means;
+        within = topped w q (omega arith) inside d refl;
+        kept = record { callers = refl; mark = refl; answered = refl };
+        used = refl;
+      }

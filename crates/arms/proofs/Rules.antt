@@ -53,6 +53,10 @@ module _ (n : ℕ) (s : List ℕ) {r : Booleans} (p : r ≡ booleansOf (vals n s
   pub booleans : {x y : Bool} → r ≡ bo.Two x y → poppingBoolean (vals n s) e (λ y q. poppingBoolean q e (λ x q. k x y q)) ≡ k x y (vals (n - 2) s)
   booleans h = on-booleans (vals n s) e k ∙ rw (← p, h, vals-drop 2 n s)
 
+-- the place of the left one
+pub left-place : (n : ℕ) → n - 1 - 1 ≡ n - 2
+left-place n = omega arith
+
 -- of fewer than two values there are no two
 lone-scalar : (x : Value) (t : Bool) → ifScalar x (λ y. t) t ≡ t
 unfolding ifScalar
@@ -93,32 +97,33 @@ two-booleans (suc (suc n)) s p h = omega arith
 -- ---- a constant, a slot, the last result
 
 module _ (n : ℕ) (s : List ℕ) (a : ℕ) where
-  pub no-constant : n ≤ a → constantOf (valuesFrom n 0 s) a ≡ got.Bad f.OutOfRange
-  unfolding constantOf
-  no-constant h = rw (length-values n 0 s, le-ltb a n h)
+  module _ {cs : List Value} (e : cs ≡ valuesFrom n 0 s) where
+    pub no-constant : n ≤ a → constantOf cs a ≡ got.Bad f.OutOfRange
+    unfolding constantOf
+    no-constant h = rw (e, length-values n 0 s, le-ltb a n h)
 
-  pub constant : a < n → constantOf (valuesFrom n 0 s) a ≡ got.Got (valueAt s a)
-  unfolding constantOf
-  constant h =
-      let z : 0 + a ≡ a = omega arith in
-      rw (length-values n 0 s, lt-ltb a n h, getD-values n 0 s a (v.Boolean false) h, z)
+    pub constant : {x : Value} → a < n → x ≡ valueAt s a → constantOf cs a ≡ got.Got x
+    unfolding constantOf
+    constant h d =
+        let z : 0 + a ≡ a = omega arith in
+        rw (e, length-values n 0 s, lt-ltb a n h, getD-values n 0 s a (v.Boolean false) h, z, d)
 
   pub no-slot : n ≤ a → slotOf (vals n s) a ≡ got.Bad f.OutOfRange
   unfolding slotOf
   no-slot h = rw (length-vals n s, le-ltb a n h)
 
-  pub slot : a < n → slotOf (vals n s) a ≡ got.Got (valueAt s a)
+  pub slot : {x : Value} → a < n → x ≡ valueAt s a → slotOf (vals n s) a ≡ got.Got x
   unfolding slotOf
-  slot h = rw (length-vals n s, lt-ltb a n h, vals-slot n s a (v.Boolean false) h)
+  slot h d = rw (length-vals n s, lt-ltb a n h, vals-slot n s a (v.Boolean false) h, d)
 
 module _ (k a : ℕ) where
   pub no-last : k ≡ 7 → lastOf (lastIn k a) ≡ got.Bad f.NoLastResult
   unfolding lastOf lastIn
   no-last h = rw (eq-eqb k 7 h)
 
-  pub last : (k ≡ 7 → ⊥) → lastOf (lastIn k a) ≡ got.Got (valueOf k a)
+  pub last : {x : Value} → (k ≡ 7 → ⊥) → x ≡ valueOf k a → lastOf (lastIn k a) ≡ got.Got x
   unfolding lastOf lastIn
-  last h = rw (ne-eqb k 7 h)
+  last h d = rw (ne-eqb k 7 h, d)
 
 -- no value has the kind that stands for no last result
 kept-kind : (x : Value) → kind x ≡ 7 → ⊥

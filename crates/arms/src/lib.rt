@@ -1,6 +1,7 @@
 // The arms: one function for each family of opcodes, over plain words and lent slices.
 use model::Fault;
 use model::Value;
+
 pub mod pushes; // pushes.rt: constants, slots, the last result
 pub mod scalars; // scalars.rt: arithmetic and orderings
 pub mod logic; // logic.rt: booleans and jumps

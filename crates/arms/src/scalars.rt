@@ -43,7 +43,11 @@ pub fn arithmetic(which: Arith, k: Fixed, g: Going, stack: &mut [u64]) -> Answer
                 return Answer::Stopped(g, Fault::ZeroDivisor);
             }
             let count = sp - 1;
-            words::write_value(stack, count - 1, Value::Scalar(scalars::arithmetic(which, x, y)));
+            words::write_value(
+                stack,
+                count - 1,
+                Value::Scalar(scalars::arithmetic(which, x, y)),
+            );
             Answer::Went(Going { sp: count, ..g })
         }
     }
@@ -59,7 +63,11 @@ pub fn ordering(which: Order, k: Fixed, g: Going, stack: &mut [u64]) -> Answer
         Scalars::Bad(f) => Answer::Stopped(g, f),
         Scalars::Two(x, y) => {
             let count = sp - 1;
-            words::write_value(stack, count - 1, Value::Boolean(scalars::ordering(which, x, y)));
+            words::write_value(
+                stack,
+                count - 1,
+                Value::Boolean(scalars::ordering(which, x, y)),
+            );
             Answer::Went(Going { sp: count, ..g })
         }
     }

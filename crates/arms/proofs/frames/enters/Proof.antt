@@ -1,24 +1,19 @@
 use borrow.Author.Needs.{needs}
+use Rattle.arms.proofs.Posts.{few, no-frame, enters}
 use Rattle.arms.proofs.frames.enters.Statement.{statement}
 use Rattle.arms.proofs.frames.enters.Tie as tie
-use Rattle.arms.proofs.frames.enters.Reads as reads
-use Rattle.arms.proofs.frames.enters.Lts as lts
 
--- src/frames.rt:22:9
 returns : tie.Need-returns
-returns c = ?
+returns c = λ u d. few (c .before .pre .0) d _ _ _ (c .before .pre .1) (c .if1 .taken)
 
--- src/frames.rt:24:17
 add-count : tie.Need-add-count
 add-count c = search needs
 
--- src/frames.rt:26:9
 returns-2 : tie.Need-returns-2
-returns-2 c = ?
+returns-2 c = λ u d. no-frame (c .before .before .before .before .pre .0) d _ _ _ (c .before .before .before .before .pre .1) (c .before .before .before .if1 .left) (c .if2 .taken)
 
--- src/frames.rt:17:1
 returns-3 : tie.Need-returns-3
-returns-3 c = ?
+returns-3 c = λ u d. enters (c .before .before .before .before .pre .0) d _ _ _ (c .before .before .before .before .pre .1) (c .before .before .before .if1 .left) (c .if2 .left)
 
 pub enters-spec : {M : Type 1} → statement M
 enters-spec = tie.close (tie.spec returns add-count returns-2 returns-3)

@@ -1,73 +1,56 @@
 use borrow.Author.Needs.{needs}
+use mathlib.Core.Path.{refl}
+use native.Mathlib.Omega.{arith}
+use native.Mathlib.Numerals.{add-one}
+use Rattle.value.proofs.Operands.{got-some}
+use Rattle.arms.proofs.Posts.{returns-none, returns-last, returns-back}
 use Rattle.arms.proofs.frames.go_back.Statement.{statement}
 use Rattle.arms.proofs.frames.go_back.Tie as tie
-use Rattle.arms.proofs.frames.go_back.Reads as reads
-use Rattle.arms.proofs.frames.go_back.Lts as lts
-use Rattle.arms.proofs.frames.smaller.Reads as smaller-reads
-use Rattle.value.proofs.pops.pop.Reads as pop-reads
-use Rattle.value.proofs.words.kind_of.Reads as kind-of-reads
-use Rattle.value.proofs.words.payload_of.Reads as payload-of-reads
-use Rattle.value.proofs.words.write_value.Reads as write-value-reads
 
--- src/frames.rt:57:25
 pop-requires : tie.Need-pop-requires
 pop-requires c κs = search needs
 
--- src/frames.rt:57:20
 enum-known-v : tie.Need-enum-known-v
 enum-known-v c = search needs
 
--- src/frames.rt:58:35
 enum-told : tie.Need-enum-told
 enum-told c = search needs
 
--- src/frames.rt:58:9
 same-length : tie.Need-same-length
 same-length c = search needs
 
--- src/frames.rt:58:9
 returns : tie.Need-returns
-returns c = ?
+returns c = returns-none (c .before .before .before .before .before .pre) (c .before .before .pop .ensures) (c .enum-told .given .1)
 
--- src/frames.rt:60:17
 sub-below : tie.Need-sub-below
-sub-below c = ?
+sub-below c = omega (arith, got-some _ _ (c .before .before .before .pop .ensures) (c .before .v .given .1))
 
--- src/frames.rt:64:19
 kind-of-requires : tie.Need-kind-of-requires
 kind-of-requires c κs = search needs
 
--- src/frames.rt:65:22
 payload-of-requires : tie.Need-payload-of-requires
 payload-of-requires c κs = search needs
 
--- src/frames.rt:68:9
 same-length-2 : tie.Need-same-length-2
 same-length-2 c = search needs
 
--- src/frames.rt:68:9
 returns-2 : tie.Need-returns-2
-returns-2 c = ?
+returns-2 c = returns-last (c .before .before .before .before .before .before .before .before .before .before .pre) (c .before .before .before .before .before .before .before .pop .ensures) (c .before .before .before .before .before .v .given .1) (c .before .before .if1 .taken) refl (c .before .kind-of .ensures) (c .payload-of .ensures)
 
--- src/frames.rt:70:9
 smaller-requires : tie.Need-smaller-requires
 smaller-requires c κs = search needs
 
--- src/frames.rt:71:17
 add-count : tie.Need-add-count
 add-count c = search needs
 
--- src/frames.rt:72:5
 write-value-requires : tie.Need-write-value-requires
-write-value-requires c κs = ?
+write-value-requires c κs = omega (arith, got-some _ _ (c .before .before .before .before .before .before .before .pop .ensures) (c .before .before .before .before .before .v .given .1), c .before .before .before .before .before .before .before .before .before .before .pre .count, c .before .before .before .before .before .before .before .before .before .before .pre .room, c .before .smaller .ensures)
 
--- src/frames.rt:52:1
 same-length-3 : tie.Need-same-length-3
 same-length-3 c = search needs
 
--- src/frames.rt:52:1
 returns-3 : tie.Need-returns-3
-returns-3 c = ?
+returns-3 c = returns-back (c .before .before .before .before .before .before .before .before .before .before .before .before .before .pre) (c .before .before .before .before .before .before .before .before .before .before .pop .ensures) (c .before .before .before .before .before .before .before .before .v .given .1) (c .before .before .before .before .before .if1 .left) (c .before .before .before .before .smaller .ensures) (add-one _) (c .before .before .write-value .ensures)
 
 pub go-back-spec : {M : Type 1} → statement M
 go-back-spec =

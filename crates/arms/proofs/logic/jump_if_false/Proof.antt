@@ -1,49 +1,40 @@
 use borrow.Author.Needs.{needs}
+use mathlib.Core.Path.{refl}
+use native.Mathlib.Omega.{arith}
+use Rattle.value.proofs.Operands.{got-some, no-boolean}
+use Rattle.arms.proofs.Posts.{jumps-if-false, one-none, one-wrong, stays, jumps-on}
 use Rattle.arms.proofs.logic.jump_if_false.Statement.{statement}
 use Rattle.arms.proofs.logic.jump_if_false.Tie as tie
-use Rattle.arms.proofs.logic.jump_if_false.Reads as reads
-use Rattle.arms.proofs.logic.jump_if_false.Lts as lts
-use Rattle.value.proofs.pops.pop.Reads as pop-reads
 
--- src/logic.rt:74:25
 pop-requires : tie.Need-pop-requires
 pop-requires c κs = search needs
 
--- src/logic.rt:74:20
 enum-known-v : tie.Need-enum-known-v
 enum-known-v c = search needs
 
--- src/logic.rt:75:35
 enum-told : tie.Need-enum-told
 enum-told c = search needs
 
--- src/logic.rt:75:9
 returns : tie.Need-returns
-returns c = ?
+returns c = one-none (c .before .before .before .before .pre .0) (c .before .before .pop .ensures) (jumps-if-false _) (c .enum-told .given .1)
 
--- src/logic.rt:77:24
 enum-known-v-2 : tie.Need-enum-known-v-2
 enum-known-v-2 c = search needs
 
--- src/logic.rt:78:9
 returns-2 : tie.Need-returns-2
-returns-2 c = ?
+returns-2 c = one-wrong (c .before .before .before .before .before .before .pre .0) (c .before .before .before .before .pop .ensures) (jumps-if-false _) (c .before .before .v .given .1) (no-boolean _ (c .match2 .keys2))
 
--- src/logic.rt:80:17
 sub-count : tie.Need-sub-count
-sub-count c = ?
+sub-count c = omega (arith, got-some _ _ (c .before .before .before .before .before .before .pop .ensures) (c .before .before .before .before .v .given .1))
 
--- src/logic.rt:82:9
 returns-3 : tie.Need-returns-3
-returns-3 c = ?
+returns-3 c = stays (c .before .before .before .before .before .before .before .before .before .pre .0) (c .before .before .before .before .before .before .before .pop .ensures) (c .before .before .before .before .before .v .given .1) _ (c .before .before .v2 .given .1) refl (c .if1 .taken)
 
--- src/logic.rt:84:20
 add-position : tie.Need-add-position
 add-position c = search needs
 
--- src/logic.rt:69:1
 returns-4 : tie.Need-returns-4
-returns-4 c = ?
+returns-4 c = jumps-on (c .before .before .before .before .before .before .before .before .before .before .pre .0) (c .before .before .before .before .before .before .before .before .pop .ensures) (c .before .before .before .before .before .before .v .given .1) _ (c .before .before .before .v2 .given .1) refl (c .before .if1 .left) refl
 
 pub jump-if-false-spec : {M : Type 1} → statement M
 jump-if-false-spec =

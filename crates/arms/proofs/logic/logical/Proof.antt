@@ -1,55 +1,43 @@
 use borrow.Author.Needs.{needs}
+use mathlib.Core.Path.{refl}
+use native.Mathlib.Omega.{arith}
+use Rattle.arms.proofs.Rules.{left-place, two-booleans}
+use Rattle.arms.proofs.Posts.{logic-bad, joined}
 use Rattle.arms.proofs.logic.logical.Statement.{statement}
 use Rattle.arms.proofs.logic.logical.Tie as tie
-use Rattle.arms.proofs.logic.logical.Reads as reads
-use Rattle.arms.proofs.logic.logical.Lts as lts
-use Rattle.arms.proofs.logic.joined.Reads as joined-reads
-use Rattle.value.proofs.pops.two_booleans.Reads as two-booleans-reads
-use Rattle.value.proofs.words.write_value.Reads as write-value-reads
 
--- src/logic.rt:33:11
 two-booleans-requires : tie.Need-two-booleans-requires
 two-booleans-requires c κs = search needs
 
--- src/logic.rt:34:23
 enum-known-f : tie.Need-enum-known-f
 enum-known-f c = search needs
 
--- src/logic.rt:35:23
 enum-known-x : tie.Need-enum-known-x
 enum-known-x c = search needs
 
--- src/logic.rt:36:25
 sub-count : tie.Need-sub-count
-sub-count c = ?
+sub-count c = omega (arith, two-booleans _ _ (c .before .before .before .two-booleans .ensures) (c .before .x .given .1))
 
--- src/logic.rt:37:39
 sub-write-value : tie.Need-sub-write-value
-sub-write-value c = ?
+sub-write-value c = omega (arith, two-booleans _ _ (c .before .before .before .before .two-booleans .ensures) (c .before .before .x .given .1))
 
--- src/logic.rt:37:65
 joined-requires : tie.Need-joined-requires
 joined-requires c κs = search needs
 
--- src/logic.rt:37:13
 write-value-requires : tie.Need-write-value-requires
-write-value-requires c κs = ?
+write-value-requires c κs = omega (arith, two-booleans _ _ (c .before .before .before .before .before .two-booleans .ensures) (c .before .before .before .x .given .1), c .before .before .before .before .before .before .before .before .pre .count, c .before .before .before .before .before .before .before .before .pre .room)
 
--- src/logic.rt:28:1
 same-length : tie.Need-same-length
 same-length c = search needs
 
--- src/logic.rt:28:1
 returns : tie.Need-returns
-returns c = ?
+returns c = logic-bad (c .before .before .before .before .before .before .pre) (c .before .before .before .two-booleans .ensures) _ (c .before .f .given .1)
 
--- src/logic.rt:28:1
 same-length-2 : tie.Need-same-length-2
 same-length-2 c = search needs
 
--- src/logic.rt:28:1
 returns-2 : tie.Need-returns-2
-returns-2 c = ?
+returns-2 c = joined (c .before .before .before .before .before .before .before .before .before .before .before .pre) (c .before .before .before .before .before .before .before .before .two-booleans .ensures) _ (c .before .before .before .before .before .before .x .given .1) (left-place _) refl (c .before .before .before .joined .ensures) (c .before .before .write-value .ensures)
 
 pub logical-spec : {M : Type 1} → statement M
 logical-spec =

@@ -1,30 +1,23 @@
 use borrow.Author.Needs.{needs}
+use Rattle.arms.proofs.Rules.{no-constant, constant}
+use Rattle.arms.proofs.Posts.{loads, missing, found}
 use Rattle.arms.proofs.pushes.load_constant.Statement.{statement}
 use Rattle.arms.proofs.pushes.load_constant.Tie as tie
-use Rattle.arms.proofs.pushes.load_constant.Reads as reads
-use Rattle.arms.proofs.pushes.load_constant.Lts as lts
-use Rattle.arms.proofs.pushes.push.Reads as push-reads
-use Rattle.value.proofs.words.read_value.Reads as read-value-reads
 
--- src/pushes.rt:35:9
 returns : tie.Need-returns
-returns c = ?
+returns c = λ u d e. missing (c .before .before .before .before .pre .0) d (loads u _) (λ x cs. no-constant _ _ _ e (c .if1 .taken))
 
--- src/pushes.rt:37:9
 read-value-requires : tie.Need-read-value-requires
 read-value-requires c κs = search needs
 
--- src/pushes.rt:38:5
 push-requires : tie.Need-push-requires
 push-requires c κs = search needs
 
--- src/pushes.rt:30:1
 same-length : tie.Need-same-length
 same-length c = search needs
 
--- src/pushes.rt:30:1
 returns-2 : tie.Need-returns-2
-returns-2 c = ?
+returns-2 c = λ u d e. found (c .before .before .before .before .before .before .before .before .before .pre .0) d (loads u _) (λ x cs. constant _ _ _ e (c .before .before .before .before .before .if1 .left) (c .before .before .before .before .read-value .ensures)) (c .before .before .push .ensures u d)
 
 pub load-constant-spec : {M : Type 1} → statement M
 load-constant-spec =

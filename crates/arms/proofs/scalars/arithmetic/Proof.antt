@@ -1,68 +1,52 @@
 use borrow.Author.Needs.{needs}
+use mathlib.Core.Path.{refl}
+use native.Mathlib.Omega.{arith}
+use Rattle.arms.proofs.Rules.{left-place, two-scalars}
+use Rattle.arms.proofs.Posts.{arithmetic-bad, zero-divided, computed}
 use Rattle.arms.proofs.scalars.arithmetic.Statement.{statement}
 use Rattle.arms.proofs.scalars.arithmetic.Tie as tie
-use Rattle.arms.proofs.scalars.arithmetic.Reads as reads
-use Rattle.arms.proofs.scalars.arithmetic.Lts as lts
-use Rattle.value.proofs.pops.two_scalars.Reads as two-scalars-reads
-use Rattle.value.proofs.scalars.arithmetic.Reads as arithmetic-reads
-use Rattle.value.proofs.scalars.zero_divisor.Reads as zero-divisor-reads
-use Rattle.value.proofs.words.write_value.Reads as write-value-reads
 
--- src/scalars.rt:39:11
 two-scalars-requires : tie.Need-two-scalars-requires
 two-scalars-requires c κs = search needs
 
--- src/scalars.rt:40:22
 enum-known-f : tie.Need-enum-known-f
 enum-known-f c = search needs
 
--- src/scalars.rt:41:22
 enum-known-x : tie.Need-enum-known-x
 enum-known-x c = search needs
 
--- src/scalars.rt:42:16
 zero-divisor-requires : tie.Need-zero-divisor-requires
 zero-divisor-requires c κs = search needs
 
--- src/scalars.rt:43:17
 same-length : tie.Need-same-length
 same-length c = search needs
 
--- src/scalars.rt:43:17
 returns : tie.Need-returns
-returns c = ?
+returns c = zero-divided (c .before .before .before .before .before .before .before .before .pre) (c .before .before .before .before .before .two-scalars .ensures) (c .before .before .before .x .given .1) _ (c .before .zero-divisor .ensures) (c .if1 .taken)
 
--- src/scalars.rt:45:25
 sub-count : tie.Need-sub-count
-sub-count c = ?
+sub-count c = omega (arith, two-scalars _ _ (c .before .before .before .before .before .two-scalars .ensures) (c .before .before .before .x .given .1))
 
--- src/scalars.rt:46:39
 sub-write-value : tie.Need-sub-write-value
-sub-write-value c = ?
+sub-write-value c = omega (arith, two-scalars _ _ (c .before .before .before .before .before .before .two-scalars .ensures) (c .before .before .before .before .x .given .1))
 
--- src/scalars.rt:46:64
 arithmetic-requires : tie.Need-arithmetic-requires
 arithmetic-requires c κs = search needs
 
--- src/scalars.rt:46:13
 write-value-requires : tie.Need-write-value-requires
-write-value-requires c κs = ?
+write-value-requires c κs = omega (arith, two-scalars _ _ (c .before .before .before .before .before .before .before .two-scalars .ensures) (c .before .before .before .before .before .x .given .1), c .before .before .before .before .before .before .before .before .before .before .pre .count, c .before .before .before .before .before .before .before .before .before .before .pre .room)
 
--- src/scalars.rt:34:1
 same-length-2 : tie.Need-same-length-2
 same-length-2 c = search needs
 
--- src/scalars.rt:34:1
 returns-2 : tie.Need-returns-2
-returns-2 c = ?
+returns-2 c = arithmetic-bad (c .before .before .before .before .before .before .pre) (c .before .before .before .two-scalars .ensures) (c .before .f .given .1) _
 
--- src/scalars.rt:34:1
 same-length-3 : tie.Need-same-length-3
 same-length-3 c = search needs
 
--- src/scalars.rt:34:1
 returns-3 : tie.Need-returns-3
-returns-3 c = ?
+returns-3 c = computed (c .before .before .before .before .before .before .before .before .before .before .before .before .before .pre) (c .before .before .before .before .before .before .before .before .before .before .two-scalars .ensures) (c .before .before .before .before .before .before .before .before .x .given .1) (left-place _) refl _ (c .before .before .before .before .before .before .zero-divisor .ensures) (c .before .before .before .before .before .if1 .left) (c .before .before .before .arithmetic .ensures) (c .before .before .write-value .ensures)
 
 pub arithmetic-spec : {M : Type 1} → statement M
 arithmetic-spec =

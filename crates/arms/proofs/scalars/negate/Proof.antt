@@ -1,63 +1,50 @@
 use borrow.Author.Needs.{needs}
+use mathlib.Core.Path.{ap}
+use native.Mathlib.Omega.{arith}
+use Rattle.model.specs.declared.Value.the-variants.{Scalar}
+use Rattle.value.proofs.Operands.{got-some, is-scalar, no-scalar}
+use Rattle.arms.proofs.Posts.{negates, one-none, one-wrong, one-replaced}
 use Rattle.arms.proofs.scalars.negate.Statement.{statement}
 use Rattle.arms.proofs.scalars.negate.Tie as tie
-use Rattle.arms.proofs.scalars.negate.Reads as reads
-use Rattle.arms.proofs.scalars.negate.Lts as lts
-use Rattle.value.proofs.pops.pop.Reads as pop-reads
-use Rattle.value.proofs.scalars.negate.Reads as negate-reads
-use Rattle.value.proofs.words.write_value.Reads as write-value-reads
 
--- src/scalars.rt:23:25
 pop-requires : tie.Need-pop-requires
 pop-requires c κs = search needs
 
--- src/scalars.rt:23:20
 enum-known-v : tie.Need-enum-known-v
 enum-known-v c = search needs
 
--- src/scalars.rt:24:35
 enum-told : tie.Need-enum-told
 enum-told c = search needs
 
--- src/scalars.rt:24:9
 same-length : tie.Need-same-length
 same-length c = search needs
 
--- src/scalars.rt:24:9
 returns : tie.Need-returns
-returns c = ?
+returns c = one-none (c .before .before .before .before .before .pre) (c .before .before .pop .ensures) negates (c .enum-told .given .1)
 
--- src/scalars.rt:26:23
 enum-known-v-2 : tie.Need-enum-known-v-2
 enum-known-v-2 c = search needs
 
--- src/scalars.rt:27:9
 same-length-2 : tie.Need-same-length-2
 same-length-2 c = search needs
 
--- src/scalars.rt:27:9
 returns-2 : tie.Need-returns-2
-returns-2 c = ?
+returns-2 c = one-wrong (c .before .before .before .before .before .before .before .pre) (c .before .before .before .before .pop .ensures) negates (c .before .before .v .given .1) (no-scalar _ (c .match2 .keys2))
 
--- src/scalars.rt:29:31
 sub-write-value : tie.Need-sub-write-value
-sub-write-value c = ?
+sub-write-value c = omega (arith, got-some _ _ (c .before .before .before .before .before .before .before .pop .ensures) (c .before .before .before .before .before .v .given .1))
 
--- src/scalars.rt:29:53
 negate-requires : tie.Need-negate-requires
 negate-requires c κs = search needs
 
--- src/scalars.rt:29:5
 write-value-requires : tie.Need-write-value-requires
-write-value-requires c κs = ?
+write-value-requires c κs = omega (arith, got-some _ _ (c .before .before .before .before .before .before .before .before .pop .ensures) (c .before .before .before .before .before .before .v .given .1), c .before .before .before .before .before .before .before .before .before .before .before .pre .count, c .before .before .before .before .before .before .before .before .before .before .before .pre .room)
 
--- src/scalars.rt:18:1
 same-length-3 : tie.Need-same-length-3
 same-length-3 c = search needs
 
--- src/scalars.rt:18:1
 returns-3 : tie.Need-returns-3
-returns-3 c = ?
+returns-3 c = one-replaced (c .before .before .before .before .before .before .before .before .before .before .before .before .before .before .pre) (c .before .before .before .before .before .before .before .before .before .before .before .pop .ensures) (c .before .before .before .before .before .before .before .before .before .v .given .1) negates (is-scalar (c .before .before .before .before .before .before .v2 .given .1)) (ap Scalar (c .before .before .before .negate .ensures)) (c .before .before .write-value .ensures)
 
 pub negate-spec : {M : Type 1} → statement M
 negate-spec =

@@ -1,55 +1,43 @@
 use borrow.Author.Needs.{needs}
+use mathlib.Core.Path.{refl}
+use native.Mathlib.Omega.{arith}
+use Rattle.arms.proofs.Rules.{left-place, two-scalars}
+use Rattle.arms.proofs.Posts.{ordering-bad, ordered}
 use Rattle.arms.proofs.scalars.ordering.Statement.{statement}
 use Rattle.arms.proofs.scalars.ordering.Tie as tie
-use Rattle.arms.proofs.scalars.ordering.Reads as reads
-use Rattle.arms.proofs.scalars.ordering.Lts as lts
-use Rattle.value.proofs.pops.two_scalars.Reads as two-scalars-reads
-use Rattle.value.proofs.scalars.ordering.Reads as ordering-reads
-use Rattle.value.proofs.words.write_value.Reads as write-value-reads
 
--- src/scalars.rt:58:11
 two-scalars-requires : tie.Need-two-scalars-requires
 two-scalars-requires c κs = search needs
 
--- src/scalars.rt:59:22
 enum-known-f : tie.Need-enum-known-f
 enum-known-f c = search needs
 
--- src/scalars.rt:60:22
 enum-known-x : tie.Need-enum-known-x
 enum-known-x c = search needs
 
--- src/scalars.rt:61:25
 sub-count : tie.Need-sub-count
-sub-count c = ?
+sub-count c = omega (arith, two-scalars _ _ (c .before .before .before .two-scalars .ensures) (c .before .x .given .1))
 
--- src/scalars.rt:62:39
 sub-write-value : tie.Need-sub-write-value
-sub-write-value c = ?
+sub-write-value c = omega (arith, two-scalars _ _ (c .before .before .before .before .two-scalars .ensures) (c .before .before .x .given .1))
 
--- src/scalars.rt:62:65
 ordering-requires : tie.Need-ordering-requires
 ordering-requires c κs = search needs
 
--- src/scalars.rt:62:13
 write-value-requires : tie.Need-write-value-requires
-write-value-requires c κs = ?
+write-value-requires c κs = omega (arith, two-scalars _ _ (c .before .before .before .before .before .two-scalars .ensures) (c .before .before .before .x .given .1), c .before .before .before .before .before .before .before .before .pre .count, c .before .before .before .before .before .before .before .before .pre .room)
 
--- src/scalars.rt:53:1
 same-length : tie.Need-same-length
 same-length c = search needs
 
--- src/scalars.rt:53:1
 returns : tie.Need-returns
-returns c = ?
+returns c = ordering-bad (c .before .before .before .before .before .before .pre) (c .before .before .before .two-scalars .ensures) (c .before .f .given .1) _
 
--- src/scalars.rt:53:1
 same-length-2 : tie.Need-same-length-2
 same-length-2 c = search needs
 
--- src/scalars.rt:53:1
 returns-2 : tie.Need-returns-2
-returns-2 c = ?
+returns-2 c = ordered (c .before .before .before .before .before .before .before .before .before .before .before .pre) (c .before .before .before .before .before .before .before .before .two-scalars .ensures) (c .before .before .before .before .before .before .x .given .1) (left-place _) refl _ (c .before .before .before .ordering .ensures) (c .before .before .write-value .ensures)
 
 pub ordering-spec : {M : Type 1} → statement M
 ordering-spec =
