@@ -1,10 +1,9 @@
 -- What an arm ensures, for each way out of an arm.
-use mathlib.Core.Path.{_≡_, refl, sym, ap, _∙_}
+use mathlib.Core.Path.{_≡_, refl, sym, _∙_}
 use mathlib.Core.Bool.{Bool, true, false, not}
 use mathlib.Core.List.{List, [], _∷_}
-use Prim.Native.Nat.{ℕ, zero, suc, _+_, _-_, _≤_, _<_, min}
+use Prim.Native.Nat.{ℕ, suc, _+_, _-_, _≤_, _<_, min}
 use native.Mathlib.Omega.{arith}
-use native.Mathlib.Numerals.{add-one}
 use borrow.Author.Tests.{lt-ltb, le-ltb, le-leb, lt-leb}
 use lib.Ieee as Ieee
 use lib.Ieee.{Float}
@@ -34,41 +33,28 @@ use Rattle.arms.specs.declared.Fixed.{Fixed}
 use Rattle.arms.specs.declared.Going.{Going}
 use Rattle.arms.specs.declared.Answer.{Answer}
 use Rattle.arms.specs.declared.Answer.the-variants.{Went, Returned, Call, Back, Stopped}
-use Rattle.arms.specs.Links.{stateOf, outcomeOf, Within, Suits, Kept, ArmPost}
+use Rattle.arms.specs.Links.{stateOf, outcomeOf, Within, Suits, ArmPost}
 use Rattle.arms.proofs.Keeping.{place, fewer, topped}
 use Rattle.arms.proofs.Rules.{no-top, top, no-scalars, scalars, two-scalars, no-booleans, booleans, two-booleans, last-words, cut-vals}
 
--- the machine with n values on its stack
-abbrev pub withCount : ℕ → Going → Going
-withCount n g = record {
+-- the machine with n values on its stack, at position i, and with the last result in the words a and b
+abbrev pub withWords : ℕ → ℕ → ℕ → ℕ → Going → Going
+withWords n i a b g = record {
   sp = n;
-  function = g .function;
-  position = g .position;
-  base = g .base;
-  callers = g .callers;
-  used = g .used;
-  units = g .units;
-  kind = g .kind;
-  payload = g .payload;
-  mark = g .mark;
-  answered = g .answered;
-}
-
--- the machine at position i
-abbrev pub withPosition : ℕ → Going → Going
-withPosition i g = record {
-  sp = g .sp;
   function = g .function;
   position = i;
   base = g .base;
   callers = g .callers;
   used = g .used;
   units = g .units;
-  kind = g .kind;
-  payload = g .payload;
+  kind = a;
+  payload = b;
   mark = g .mark;
   answered = g .answered;
 }
+
+abbrev pub withCount : ℕ → Going → Going
+withCount n g = withWords n (g .position) (g .kind) (g .payload) g
 
 -- the rule goes another way to the same outcome
 pub same-rule : {rule other : State → Outcome} {k : Fixed} {g : Going} {s : List ℕ} {r : Answer} {t : List ℕ}
@@ -89,8 +75,8 @@ module _ {k : Fixed} {g : Going} {s : List ℕ} (w : Within k g s) where
 
   -- values are dropped, and the position is another
   pub moved : {rule : State → Outcome} {n i : ℕ} → n ≤ g .sp
-      → ((x : List ℕ) (cs : List Frame) → rule (stateOf g s x cs) ≡ went (stateOf (withPosition i (withCount n g)) s x cs))
-      → ArmPost rule k g s (Went (withPosition i (withCount n g))) s
+      → ((x : List ℕ) (cs : List Frame) → rule (stateOf g s x cs) ≡ went (stateOf (withWords n i (g .kind) (g .payload) g) s x cs))
+      → ArmPost rule k g s (Went (withWords n i (g .kind) (g .payload) g)) s
   moved l e = record {
     means = λ x cs h. sym (e x cs);
     within = fewer w l refl;
@@ -185,7 +171,8 @@ module _ {k : Fixed} {g : Going} {s : List ℕ} (w : Within k g s) {u : World} (
 
 -- ---- jumps
 
-pub jumps : {k : Fixed} {g : Going} {s : List ℕ} → Within k g s → (a : ℕ) {i : ℕ} → i ≡ g .position + a → ArmPost (jumpStep a) k g s (Went (withPosition i g)) s
+pub jumps : {k : Fixed} {g : Going} {s : List ℕ} → Within k g s → (a : ℕ) {i : ℕ} → i ≡ g .position + a
+    → ArmPost (jumpStep a) k g s (Went (withWords (g .sp) i (g .kind) (g .payload) g)) s
 unfolding jumpStep
 jumps w a e = moved w (omega arith) (λ x cs. rw e)
 
@@ -239,7 +226,8 @@ module _ {k : Fixed} {g : Going} {s : List ℕ} (w : Within k g s) {r : Found} (
       pub stays : b ≡ true → ArmPost (jumpIfFalseStep a) k g s (Went (withCount n g)) s
       stays d = moved w (omega arith) (λ x cs. acts (jumps-if-false a) e (is-boolean h) x cs ∙ rw (c, d))
 
-      pub jumps-on : {i : ℕ} → b ≡ false → i ≡ g .position + a → ArmPost (jumpIfFalseStep a) k g s (Went (withPosition i (withCount n g))) s
+      pub jumps-on : {i : ℕ} → b ≡ false → i ≡ g .position + a
+          → ArmPost (jumpIfFalseStep a) k g s (Went (withWords n i (g .kind) (g .payload) g)) s
       jumps-on d o = moved w (omega arith) (λ x cs. acts (jumps-if-false a) e (is-boolean h) x cs ∙ rw (c, d, o))
 
 -- ---- two operands
@@ -289,22 +277,6 @@ module _ {k : Fixed} {g : Going} {s : List ℕ} (w : Within k g s) where
 
 -- ---- returns
 
--- the machine with the last result in two words
-abbrev pub withResult : ℕ → ℕ → Going → Going
-withResult a b g = record {
-  sp = g .sp;
-  function = g .function;
-  position = g .position;
-  base = g .base;
-  callers = g .callers;
-  used = g .used;
-  units = g .units;
-  kind = a;
-  payload = b;
-  mark = g .mark;
-  answered = g .answered;
-}
-
 module _ {k : Fixed} {g : Going} {s : List ℕ} (w : Within k g s) {r : Found} (p : r ≡ popOf (vals (g .sp) s)) where
   pub returns-none : {t : Fault} → r ≡ Bad t → ArmPost returnStep k g s (Stopped g f.TooFewValues) s
   unfolding returnStep
@@ -314,7 +286,7 @@ module _ {k : Fixed} {g : Going} {s : List ℕ} (w : Within k g s) {r : Found} (
     -- with one frame
     module _ {n a b : ℕ} (z : g .callers ≡ 0) (c : n ≡ g .sp - 1) (d : a ≡ kind v) (q : PayloadOf v b) where
       abbrev at-root : Answer
-      at-root = Returned (record { going = withResult a b (withCount n g); value = v })
+      at-root = Returned (record { going = withWords n (g .position) a b g; value = v })
 
       root-means : (x : List ℕ) (cs : List Frame) → length cs ≡ g .callers → outcomeOf cs at-root s x ≡ returnStep (stateOf g s x cs)
       unfolding returnStep returnTo
