@@ -1,0 +1,11 @@
+pub mod Order
+pub mod Frame
+pub mod Meaning
+pub mod Stands
+pub mod Texts
+pub mod Pairs
+pub mod Builds
+pub mod Fields
+pub mod Turns
+pub mod Scans
+pub mod Made

@@ -1,0 +1,57 @@
+use Rattle.cells.proofs.copy.Statement.{statement}
+use Rattle.cells.proofs.copy.Tie as tie
+use borrow.Author.Needs.{needs}
+use Prim.Native.Nat.{_-_}
+use native.Mathlib.Omega.{arith}
+use Rattle.model.specs.Values.{vals}
+use Rattle.cells.specs.Links.{elementsOf}
+use Rattle.cells.proofs.Builds.{length-elements, Copied, copy-start, copy-end, copy-room, copy-more}
+
+abbrev Inv-loop : tie.InvT-loop
+Inv-loop list stack sp n cells₀ from i₀ cells i = Copied (elementsOf list n (vals sp stack)) from n cells₀ cells i
+
+abbrev μ-loop : tie.MeasureT-loop
+μ-loop list stack sp n cells₀ from i₀ cells i = n - i
+
+loop-holds : tie.Need-loop-holds Inv-loop μ-loop
+loop-holds c = copy-start _ _ _ _
+
+element-requires : tie.Need-element-requires Inv-loop μ-loop
+element-requires c κs = (c .loop-test .taken, c .before .before .before .before .pre .0, c .before .before .before .before .pre .1)
+
+add-write-value : tie.Need-add-write-value Inv-loop μ-loop
+add-write-value c = let r = copy-room _ _ _ _ _ _ (c .before .before .before .loop .inv) (length-elements _ _ _ _ (c .before .before .before .before .before .before .pre .0)) (c .before .before .before .before .before .before .pre .2) (c .before .before .loop-test .taken) in omega arith
+
+write-value-requires : tie.Need-write-value-requires Inv-loop μ-loop
+write-value-requires c κs = copy-room _ _ _ _ _ _ (c .before .before .before .loop .inv) (length-elements _ _ _ _ (c .before .before .before .before .before .before .pre .0)) (c .before .before .before .before .before .before .pre .2) (c .before .before .loop-test .taken)
+
+add-i : tie.Need-add-i Inv-loop μ-loop
+add-i c = search needs
+
+loop-less : tie.Need-loop-less Inv-loop μ-loop
+loop-less c = search needs
+
+loop-again : tie.Need-loop-again Inv-loop μ-loop
+loop-again c = copy-more _ _ _ _ _ _ (c .before .before .before .before .before .before .loop .inv) (length-elements _ _ _ _ (c .before .before .before .before .before .before .before .before .before .pre .0)) (c .before .before .before .before .before .before .before .before .before .pre .2) (c .before .before .before .before .before .loop-test .taken) _ (c .before .before .before .before .element .ensures) _ (c .before .before .write-value .ensures)
+
+same-length : tie.Need-same-length Inv-loop μ-loop
+same-length c = c .before .loop .inv .size
+
+returns : tie.Need-returns Inv-loop μ-loop
+returns c = copy-end _ _ _ _ _ _ (c .before .loop .inv) (length-elements _ _ _ _ (c .before .before .before .before .pre .0)) (c .loop-test .left)
+
+pub copy-spec : {M : Type 1} → statement M
+copy-spec =
+    tie.close
+    (tie.spec
+    Inv-loop
+    μ-loop
+    loop-holds
+    element-requires
+    add-write-value
+    write-value-requires
+    add-i
+    loop-less
+    loop-again
+    same-length
+    returns)
