@@ -34,15 +34,17 @@ pub fn equal(not: bool, k: Fixed, g: Going, text: &[u8], cells: &[u64], stack: &
     let Found::Got(y) = pops::pop(stack, sp) else {
         return Answer::Stopped(g, Fault::TooFewValues);
     };
-    let Found::Got(x) = pops::pop(stack, sp - 1) else {
+    let count = sp - 1;
+    let Found::Got(x) = pops::pop(stack, count) else {
         return Answer::Stopped(g, Fault::TooFewValues);
     };
     match cells::equal(text, cells, g.used, x, y, g.units) {
         Verdict::Out => Answer::Stopped(Going { units: 0, ..g }, Fault::UnitsSpent),
         Verdict::Done(same, units) => {
-            words::write_value(stack, sp - 2, Value::Boolean(told(not, same)));
+            let v = told(not, same);
+            words::write_value(stack, count - 1, Value::Boolean(v));
             Answer::Went(Going {
-                sp: sp - 1,
+                sp: count,
                 units,
                 ..g
             })
