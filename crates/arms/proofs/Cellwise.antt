@@ -1,6 +1,6 @@
 -- What an arm ensures that is lent the cells, for each way out of an arm: equality, lists and structs.
 use mathlib.Core.Path.{_≡_, refl, sym, _∙_}
-use mathlib.Core.Bool.{Bool, true, false}
+use mathlib.Core.Bool.{Bool, true, false, not}
 use mathlib.Core.List.{List, [], _∷_}
 use Prim.Native.Nat.{ℕ, zero, suc, _-_, _*_, _≤_, _<_}
 use native.Mathlib.Omega.{arith}
@@ -30,7 +30,7 @@ use Rattle.cells.specs.declared.Built.{Built}
 use Rattle.cells.specs.declared.Built.the-variants as bu
 use Rattle.cells.specs.declared.Verdict.{Verdict}
 use Rattle.cells.specs.declared.Verdict.the-variants.{Done, Out}
-use Rattle.cells.specs.Links.{elementsOf, TopPre, BuildPost, FieldPre, verdict, EqualPre}
+use Rattle.cells.specs.Links.{elementsOf, TopPre, Took, BuildPost, FieldPre, verdict, EqualPre}
 use Rattle.cells.proofs.Frame.{grown-of}
 use Rattle.cells.proofs.Stands.{length-heap, heap-cut}
 use Rattle.arms.specs.declared.Fixed.{Fixed}
@@ -128,6 +128,16 @@ on-verdict t r u (same a n) = on (leb n (u .units))
         ≡ byVerdict t r u (if y then Done a (u .units - n) else Out)
     on true = refl
     on false = refl
+
+-- the two equalities of the rules
+module _ (u : World) (st : State) where
+  pub equal-is : equalStep (λ x. x) u st ≡ equalStep (verdictBy false) u st
+  unfolding verdictBy
+  equal-is = refl
+
+  pub not-equal-is : equalStep not u st ≡ equalStep (verdictBy true) u st
+  unfolding verdictBy
+  not-equal-is = refl
 
 module _ (text : List ℕ) {k : Fixed} {g : Going} {s x : List ℕ} (b : Blocks (length text) k g s x) {p : Found} (right : p ≡ popOf (vals (g .sp) s)) where
   pub equal-none : (t : Bool → Bool) (u : World) {n : Fault} → p ≡ Bad n → BlockPost (equalStep t u) k g s x (Stopped g f.TooFewValues) s x
@@ -227,18 +237,19 @@ module _ {m : ℕ} {k : Fixed} {g : Going} {s x : List ℕ} (b : Blocks m k g s 
 -- ---- a list or a struct is built
 
 -- the two builds of the rules
-pub list-is-build : (u : World) (j n : ℕ) (st : State) → buildStep u v.List listElements j n st ≡ buildStep u (builtBy true) (elementsOf true) j n st
-unfolding builtBy elementsOf
-list-is-build u j n st = refl
+module _ (u : World) (j n : ℕ) (st : State) where
+  pub list-is-build : buildStep u v.List listElements j n st ≡ buildStep u (builtBy true) (elementsOf true) j n st
+  unfolding builtBy elementsOf
+  list-is-build = refl
 
-struct-is-build : (u : World) (j n : ℕ) (st : State) → buildStep u v.StructInstance structFields j n st ≡ buildStep u (builtBy false) (elementsOf false) j n st
-unfolding builtBy elementsOf
-struct-is-build u j n st = refl
+  struct-is-build : buildStep u v.StructInstance structFields j n st ≡ buildStep u (builtBy false) (elementsOf false) j n st
+  unfolding builtBy elementsOf
+  struct-is-build = refl
 
 module _ {m : ℕ} {k : Fixed} {g : Going} {s x : List ℕ} (b : Blocks m k g s x) (u : World) (j n : ℕ) where
-  pub no-number : Suits k u → k .structs ≤ j → BlockPost (structStep u j n) k g s x (Stopped g f.OutOfRange) s x
+  pub unknown-struct : Suits k u → k .structs ≤ j → BlockPost (structStep u j n) k g s x (Stopped g f.OutOfRange) s x
   unfolding structStep
-  no-number c h = arm-block (b .cells) (refused (b .stack) (λ x cs d. rw (c .structs, le-ltb j (k .structs) h)))
+  unknown-struct c h = arm-block (b .cells) (refused (b .stack) (λ x cs d. rw (c .structs, le-ltb j (k .structs) h)))
 
   pub builds : {r : Answer} {w y : List ℕ} → Suits k u → j < k .structs → BlockPost (buildStep u (builtBy false) (elementsOf false) j n) k g s x r w y
       → BlockPost (structStep u j n) k g s x r w y
@@ -276,21 +287,20 @@ module _ {m : ℕ} {k : Fixed} {g : Going} {s x : List ℕ} (b : Blocks m k g s 
         (refused (b .stack) {rule = faulted t} (λ x cs h. refl)))
 
     module _ {c : ℕ} (e : d ≡ bu.Taken c) where
-      took : BuildPost list s (g .sp) n j x (g .used) (bu.Taken c) y
-      took = rw e at post
+      new : BuildPost list s (g .sp) n j x (g .used) (bu.Taken c) y
+      new = rw e at post
 
-      -- the new value names a cell that a u32 can
-      pub names : g .used < 0x1_0000_0000
-      names = let z = took .after in omega arith
+      pub took : Took (g .used) n c x y
+      took = new .after
 
       pub popped-within : Within k (withCount (g .sp - n) (withUsed c g)) s
       popped-within = fewer (b .stack) (omega arith) refl
 
       stay : (i : ℕ) → i ≤ g .used → heapOf i y ≡ heapOf i x
       stay i h =
-          let z = took .after in
+          let z = took in
           heap-cut c i y (omega arith)
-          ∙ rw (grown-of _ _ _ _ _ (sym (took .means)) .is, take-append-le i (heapOf (g .used) x) _ (let l = length-heap (g .used) x in omega arith))
+          ∙ rw (grown-of _ _ _ _ _ (sym (new .means)) .is, take-append-le i (heapOf (g .used) x) _ (let l = length-heap (g .used) x in omega arith))
           (sym (heap-cut (g .used) i x h))
 
       pub built : (u : World) → u .cellRoom ≡ places 2 x → {a : Value} → a ≡ builtBy list (g .used) → {r : Answer} {w : List ℕ}
@@ -298,9 +308,9 @@ module _ {m : ℕ} {k : Fixed} {g : Going} {s x : List ℕ} (b : Blocks m k g s 
           → BlockPost (buildStep u (builtBy list) (elementsOf list) j n) k g s x r w y
       unfolding buildStep onBuilt places
       built u room h p =
-          let z = took .after in
+          let z = took in
           goes-on
-          (λ cs. rw (length-vals (g .sp) s, le-ltb (g .sp) n enough, room, ← took .means, length-heap (g .used) x, vals-drop n (g .sp) s, h))
+          (λ cs. rw (length-vals (g .sp) s, le-ltb (g .sp) n enough, room, ← new .means, length-heap (g .used) x, vals-drop n (g .sp) s, h))
           (record { callers = refl; mark = refl; answered = refl })
           (record { count = omega arith; exact = z .exact (b .cells .exact) })
           stay

@@ -64,7 +64,15 @@ fn named(list: bool, p: u32) -> Value
 }
 
 // BuildList n, and BuildStructInstance of a known number: n values popped, the new value pushed.
-pub fn build(list: bool, number: usize, n: usize, k: Fixed, g: Going, stack: &mut [u64], cells: &mut [u64]) -> Answer
+pub fn build(
+    list: bool,
+    number: usize,
+    n: usize,
+    k: Fixed,
+    g: Going,
+    stack: &mut [u64],
+    cells: &mut [u64],
+) -> Answer
     requires { ⌜ ((t : ℕ) × Blocks t k g (now stack) (now cells)) × ((n < 0x1_0000) × (number < 0x1_0000)) ⌝ }
     ensures { λ r. ⌜ ((w : World) → Suits k w → w .cellRoom ≡ places 2 (now (cells .entry)) → BlockPost (buildStep w (builtBy list) (elementsOf list) number n) k g (now (stack .entry)) (now (cells .entry)) r (now (stack .exit)) (now (cells .exit))) ⌝ }
 {
@@ -88,7 +96,14 @@ pub fn build(list: bool, number: usize, n: usize, k: Fixed, g: Going, stack: &mu
 }
 
 // BuildStructInstance.
-pub fn build_struct(number: usize, n: usize, k: Fixed, g: Going, stack: &mut [u64], cells: &mut [u64]) -> Answer
+pub fn build_struct(
+    number: usize,
+    n: usize,
+    k: Fixed,
+    g: Going,
+    stack: &mut [u64],
+    cells: &mut [u64],
+) -> Answer
     requires { ⌜ ((t : ℕ) × Blocks t k g (now stack) (now cells)) × ((n < 0x1_0000) × (number < 0x1_0000)) ⌝ }
     ensures { λ r. ⌜ ((w : World) → Suits k w → w .cellRoom ≡ places 2 (now (cells .entry)) → BlockPost (structStep w number n) k g (now (stack .entry)) (now (cells .entry)) r (now (stack .exit)) (now (cells .exit))) ⌝ }
 {

@@ -1,6 +1,6 @@
 use borrow.Author.Needs.{needs}
 use native.Mathlib.Omega.{arith}
-use Rattle.arms.proofs.Cellwise.{build-few, build-pre, build-bad, names, popped-within, built}
+use Rattle.arms.proofs.Cellwise.{build-few, build-pre, build-bad, took, popped-within, built}
 use Rattle.arms.proofs.blocks.build.Statement.{statement}
 use Rattle.arms.proofs.blocks.build.Tie as tie
 
@@ -17,7 +17,7 @@ enum-known-u : tie.Need-enum-known-u
 enum-known-u c = search needs
 
 cast-named : tie.Need-cast-named
-cast-named c = omega (arith, names (c .before .before .before .before .before .before .before .before .before .before .before .pre .0 .1) (c .before .before .before .before .before .before .before .before .if1 .left) (c .before .before .before .before .before .build .ensures) (c .before .u .given .1))
+cast-named c = let z = took (c .before .before .before .before .before .before .before .before .before .before .before .pre .0 .1) (c .before .before .before .before .before .before .before .before .if1 .left) (c .before .before .before .before .before .build .ensures) (c .before .u .given .1) in omega arith
 
 named-requires : tie.Need-named-requires
 named-requires c κs = search needs

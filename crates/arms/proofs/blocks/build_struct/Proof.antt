@@ -1,10 +1,10 @@
 use borrow.Author.Needs.{needs}
-use Rattle.arms.proofs.Cellwise.{no-number, builds}
+use Rattle.arms.proofs.Cellwise.{unknown-struct, builds}
 use Rattle.arms.proofs.blocks.build_struct.Statement.{statement}
 use Rattle.arms.proofs.blocks.build_struct.Tie as tie
 
 returns : tie.Need-returns
-returns c = λ u d e. no-number (c .before .before .before .before .pre .0 .1) u _ _ d (c .if1 .taken)
+returns c = λ u d e. unknown-struct (c .before .before .before .before .pre .0 .1) u _ _ d (c .if1 .taken)
 
 build-requires : tie.Need-build-requires
 build-requires c κs = search needs
