@@ -1,3 +1,4 @@
+pub mod Cellwise
 pub mod Keeping
 pub mod Posts
 pub mod Rules

@@ -6,6 +6,7 @@ pub mod pushes; // pushes.rt: constants, slots, the last result
 pub mod scalars; // scalars.rt: arithmetic and orderings
 pub mod logic; // logic.rt: booleans and jumps
 pub mod frames; // frames.rt: calls and returns; the frames themselves are the run's
+pub mod blocks; // blocks.rt: equality, lists and structs
 
 // What no step changes: the counts of the program, and the rooms of stack and frames.
 pub struct Fixed {
