@@ -12,7 +12,7 @@ use Rattle.model.specs.Values.{faultNumber}
 use Rattle.model.specs.Steps.{World, State, went, returned, stepOf}
 use Rattle.model.specs.Runs.{Machine, begin, Mark, mark, Ended, ended, stopped, over, endOf, Entry, traceOf, fault, answered, recovered, settle, runOf}
 use Rattle.rules.specs.Paths.{Steps, none, on, ret, StoppedBy}
-use Rattle.rules.specs.Demand.{Quiet, stay, go, Since, start, return, Call, repliesOf, Recovered}
+use Rattle.rules.specs.Demand.{stay, go, Since, start, return, repliesOf, Recovered}
 use Rattle.rules.specs.Sane.{SaneWorld, Sane, Faults, Kept}
 use Rattle.rules.proofs.Ends.{end-of}
 use Rattle.rules.proofs.Paths.{run-path, marked, mark-last}

@@ -1,12 +1,12 @@
 -- Frames as a slice has them, the root first, and as a machine has them: the innermost, then its callers, the nearest first.
-use mathlib.Core.Path.{_≡_, refl, sym, ap, _∙_}
-use mathlib.Core.Bool.{Bool, true, false, _&&_, true≢false}
+use mathlib.Core.Path.{_≡_, sym}
+use mathlib.Core.Bool.{true, false, _&&_, true≢false}
 use mathlib.Core.List.{List, [], _∷_, _++_, reverse, reverseAux}
-use Prim.Native.Nat.{ℕ, zero, suc, _-_, _≤_, _<_, min}
+use Prim.Native.Nat.{ℕ, zero, suc, _-_, _≤_, min}
 use native.Mathlib.Omega.{arith}
 use borrow.Author.Tests.{ltb-true, leb-true, eqb-true, lt-ltb, le-leb, eq-eqb}
 use lib.Dec.{ltb, leb, eqb}
-use lib.ListN.{length, getD, take, length-take, length-reverse}
+use lib.ListN.{length, take, length-take, length-reverse}
 use lib.Seq.{take-suc}
 use Rattle.model.specs.declared.Frame.{Frame}
 use Rattle.model.specs.Values.{mostPlaces}
@@ -16,7 +16,6 @@ use Rattle.model.specs.Runs.{root}
 use Rattle.model.specs.Orders.{frameOk, callerOk, framesFrom, framesOk, frameStoreOk}
 use Rattle.model.specs.Machines.{frameRoom, innermost, callersIn}
 use Rattle.value.proofs.Coding.{and-left, and-right}
-use Rattle.cells.proofs.Order.{and-both}
 use Rattle.rules.specs.Sane.{FrameFits, CallerFits, CallersFit, Rooted}
 
 -- ---- the root stays last

@@ -1,25 +1,22 @@
 -- Good order as a run judges it, over counts and lent stores, and as the rules keep it, over worlds and machines: from each to the other.
-use mathlib.Core.Path.{_≡_, refl, sym, ap, subst, _∙_}
+use mathlib.Core.Path.{_≡_, refl}
 use mathlib.Core.Bool.{Bool, true, false, _&&_}
-use mathlib.Core.List.{List, [], _∷_}
+use mathlib.Core.List.{List}
 use Prim.Native.Nat.{ℕ, zero, suc, _-_, _≤_, _<_}
 use native.Mathlib.Omega.{arith}
 use borrow.Author.Tests.{leb-true, le-leb}
 use lib.Dec.{leb}
-use lib.ListN.{length, getD}
-use Rattle.model.specs.declared.Counts.{Counts}
+use lib.ListN.{length}
 use Rattle.model.specs.declared.Vm.{Vm}
-use Rattle.model.specs.declared.Value.{Value}
 use Rattle.model.specs.declared.Value.the-variants as v
 use Rattle.model.specs.declared.Last.{Last}
 use Rattle.model.specs.declared.Last.the-variants.{Nothing, Is}
 use Rattle.model.specs.Basics.{everyFrom}
 use Rattle.model.specs.Values.{places, kindAt, payloadAt, valueAt, vals, exactValue}
 use Rattle.model.specs.Heap.{Cell, cellsFrom, heapOf, blocksFrom, heapOk, exactCells, placedBelow}
-use Rattle.model.specs.Steps.{World}
 use Rattle.model.specs.Runs.{begin, runOf}
 use Rattle.model.specs.Stores.{Stores, functionsFrom, worldIn}
-use Rattle.model.specs.Orders.{countsOk, textOk, constantsOk, structsOk, functionsOk, mainOk, insideCodes, programOk, cellsOk, stackOk, lastOk, frameStoreOk}
+use Rattle.model.specs.Orders.{cellsOk, stackOk, lastOk, frameStoreOk}
 use Rattle.model.specs.Machines.{Lent, frameRoom, innermost, callersIn, machineIn, worldOf, runOrder}
 use Rattle.value.proofs.Coding.{and-left, and-right}
 use Rattle.value.proofs.Stores.{length-vals, vals-slot}
@@ -31,7 +28,7 @@ use Rattle.rules.proofs.Tests.{every-of, every-to}
 use Rattle.rules.proofs.Placed.{all-at}
 use Rattle.rules.proofs.Runs.{ran-sane}
 use Rattle.rules.proofs.Programs.{length-functions, parts-of, has-main, length-text, program-world}
-use Rattle.rules.proofs.Frames.{FramesFit, some-frame, frames-counted, frames-in, frames-back}
+use Rattle.rules.proofs.Frames.{some-frame, frames-counted, frames-in, frames-back}
 
 -- ---- the parts of good order
 
@@ -70,21 +67,14 @@ module _ (m : Vm) (s : Stores) (l : Lent) where
 -- ---- cells
 
 module _ (t n : ℕ) (cells : List ℕ) where
-  cells-of : cellsOk t n cells ≡ true → (n ≤ places 2 cells) × (heapOk t (heapOf n cells) ≡ true)
+  cells-of : cellsOk t n cells ≡ true → (n ≤ places 2 cells) × ((exactCells n 0 cells ≡ true) × (heapOk t (heapOf n cells) ≡ true))
   unfolding cellsOk
   cells-of e =
       let a = leb n (places 2 cells) in
       let b = exactCells n 0 cells in
       let c = heapOk t (heapOf n cells) in
-      (leb-true _ _ (and-left a b (and-left (a && b) c e)), and-right (a && b) c e)
-
-  cells-exact : cellsOk t n cells ≡ true → exactCells n 0 cells ≡ true
-  unfolding cellsOk
-  cells-exact e =
-      let a = leb n (places 2 cells) in
-      let b = exactCells n 0 cells in
-      let c = heapOk t (heapOf n cells) in
-      and-right a b (and-left (a && b) c e)
+      let d = and-left (a && b) c e in
+      (leb-true _ _ (and-left a b d), (and-right a b d, and-right (a && b) c e))
 
   cells-to : n ≤ places 2 cells → exactCells n 0 cells ≡ true → heapOk t (heapOf n cells) ≡ true → cellsOk t n cells ≡ true
   unfolding cellsOk
@@ -158,7 +148,7 @@ module _ (m : Vm) (s : Stores) (l : Lent) where
         stack = rw (length-vals (m .stack) (l .stack)) (stack .0);
         frames = frames-counted (worldOf m s l) (m .frames) (l .frames) (o .frames);
         cells = rw (length-heap (m .cells) (l .cells)) (cells .0);
-        heap = rw t (cells .1);
+        heap = rw t (cells .1 .1);
         placed = rw t (stack .1);
         last = rw t (last-of (m .program .text) H (m .last) (o .last));
         frame = frames .frame;
@@ -171,7 +161,7 @@ module _ (m : Vm) (s : Stores) (l : Lent) where
       let o = order-of m s l e in
       let H = heapOf (m .cells) (l .cells) in
       record {
-        cells = cells-exact (m .program .text) (m .cells) (l .cells) (o .cells);
+        cells = cells-of (m .program .text) (m .cells) (l .cells) (o .cells) .1 .0;
         stack = (λ i h. slots-of (m .program .text) H (m .stack) (l .stack) (o .stack) i h .0);
         frames = some-frame (functionsFrom (m .program .functions) 0 s) (places 2 (l .stack)) (m .frames) (l .frames) (o .frames);
       }

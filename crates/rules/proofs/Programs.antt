@@ -1,8 +1,8 @@
 -- A program in good order is a world in good order.
-use mathlib.Core.Path.{_≡_, refl, sym, ap, subst, _∙_}
+use mathlib.Core.Path.{_≡_, refl, sym, ap}
 use mathlib.Core.Bool.{Bool, true, false, _&&_, _||_, true≢false}
 use mathlib.Core.Logic.{_⊎_, inl, inr, ⊎-elim}
-use mathlib.Core.List.{List, [], _∷_}
+use mathlib.Core.List.{List, []}
 use Prim.Native.Nat.{ℕ, zero, suc, _+_, _≤_, _<_}
 use native.Mathlib.Omega.{arith}
 use borrow.Author.Tests.{leb-true, eqb-true, eqb-false, ne-eqb}
@@ -13,7 +13,7 @@ use Rattle.model.specs.declared.Counts.{Counts}
 use Rattle.model.specs.declared.Value.{Value}
 use Rattle.model.specs.Basics.{if_then_else_, everyFrom}
 use Rattle.model.specs.Values.{places, mostPlaces, kindAt, payloadAt, valueOf, valueAt, valuesFrom, textAt}
-use Rattle.model.specs.Heap.{Cell, placedBelow}
+use Rattle.model.specs.Heap.{placedBelow}
 use Rattle.model.specs.Programs.{Function, functionAt, constantLimit, nameLimit}
 use Rattle.model.specs.Stores.{Stores, start, size, part, nameWord, codeWord, codeEnd, functionIn, functionsFrom, worldIn}
 use Rattle.model.specs.Orders.{countsOk, textOk, insideText, constantOk, constantsOk, structsOk, programOk, codeStart, functionOk, functionsOk, mainOk, mainTaken, otherTaken, insideCodes}

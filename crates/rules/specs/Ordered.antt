@@ -1,7 +1,6 @@
 -- Good order as a run judges it, in parts; and what a machine needs to be in good order beside one that is.
 use mathlib.Core.Path.{_≡_}
 use mathlib.Core.Bool.{Bool, true, _&&_}
-use mathlib.Core.List.{List}
 use Prim.Native.Nat.{ℕ, _≤_, _<_}
 use lib.ListN.{length, getD}
 use Rattle.model.specs.declared.Counts.{Counts}
