@@ -1,5 +1,5 @@
 -- The loop over the functions of a program.
-use mathlib.Core.Path.{_≡_, refl, sym, ap, _∙_}
+use mathlib.Core.Path.{_≡_, refl, ap, _∙_}
 use mathlib.Core.List.{List, [], _∷_}
 use Prim.Native.Nat.{ℕ, suc, _+_, _-_, _*_, _≤_, _<_, _^_}
 use native.Mathlib.Omega.{arith}
@@ -11,9 +11,9 @@ use Rattle.model.proofs.Told.{the-type}
 use Rattle.model.specs.declared.Told.{Told}
 use Rattle.model.specs.declared.Told.the-variants.{Number, Refused}
 use Rattle.model.specs.Values.{kindAt}
-use Rattle.model.specs.Listings.{Listed, text, unlisted, inFront, andListed, headerLine, linesFor, listingFrom}
+use Rattle.model.specs.Listings.{Listed, inFront, andListed, headerLine, linesFor, listingFrom}
 use Rattle.model.specs.Stores.{Stores, part, nameWord, functionIn, functionsFrom}
-use Rattle.listing.specs.Links.{Put, Listing, lent, codeIn}
+use Rattle.listing.specs.Links.{Listing, lent, codeIn}
 use Rattle.listing.proofs.Puts.{kept}
 use Rattle.listing.proofs.Judging.{front-and, wrote, not-wrote, Sofar, at-start, onward, stops, completes}
 
