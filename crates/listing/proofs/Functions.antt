@@ -1,5 +1,5 @@
 -- The loop over the functions of a program.
-use mathlib.Core.Path.{_≡_, refl, sym, ap, _∙_}
+use mathlib.Core.Path.{_≡_, refl, ap, _∙_}
 use mathlib.Core.List.{List, [], _∷_}
 use Prim.Native.Nat.{ℕ, suc, _+_, _-_, _*_, _≤_, _<_, _^_}
 use native.Mathlib.Omega.{arith}
@@ -11,9 +11,9 @@ use Rattle.model.proofs.Told.{the-type}
 use Rattle.model.specs.declared.Told.{Told}
 use Rattle.model.specs.declared.Told.the-variants.{Number, Refused}
 use Rattle.model.specs.Values.{kindAt}
-use Rattle.model.specs.Listings.{Listed, text, unlisted, inFront, andListed, headerLine, linesFor, listingFrom}
+use Rattle.model.specs.Listings.{Listed, inFront, andListed, headerLine, linesFor, listingFrom}
 use Rattle.model.specs.Stores.{Stores, part, nameWord, functionIn, functionsFrom}
-use Rattle.listing.specs.Links.{Put, Listing, lent, codeIn}
+use Rattle.listing.specs.Links.{Listing, lent}
 use Rattle.listing.proofs.Puts.{kept}
 use Rattle.listing.proofs.Judging.{front-and, wrote, not-wrote, Sofar, at-start, onward, stops, completes}
 
@@ -41,10 +41,10 @@ module _ (fs t m o : List ℕ) where
     unfolding listingFrom functionsFrom
     all-passed g k rest = let z : n - i ≡ 0 = omega arith in let y = h .inside in completes (h .so-far rest) (rw z) _ (omega arith)
 
-    module _ (g : i < n) (w : ℕ) (e : w ≡ kindAt fs i) (name code : List ℕ) (a : name ≡ part t w) (b : code ≡ codeIn fs m o i) where
+    module _ (g : i < n) (w : ℕ) (e : w ≡ kindAt fs i) (name code : List ℕ) (a : name ≡ part t w) (b : (rest : Stores) (u : List ℕ) → code ≡ functionIn (lent rest fs u m o) i .code) where
       ahead : (rest : Stores) → from (n - i) i rest ≡ andListed (one i name code) (from (n - suc i) (suc i) rest)
-      unfolding listingFrom functionsFrom functionIn nameWord lent codeIn
-      ahead rest = let z : n - i ≡ suc (n - suc i) = omega arith in rw z (front-and _ _ _ ∙ rw (a, e, b))
+      unfolding listingFrom functionsFrom functionIn nameWord lent
+      ahead rest = let z : n - i ≡ suc (n - suc i) = omega arith in rw z (front-and _ _ _ ∙ rw (a, e, b rest t))
 
       pub one-stops : {k : ℕ} {u : List ℕ} (told : Told) → OneOf (1 ∷ []) (tagOf the-type told) → Listing k (one i name code) s' r u told → (rest : Stores) → Listing (65536 * 2 ^ 40) (from n 0 rest) s 0 u told
       unfolding andListed

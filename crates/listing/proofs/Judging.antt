@@ -1,14 +1,14 @@
 -- What is listed, part by part: the text so far was put, and what is left decides the whole.
 use mathlib.Core.Path.{_≡_, refl, sym, ap, _∙_}
-use mathlib.Core.List.{List, [], _∷_, _++_, append-assoc, append-nil}
-use Prim.Native.Nat.{ℕ, zero, suc, _+_, _*_, _≤_, _<_}
+use mathlib.Core.List.{List, [], _++_, append-assoc, append-nil}
+use Prim.Native.Nat.{ℕ, _+_, _≤_}
 use native.Mathlib.Omega.{arith}
 use Rattle.model.specs.declared.Told.{Told}
 use Rattle.model.specs.declared.Told.the-variants.{Number, Refused}
 use Rattle.model.specs.Listings.{Listed, text, unlisted, inFront, andListed}
 use Rattle.model.specs.Emission.{written}
-use Rattle.listing.specs.Links.{Put, Listing, toldOf, Near}
-use Rattle.listing.proofs.Puts.{is, within, both, nothing}
+use Rattle.listing.specs.Links.{Put, Listing}
+use Rattle.listing.proofs.Puts.{within, both, nothing}
 
 -- ---- the model's joints
 

@@ -1,6 +1,6 @@
 -- What the listing is lent: a function's code, and good order.
-use mathlib.Core.Path.{_≡_, refl, sym, ap, _∙_}
-use mathlib.Core.Bool.{Bool, true, false, _&&_}
+use mathlib.Core.Path.{_≡_, ap, _∙_}
+use mathlib.Core.Bool.{Bool, _&&_}
 use mathlib.Core.List.{List}
 use Prim.Native.Nat.{ℕ, _/_, _≤_, _<_, _^_, min}
 use native.Mathlib.Omega.{arith}
@@ -9,10 +9,10 @@ use lib.ListN.{length, drop, length-take}
 use borrow.Author.Tests.{eq-eqb, ne-eqb}
 use Rattle.model.specs.declared.Counts.{Counts}
 use Rattle.model.specs.Values.{payloadAt, textAt}
-use Rattle.model.specs.Stores.{Stores, start, size, part, codeWord}
+use Rattle.model.specs.Stores.{Stores, start, size, part, codeWord, functionIn}
 use Rattle.model.specs.Orders.{countsOk, textOk, functionsOk, mainOk, insideCodes}
 use Rattle.model.specs.Loading.{listOrder}
-use Rattle.listing.specs.Links.{lent, codeIn}
+use Rattle.listing.specs.Links.{lent}
 
 -- a part has fewer than 2 ^ 32 places
 pub short : (s : List ℕ) (w : ℕ) → w < 2 ^ 64 → (p : List ℕ) → p ≡ part s w → length p < 2 ^ 32
@@ -23,13 +23,13 @@ short s w h p e =
     omega arith
 
 module _ (fs m o : List ℕ) (i w : ℕ) (e : w ≡ payloadAt fs i) (l : w < 2 ^ 64) (p : List ℕ) where
-  pub main-code : i ≡ 0 → p ≡ part m w → (p ≡ codeIn fs m o i) × (length p < 2 ^ 32)
-  unfolding codeIn codeWord
-  main-code h f = (rw (eq-eqb i 0 h, ← e) f, short m w l p f)
+  pub main-code : i ≡ 0 → p ≡ part m w → ((rest : Stores) (t : List ℕ) → p ≡ functionIn (lent rest fs t m o) i .code) × (length p < 2 ^ 32)
+  unfolding functionIn codeWord lent
+  main-code h f = (λ rest t. rw (eq-eqb i 0 h, ← e) f, short m w l p f)
 
-  pub other-code : (i ≡ 0 → ⊥) → p ≡ part o w → (p ≡ codeIn fs m o i) × (length p < 2 ^ 32)
-  unfolding codeIn codeWord
-  other-code h f = (rw (ne-eqb i 0 h, ← e) f, short o w l p f)
+  pub other-code : (i ≡ 0 → ⊥) → p ≡ part o w → ((rest : Stores) (t : List ℕ) → p ≡ functionIn (lent rest fs t m o) i .code) × (length p < 2 ^ 32)
+  unfolding functionIn codeWord lent
+  other-code h f = (λ rest t. rw (ne-eqb i 0 h, ← e) f, short o w l p f)
 
 module _ (c : Counts) (fs t m o : List ℕ) {b₁ b₂ b₃ b₄ b₅ : Bool} where
   pub order-is : b₁ ≡ countsOk c → b₂ ≡ textOk c t → b₃ ≡ functionsOk c fs → b₄ ≡ mainOk fs t → b₅ ≡ insideCodes c fs m o

@@ -1,7 +1,6 @@
 -- The loop over the instructions of a code.
-use mathlib.Core.Path.{_≡_, refl, sym, ap, _∙_}
-use mathlib.Core.Bool.{Bool, true, false}
-use mathlib.Core.List.{List, [], _∷_, _++_}
+use mathlib.Core.Path.{_≡_, refl, ap, _∙_}
+use mathlib.Core.List.{List, [], _∷_}
 use Prim.Native.Nat.{ℕ, zero, suc, _+_, _-_, _*_, _/_, _≤_, _<_}
 use native.Mathlib.Omega.{arith}
 use lib.ListN.{length, getD}
@@ -9,13 +8,12 @@ use denote.Enum.Declared.{tagOf}
 use types.Run.{OneOf, miss}
 use Rattle.model.proofs.Decoded.{the-type}
 use borrow.Author.Tests.{lt-ltb, le-ltb, le-leb, lt-leb}
-use Rattle.model.specs.declared.Op.{Op}
 use Rattle.model.specs.declared.Decoded.{Decoded}
 use Rattle.model.specs.declared.Decoded.the-variants.{Carried, NotCarried, Unknown}
 use Rattle.model.specs.declared.Told.the-variants.{Number, Refused}
 use Rattle.model.specs.Opcodes.{Opcode, opcodeAt}
 use Rattle.model.specs.Programs.{behind}
-use Rattle.model.specs.Listings.{Listed, text, unlisted, inFront, lineOf, knownThen, opcodeThen, lineThen, linesFor}
+use Rattle.model.specs.Listings.{Listed, text, lineOf, knownThen, opcodeThen, lineThen, linesFor}
 use Rattle.listing.specs.Links.{Put, Listing}
 use Rattle.listing.proofs.Judging.{Sofar, at-start, onward, stops, completes}
 

@@ -2,13 +2,11 @@
 use mathlib.Core.Path.{_≡_}
 use mathlib.Core.List.{List}
 use Prim.Native.Nat.{ℕ, _+_, _≤_}
-use lib.Dec.{eqb}
 use lib.ListN.{length}
 use Rattle.model.specs.declared.Told.{Told}
 use Rattle.model.specs.declared.Told.the-variants.{Number, Refused}
-use Rattle.model.specs.Basics.{if_then_else_}
 use Rattle.model.specs.Listings.{Listed, text, unlisted}
-use Rattle.model.specs.Stores.{Stores, part, codeWord}
+use Rattle.model.specs.Stores.{Stores}
 use Rattle.model.specs.Emission.{written}
 
 -- the text l was put into s from place i on, as far as s reaches; r is the place behind it, at most k further
@@ -22,6 +20,7 @@ abbrev pub toldOf : ℕ → Listed → Told
 toldOf i (text l) = Number (i + length l)
 toldOf i (unlisted n) = Refused n
 
+-- a place that is told is at most m
 abbrev pub Near : ℕ → Told → Type 0
 Near m (Number n) = n ≤ m
 Near m (Refused n) = Unit
@@ -44,7 +43,3 @@ lent rest fs t m o = record {
   other = o;
   otherPlaces = rest .otherPlaces;
 }
-
--- the code of function i in these stores
-unfoldable pub codeIn : List ℕ → List ℕ → List ℕ → ℕ → List ℕ
-codeIn fs m o i = part (if eqb i 0 then m else o) (codeWord fs i)

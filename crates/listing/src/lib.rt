@@ -21,9 +21,9 @@ ghost use mathlib.Core.List.{List};
 ghost use Prim.Native.Nat.{ℕ, _+_, _*_, _≤_, _<_, _^_};
 ghost use lib.ListN.{length};
 ghost use Rattle.model.specs.Listings.{headerLine, linesFor, inFront, listingOf};
-ghost use Rattle.model.specs.Stores.{Stores, programIn};
+ghost use Rattle.model.specs.Stores.{Stores, functionIn, programIn};
 ghost use Rattle.model.specs.Loading.{listOrder, listOf};
-ghost use Rattle.listing.specs.Links.{Put, Listing, lent, codeIn};
+ghost use Rattle.listing.specs.Links.{Put, Listing, lent};
 
 // The line above a function's code.
 fn write_header(i: usize, name: &[u8], out: &mut [u8], at: usize) -> usize
@@ -48,7 +48,7 @@ fn write_function(i: usize, name: &[u8], code: &[u8], out: &mut [u8], at: usize)
 
 // The code of function i: main and the others have separate stores.
 fn code_of<'a>(functions: &[u64], main: &'a [u8], other: &'a [u8], i: usize) -> &'a [u8]
-    ensures { λ r. ⌜ (now r ≡ codeIn (now (functions .entry)) (now (main .entry)) (now (other .entry)) i) × (length (now r) < 2 ^ 32) ⌝ }
+    ensures { λ r. ⌜ ((rest : Stores) (text : List ℕ) → now r ≡ functionIn (lent rest (now (functions .entry)) text (now (main .entry)) (now (other .entry))) i .code) × (length (now r) < 2 ^ 32) ⌝ }
 {
     let word = second(functions, i);
     if i == 0 {

@@ -6,6 +6,7 @@ ghost use lib.ListN.{length};
 ghost use Rattle.model.specs.Listings.{decimal, digitsOrMore};
 ghost use Rattle.listing.specs.Links.{Put};
 
+// One byte.
 pub fn put_byte(b: u8, out: &mut [u8], at: usize) -> usize
     requires { ⌜ at + 1 < 2 ^ 64 ⌝ }
     ensures { λ r. ⌜ Put 1 (b ∷ []) (now (out .entry)) at (now (out .exit)) r ⌝ }
@@ -17,6 +18,7 @@ pub fn put_byte(b: u8, out: &mut [u8], at: usize) -> usize
     at + 1
 }
 
+// A text, byte by byte.
 pub fn put_text(text: &[u8], out: &mut [u8], at: usize) -> usize
     requires { ⌜ at + length (now text) < 2 ^ 64 ⌝ }
     ensures { λ r. ⌜ Put (length (now (text .entry))) (now (text .entry)) (now (out .entry)) at (now (out .exit)) r ⌝ }
@@ -30,7 +32,7 @@ pub fn put_text(text: &[u8], out: &mut [u8], at: usize) -> usize
     next
 }
 
-// The number n in decimal, with zeros in front up to as many digits as `like` has.
+// The number n in decimal, with zeros in front up to as many digits as like has.
 pub fn write_decimal(n: usize, like: usize, out: &mut [u8], at: usize) -> usize
     requires { ⌜ at + 20 < 2 ^ 64 ⌝ }
     ensures { λ r. ⌜ Put 20 (digitsOrMore (length (decimal like)) n) (now (out .entry)) at (now (out .exit)) r ⌝ }

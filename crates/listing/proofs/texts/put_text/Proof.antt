@@ -1,7 +1,6 @@
 -- `put_text`: a byte a turn.
 use mathlib.Core.Path.{refl}
 use Prim.Native.Nat.{_-_}
-use native.Mathlib.Omega.{arith}
 use borrow.Author.Needs.{needs}
 use lib.ListN.{length}
 use Rattle.listing.proofs.Puts.{Along, at-first, another, whole, kept}
