@@ -1,23 +1,19 @@
 -- The writing of runs, functions and the whole image.
 use mathlib.Core.Path.{_≡_, refl, sym, ap, subst, _∙_}
-use mathlib.Core.Bool.{Bool, true, false, not, _&&_}
-use mathlib.Core.List.{List, [], _∷_, _++_, append-assoc, append-nil}
-use Prim.Native.Nat.{ℕ, zero, suc, _+_, _-_, _*_, _/_, _%_, _<_, _≤_, _^_}
+use mathlib.Core.List.{List, [], _∷_, _++_, append-assoc}
+use Prim.Native.Nat.{ℕ, zero, suc, _+_, _-_, _<_, _≤_, _^_}
 use native.Mathlib.Omega.{arith}
-use lib.Dec.{eqb, leb, ltb}
-use lib.ListN.{length, take, drop, getD, replicate, length-append, length-drop}
-use lib.Seq.{getD-drop, drop-drop, drop-cons}
-use borrow.Author.Tests.{eq-eqb, ne-eqb, eqb-true}
-use Rattle.model.specs.Basics.{if_then_else_}
+use lib.Dec.{eqb}
+use lib.ListN.{length, take, drop, getD, replicate, length-drop}
+use lib.Seq.{getD-drop, drop-drop}
 use Rattle.model.specs.Numbers.{digits}
 use Rattle.model.specs.Values.{kindAt, payloadAt, textAt}
-use Rattle.model.specs.Programs.{Function}
-use Rattle.model.specs.Images.{joined, counted, textImage, Run, run, joinRun, runsOf, runImage, functionImage}
+use Rattle.model.specs.Images.{joined, textImage, Run, run, joinRun, runsOf, runImage, functionImage}
 use Rattle.model.specs.Stores.{start, size, part, nameWord, codeWord}
 use Rattle.image.specs.Puts.{Put, Near, TextPuts, SameRun, RunsPut, functionHere, FunctionPuts}
 use Rattle.image.proofs.Codecs.{by-test}
 use Rattle.image.proofs.Places.{joins}
-use Rattle.image.proofs.Putting.{put-as, put-then, Split, front, back, both, near-fits, Putting, putting-start, putting-near, putting-step, putting-end, text-split}
+use Rattle.image.proofs.Putting.{put-as, put-then, Split, front, back, both, Putting, putting-start, putting-near, putting-step, putting-end}
 
 -- ---- runs
 
@@ -66,13 +62,13 @@ unfolding runs-from textAt joined runImage
 runs-split pl j to k h s =
     let a = s .most in let b = s .some in let ld = length-drop j pl in
     let e1 : take (to - j) (drop j pl) ≡ replicate k (getD pl j 0) ++ take (to - j - k) (drop k (drop j pl)) =
-      same-front k (getD pl j 0) (drop j pl) (to - j) (omega arith) (omega arith) (λ i l. getD-drop j pl i 0 ∙ s .same i l) in
+    same-front k (getD pl j 0) (drop j pl) (to - j) (omega arith) (omega arith) (λ i l. getD-drop j pl i 0 ∙ s .same i l) in
     let z : to - j - k ≡ to - (j + k) = omega arith in
     let e2 : take (to - j) (drop j pl) ≡ replicate k (getD pl j 0) ++ take (to - (j + k)) (drop (j + k) pl) =
-      e1 ∙ ap (λ (n : ℕ). replicate k (getD pl j 0) ++ take n (drop k (drop j pl))) z ∙ ap (λ (x : List ℕ). replicate k (getD pl j 0) ++ take (to - (j + k)) x) (drop-drop k j pl) in
+    e1 ∙ ap (λ (n : ℕ). replicate k (getD pl j 0) ++ take n (drop k (drop j pl))) z ∙ ap (λ (x : List ℕ). replicate k (getD pl j 0) ++ take (to - (j + k)) x) (drop-drop k j pl) in
     let d : (q : ℕ) (qs : List ℕ) → take (to - (j + k)) (drop (j + k) pl) ≡ q ∷ qs → q ≡ getD pl j 0 → ⊥ =
-      λ q qs e f. let g = front-of (drop (j + k) pl) (to - (j + k)) q qs e in let g0 = g .0 in
-        s .last (omega arith) ((let w : j + k + 0 ≡ j + k = omega arith in ap (λ (n : ℕ). getD pl n 0) (sym w)) ∙ sym (getD-drop (j + k) pl 0 0) ∙ g .1 ∙ f) in
+    λ q qs e f. let g = front-of (drop (j + k) pl) (to - (j + k)) q qs e in let g0 = g .0 in
+    s .last (omega arith) ((let w : j + k + 0 ≡ j + k = omega arith in ap (λ (n : ℕ). getD pl n 0) (sym w)) ∙ sym (getD-drop (j + k) pl 0 0) ∙ g .1 ∙ f) in
     ap (λ (x : List ℕ). joined runImage (runsOf x)) e2 ∙ ap (joined runImage) (run-front k (getD pl j 0) (take (to - (j + k)) (drop (j + k) pl)) b d)
     ∙ append-assoc (digits k) (digits (getD pl j 0)) (joined runImage (runsOf (take (to - (j + k)) (drop (j + k) pl))))
 
@@ -123,10 +119,11 @@ module _ (at₀ : ℕ) (pl : List ℕ) (from to : ℕ) (h : RunsPut at₀ pl fro
 
           pub runs-next : (out₂ : List ℕ) (next : ℕ) → Put (digits (getD pl j 0)) out₁ mid out₂ next → PuttingRuns at₀ pl from to out₀ out₂ next (j + k)
           runs-next out₂ next r = let a = p .ahead in let b = s .most in record {
-            ahead = omega arith; most = b;
+            ahead = omega arith;
+            most = b;
             putting = putting-step _ out₀ at₀ out at _ (p .putting) (digits k ++ digits (getD pl j 0)) (runs-from pl (j + k) to)
-              (one .split ∙ sym (append-assoc (digits k) (digits (getD pl j 0)) (runs-from pl (j + k) to))) out₂ next
-              (put-then (digits k) (digits (getD pl j 0)) out out₁ out₂ at mid next q r);
+                (one .split ∙ sym (append-assoc (digits k) (digits (getD pl j 0)) (runs-from pl (j + k) to))) out₂ next
+                (put-then (digits k) (digits (getD pl j 0)) out out₁ out₂ at mid next q r);
           }
 
 -- ---- a function
@@ -137,8 +134,10 @@ module _ (at : ℕ) (fs : List ℕ) (i : ℕ) (t cd pl : List ℕ) (h : Function
 
   split-1 : Split (functionImage (functionHere fs i t cd pl)) (textImage (part t (nameWord fs i))) (digits (length (part cd (codeWord fs i))) ++ (part cd (codeWord fs i) ++ runs))
   unfolding functionImage functionHere runs
-  split-1 = record { split = append-assoc (textImage (part t (nameWord fs i)) ++ digits (length (part cd (codeWord fs i)))) (part cd (codeWord fs i)) runs
-    ∙ append-assoc (textImage (part t (nameWord fs i))) (digits (length (part cd (codeWord fs i)))) (part cd (codeWord fs i) ++ runs) }
+  split-1 = record {
+    split = append-assoc (textImage (part t (nameWord fs i)) ++ digits (length (part cd (codeWord fs i)))) (part cd (codeWord fs i)) runs
+        ∙ append-assoc (textImage (part t (nameWord fs i))) (digits (length (part cd (codeWord fs i)))) (part cd (codeWord fs i) ++ runs);
+  }
 
   split-2 : Split (digits (length (part cd (codeWord fs i))) ++ (part cd (codeWord fs i) ++ runs)) (digits (length (part cd (codeWord fs i)))) (part cd (codeWord fs i) ++ runs)
   split-2 = record { split = refl }
@@ -191,7 +190,7 @@ module _ (at : ℕ) (fs : List ℕ) (i : ℕ) (t cd pl : List ℕ) (h : Function
           runs-are : joined runImage (runsOf (textAt pl from (from + sz - from))) ≡ runs
           unfolding runs part
           runs-are = let z : from + sz - from ≡ sz = omega arith in
-            ap (λ (n : ℕ). joined runImage (runsOf (textAt pl from n))) (z ∙ es .0 ∙ ap size ec) ∙ ap (λ (n : ℕ). joined runImage (runsOf (textAt pl n (size (codeWord fs i))))) (ef ∙ ap start ec)
+              ap (λ (n : ℕ). joined runImage (runsOf (textAt pl from n))) (z ∙ es .0 ∙ ap size ec) ∙ ap (λ (n : ℕ). joined runImage (runsOf (textAt pl n (size (codeWord fs i))))) (ef ∙ ap start ec)
 
           pub runs-put : RunsPut m3 pl from (from + sz)
           runs-put =

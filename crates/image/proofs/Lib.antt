@@ -20,5 +20,6 @@ pub mod Again
 pub mod Putting
 pub mod Imaging
 pub mod Orderly
+pub mod Sounds
 -- The return trip: the statements to read.
 pub mod Trip

@@ -2,17 +2,17 @@
 use mathlib.Core.Path.{_≡_, refl, sym, ap, subst, _∙_}
 use mathlib.Core.Bool.{Bool, true, false, not, _&&_}
 use mathlib.Core.List.{List, [], _∷_, _++_, append-assoc}
-use Prim.Native.Nat.{ℕ, zero, suc, _+_, _-_, _*_, _/_, _%_, _<_, _≤_, _^_, min}
+use Prim.Native.Nat.{ℕ, zero, suc, _+_, _-_, _*_, _/_, _<_, _≤_, _^_, min}
 use native.Mathlib.Omega.{arith}
 use native.Mathlib.Nat.{min-le-left}
 use lib.Dec.{eqb, leb, ltb}
-use lib.ListN.{length, take, drop, length-append, length-take, length-drop}
-use borrow.Author.Tests.{leb-true, ltb-true, ltb-false, eqb-true, eqb-false, eq-eqb, ne-eqb, le-leb, lt-leb, not-true, not-false}
+use lib.ListN.{length, drop, length-append, length-take}
+use borrow.Author.Tests.{leb-true, ltb-true, ltb-false, eqb-true, eqb-false, ne-eqb, le-leb, lt-leb, not-true, not-false}
 use Rattle.model.specs.Basics.{if_then_else_, everyFrom}
 use Rattle.model.specs.Numbers.{digits, groupsOf}
 use Rattle.model.specs.Values.{places, kindAt, payloadAt, textAt}
 use Rattle.model.specs.Programs.{Function, boolean}
-use Rattle.model.specs.Images.{joined, counted, bytesOf, textImage, constantImage, Run, run, joinRun, runsOf, runImage, functionImage, imageOf}
+use Rattle.model.specs.Images.{joined, counted, textImage, constantImage, Run, joinRun, runsOf, runImage, functionImage, imageOf}
 use Rattle.model.specs.Stores.{Stores, start, size, part, structWord, nameWord, codeWord, codeEnd, constantIn, constantsFrom, structsFrom, functionIn, functionsFrom, programIn}
 use Rattle.model.specs.Orders.{countsOk, textOk, insideText, constantOk, constantsOk, structsOk, codeStart, functionOk, functionsOk, mainOk, mainTaken, otherTaken, insideCodes, programOk}
 use Rattle.model.specs.Loading.{OutRes, putOut, saveOf}
@@ -102,7 +102,7 @@ module _ (c : Counts) where
       let g : (if leb (suc (suc k)) 3 then insideText c a else false) ≡ true = rw (e0, e1) at h in
       by-test (leb (suc (suc k)) 3)
       (λ q. let i : insideText c a ≡ true = rw q at g in let b = inside-of a i in let p = part-most t a in
-        record { kind = leb-true _ _ q; flag = λ e. absurd (let w : ⊥ = omega arith in w); small = λ l. omega arith })
+      record { kind = leb-true _ _ q; flag = λ e. absurd (let w : ⊥ = omega arith in w); small = λ l. omega arith })
       (λ q. let z : _≡_ {A = Bool} false true = rw q at g in absurd (let y : _≡_ {A = ℕ} 0 1 = cc in let w : ⊥ = omega arith in w))
 
 flag-length : (b : Bool) → length (constantImage (boolean b)) ≡ 2
@@ -146,8 +146,8 @@ ends-before c fs (suc zero) i a b h = absurd (let w : ⊥ = omega arith in w)
 ends-before c fs (suc (suc m)) i a b h = by-test (eqb i (suc m))
     (λ t. let e = eqb-true i (suc m) t in rw e (omega arith))
     (λ t. let n = eqb-false i (suc m) t in
-      let g = ends-before c fs (suc m) i a (less i (suc m) (omega arith) n) (λ j l. h j (omega arith)) in
-      let f = h (suc m) (omega arith) .starts in let e = end-is fs (suc m) in omega arith)
+    let g = ends-before c fs (suc m) i a (less i (suc m) (omega arith) n) (λ j l. h j (omega arith)) in
+    let f = h (suc m) (omega arith) .starts in let e = end-is fs (suc m) in omega arith)
 
 pub lies-of : (c : Counts) (fs : List ℕ) (i : ℕ) (t cd pl : List ℕ) → FunctionFine c fs i → c .text < 2 ^ 32 → codeEnd fs i ≤ length pl → Lies fs i t cd pl
 unfolding codeEnd
@@ -191,37 +191,52 @@ here-all (suc n) j cs ss fs t mn mp ot op = ap (λ (l : List Function). function
 -- ---- the whole
 
 module _ (c : Counts) (cs ss fs tx mn mp ot op : List ℕ) (ok : programOk c (lent cs ss fs tx mn mp ot op) ≡ true) where
-  parts : (countsOk c ≡ true) × ((constantsOk c cs ≡ true) × ((structsOk c ss tx ≡ true) × ((functionsOk c fs ≡ true) × (insideCodes c fs mp op ≡ true))))
+  pub parts : (countsOk c ≡ true) × ((constantsOk c cs ≡ true) × ((structsOk c ss tx ≡ true) × ((functionsOk c fs ≡ true) × ((insideCodes c fs mp op ≡ true) × ((mainOk fs tx ≡ true) × (insideCodes c fs mn ot ≡ true))))))
   unfolding programOk
   parts =
       let h7 = both-true _ _ ok in let h6 = both-true _ _ (h7 .0) in let h5 = both-true _ _ (h6 .0) in let h4 = both-true _ _ (h5 .0) in
       let h3 = both-true _ _ (h4 .0) in let h2 = both-true _ _ (h3 .0) in let h1 = both-true _ _ (h2 .0) in
-      (h1 .0, (h2 .1, (h3 .1, (h4 .1, h7 .1))))
+      (h1 .0, (h2 .1, (h3 .1, (h4 .1, (h7 .1, (h5 .1, h6 .1))))))
 
-  numbers : (c .constants ≤ 65535) × ((c .structs ≤ 65536) × ((1 ≤ c .functions) × ((c .functions ≤ 65536) × (c .text < 2 ^ 32))))
+  pub numbers : (c .constants ≤ 65535) × ((c .structs ≤ 65536) × ((1 ≤ c .functions) × ((c .functions ≤ 65536) × (c .text < 2 ^ 32))))
   unfolding countsOk
   numbers =
       let h5 = both-true _ _ (parts .0) in let h4 = both-true _ _ (h5 .0) in let h3 = both-true _ _ (h4 .0) in let h2 = both-true _ _ (h3 .0) in let h1 = both-true _ _ (h2 .0) in
       (leb-true _ _ (h1 .0), (leb-true _ _ (h1 .1), (leb-true _ _ (h2 .1), (leb-true _ _ (h3 .1), (let z : c .text ≤ 0xFFFF_FFFF = leb-true _ _ (h4 .1) in omega arith)))))
 
-  constant-at : (i : ℕ) → i < c .constants → Known tx (kindAt cs i) (payloadAt cs i)
+  pub constant-at : (i : ℕ) → i < c .constants → Known tx (kindAt cs i) (payloadAt cs i)
   unfolding constantsOk
   constant-at i l = known-of c tx _ _ (numbers .1 .1 .1 .1) (passed-here (c .constants) (λ j. constantOk c (kindAt cs j) (payloadAt cs j))
-    (both-true (leb (c .constants) (places 2 cs)) _ (parts .1 .0) .1) i l)
+      (both-true (leb (c .constants) (places 2 cs)) _ (parts .1 .0) .1) i l)
 
-  struct-at : (i : ℕ) → i < c .structs → length (part tx (structWord ss i)) < 2 ^ 32
+  pub struct-at : (i : ℕ) → i < c .structs → length (part tx (structWord ss i)) < 2 ^ 32
   unfolding structsOk
   struct-at i l =
       let h = passed-here (c .structs) (λ j. insideText c (structWord ss j)) (both-true (leb (c .structs) (places 1 ss)) _ (both-true (leb (c .structs) (places 1 ss) && everyFrom (c .structs) 0 (λ j. insideText c (structWord ss j))) _ (parts .1 .1 .0) .0) .1) i l in
       let a = inside-of c (structWord ss i) h in let b = part-most tx (structWord ss i) in let d = numbers .1 .1 .1 .1 in omega arith
 
-  function-at : (i : ℕ) → i < c .functions → FunctionFine c fs i
+  pub function-at : (i : ℕ) → i < c .functions → FunctionFine c fs i
   unfolding functionsOk
   function-at i l = function-of c fs i (passed-here (c .functions) (functionOk c fs) (both-true (leb (c .functions) (places 2 fs)) _ (parts .1 .1 .1 .0) .1) i l)
 
+  -- function 0 is `<main>`, and the codes lie in their store
+  pub main-named : mainOk fs tx ≡ true
+  main-named = parts .1 .1 .1 .1 .1 .0
+
+  pub codes-in : insideCodes c fs mn ot ≡ true
+  codes-in = parts .1 .1 .1 .1 .1 .1
+
+  -- the code of function i ends inside stores that the codes lie in
+  pub ends-in : (a b : List ℕ) → insideCodes c fs a b ≡ true → (codeEnd fs 0 ≤ length a) × ((i : ℕ) → 0 < i → i < c .functions → codeEnd fs i ≤ length b)
+  unfolding insideCodes mainTaken otherTaken
+  ends-in a b h =
+      let g = both-true (leb (codeEnd fs 0) (places 1 a)) _ h in
+      let e : codeStart fs (c .functions) ≤ length b = one-word _ b (leb-true _ _ (g .1)) .0 in
+      (one-word _ a (leb-true _ _ (g .0)) .0, λ i p q. let z = ends-before c fs (c .functions) i p q function-at in omega arith)
+
   codes : (codeEnd fs 0 ≤ length mp) × (codeStart fs (c .functions) ≤ length op)
   unfolding insideCodes mainTaken otherTaken
-  codes = let h = both-true _ _ (parts .1 .1 .1 .1) in (one-word _ mp (leb-true _ _ (h .0)) .0, one-word _ op (leb-true _ _ (h .1)) .0)
+  codes = let h = both-true _ _ (parts .1 .1 .1 .1 .0) in (one-word _ mp (leb-true _ _ (h .0)) .0, one-word _ op (leb-true _ _ (h .1)) .0)
 
   main-lies : Lies fs 0 tx mn mp
   main-lies = let a = numbers .1 .1 .0 in lies-of c fs 0 tx mn mp (function-at 0 (omega arith)) (numbers .1 .1 .1 .1) (codes .0)
@@ -233,20 +248,20 @@ module _ (c : Counts) (cs ss fs tx mn mp ot op : List ℕ) (ok : programOk c (le
 
   bound-1 : length (counted constantImage (constantsFrom (c .constants) 0 cs tx)) ≤ 5 + 8589934592 * c .constants
   bound-1 = counted-most constantImage (λ a b. constantsFrom a b cs tx) (λ j. constantIn tx (kindAt cs j) (payloadAt cs j)) (constants-open cs tx) (constants-shut cs tx) (c .constants)
-    (λ i l. known-most tx _ _ (constant-at i l))
+      (λ i l. known-most tx _ _ (constant-at i l))
 
   bound-2 : length (counted textImage (structsFrom (c .structs) 0 ss tx)) ≤ 5 + 8589934592 * c .structs
   bound-2 = counted-most textImage (λ a b. structsFrom a b ss tx) (λ j. part tx (structWord ss j)) (structs-open ss tx) (structs-shut ss tx) (c .structs)
-    (λ i l. let a = text-most (part tx (structWord ss i)) in let b = struct-at i l in omega arith)
+      (λ i l. let a = text-most (part tx (structWord ss i)) in let b = struct-at i l in omega arith)
 
   function-image-most : (i : ℕ) → i < c .functions → length (functionImage (functionIn (lent [] [] fs tx mn mp ot op) i)) ≤ 8589934592
   function-image-most zero l = subst (λ (f : Function). length (functionImage f) ≤ 8589934592) (sym (first-is fs tx mn mp ot op)) (function-most c fs 0 tx mn mp (function-at 0 l) (numbers .1 .1 .1 .1))
   function-image-most (suc i) l = subst (λ (f : Function). length (functionImage f) ≤ 8589934592) (sym (other-is fs tx mn mp ot op (suc i) (omega arith)))
-    (function-most c fs (suc i) tx ot op (function-at (suc i) l) (numbers .1 .1 .1 .1))
+      (function-most c fs (suc i) tx ot op (function-at (suc i) l) (numbers .1 .1 .1 .1))
 
   bound-3 : length (counted functionImage (functionsHere (c .functions) 0 fs tx mn mp ot op)) ≤ 5 + 8589934592 * c .functions
   bound-3 = counted-most functionImage (λ a b. functionsHere a b fs tx mn mp ot op) (λ j. functionIn (lent [] [] fs tx mn mp ot op) j) (here-open fs tx mn mp ot op) (here-shut fs tx mn mp ot op) (c .functions)
-    function-image-most
+      function-image-most
 
   C : List ℕ
   C = counted constantImage (constantsFrom (c .constants) 0 cs tx)
@@ -259,8 +274,10 @@ module _ (c : Counts) (cs ss fs tx mn mp ot op : List ℕ) (ok : programOk c (le
 
   split-1 : Split (imageOf (programIn c (lent cs ss fs tx mn mp ot op))) C (S ++ F)
   unfolding imageOf programIn C S F
-  split-1 = record { split = append-assoc C S (counted functionImage (functionsFrom (c .functions) 0 (lent cs ss fs tx mn mp ot op)))
-    ∙ ap (λ (l : List Function). C ++ (S ++ counted functionImage l)) (here-all (c .functions) 0 cs ss fs tx mn mp ot op) }
+  split-1 = record {
+    split = append-assoc C S (counted functionImage (functionsFrom (c .functions) 0 (lent cs ss fs tx mn mp ot op)))
+        ∙ ap (λ (l : List Function). C ++ (S ++ counted functionImage l)) (here-all (c .functions) 0 cs ss fs tx mn mp ot op);
+  }
 
   split-2 : Split (S ++ F) S F
   split-2 = record { split = refl }
@@ -289,7 +306,11 @@ module _ (c : Counts) (cs ss fs tx mn mp ot op : List ℕ) (ok : programOk c (le
       pub functions-puts : FunctionsPut b (c .functions) fs tx mn mp ot op
       unfolding S F
       functions-puts = let n = numbers .1 .1 .0 in let m = numbers .1 .1 .1 .0 in record {
-        count = omega arith; some = omega arith; main = main-lies; others = other-lies; near = back _ _ _ a split-2 near-2 o1 o2 b p2;
+        count = omega arith;
+        some = omega arith;
+        main = main-lies;
+        others = other-lies;
+        near = back _ _ _ a split-2 near-2 o1 o2 b p2;
       }
 
       pub image-put : (o3 : List ℕ) (r : ℕ) → Put (counted functionImage (functionsHere (c .functions) 0 fs tx mn mp ot op)) o2 b o3 r
@@ -315,7 +336,7 @@ module _ (at₀ n : ℕ) (fs t mn mp ot op : List ℕ) (h : FunctionsPut at₀ n
 
   main : Split (joined functionImage (functionsHere (n - 0) 0 fs t mn mp ot op)) (functionImage (functionHere fs 0 t mn mp)) (joined functionImage (functionsHere (n - 1) 1 fs t mn mp ot op))
   main = subst (λ (f : Function). Split (joined functionImage (functionsHere (n - 0) 0 fs t mn mp ot op)) (functionImage f) (joined functionImage (functionsHere (n - 1) 1 fs t mn mp ot op))) (first-is fs t mn mp ot op)
-    (one-split functionImage all one (here-open fs t mn mp ot op) (here-shut fs t mn mp ot op) n 0 (h .some))
+      (one-split functionImage all one (here-open fs t mn mp ot op) (here-shut fs t mn mp ot op) n 0 (h .some))
 
   pub functions-near : Near at₀ (digits n)
   functions-near = front _ _ _ at₀ count (h .near)
@@ -342,19 +363,19 @@ module _ (at₀ n : ℕ) (fs t mn mp ot op : List ℕ) (h : FunctionsPut at₀ n
         function-puts l = record {
           lies = h .others j (r .some) l;
           near = subst (λ (f : Function). Near at (functionImage f)) (other-is fs t mn mp ot op j (r .some))
-            (each-near functionImage all one (here-open fs t mn mp ot op) (here-shut fs t mn mp ot op) n 1 out₂ at₂ rest out at j (r .putting) l);
+              (each-near functionImage all one (here-open fs t mn mp ot op) (here-shut fs t mn mp ot op) n 1 out₂ at₂ rest out at j (r .putting) l);
         }
 
         pub functions-step : j < n → (out′ : List ℕ) (at′ : ℕ) → Put (functionImage (functionHere fs j t ot op)) out at out′ at′ → PuttingFunctions n fs t mn mp ot op out₂ at₂ out′ at′ (j + 1)
         functions-step l out′ at′ s = record {
           some = omega arith;
           putting = each-step functionImage all one (here-open fs t mn mp ot op) (here-shut fs t mn mp ot op) n 1 out₂ at₂ rest out at j (r .putting) l out′ at′
-            (put-as _ _ out out′ at at′ (ap functionImage (sym (other-is fs t mn mp ot op j (r .some)))) s);
+              (put-as _ _ out out′ at at′ (ap functionImage (sym (other-is fs t mn mp ot op j (r .some)))) s);
         }
 
         pub functions-end : n ≤ j → Put (counted functionImage (functionsHere n 0 fs t mn mp ot op)) out₀ at₀ out at
         functions-end l = both _ _ _ at₀ count (h .near) out₀ out₁ at₁ p out at (both _ _ _ at₁ main near-1 out₁ out₂ at₂ q out at
-          (each-end functionImage all one (here-open fs t mn mp ot op) (here-shut fs t mn mp ot op) n 1 out₂ at₂ rest out at j (r .putting) l))
+            (each-end functionImage all one (here-open fs t mn mp ot op) (here-shut fs t mn mp ot op) n 1 out₂ at₂ rest out at j (r .putting) l))
 
 -- ---- good order, as it is computed
 
@@ -393,7 +414,7 @@ module _ (c : Counts) (x : Stores) (out : List ℕ) (ok : Bool) (e : ok ≡ prog
       pub save-17 : r < k → record { answer = t.Refused 17; out = o2 ++ out } ≡ saveOf c x out
       unfolding saveOf putOut
       save-17 l = let a = length-is in let b = room-is in
-        rw (in-order, lt-leb (length (imageOf (programIn c x))) (places 1 out) (omega arith)) (ap (λ (y : List ℕ). record { answer = t.Refused 17; out = y }) unchanged)
+          rw (in-order, lt-leb (length (imageOf (programIn c x))) (places 1 out) (omega arith)) (ap (λ (y : List ℕ). record { answer = t.Refused 17; out = y }) unchanged)
 
       pub save-done : k ≤ r → (out′ : List ℕ) (j : ℕ) → Put (imageOf (programIn c x)) (o2 ++ out) 0 out′ j → record { answer = t.Number k; out = out′ } ≡ saveOf c x out
       unfolding saveOf putOut

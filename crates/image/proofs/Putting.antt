@@ -1,28 +1,22 @@
 -- The writing of an image, piece behind piece.
 use mathlib.Core.Path.{_≡_, refl, sym, ap, subst, _∙_}
-use mathlib.Core.Bool.{Bool, true, false, not}
 use mathlib.Core.List.{List, [], _∷_, _++_, append-assoc, append-nil}
-use Prim.Native.Nat.{ℕ, zero, suc, _+_, _-_, _*_, _/_, _%_, _<_, _≤_, _^_}
+use Prim.Native.Nat.{ℕ, zero, suc, _+_, _-_, _/_, _%_, _<_, _≤_, _^_}
 use native.Mathlib.Omega.{arith}
-use native.Mathlib.Nat.{pos-of-ne-zero}
 use native.Mathlib.Numerals.{add-one}
-use lib.Dec.{eqb, ltb}
-use lib.ListN.{length, take, drop, getD, set, replicate, length-append, length-set, length-replicate, length-drop}
-use lib.Seq.{sets, drop-cons, length-take-le}
-use borrow.Author.Tests.{eq-eqb, ne-eqb, ltb-true, ltb-false}
-use Rattle.model.specs.Basics.{if_then_else_}
+use lib.Dec.{ltb}
+use lib.ListN.{length, getD, set, length-append}
+use borrow.Author.Tests.{ltb-true, ltb-false}
 use Rattle.model.specs.Numbers.{digits, groupsOf}
-use Rattle.model.specs.Values.{bit, kindAt, payloadAt, textAt}
-use Rattle.model.specs.Programs.{Constant, scalar, boolean, string, reference, Function}
-use Rattle.model.specs.Images as i
-use Rattle.model.specs.Images.{joined, counted, bytesOf, textImage, constantImage, run, joinRun, runsOf, runImage, functionImage}
-use Rattle.model.specs.Stores.{start, size, part, structWord, nameWord, codeWord, constantIn, constantsFrom, structsFrom}
+use Rattle.model.specs.Values.{kindAt, payloadAt}
+use Rattle.model.specs.Programs.{Constant}
+use Rattle.model.specs.Images.{joined, counted, bytesOf, textImage, constantImage}
+use Rattle.model.specs.Stores.{part, structWord, constantIn, constantsFrom, structsFrom}
 use Rattle.model.specs.Emission.{written}
 use Rattle.number.specs.Links as n
 use Rattle.number.specs.Links.{WritePost}
-use Rattle.image.specs.Puts.{Put, Near, TextPuts, Known, ConstantPuts, ConstantsPut, StructsPut, SameRun, RunsPut, functionHere, FunctionPuts}
+use Rattle.image.specs.Puts.{Put, Near, TextPuts, Known, ConstantPuts, ConstantsPut, StructsPut, SameRun}
 use Rattle.image.proofs.Codecs.{by-test}
-use Rattle.image.proofs.Places.{joins}
 use Rattle.image.proofs.Written.{written-none, written-one, written-length, more-written}
 
 -- ---- one piece
@@ -306,16 +300,16 @@ module _ (at₀ k : ℕ) (cs t : List ℕ) (c : ConstantsPut at₀ k cs t) where
 
       pub constants-each : j < k → (x y : ℕ) → x ≡ kindAt cs j → y ≡ payloadAt cs j → ConstantPuts at t x y
       constants-each l x y ex ey = subst (λ (z : ℕ). ConstantPuts at t z y) (sym ex) (subst (λ (z : ℕ). ConstantPuts at t (kindAt cs j) z) (sym ey)
-        (record { known = c .each j l; near = each-near constantImage constants-all constants-one (constants-open cs t) (constants-shut cs t) k 0 out₁ at₁ constants-rest out at j p l }))
+          (record { known = c .each j l; near = each-near constantImage constants-all constants-one (constants-open cs t) (constants-shut cs t) k 0 out₁ at₁ constants-rest out at j p l }))
 
       pub constants-step : j < k → (x y : ℕ) → x ≡ kindAt cs j → y ≡ payloadAt cs j → (out′ : List ℕ) (at′ : ℕ) → Put (constantImage (constantIn t x y)) out at out′ at′
           → PuttingConstants k cs t out₁ at₁ out′ at′ (j + 1)
       constants-step l x y ex ey out′ at′ r = each-step constantImage constants-all constants-one (constants-open cs t) (constants-shut cs t) k 0 out₁ at₁ constants-rest out at j p l out′ at′
-        (put-as _ _ out out′ at at′ (ap (λ (z : ℕ). constantImage (constantIn t z y)) ex ∙ ap (λ (z : ℕ). constantImage (constantIn t (kindAt cs j) z)) ey) r)
+          (put-as _ _ out out′ at at′ (ap (λ (z : ℕ). constantImage (constantIn t z y)) ex ∙ ap (λ (z : ℕ). constantImage (constantIn t (kindAt cs j) z)) ey) r)
 
       pub constants-end : k ≤ j → Put (counted constantImage (constantsFrom k 0 cs t)) out₀ at₀ out at
       constants-end l = both _ _ _ at₀ constants-count (c .near) out₀ out₁ at₁ q out at
-        (each-end constantImage constants-all constants-one (constants-open cs t) (constants-shut cs t) k 0 out₁ at₁ constants-rest out at j p l)
+          (each-end constantImage constants-all constants-one (constants-open cs t) (constants-shut cs t) k 0 out₁ at₁ constants-rest out at j p l)
 
 abbrev pub PuttingStructs : ℕ → List ℕ → List ℕ → List ℕ → ℕ → List ℕ → ℕ → ℕ → Type 0
 PuttingStructs k ss t out₁ at₁ out at j = Putting (joined textImage (structsFrom (k - 0) 0 ss t)) out₁ at₁ out at (joined textImage (structsFrom (k - j) j ss t))
@@ -346,16 +340,16 @@ module _ (at₀ k : ℕ) (ss t : List ℕ) (c : StructsPut at₀ k ss t) where
 
       pub structs-each : j < k → (w : ℕ) → w ≡ structWord ss j → (x : List ℕ) → x ≡ part t w → TextPuts at x
       structs-each l w ew x ex = subst (TextPuts at) (sym (ex ∙ ap (part t) ew))
-        (record { small = c .each j l; near = each-near textImage structs-all structs-one (structs-open ss t) (structs-shut ss t) k 0 out₁ at₁ structs-rest out at j p l })
+          (record { small = c .each j l; near = each-near textImage structs-all structs-one (structs-open ss t) (structs-shut ss t) k 0 out₁ at₁ structs-rest out at j p l })
 
       pub structs-step : j < k → (w : ℕ) → w ≡ structWord ss j → (x : List ℕ) → x ≡ part t w → (out′ : List ℕ) (at′ : ℕ) → Put (textImage x) out at out′ at′
           → PuttingStructs k ss t out₁ at₁ out′ at′ (j + 1)
       structs-step l w ew x ex out′ at′ r = each-step textImage structs-all structs-one (structs-open ss t) (structs-shut ss t) k 0 out₁ at₁ structs-rest out at j p l out′ at′
-        (put-as _ _ out out′ at at′ (ap textImage (ex ∙ ap (part t) ew)) r)
+          (put-as _ _ out out′ at at′ (ap textImage (ex ∙ ap (part t) ew)) r)
 
       pub structs-end : k ≤ j → Put (counted textImage (structsFrom k 0 ss t)) out₀ at₀ out at
       structs-end l = both _ _ _ at₀ structs-count (c .near) out₀ out₁ at₁ q out at
-        (each-end textImage structs-all structs-one (structs-open ss t) (structs-shut ss t) k 0 out₁ at₁ structs-rest out at j p l)
+          (each-end textImage structs-all structs-one (structs-open ss t) (structs-shut ss t) k 0 out₁ at₁ structs-rest out at j p l)
 
 -- ---- runs
 
@@ -372,7 +366,9 @@ module _ (places : List ℕ) (i to : ℕ) (h : (i < to) × (to ≤ length places
   module _ (k : ℕ) (s : Same places i to k) where
     run-of : (i + (k - i) < to → getD places (i + (k - i)) 0 ≡ getD places i 0 → ⊥) → SameRun places i to (k - i)
     run-of f = let a = s .ahead in let b = s .most in record {
-      some = omega arith; most = omega arith; last = f;
+      some = omega arith;
+      most = omega arith;
+      last = f;
       same = λ j l. s .same (i + j) (omega arith) (omega arith);
     }
 
@@ -384,6 +380,7 @@ module _ (places : List ℕ) (i to : ℕ) (h : (i < to) × (to ≤ length places
 
     pub same-step : k < to → getD places k 0 ≡ getD places i 0 → Same places i to (k + 1)
     same-step l e = let a = s .ahead in record {
-      ahead = omega arith; most = omega arith;
+      ahead = omega arith;
+      most = omega arith;
       same = λ j x y. by-test (ltb j k) (λ t. s .same j x (ltb-true j k t)) (λ t. let m : j ≡ k = (let z = ltb-false j k t in omega arith) in ap (λ (z : ℕ). getD places z 0) m ∙ e);
     }

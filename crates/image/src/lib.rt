@@ -613,14 +613,46 @@ pub fn save(
 ) -> Told
     ensures { λ r. ⌜ record { answer = r; out = now (out .exit) } ≡ saveOf c (lent (now (constants .entry)) (now (structs .entry)) (now (functions .entry)) (now (text .entry)) (now (main .entry)) (now («main_places» .entry)) (now (other .entry)) (now («other_places» .entry))) (now (out .entry)) ⌝ }
 {
-    let ok = saving::in_order(c, constants, structs, functions, text, main, main_places, other, other_places);
+    let ok = saving::in_order(
+        c,
+        constants,
+        structs,
+        functions,
+        text,
+        main,
+        main_places,
+        other,
+        other_places,
+    );
     if !ok {
         return Told::Refused(19);
     }
-    let n = saving::put_image(&mut out[0..0], c, constants, structs, functions, text, main, main_places, other, other_places);
+    let n = saving::put_image(
+        &mut out[0..0],
+        c,
+        constants,
+        structs,
+        functions,
+        text,
+        main,
+        main_places,
+        other,
+        other_places,
+    );
     if room(out.len(), 1) < n {
         return Told::Refused(17);
     }
-    saving::put_image(out, c, constants, structs, functions, text, main, main_places, other, other_places);
+    saving::put_image(
+        out,
+        c,
+        constants,
+        structs,
+        functions,
+        text,
+        main,
+        main_places,
+        other,
+        other_places,
+    );
     Told::Number(n)
 }

@@ -268,5 +268,15 @@ pub fn put_image(
 {
     let a = put_constants(out, 0, c.constants, constants, text);
     let b = put_structs(out, a, c.structs, structs, text);
-    put_functions(out, b, c.functions, functions, text, main, main_places, other, other_places)
+    put_functions(
+        out,
+        b,
+        c.functions,
+        functions,
+        text,
+        main,
+        main_places,
+        other,
+        other_places,
+    )
 }

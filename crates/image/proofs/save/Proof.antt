@@ -1,12 +1,7 @@
+-- `image::save` meets its contract.
 use Rattle.image.proofs.save.Statement.{statement}
 use Rattle.image.proofs.save.Tie as tie
-use Rattle.image.proofs.save.Reads as reads
-use Rattle.image.proofs.save.Lts as lts
-use Rattle.image.proofs.saving.in_order.Reads as in-order-reads
-use Rattle.image.proofs.saving.put_image.Reads as put-image-reads
-use Rattle.program.proofs.words.room.Reads as room-reads
 use borrow.Author.Needs.{needs}
-use native.Mathlib.Omega.{arith}
 use mathlib.Core.Path.{refl}
 use Rattle.image.specs.Fills.{lent}
 use Rattle.image.proofs.Orderly.{save-19, in-order, save-17, save-done}

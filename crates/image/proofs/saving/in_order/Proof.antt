@@ -1,15 +1,7 @@
+-- `image::saving::in_order` meets its contract.
 use borrow.Author.Needs.{needs}
 use Rattle.image.proofs.saving.in_order.Statement.{statement}
 use Rattle.image.proofs.saving.in_order.Tie as tie
-use Rattle.image.proofs.saving.in_order.Reads as reads
-use Rattle.image.proofs.saving.in_order.Lts as lts
-use Rattle.program.proofs.order.constants_ok.Reads as constants-ok-reads
-use Rattle.program.proofs.order.counts_ok.Reads as counts-ok-reads
-use Rattle.program.proofs.order.functions_ok.Reads as functions-ok-reads
-use Rattle.program.proofs.order.inside_codes.Reads as inside-codes-reads
-use Rattle.program.proofs.order.main_ok.Reads as main-ok-reads
-use Rattle.program.proofs.order.structs_ok.Reads as structs-ok-reads
-use Rattle.program.proofs.order.text_ok.Reads as text-ok-reads
 use mathlib.Core.Path.{refl}
 use Rattle.image.proofs.Orderly.{order-is}
 

@@ -1,8 +1,7 @@
+-- `image::saving::put_byte` meets its contract.
 use borrow.Author.Needs.{needs}
 use Rattle.image.proofs.saving.put_byte.Statement.{statement}
 use Rattle.image.proofs.saving.put_byte.Tie as tie
-use Rattle.image.proofs.saving.put_byte.Reads as reads
-use Rattle.image.proofs.saving.put_byte.Lts as lts
 use native.Mathlib.Omega.{arith}
 use Rattle.image.proofs.Putting.{byte-fits, byte-put, byte-not}
 

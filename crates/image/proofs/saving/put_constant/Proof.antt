@@ -1,12 +1,7 @@
+-- `image::saving::put_constant` meets its contract.
 use borrow.Author.Needs.{needs}
 use Rattle.image.proofs.saving.put_constant.Statement.{statement}
 use Rattle.image.proofs.saving.put_constant.Tie as tie
-use Rattle.image.proofs.saving.put_constant.Reads as reads
-use Rattle.image.proofs.saving.put_constant.Lts as lts
-use Rattle.image.proofs.saving.put_number.Reads as put-number-reads
-use Rattle.image.proofs.saving.put_text.Reads as put-text-reads
-use Rattle.image.proofs.saving.put_word.Reads as put-word-reads
-use Rattle.program.proofs.words.part.Reads as part-reads
 use native.Mathlib.Omega.{arith}
 use Rattle.image.proofs.Putting.{kind-near, scalar-near, scalar-put, flag-near, flag-put, letters-near, letters-put}
 

@@ -1,11 +1,6 @@
+-- `image::saving::put_constants` meets its contract.
 use Rattle.image.proofs.saving.put_constants.Statement.{statement}
 use Rattle.image.proofs.saving.put_constants.Tie as tie
-use Rattle.image.proofs.saving.put_constants.Reads as reads
-use Rattle.image.proofs.saving.put_constants.Lts as lts
-use Rattle.image.proofs.saving.put_constant.Reads as put-constant-reads
-use Rattle.image.proofs.saving.put_number.Reads as put-number-reads
-use Rattle.program.proofs.words.first.Reads as first-reads
-use Rattle.program.proofs.words.second.Reads as second-reads
 use borrow.Author.Needs.{needs}
 use native.Mathlib.Omega.{arith}
 use Prim.Native.Nat.{_-_}

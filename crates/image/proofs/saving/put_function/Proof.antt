@@ -1,17 +1,7 @@
+-- `image::saving::put_function` meets its contract.
 use borrow.Author.Needs.{needs}
 use Rattle.image.proofs.saving.put_function.Statement.{statement}
 use Rattle.image.proofs.saving.put_function.Tie as tie
-use Rattle.image.proofs.saving.put_function.Reads as reads
-use Rattle.image.proofs.saving.put_function.Lts as lts
-use Rattle.image.proofs.saving.put_number.Reads as put-number-reads
-use Rattle.image.proofs.saving.put_part.Reads as put-part-reads
-use Rattle.image.proofs.saving.put_runs.Reads as put-runs-reads
-use Rattle.image.proofs.saving.put_text.Reads as put-text-reads
-use Rattle.program.proofs.words.first.Reads as first-reads
-use Rattle.program.proofs.words.part.Reads as part-reads
-use Rattle.program.proofs.words.second.Reads as second-reads
-use Rattle.program.proofs.words.size_of.Reads as size-of-reads
-use Rattle.program.proofs.words.start_of.Reads as start-of-reads
 use native.Mathlib.Omega.{arith}
 use Rattle.image.proofs.Imaging.{name-puts, code-small, size-near, code-near, runs-put, function-put}
 

@@ -1,9 +1,6 @@
+-- `image::saving::put_functions` meets its contract.
 use Rattle.image.proofs.saving.put_functions.Statement.{statement}
 use Rattle.image.proofs.saving.put_functions.Tie as tie
-use Rattle.image.proofs.saving.put_functions.Reads as reads
-use Rattle.image.proofs.saving.put_functions.Lts as lts
-use Rattle.image.proofs.saving.put_function.Reads as put-function-reads
-use Rattle.image.proofs.saving.put_number.Reads as put-number-reads
 use native.Mathlib.Omega.{arith}
 use Prim.Native.Nat.{_-_}
 use Rattle.image.proofs.Orderly.{PuttingFunctions, functions-near, main-puts, functions-start, functions-kept, function-puts, functions-step, functions-end}

@@ -1,10 +1,6 @@
+-- `image::saving::put_image` meets its contract.
 use Rattle.image.proofs.saving.put_image.Statement.{statement}
 use Rattle.image.proofs.saving.put_image.Tie as tie
-use Rattle.image.proofs.saving.put_image.Reads as reads
-use Rattle.image.proofs.saving.put_image.Lts as lts
-use Rattle.image.proofs.saving.put_constants.Reads as put-constants-reads
-use Rattle.image.proofs.saving.put_functions.Reads as put-functions-reads
-use Rattle.image.proofs.saving.put_structs.Reads as put-structs-reads
 use borrow.Author.Needs.{needs}
 use Rattle.image.proofs.Orderly.{constants-puts, structs-puts, functions-puts, image-put}
 

@@ -1,10 +1,7 @@
+-- `image::saving::put_number` meets its contract.
 use borrow.Author.Needs.{needs}
 use Rattle.image.proofs.saving.put_number.Statement.{statement}
 use Rattle.image.proofs.saving.put_number.Tie as tie
-use Rattle.image.proofs.saving.put_number.Reads as reads
-use Rattle.image.proofs.saving.put_number.Lts as lts
-use Rattle.number.proofs.groups.Reads as groups-reads
-use Rattle.number.proofs.write_number.Reads as write-number-reads
 use native.Mathlib.Omega.{arith}
 use Rattle.image.proofs.Putting.{number-fits, number-put, number-not}
 

@@ -1,9 +1,7 @@
+-- `image::saving::put_part` meets its contract.
 use borrow.Author.Needs.{needs}
 use Rattle.image.proofs.saving.put_part.Statement.{statement}
 use Rattle.image.proofs.saving.put_part.Tie as tie
-use Rattle.image.proofs.saving.put_part.Reads as reads
-use Rattle.image.proofs.saving.put_part.Lts as lts
-use Rattle.program.proofs.writes.put_bytes.Reads as put-bytes-reads
 use native.Mathlib.Omega.{arith}
 use Rattle.image.proofs.Putting.{near-fits, part-put, part-not}
 

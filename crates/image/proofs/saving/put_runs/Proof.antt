@@ -1,9 +1,6 @@
+-- `image::saving::put_runs` meets its contract.
 use Rattle.image.proofs.saving.put_runs.Statement.{statement}
 use Rattle.image.proofs.saving.put_runs.Tie as tie
-use Rattle.image.proofs.saving.put_runs.Reads as reads
-use Rattle.image.proofs.saving.put_runs.Lts as lts
-use Rattle.image.proofs.saving.put_number.Reads as put-number-reads
-use Rattle.image.proofs.saving.run_length.Reads as run-length-reads
 use native.Mathlib.Omega.{arith}
 use Prim.Native.Nat.{_-_}
 use Rattle.image.proofs.Imaging.{PuttingRuns, runs-start, runs-kept, runs-end, runs-ask, runs-small, runs-less, run-near, place-near, runs-next}

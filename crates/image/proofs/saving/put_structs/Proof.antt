@@ -1,11 +1,6 @@
+-- `image::saving::put_structs` meets its contract.
 use Rattle.image.proofs.saving.put_structs.Statement.{statement}
 use Rattle.image.proofs.saving.put_structs.Tie as tie
-use Rattle.image.proofs.saving.put_structs.Reads as reads
-use Rattle.image.proofs.saving.put_structs.Lts as lts
-use Rattle.image.proofs.saving.put_number.Reads as put-number-reads
-use Rattle.image.proofs.saving.put_text.Reads as put-text-reads
-use Rattle.program.proofs.words.part.Reads as part-reads
-use Rattle.program.proofs.words.word.Reads as word-reads
 use borrow.Author.Needs.{needs}
 use native.Mathlib.Omega.{arith}
 use Prim.Native.Nat.{_-_}

@@ -1,10 +1,7 @@
+-- `image::saving::put_text` meets its contract.
 use borrow.Author.Needs.{needs}
 use Rattle.image.proofs.saving.put_text.Statement.{statement}
 use Rattle.image.proofs.saving.put_text.Tie as tie
-use Rattle.image.proofs.saving.put_text.Reads as reads
-use Rattle.image.proofs.saving.put_text.Lts as lts
-use Rattle.image.proofs.saving.put_number.Reads as put-number-reads
-use Rattle.image.proofs.saving.put_part.Reads as put-part-reads
 use Rattle.image.proofs.Putting.{text-split, front, back, both}
 
 -- src/saving.rt:60:13

@@ -1,8 +1,6 @@
+-- `image::saving::put_word` meets its contract.
 use Rattle.image.proofs.saving.put_word.Statement.{statement}
 use Rattle.image.proofs.saving.put_word.Tie as tie
-use Rattle.image.proofs.saving.put_word.Reads as reads
-use Rattle.image.proofs.saving.put_word.Lts as lts
-use Rattle.image.proofs.saving.put_byte.Reads as put-byte-reads
 use native.Mathlib.Omega.{arith}
 use Prim.Native.Nat.{_-_}
 use Rattle.model.specs.Images.{bytesOf}

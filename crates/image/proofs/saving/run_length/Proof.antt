@@ -1,11 +1,8 @@
+-- `image::saving::run_length` meets its contract.
 use Rattle.image.proofs.saving.run_length.Statement.{statement}
 use Rattle.image.proofs.saving.run_length.Tie as tie
-use Rattle.image.proofs.saving.run_length.Reads as reads
-use Rattle.image.proofs.saving.run_length.Lts as lts
 use native.Mathlib.Omega.{arith}
 use Prim.Native.Nat.{_-_}
-use mathlib.Core.Path.{_≡_}
-use lib.ListN.{getD}
 use Rattle.image.proofs.Putting.{Same, same-start, same-last, same-end, same-step}
 use borrow.Author.Needs.{needs}
 
