@@ -82,7 +82,7 @@ others-fine c (f ∷ l) fs i o j w e h s k m =
 
 -- ---- names all different, whichever way they are compared
 
-same-sym : (a b : List ℕ) → sameBytes a b ≡ sameBytes b a
+pub same-sym : (a b : List ℕ) → sameBytes a b ≡ sameBytes b a
 unfolding sameBytes
 same-sym [] [] = refl
 same-sym [] (y ∷ b) = refl
@@ -105,7 +105,7 @@ not-in t (x ∷ l) h = by-test (sameBytes t x)
     (λ e. (same-sym x t ∙ e, not-in t l (rw e at h)))
 
 -- none of `seen` is among l
-unfoldable Clear : List (List ℕ) → List (List ℕ) → Type 0
+unfoldable pub Clear : List (List ℕ) → List (List ℕ) → Type 0
 Clear [] l = Unit
 Clear (x ∷ seen) l = (among x l ≡ false) × Clear seen l
 

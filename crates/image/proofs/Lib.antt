@@ -16,5 +16,10 @@ pub mod Placing
 pub mod Loads
 pub mod Held
 pub mod Again
+-- What saving writes.
+pub mod Putting
+pub mod Imaging
+pub mod Orderly
+pub mod Sounds
 -- The return trip: the statements to read.
 pub mod Trip

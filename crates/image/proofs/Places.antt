@@ -53,7 +53,7 @@ spread-small left q [] h = tt
 spread-small left q (r ∷ l) h = small-append (replicate (r .bytes) (r .place)) (spread l) (small-replicate (r .bytes) (r .place) (h .0 .1 .1 .0)) (spread-small (left - r .bytes) (r .place) l (h .1))
 
 -- a run of one place more
-unfoldable joins : (n p : ℕ) (ps : List ℕ) (l : List Run) → runsOf ps ≡ l → ((r : Run) (m : List Run) → l ≡ r ∷ m → p ≡ r .place → ⊥)
+pub joins : (n p : ℕ) (ps : List ℕ) (l : List Run) → runsOf ps ≡ l → ((r : Run) (m : List Run) → l ≡ r ∷ m → p ≡ r .place → ⊥)
     → runsOf (replicate (suc n) p ++ ps) ≡ run (suc n) p ∷ l
 unfolding runsOf joinRun
 joins zero p ps [] e d = rw e

@@ -1,9 +1,9 @@
 -- THE RETURN TRIP: a program's image says that program; whatever bytes are accepted are the image of the program that they say; one program has
--- one image; and what was loaded is saved again as the same bytes.
+-- one image; what was loaded is saved again as the same bytes; and what is saved loads as the same program, NaN payloads included.
 use mathlib.Core.Path.{_≡_, refl, sym, ap, _∙_}
 use mathlib.Core.Bool.{true}
 use mathlib.Core.List.{List}
-use Prim.Native.Nat.{ℕ}
+use Prim.Native.Nat.{ℕ, _^_}
 use native.Mathlib.Omega.{arith}
 use Rattle.model.specs.Numbers.{Bytes}
 use Rattle.model.specs.Programs.{Program, withinLimits}
@@ -16,6 +16,7 @@ use Rattle.model.specs.declared.Loaded.the-variants as l
 use Rattle.image.proofs.Codecs.{by-test}
 use Rattle.image.proofs.Formats.{judge-back, judge-only}
 use Rattle.image.proofs.Again.{laid-again}
+use Rattle.image.proofs.Sounds.{Below, order-sound}
 
 pub image-back : (p : Program) → Sound p → judge (imageOf p) ≡ fine p
 image-back = judge-back
@@ -76,3 +77,10 @@ load-then-save b x y c out h e =
     (ap (λ (k : Counts). programOk k y) (sym (d .4)) ∙ ap (programOk (countsFor (d .0))) (sym (d .5)) ∙ s .0)
     (ap (λ (k : Counts). programIn k y) (sym (d .4)) ∙ ap (programIn (countsFor (d .0))) (sym (d .5)) ∙ s .1)
     ∙ ap (λ (k : List ℕ). putOut k out) (sym (o .0))
+
+-- what is saved loads as the same program: the numbers below 2 ^ 64 and 2 ^ 32 are what the types of the stores say
+pub save-then-load : (c : Counts) (x : Stores) → programOk c x ≡ true → Below (2 ^ 64) (x .constants) → Below (2 ^ 32) (x .mainPlaces) → Below (2 ^ 32) (x .otherPlaces)
+    → Sound (programIn c x) × (judge (imageOf (programIn c x)) ≡ fine (programIn c x))
+save-then-load c x ok a b d =
+    let s = order-sound c (x .constants) (x .structs) (x .functions) (x .text) (x .main) (x .mainPlaces) (x .other) (x .otherPlaces) ok a b d in
+    (s, image-back (programIn c x) s)

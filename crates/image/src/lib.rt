@@ -1,8 +1,10 @@
 // The rule image: judged, then loaded into lent stores, and saved from them. A place is an offset in the image.
 mod loading; // loading.rt: the writing pass of loading
+mod saving; // saving.rt: the image of a program, piece by piece
 
 use model::Counts;
 use model::Loaded;
+use model::Told;
 use number::Num;
 use program::words::room;
 use program::words::same_bytes;
@@ -10,7 +12,7 @@ ghost use mathlib.Core.Path.{_≡_};
 ghost use Prim.Native.Nat.{_+_, _≤_, _<_};
 ghost use lib.ListN.{length};
 ghost use Rattle.model.specs.Images.{wordOf, readBody, readConstant, readConstants, readStructs, mainFirst};
-ghost use Rattle.model.specs.Loading.{constantText, LoadRes, loadOf};
+ghost use Rattle.model.specs.Loading.{constantText, LoadRes, loadOf, OutRes, saveOf};
 ghost use Rattle.image.specs.Links.{partOf, TextPost, Texts, SeenPost, ItemPost, CheckPost, RunPost, RunsPost, HeadPost, SpanPost, OthersPost, FunctionsPost, JudgePost};
 ghost use Rattle.image.specs.Fills.{lent};
 
@@ -592,4 +594,65 @@ pub fn load(
             Loaded::Done(counts)
         }
     }
+}
+
+// ---- saving
+
+// Saves the program: good order first, then the size, then it is written.
+pub fn save(
+    c: Counts,
+    constants: &[u64],
+    structs: &[u64],
+    functions: &[u64],
+    text: &[u8],
+    main: &[u8],
+    main_places: &[u32],
+    other: &[u8],
+    other_places: &[u32],
+    out: &mut [u8],
+) -> Told
+    ensures { λ r. ⌜ record { answer = r; out = now (out .exit) } ≡ saveOf c (lent (now (constants .entry)) (now (structs .entry)) (now (functions .entry)) (now (text .entry)) (now (main .entry)) (now («main_places» .entry)) (now (other .entry)) (now («other_places» .entry))) (now (out .entry)) ⌝ }
+{
+    let ok = saving::in_order(
+        c,
+        constants,
+        structs,
+        functions,
+        text,
+        main,
+        main_places,
+        other,
+        other_places,
+    );
+    if !ok {
+        return Told::Refused(19);
+    }
+    let n = saving::put_image(
+        &mut out[0..0],
+        c,
+        constants,
+        structs,
+        functions,
+        text,
+        main,
+        main_places,
+        other,
+        other_places,
+    );
+    if room(out.len(), 1) < n {
+        return Told::Refused(17);
+    }
+    saving::put_image(
+        out,
+        c,
+        constants,
+        structs,
+        functions,
+        text,
+        main,
+        main_places,
+        other,
+        other_places,
+    );
+    Told::Number(n)
 }
