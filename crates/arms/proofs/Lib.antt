@@ -1,0 +1,4 @@
+pub mod Cellwise
+pub mod Keeping
+pub mod Posts
+pub mod Rules

@@ -1,0 +1,14 @@
+use Rattle.arms.specs.Links.{verdictBy}
+use Rattle.arms.proofs.blocks.told.Statement.{statement}
+use Rattle.arms.proofs.blocks.told.Tie as tie
+
+returns : tie.Need-returns
+unfolding verdictBy
+returns c = rw (c .if1 .taken)
+
+returns-2 : tie.Need-returns-2
+unfolding verdictBy
+returns-2 c = rw (c .if1 .left)
+
+pub told-spec : {M : Type 1} → statement M
+told-spec = tie.close (tie.spec returns returns-2)

@@ -1,0 +1,16 @@
+use borrow.Author.Needs.{needs}
+use Rattle.arms.proofs.Posts.{no-number, calls}
+use Rattle.arms.proofs.frames.call.Statement.{statement}
+use Rattle.arms.proofs.frames.call.Tie as tie
+
+returns : tie.Need-returns
+returns c = λ u d. no-number (c .before .before .before .pre) d _ _ (c .if1 .taken)
+
+enters-requires : tie.Need-enters-requires
+enters-requires c κs = search needs
+
+returns-2 : tie.Need-returns-2
+returns-2 c = λ u d. calls (c .before .before .before .before .pre) d _ _ (c .before .if1 .left) (c .enters .ensures u d)
+
+pub call-spec : {M : Type 1} → statement M
+call-spec = tie.close (tie.spec returns enters-requires returns-2)

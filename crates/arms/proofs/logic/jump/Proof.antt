@@ -1,0 +1,14 @@
+use borrow.Author.Needs.{needs}
+use mathlib.Core.Path.{refl}
+use Rattle.arms.proofs.Posts.{jumps}
+use Rattle.arms.proofs.logic.jump.Statement.{statement}
+use Rattle.arms.proofs.logic.jump.Tie as tie
+
+add-position : tie.Need-add-position
+add-position c = search needs
+
+returns : tie.Need-returns
+returns c = jumps (c .before .pre .0) _ refl
+
+pub jump-spec : {M : Type 1} → statement M
+jump-spec = tie.close (tie.spec add-position returns)

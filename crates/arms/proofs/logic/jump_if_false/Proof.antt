@@ -1,0 +1,52 @@
+use borrow.Author.Needs.{needs}
+use mathlib.Core.Path.{refl}
+use native.Mathlib.Omega.{arith}
+use Rattle.value.proofs.Operands.{got-some, no-boolean}
+use Rattle.arms.proofs.Posts.{jumps-if-false, one-none, one-wrong, stays, jumps-on}
+use Rattle.arms.proofs.logic.jump_if_false.Statement.{statement}
+use Rattle.arms.proofs.logic.jump_if_false.Tie as tie
+
+pop-requires : tie.Need-pop-requires
+pop-requires c κs = search needs
+
+enum-known-v : tie.Need-enum-known-v
+enum-known-v c = search needs
+
+enum-told : tie.Need-enum-told
+enum-told c = search needs
+
+returns : tie.Need-returns
+returns c = one-none (c .before .before .before .before .pre .0) (c .before .before .pop .ensures) (jumps-if-false _) (c .enum-told .given .1)
+
+enum-known-v-2 : tie.Need-enum-known-v-2
+enum-known-v-2 c = search needs
+
+returns-2 : tie.Need-returns-2
+returns-2 c = one-wrong (c .before .before .before .before .before .before .pre .0) (c .before .before .before .before .pop .ensures) (jumps-if-false _) (c .before .before .v .given .1) (no-boolean _ (c .match2 .keys2))
+
+sub-count : tie.Need-sub-count
+sub-count c = omega (arith, got-some _ _ (c .before .before .before .before .before .before .pop .ensures) (c .before .before .before .before .v .given .1))
+
+returns-3 : tie.Need-returns-3
+returns-3 c = stays (c .before .before .before .before .before .before .before .before .before .pre .0) (c .before .before .before .before .before .before .before .pop .ensures) (c .before .before .before .before .before .v .given .1) _ (c .before .before .v2 .given .1) refl (c .if1 .taken)
+
+add-position : tie.Need-add-position
+add-position c = search needs
+
+returns-4 : tie.Need-returns-4
+returns-4 c = jumps-on (c .before .before .before .before .before .before .before .before .before .before .pre .0) (c .before .before .before .before .before .before .before .before .pop .ensures) (c .before .before .before .before .before .before .v .given .1) _ (c .before .before .before .v2 .given .1) refl (c .before .if1 .left) refl
+
+pub jump-if-false-spec : {M : Type 1} → statement M
+jump-if-false-spec =
+    tie.close
+    (tie.spec
+    pop-requires
+    enum-known-v
+    enum-told
+    returns
+    enum-known-v-2
+    returns-2
+    sub-count
+    returns-3
+    add-position
+    returns-4)

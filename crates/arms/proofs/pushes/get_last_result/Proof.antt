@@ -1,0 +1,24 @@
+use borrow.Author.Needs.{needs}
+use Rattle.arms.proofs.Rules.{no-last, last}
+use Rattle.arms.proofs.Posts.{gets-last, missing, found}
+use Rattle.arms.proofs.pushes.get_last_result.Statement.{statement}
+use Rattle.arms.proofs.pushes.get_last_result.Tie as tie
+
+returns : tie.Need-returns
+returns c = λ u d. missing (c .before .before .pre) d (gets-last u) (λ x cs. no-last _ _ (c .if1 .taken))
+
+value-of-requires : tie.Need-value-of-requires
+value-of-requires c κs = search needs
+
+push-requires : tie.Need-push-requires
+push-requires c κs = search needs
+
+same-length : tie.Need-same-length
+same-length c = search needs
+
+returns-2 : tie.Need-returns-2
+returns-2 c = λ u d. found (c .before .before .before .before .before .before .before .pre) d (gets-last u) (λ x cs. last _ _ (c .before .before .before .before .before .if1 .left) (c .before .before .before .before .value-of .ensures)) (c .before .before .push .ensures u d)
+
+pub get-last-result-spec : {M : Type 1} → statement M
+get-last-result-spec =
+    tie.close (tie.spec returns value-of-requires push-requires same-length returns-2)

@@ -1,0 +1,24 @@
+use borrow.Author.Needs.{needs}
+use Rattle.arms.proofs.Rules.{no-slot, slot}
+use Rattle.arms.proofs.Posts.{gets-slot, missing, found}
+use Rattle.arms.proofs.pushes.get_slot.Statement.{statement}
+use Rattle.arms.proofs.pushes.get_slot.Tie as tie
+
+returns : tie.Need-returns
+returns c = λ u d. missing (c .before .before .before .pre) d (gets-slot u _) (λ x cs. no-slot _ _ _ (c .if1 .taken))
+
+read-value-requires : tie.Need-read-value-requires
+read-value-requires c κs = search needs
+
+push-requires : tie.Need-push-requires
+push-requires c κs = search needs
+
+same-length : tie.Need-same-length
+same-length c = search needs
+
+returns-2 : tie.Need-returns-2
+returns-2 c = λ u d. found (c .before .before .before .before .before .before .before .before .before .pre) d (gets-slot u _) (λ x cs. slot _ _ _ (c .before .before .before .before .before .before .if1 .left) (c .before .before .before .before .read-value .ensures)) (c .before .before .push .ensures u d)
+
+pub get-slot-spec : {M : Type 1} → statement M
+get-slot-spec =
+    tie.close (tie.spec returns read-value-requires push-requires same-length returns-2)

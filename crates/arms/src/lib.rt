@@ -1,0 +1,50 @@
+// The arms: one function for each family of opcodes, over plain words and lent slices.
+use model::Fault;
+use model::Value;
+
+pub mod pushes; // pushes.rt: constants, slots, the last result
+pub mod scalars; // scalars.rt: arithmetic and orderings
+pub mod logic; // logic.rt: booleans and jumps
+pub mod frames; // frames.rt: calls and returns; the frames themselves are the run's
+pub mod blocks; // blocks.rt: equality, lists and structs
+
+// What no step changes: the counts of the program, and the rooms of stack and frames.
+pub struct Fixed {
+    pub constants: usize,
+    pub structs: usize,
+    pub functions: usize,
+    pub slots: usize,
+    pub frames: usize,
+}
+
+// What a step changes, in plain words: the values on the stack, the current frame, how many callers it has, the cells taken, the units left, and
+// the last result as a kind and a payload (kind 7: none). `mark` is how many cells were taken at the run's last root Return, or at its start,
+// and `answered` is 1 once there was one.
+pub struct Going {
+    pub sp: usize,
+    pub function: usize,
+    pub position: usize,
+    pub base: usize,
+    pub callers: usize,
+    pub used: usize,
+    pub units: u64,
+    pub kind: u64,
+    pub payload: u64,
+    pub mark: usize,
+    pub answered: u64,
+}
+
+// A completed root Return: the machine after it, and its value.
+pub struct Completed {
+    pub going: Going,
+    pub value: Value,
+}
+
+// What a step answers. Call: the function to enter and its base. Back: a Return to the caller, whose frame the run has.
+pub enum Answer {
+    Went(Going),
+    Returned(Completed),
+    Call(Going, usize, usize),
+    Back(Going),
+    Stopped(Going, Fault),
+}
