@@ -1,10 +1,9 @@
 -- What an arm ensures, for each way out of an arm.
-use mathlib.Core.Path.{_≡_, refl, sym, ap, _∙_}
+use mathlib.Core.Path.{_≡_, refl, sym, _∙_}
 use mathlib.Core.Bool.{Bool, true, false, not}
 use mathlib.Core.List.{List, [], _∷_}
-use Prim.Native.Nat.{ℕ, zero, suc, _+_, _-_, _≤_, _<_, min}
+use Prim.Native.Nat.{ℕ, suc, _+_, _-_, _≤_, _<_, min}
 use native.Mathlib.Omega.{arith}
-use native.Mathlib.Numerals.{add-one}
 use borrow.Author.Tests.{lt-ltb, le-ltb, le-leb, lt-leb}
 use lib.Ieee as Ieee
 use lib.Ieee.{Float}
@@ -12,7 +11,7 @@ use lib.ListN.{length}
 use Rattle.model.specs.declared.Arith.{Arith}
 use Rattle.model.specs.declared.Order.{Order}
 use Rattle.model.specs.declared.Value.{Value}
-use Rattle.model.specs.declared.Value.the-variants.{Scalar, Boolean}
+use Rattle.model.specs.declared.Value.the-variants.{Scalar, Boolean, FunctionReference}
 use Rattle.model.specs.declared.Fault.{Fault}
 use Rattle.model.specs.declared.Fault.the-variants as f
 use Rattle.model.specs.declared.Found.{Found}
@@ -21,12 +20,16 @@ use Rattle.model.specs.declared.Scalars.{Scalars}
 use Rattle.model.specs.declared.Scalars.the-variants as sc
 use Rattle.model.specs.declared.Booleans.{Booleans}
 use Rattle.model.specs.declared.Booleans.the-variants as bo
+use Rattle.model.specs.declared.Told.{Told}
+use Rattle.model.specs.declared.Told.the-variants.{Number, Refused}
 use Rattle.model.specs.declared.Frame.{Frame}
 use Rattle.model.specs.Basics.{if_then_else_}
-use Rattle.model.specs.Values.{kind, vals, popOf, popping, poppingScalar, poppingBoolean, ifScalar, ifBoolean}
+use Rattle.model.specs.Values.{kind, vals, popOf, popping, poppingScalar, poppingBoolean, ifScalar, ifBoolean, ifReference, textAt}
 use Rattle.model.specs.Scalars.{arithOf, zeroDivisor, orderOf, scalarsOf, booleansOf}
 use Rattle.model.specs.Heap.{item}
-use Rattle.model.specs.Steps.{World, State, Outcome, went, faulted, withStack, at, position, pushing, onFound, constantOf, slotOf, lastOf, loadStep, slotStep, lastStep, negateStep, arithmeticStep, orderingStep, logicStep, notStep, jumpStep, jumpIfFalseStep, enter, callStep, returnTo, returnStep}
+use Rattle.model.specs.Programs.{functionNamed}
+use Rattle.model.specs.Emission.{toldName}
+use Rattle.model.specs.Steps.{World, State, Outcome, went, faulted, withStack, at, position, pushing, onFound, constantOf, slotOf, lastOf, loadStep, slotStep, lastStep, negateStep, arithmeticStep, orderingStep, logicStep, notStep, jumpStep, jumpIfFalseStep, enter, callStep, enterNamed, callCallableStep, returnTo, returnStep}
 use Rattle.value.specs.Links.{PayloadOf, Written}
 use Rattle.value.proofs.Stores.{length-vals, pushed}
 use Rattle.value.proofs.Operands.{got-some, is-boolean}
@@ -34,41 +37,28 @@ use Rattle.arms.specs.declared.Fixed.{Fixed}
 use Rattle.arms.specs.declared.Going.{Going}
 use Rattle.arms.specs.declared.Answer.{Answer}
 use Rattle.arms.specs.declared.Answer.the-variants.{Went, Returned, Call, Back, Stopped}
-use Rattle.arms.specs.Links.{stateOf, outcomeOf, Within, Suits, Kept, ArmPost}
+use Rattle.arms.specs.Links.{stateOf, outcomeOf, Within, Suits, ArmPost}
 use Rattle.arms.proofs.Keeping.{place, fewer, topped}
-use Rattle.arms.proofs.Rules.{no-top, top, no-scalars, scalars, two-scalars, no-booleans, booleans, two-booleans, last-words, cut-vals}
+use Rattle.arms.proofs.Rules.{no-top, top, no-scalars, scalars, two-scalars, no-booleans, booleans, two-booleans, last-words, cut-vals, is-reference, told-none, told-some}
 
--- the machine with n values on its stack
-abbrev pub withCount : ℕ → Going → Going
-withCount n g = record {
+-- the machine with n values on its stack, at position i, and with the last result in the words a and b
+abbrev pub withWords : ℕ → ℕ → ℕ → ℕ → Going → Going
+withWords n i a b g = record {
   sp = n;
-  function = g .function;
-  position = g .position;
-  base = g .base;
-  callers = g .callers;
-  used = g .used;
-  units = g .units;
-  kind = g .kind;
-  payload = g .payload;
-  mark = g .mark;
-  answered = g .answered;
-}
-
--- the machine at position i
-abbrev pub withPosition : ℕ → Going → Going
-withPosition i g = record {
-  sp = g .sp;
   function = g .function;
   position = i;
   base = g .base;
   callers = g .callers;
   used = g .used;
   units = g .units;
-  kind = g .kind;
-  payload = g .payload;
+  kind = a;
+  payload = b;
   mark = g .mark;
   answered = g .answered;
 }
+
+abbrev pub withCount : ℕ → Going → Going
+withCount n g = withWords n (g .position) (g .kind) (g .payload) g
 
 -- the rule goes another way to the same outcome
 pub same-rule : {rule other : State → Outcome} {k : Fixed} {g : Going} {s : List ℕ} {r : Answer} {t : List ℕ}
@@ -89,8 +79,8 @@ module _ {k : Fixed} {g : Going} {s : List ℕ} (w : Within k g s) where
 
   -- values are dropped, and the position is another
   pub moved : {rule : State → Outcome} {n i : ℕ} → n ≤ g .sp
-      → ((x : List ℕ) (cs : List Frame) → rule (stateOf g s x cs) ≡ went (stateOf (withPosition i (withCount n g)) s x cs))
-      → ArmPost rule k g s (Went (withPosition i (withCount n g))) s
+      → ((x : List ℕ) (cs : List Frame) → rule (stateOf g s x cs) ≡ went (stateOf (withWords n i (g .kind) (g .payload) g) s x cs))
+      → ArmPost rule k g s (Went (withWords n i (g .kind) (g .payload) g)) s
   moved l e = record {
     means = λ x cs h. sym (e x cs);
     within = fewer w l refl;
@@ -185,7 +175,8 @@ module _ {k : Fixed} {g : Going} {s : List ℕ} (w : Within k g s) {u : World} (
 
 -- ---- jumps
 
-pub jumps : {k : Fixed} {g : Going} {s : List ℕ} → Within k g s → (a : ℕ) {i : ℕ} → i ≡ g .position + a → ArmPost (jumpStep a) k g s (Went (withPosition i g)) s
+pub jumps : {k : Fixed} {g : Going} {s : List ℕ} → Within k g s → (a : ℕ) {i : ℕ} → i ≡ g .position + a
+    → ArmPost (jumpStep a) k g s (Went (withWords (g .sp) i (g .kind) (g .payload) g)) s
 unfolding jumpStep
 jumps w a e = moved w (omega arith) (λ x cs. rw e)
 
@@ -239,8 +230,31 @@ module _ {k : Fixed} {g : Going} {s : List ℕ} (w : Within k g s) {r : Found} (
       pub stays : b ≡ true → ArmPost (jumpIfFalseStep a) k g s (Went (withCount n g)) s
       stays d = moved w (omega arith) (λ x cs. acts (jumps-if-false a) e (is-boolean h) x cs ∙ rw (c, d))
 
-      pub jumps-on : {i : ℕ} → b ≡ false → i ≡ g .position + a → ArmPost (jumpIfFalseStep a) k g s (Went (withPosition i (withCount n g))) s
+      pub jumps-on : {i : ℕ} → b ≡ false → i ≡ g .position + a
+          → ArmPost (jumpIfFalseStep a) k g s (Went (withWords n i (g .kind) (g .payload) g)) s
       jumps-on d o = moved w (omega arith) (λ x cs. acts (jumps-if-false a) e (is-boolean h) x cs ∙ rw (c, d, o))
+
+-- ---- a function by its name
+
+pub calls-named : (u : World) (n : ℕ)
+    → One {B = ℕ × ℕ} (callCallableStep u n) (λ v j d. ifReference v (λ o m. j (o, m)) d)
+    (λ y r t. enterNamed u n r t (functionNamed (textAt (u .text) (y .0) (y .1)) (u .functions)))
+unfolding callCallableStep
+calls-named u n = record { is = λ t. refl }
+
+module _ {k : Fixed} {g : Going} {s : List ℕ} (w : Within k g s) {r : Found} (p : r ≡ popOf (vals (g .sp) s)) {v : Value} (e : r ≡ Got v) {o m : ℕ} (h : v ≡ FunctionReference o m)
+    (u : World) (n : ℕ) {q : Told} (d : q ≡ toldName (functionNamed (textAt (u .text) o m) (u .functions))) where
+  by-name : (x : List ℕ) (cs : List Frame)
+      → callCallableStep u n (stateOf g s x cs) ≡ enterNamed u n (vals (g .sp - 1) s) (stateOf g s x cs) (functionNamed (textAt (u .text) o m) (u .functions))
+  by-name x cs = acts w p (calls-named u n) e (λ j d. is-reference h (λ o m. j (o, m)) d) x cs
+
+  pub no-name : {t : ℕ} → q ≡ Refused t → ArmPost (callCallableStep u n) k g s (Stopped g f.NoFunction) s
+  unfolding enterNamed
+  no-name z = refused w (λ x cs c. by-name x cs ∙ rw (told-none d z))
+
+  pub calls-name : {i : ℕ} {a : Answer} → q ≡ Number i → ArmPost (enter u i n (vals (g .sp - 1) s)) k g s a s → ArmPost (callCallableStep u n) k g s a s
+  unfolding enterNamed
+  calls-name z b = same-rule (λ x cs. by-name x cs ∙ rw (told-some d z)) b
 
 -- ---- two operands
 
@@ -289,22 +303,6 @@ module _ {k : Fixed} {g : Going} {s : List ℕ} (w : Within k g s) where
 
 -- ---- returns
 
--- the machine with the last result in two words
-abbrev pub withResult : ℕ → ℕ → Going → Going
-withResult a b g = record {
-  sp = g .sp;
-  function = g .function;
-  position = g .position;
-  base = g .base;
-  callers = g .callers;
-  used = g .used;
-  units = g .units;
-  kind = a;
-  payload = b;
-  mark = g .mark;
-  answered = g .answered;
-}
-
 module _ {k : Fixed} {g : Going} {s : List ℕ} (w : Within k g s) {r : Found} (p : r ≡ popOf (vals (g .sp) s)) where
   pub returns-none : {t : Fault} → r ≡ Bad t → ArmPost returnStep k g s (Stopped g f.TooFewValues) s
   unfolding returnStep
@@ -314,7 +312,7 @@ module _ {k : Fixed} {g : Going} {s : List ℕ} (w : Within k g s) {r : Found} (
     -- with one frame
     module _ {n a b : ℕ} (z : g .callers ≡ 0) (c : n ≡ g .sp - 1) (d : a ≡ kind v) (q : PayloadOf v b) where
       abbrev at-root : Answer
-      at-root = Returned (record { going = withResult a b (withCount n g); value = v })
+      at-root = Returned (record { going = withWords n (g .position) a b g; value = v })
 
       root-means : (x : List ℕ) (cs : List Frame) → length cs ≡ g .callers → outcomeOf cs at-root s x ≡ returnStep (stateOf g s x cs)
       unfolding returnStep returnTo

@@ -1,7 +1,7 @@
 -- What the words of a run stand for, and what an arm ensures.
 use mathlib.Core.Path.{_≡_}
 use mathlib.Core.Bool.{Bool, true, false, not, _&&_, _||_}
-use mathlib.Core.List.{List, [], _∷_}
+use mathlib.Core.List.{List, [], _∷_, map}
 use Prim.Native.Nat.{ℕ, _+_, _*_, _≤_, _<_}
 use lib.Dec.{eqb}
 use lib.ListN.{length}
@@ -14,6 +14,8 @@ use Rattle.model.specs.declared.Frame.{Frame}
 use Rattle.model.specs.Basics.{if_then_else_, everyFrom}
 use Rattle.model.specs.Values.{vals, places, valueOf, valueAt, kindAt, payloadAt, exactValue}
 use Rattle.model.specs.Heap.{heapOf, heapOk, placedBelow, exactCells}
+use Rattle.model.specs.Stores.{Stores}
+use Rattle.model.specs.Emission.{namesFrom}
 use Rattle.model.specs.Steps.{World, State, Outcome, went, returned, faulted, withFrames}
 use Rattle.arms.specs.declared.Fixed.{Fixed}
 use Rattle.arms.specs.declared.Going.{Going}
@@ -68,6 +70,11 @@ pub record Suits (k : Fixed) (w : World) : Type 0 where
   pub functions : length (w .functions) ≡ k .functions
   pub stackRoom : w .stackRoom ≡ k .slots
   pub frameRoom : w .frameRoom ≡ k .frames
+
+-- the world's text and its functions' names are those that stand in the stores
+pub record Named (k : Fixed) (s : Stores) (w : World) : Type 0 where
+  pub text : w .text ≡ s .text
+  pub names : map (λ f. f .name) (w .functions) ≡ namesFrom (k .functions) 0 s
 
 -- the machine that an answer holds
 abbrev pub goingIn : Answer → Going

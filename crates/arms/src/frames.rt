@@ -5,13 +5,20 @@ use crate::Fixed;
 use crate::Going;
 use model::Fault;
 use model::Found;
+use model::Told;
+use model::Value;
+use program::names::newest_function;
+use program::words::pack;
+use program::words::part;
 use value::pops;
 use value::words;
 ghost use mathlib.Core.Path.{_≡_};
 ghost use Prim.Native.Nat.{_≤_, min};
 ghost use Rattle.model.specs.Values.{vals};
-ghost use Rattle.model.specs.Steps.{World, enter, callStep, returnStep};
-ghost use Rattle.arms.specs.Links.{Within, Suits, ArmPost};
+ghost use Rattle.model.specs.Stores.{Stores};
+ghost use Rattle.model.specs.Steps.{World, enter, callStep, callCallableStep, returnStep};
+ghost use Rattle.arms.specs.Links.{Within, Suits, Named, ArmPost};
+ghost use Rattle.program.specs.Links.{namesLent};
 
 // The function entered with n of the first sp values of the stack as its arguments.
 fn enters(k: Fixed, g: Going, i: usize, n: usize, sp: usize, stack: &[u64]) -> Answer
@@ -39,6 +46,33 @@ pub fn call(k: Fixed, g: Going, i: usize, n: usize, stack: &[u64]) -> Answer
     }
     let sp = g.sp;
     enters(k, g, i, n, sp, stack)
+}
+
+// CallCallable n: the newest function that has the popped reference's name.
+pub fn call_callable(
+    k: Fixed,
+    g: Going,
+    n: usize,
+    functions: &[u64],
+    text: &[u8],
+    stack: &[u64],
+) -> Answer
+    requires { ⌜ Within k g (now stack) ⌝ }
+    ensures { λ r. ⌜ ((w : World) (rest : Stores) → Suits k w → Named k (namesLent rest (now (functions .entry)) (now (text .entry))) w → ArmPost (callCallableStep w n) k g (now (stack .entry)) r (now (stack .entry))) ⌝ }
+{
+    let sp = g.sp;
+    let Found::Got(v) = pops::pop(stack, sp) else {
+        return Answer::Stopped(g, Fault::TooFewValues);
+    };
+    let Value::FunctionReference(o, m) = v else {
+        return Answer::Stopped(g, Fault::WrongKind(v));
+    };
+    let name = part(text, pack(o as usize, m as usize));
+    let Told::Number(i) = newest_function(k.functions, name, functions, text) else {
+        return Answer::Stopped(g, Fault::NoFunction);
+    };
+    let below = sp - 1;
+    enters(k, g, i, n, below, stack)
 }
 
 // The smaller of two numbers.

@@ -44,7 +44,7 @@ add-count : tie.Need-add-count
 add-count c = search needs
 
 write-value-requires : tie.Need-write-value-requires
-write-value-requires c κs = omega (arith, got-some _ _ (c .before .before .before .before .before .before .before .pop .ensures) (c .before .before .before .before .before .v .given .1), c .before .before .before .before .before .before .before .before .before .before .pre .count, c .before .before .before .before .before .before .before .before .before .before .pre .room, c .before .smaller .ensures)
+write-value-requires c κs = omega (arith, got-some _ _ (c .before .before .before .before .before .before .before .pop .ensures) (c .before .before .before .before .before .v .given .1), c .before .smaller .ensures)
 
 same-length-3 : tie.Need-same-length-3
 same-length-3 c = search needs

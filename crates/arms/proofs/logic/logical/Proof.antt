@@ -25,7 +25,7 @@ joined-requires : tie.Need-joined-requires
 joined-requires c κs = search needs
 
 write-value-requires : tie.Need-write-value-requires
-write-value-requires c κs = omega (arith, two-booleans _ _ (c .before .before .before .before .before .two-booleans .ensures) (c .before .before .before .x .given .1), c .before .before .before .before .before .before .before .before .pre .count, c .before .before .before .before .before .before .before .before .pre .room)
+write-value-requires c κs = omega (arith, two-booleans _ _ (c .before .before .before .before .before .two-booleans .ensures) (c .before .before .before .x .given .1))
 
 same-length : tie.Need-same-length
 same-length c = search needs

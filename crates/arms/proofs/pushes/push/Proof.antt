@@ -1,11 +1,12 @@
 use borrow.Author.Needs.{needs}
 use native.Mathlib.Numerals.{add-one}
+use native.Mathlib.Omega.{arith}
 use Rattle.arms.proofs.Posts.{full, pushes}
 use Rattle.arms.proofs.pushes.push.Statement.{statement}
 use Rattle.arms.proofs.pushes.push.Tie as tie
 
 returns : tie.Need-returns
-returns c = λ u d. full (c .before .before .before .pre) d _ (c .if1 .taken)
+returns c = λ u d. full (c .before .before .before .pre) d _ (omega arith)
 
 add-count : tie.Need-add-count
 add-count c = search needs

@@ -34,7 +34,7 @@ arithmetic-requires : tie.Need-arithmetic-requires
 arithmetic-requires c κs = search needs
 
 write-value-requires : tie.Need-write-value-requires
-write-value-requires c κs = omega (arith, two-scalars _ _ (c .before .before .before .before .before .before .before .two-scalars .ensures) (c .before .before .before .before .before .x .given .1), c .before .before .before .before .before .before .before .before .before .before .pre .count, c .before .before .before .before .before .before .before .before .before .before .pre .room)
+write-value-requires c κs = omega (arith, two-scalars _ _ (c .before .before .before .before .before .before .before .two-scalars .ensures) (c .before .before .before .before .before .x .given .1))
 
 same-length-2 : tie.Need-same-length-2
 same-length-2 c = search needs

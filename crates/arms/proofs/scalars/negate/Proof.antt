@@ -38,7 +38,7 @@ negate-requires : tie.Need-negate-requires
 negate-requires c κs = search needs
 
 write-value-requires : tie.Need-write-value-requires
-write-value-requires c κs = omega (arith, got-some _ _ (c .before .before .before .before .before .before .before .before .pop .ensures) (c .before .before .before .before .before .before .v .given .1), c .before .before .before .before .before .before .before .before .before .before .before .pre .count, c .before .before .before .before .before .before .before .before .before .before .before .pre .room)
+write-value-requires c κs = omega (arith, got-some _ _ (c .before .before .before .before .before .before .before .before .pop .ensures) (c .before .before .before .before .before .before .v .given .1))
 
 same-length-3 : tie.Need-same-length-3
 same-length-3 c = search needs

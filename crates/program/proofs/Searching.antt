@@ -1,0 +1,160 @@
+-- Searches by name.
+use mathlib.Core.Path.{_≡_, refl, sym, ap, _∙_}
+use mathlib.Core.Bool.{Bool, true, false, not, _&&_}
+use mathlib.Core.List.{List, [], _∷_, _++_}
+use mathlib.Core.Option.{Option, none, some}
+use Prim.Native.Nat.{ℕ, zero, suc, _+_, _-_, _≤_, _<_}
+use native.Mathlib.Omega.{arith}
+use native.Mathlib.Numerals.{add-one}
+use lib.ListN.{length}
+use Rattle.model.specs.declared.Told.{Told}
+use Rattle.model.specs.declared.Told.the-variants as tl
+use Rattle.model.specs.Basics.{if_then_else_}
+use Rattle.model.specs.Values.{kindAt}
+use Rattle.model.specs.Equality.{sameBytes}
+use Rattle.model.specs.Programs.{orElse, newestFrom, firstFrom, among}
+use Rattle.model.specs.Stores.{Stores, part, structWord, nameWord, structsFrom}
+use Rattle.model.specs.Orders.{allDifferent}
+use Rattle.model.specs.Emission.{namesFrom, toldName}
+use Rattle.program.specs.Links.{namesLent}
+
+-- ---- the newest first
+
+names-more : (k i : ℕ) (s : Stores) → namesFrom (suc k) i s ≡ namesFrom k i s ++ (part (s .text) (nameWord (s .functions) (i + k)) ∷ [])
+unfolding namesFrom
+names-more zero i s = let z : i + 0 ≡ i = omega arith in rw z
+names-more (suc k) i s = let z : i + suc k ≡ suc i + k = omega arith in ap (λ (l : List (List ℕ)). part (s .text) (nameWord (s .functions) i) ∷ l) (rw z (names-more k (suc i) s))
+
+length-names : (k i : ℕ) (s : Stores) → length (namesFrom k i s) ≡ k
+unfolding namesFrom
+length-names zero i s = refl
+length-names (suc k) i s = ap suc (length-names k (suc i) s)
+
+or-else-if : (b : Bool) (x : ℕ) (a o : Option ℕ) → orElse (if b then some x else a) o ≡ (if b then some x else orElse a o)
+unfolding orElse
+or-else-if true x a o = refl
+or-else-if false x a o = refl
+
+newest-more : (i : ℕ) (n : List ℕ) (ns : List (List ℕ)) (x : List ℕ) → newestFrom i n (ns ++ (x ∷ [])) ≡ (if sameBytes n x then some (i + length ns) else newestFrom i n ns)
+unfolding newestFrom orElse
+newest-more i n [] x = let z : i + 0 ≡ i = omega arith in rw z
+newest-more i n (y ∷ ns) x =
+    let z : i + suc (length ns) ≡ suc i + length ns = omega arith in
+    rw (newest-more (suc i) n ns x, z) (or-else-if (sameBytes n x) (suc i + length ns) (newestFrom (suc i) n ns) (if sameBytes n y then some i else none))
+
+newest-step : (n : List ℕ) (k : ℕ) (s : Stores) → newestFrom 0 n (namesFrom (suc k) 0 s) ≡ (if sameBytes n (part (s .text) (nameWord (s .functions) k)) then some k else newestFrom 0 n (namesFrom k 0 s))
+newest-step n k s = let z : 0 + k ≡ k = omega arith in rw (names-more k 0 s, newest-more 0 n (namesFrom k 0 s) (part (s .text) (nameWord (s .functions) (0 + k))), length-names k 0 s, z)
+
+-- the functions from number left on do not have the name
+pub record Newest (n : ℕ) (name fs t : List ℕ) (left : ℕ) : Type 0 where
+  pub within : left ≤ n
+  pub means : (rest : Stores) → newestFrom 0 name (namesFrom n 0 (namesLent rest fs t)) ≡ newestFrom 0 name (namesFrom left 0 (namesLent rest fs t))
+
+pub newest-start : (n : ℕ) (name fs t : List ℕ) → Newest n name fs t n
+newest-start n name fs t = record { within = omega arith; means = λ rest. refl }
+
+module _ (n : ℕ) (name fs t : List ℕ) (left : ℕ) (h : Newest n name fs t left) where
+  pub newest-none : left ≤ 0 → (rest : Stores) → tl.Refused 14 ≡ toldName (newestFrom 0 name (namesFrom n 0 (namesLent rest fs t)))
+  unfolding newestFrom namesFrom toldName
+  newest-none l rest = let z : left ≡ 0 = omega arith in rw (h .means rest, z)
+
+  module _ (l : 0 < left) (w : ℕ) (p : List ℕ) (b : Bool) (ew : w ≡ kindAt fs (left - 1)) (ep : p ≡ part t w) (eb : b ≡ sameBytes name p) where
+    here : (rest : Stores) → newestFrom 0 name (namesFrom n 0 (namesLent rest fs t)) ≡ (if b then some (left - 1) else newestFrom 0 name (namesFrom (left - 1) 0 (namesLent rest fs t)))
+    unfolding nameWord namesLent
+    here rest =
+        let z : left ≡ suc (left - 1) = omega arith in
+        let q : newestFrom 0 name (namesFrom left 0 (namesLent rest fs t)) ≡ newestFrom 0 name (namesFrom (suc (left - 1)) 0 (namesLent rest fs t)) = ap (λ (k : ℕ). newestFrom 0 name (namesFrom k 0 (namesLent rest fs t))) z in
+        h .means rest ∙ q ∙ newest-step name (left - 1) (namesLent rest fs t) ∙ rw (eb, ep, ew)
+
+    pub newest-here : b ≡ true → (rest : Stores) → tl.Number (left - 1) ≡ toldName (newestFrom 0 name (namesFrom n 0 (namesLent rest fs t)))
+    unfolding toldName
+    newest-here e rest = rw (here rest, e)
+
+    pub newest-below : b ≡ false → Newest n name fs t (left - 1)
+    newest-below e = record { within = let x = h .within in omega arith; means = λ rest. here rest ∙ rw e }
+
+-- ---- the first
+
+pub record First (i n : ℕ) (name ss t : List ℕ) (at : ℕ) : Type 0 where
+  pub means : firstFrom i name (structsFrom (n - i) i ss t) ≡ firstFrom at name (structsFrom (n - at) at ss t)
+
+pub first-start : (i n : ℕ) (name ss t : List ℕ) → First i n name ss t i
+first-start i n name ss t = record { means = refl }
+
+module _ (i n : ℕ) (name ss t : List ℕ) (at : ℕ) (h : First i n name ss t at) where
+  pub first-none : n ≤ at → tl.Refused 14 ≡ toldName (firstFrom i name (structsFrom (n - i) i ss t))
+  unfolding firstFrom structsFrom toldName
+  first-none l = let z : n - at ≡ 0 = omega arith in rw (h .means, z)
+
+  module _ (l : at < n) (w : ℕ) (p : List ℕ) (b : Bool) (ew : w ≡ structWord ss at) (ep : p ≡ part t w) (eb : b ≡ sameBytes name p) where
+    first-now : firstFrom i name (structsFrom (n - i) i ss t) ≡ (if b then some at else firstFrom (suc at) name (structsFrom (n - suc at) (suc at) ss t))
+    unfolding firstFrom structsFrom
+    first-now = let z : n - at ≡ suc (n - suc at) = omega arith in h .means ∙ rw (z, eb, ep, ew)
+
+    pub first-here : b ≡ true → tl.Number at ≡ toldName (firstFrom i name (structsFrom (n - i) i ss t))
+    unfolding toldName
+    first-here e = rw (first-now, e)
+
+    pub first-next : b ≡ false → First i n name ss t (at + 1)
+    first-next e = record { means = first-now ∙ rw (e, add-one) }
+
+-- ---- among the names
+
+if-none : (b : Bool) (i : ℕ) (o : Option ℕ) (a : Bool) → (if b then some i else o) ≡ none → (o ≡ none → a ≡ false) → (if b then true else a) ≡ false
+if-none true i o a e h = absurd (let z : _≡_ {A = ℕ} 0 1 = cc in let y : ⊥ = omega arith in y)
+if-none false i o a e h = h e
+
+if-some : (b : Bool) (i k : ℕ) (o : Option ℕ) (a : Bool) → (if b then some i else o) ≡ some k → (o ≡ some k → a ≡ true) → (if b then true else a) ≡ true
+if-some true i k o a e h = refl
+if-some false i k o a e h = h e
+
+among-none : (i : ℕ) (n : List ℕ) (ns : List (List ℕ)) → firstFrom i n ns ≡ none → among n ns ≡ false
+unfolding firstFrom among
+among-none i n [] e = refl
+among-none i n (x ∷ ns) e = if-none (sameBytes n x) i (firstFrom (suc i) n ns) (among n ns) e (λ f. among-none (suc i) n ns f)
+
+among-some : (i : ℕ) (n : List ℕ) (ns : List (List ℕ)) (k : ℕ) → firstFrom i n ns ≡ some k → among n ns ≡ true
+unfolding firstFrom among
+among-some i n [] k e = absurd (let z : _≡_ {A = ℕ} 0 1 = cc in let y : ⊥ = omega arith in y)
+among-some i n (x ∷ ns) k e = if-some (sameBytes n x) i k (firstFrom (suc i) n ns) (among n ns) e (λ f. among-some (suc i) n ns k f)
+
+-- what an answer says of the search
+pub told-some : (o : Option ℕ) (r : Told) (k : ℕ) → r ≡ toldName o → r ≡ tl.Number k → o ≡ some k
+unfolding toldName
+told-some none r k e f = absurd (let z : _≡_ {A = ℕ} 0 1 = cc in let y : ⊥ = omega arith in y)
+told-some (some i) r k e f = let z : i ≡ k = cc in ap some z
+
+pub told-none : (o : Option ℕ) (r : Told) (k : ℕ) → r ≡ toldName o → r ≡ tl.Refused k → o ≡ none
+unfolding toldName
+told-none none r k e f = refl
+told-none (some i) r k e f = absurd (let z : _≡_ {A = ℕ} 0 1 = cc in let y : ⊥ = omega arith in y)
+
+pub is-among : (i : ℕ) (n : List ℕ) (ns : List (List ℕ)) (r : Told) (k : ℕ) → r ≡ toldName (firstFrom i n ns) → r ≡ tl.Number k → true ≡ among n ns
+is-among i n ns r k e f = sym (among-some i n ns k (told-some (firstFrom i n ns) r k e f))
+
+pub not-among : (i : ℕ) (n : List ℕ) (ns : List (List ℕ)) (r : Told) (k : ℕ) → r ≡ toldName (firstFrom i n ns) → r ≡ tl.Refused k → false ≡ among n ns
+not-among i n ns r k e f = sym (among-none i n ns (told-none (firstFrom i n ns) r k e f))
+
+-- ---- all different
+
+pub record Different (n : ℕ) (ss t : List ℕ) (i : ℕ) : Type 0 where
+  pub means : allDifferent (structsFrom n 0 ss t) ≡ allDifferent (structsFrom (n - i) i ss t)
+
+pub different-start : (n : ℕ) (ss t : List ℕ) → Different n ss t 0
+different-start n ss t = record { means = let z : n - 0 ≡ n = omega arith in rw z }
+
+module _ (n : ℕ) (ss t : List ℕ) (i : ℕ) (h : Different n ss t i) where
+  pub different-all : n ≤ i → true ≡ allDifferent (structsFrom n 0 ss t)
+  unfolding structsFrom allDifferent
+  different-all l = let z : n - i ≡ 0 = omega arith in sym (h .means ∙ rw z)
+
+  module _ (l : i < n) (w : ℕ) (p : List ℕ) (b : Bool) (ew : w ≡ structWord ss i) (ep : p ≡ part t w) (eb : b ≡ among p (structsFrom (n - (i + 1)) (i + 1) ss t)) where
+    different-now : allDifferent (structsFrom n 0 ss t) ≡ (not b && allDifferent (structsFrom (n - (i + 1)) (i + 1) ss t))
+    unfolding structsFrom allDifferent
+    different-now = let z : n - i ≡ suc (n - (i + 1)) = omega arith in let y : suc i ≡ i + 1 = omega arith in h .means ∙ rw (z, y, eb, ep, ew)
+
+    pub different-not : b ≡ true → false ≡ allDifferent (structsFrom n 0 ss t)
+    different-not e = sym (different-now ∙ rw e)
+
+    pub different-next : b ≡ false → Different n ss t (i + 1)
+    different-next e = record { means = different-now ∙ rw e }

@@ -1,0 +1,25 @@
+-- `program::functions::function_order` meets its contract.
+use Rattle.program.proofs.Adding.{function-order-is}
+use borrow.Author.Needs.{needs}
+use Rattle.program.proofs.functions.function_order.Statement.{statement}
+use Rattle.program.proofs.functions.function_order.Tie as tie
+
+counts-ok-requires : tie.Need-counts-ok-requires
+counts-ok-requires c κs = search needs
+
+text-ok-requires : tie.Need-text-ok-requires
+text-ok-requires c κs = search needs
+
+functions-ok-requires : tie.Need-functions-ok-requires
+functions-ok-requires c κs = search needs
+
+main-ok-requires : tie.Need-main-ok-requires
+main-ok-requires c κs = search needs
+
+returns : tie.Need-returns
+returns c = function-order-is _ _ _ _ _ _ _ (c .before .before .before .counts-ok .ensures) (c .before .before .text-ok .ensures) (c .before .functions-ok .ensures) (c .main-ok .ensures)
+
+pub function-order-spec : {M : Type 1} → statement M
+function-order-spec =
+    tie.close
+    (tie.spec counts-ok-requires text-ok-requires functions-ok-requires main-ok-requires returns)

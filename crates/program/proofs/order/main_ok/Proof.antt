@@ -1,0 +1,25 @@
+-- `program::order::main_ok` meets its contract.
+use Rattle.program.proofs.Checks.{main-is}
+use borrow.Author.Needs.{needs}
+use Rattle.program.proofs.order.main_ok.Statement.{statement}
+use Rattle.program.proofs.order.main_ok.Tie as tie
+
+first-requires : tie.Need-first-requires
+first-requires c κs = search needs
+
+part-requires : tie.Need-part-requires
+part-requires c κs = search needs
+
+slice-aggregate-same-bytes : tie.Need-slice-aggregate-same-bytes
+slice-aggregate-same-bytes c = search needs
+
+same-bytes-requires : tie.Need-same-bytes-requires
+same-bytes-requires c κs = search needs
+
+returns : tie.Need-returns
+returns c = main-is _ _ _ _ _ (c .before .before .before .first .ensures) (c .before .before .part .ensures) (c .same-bytes .ensures)
+
+pub main-ok-spec : {M : Type 1} → statement M
+main-ok-spec =
+    tie.close
+    (tie.spec first-requires part-requires slice-aggregate-same-bytes same-bytes-requires returns)

@@ -1,0 +1,69 @@
+-- `program::order::structs_inside` meets its contract.
+use Rattle.model.specs.Orders.{insideText}
+use Rattle.model.specs.Stores.{structWord}
+use Rattle.model.specs.Values.{places}
+use Rattle.model.specs.Basics.{everyFrom}
+use Rattle.program.proofs.Checks.{structs-judged, struct-here}
+use Rattle.program.proofs.Every.{Passed, too-many, none-yet, all-passed, one-fails, one-more}
+use borrow.Author.Tests.{not-true, not-false}
+use lib.Dec.{leb}
+use Prim.Native.Nat.{_-_}
+use native.Mathlib.Omega.{arith}
+use mathlib.Core.Bool.{_&&_}
+use mathlib.Core.Path.{refl}
+use borrow.Author.Needs.{needs}
+use Rattle.program.proofs.order.structs_inside.Statement.{statement}
+use Rattle.program.proofs.order.structs_inside.Tie as tie
+
+abbrev Inv-loop : tie.InvT-loop
+Inv-loop c structs n i₀ i = Passed (leb (c .structs) (places 1 structs) && everyFrom (c .structs) 0 (λ j. insideText c (structWord structs j))) (c .structs) (λ j. insideText c (structWord structs j)) i
+
+abbrev μ-loop : tie.MeasureT-loop
+μ-loop c structs n i₀ i = c .structs - i
+
+room-requires : tie.Need-room-requires Inv-loop μ-loop
+room-requires c κs = search needs
+
+returns : tie.Need-returns Inv-loop μ-loop
+returns c = too-many (structs-judged (c .before .before .before .args .c) (c .before .before .before .args .structs .now)) _ (c .before .room .ensures _ refl) (c .if1 .taken)
+
+loop-holds : tie.Need-loop-holds Inv-loop μ-loop
+loop-holds c = none-yet (structs-judged (c .before .before .before .args .c) (c .before .before .before .args .structs .now)) _ (c .before .room .ensures _ refl) (c .if1 .left)
+
+word-requires : tie.Need-word-requires Inv-loop μ-loop
+word-requires c κs = search needs
+
+inside-text-requires : tie.Need-inside-text-requires Inv-loop μ-loop
+inside-text-requires c κs = search needs
+
+returns-2 : tie.Need-returns-2 Inv-loop μ-loop
+returns-2 c = one-fails (c .before .before .before .before .loop .inv) (c .before .before .before .loop-test .taken) _ (struct-here _ _ _ _ _ (c .before .before .word .ensures) (c .before .inside-text .ensures)) (not-true _ (c .if2 .taken))
+
+add-i : tie.Need-add-i Inv-loop μ-loop
+add-i c = omega arith
+
+loop-less : tie.Need-loop-less Inv-loop μ-loop
+loop-less c = omega arith
+
+loop-again : tie.Need-loop-again Inv-loop μ-loop
+loop-again c = one-more (c .before .before .before .before .loop .inv) (c .before .before .before .loop-test .taken) _ (struct-here _ _ _ _ _ (c .before .before .word .ensures) (c .before .inside-text .ensures)) (not-false _ (c .if2 .left))
+
+returns-3 : tie.Need-returns-3 Inv-loop μ-loop
+returns-3 c = all-passed (c .before .loop .inv) (c .loop-test .left)
+
+pub structs-inside-spec : {M : Type 1} → statement M
+structs-inside-spec =
+    tie.close
+    (tie.spec
+    Inv-loop
+    μ-loop
+    room-requires
+    returns
+    loop-holds
+    word-requires
+    inside-text-requires
+    returns-2
+    add-i
+    loop-less
+    loop-again
+    returns-3)

@@ -1,0 +1,76 @@
+-- `program::structs::add_struct` meets its contract.
+use mathlib.Core.Path.{refl}
+use native.Mathlib.Omega.{arith}
+use Rattle.program.specs.Links.{structsLent}
+use Rattle.program.proofs.Adding.{lent-fits, word-fits, struct-22, struct-21, struct-text-21, struct-added}
+use borrow.Author.Needs.{needs}
+use Rattle.program.proofs.structs.add_struct.Statement.{statement}
+use Rattle.program.proofs.structs.add_struct.Tie as tie
+
+returns : tie.Need-returns
+returns c = λ rest. struct-22 _ _ _ (c .if1 .taken)
+
+room-requires : tie.Need-room-requires
+room-requires c κs = search needs
+
+returns-2 : tie.Need-returns-2
+unfolding structsLent
+returns-2 c = λ rest. struct-21 _ _ _ (c .before .before .if1 .left) _ (c .before .room .ensures _ refl) (c .if2 .taken)
+
+text-room-requires : tie.Need-text-room-requires
+text-room-requires c κs = search needs
+
+add-end : tie.Need-add-end
+add-end c = let h = lent-fits _ _ _ _ (c .before .text-room .ensures) (c .if3 .taken) in omega arith
+
+put-bytes-requires : tie.Need-put-bytes-requires
+put-bytes-requires c κs = lent-fits _ _ _ _ (c .before .before .text-room .ensures) (c .before .if3 .taken) .0
+
+pack-requires : tie.Need-pack-requires
+pack-requires c κs = let h = lent-fits _ _ _ _ (c .before .before .before .before .before .text-room .ensures) (c .before .before .before .before .if3 .taken) in (omega arith, omega arith)
+
+mul-structs : tie.Need-mul-structs
+mul-structs c = search needs
+
+slice-write-structs : tie.Need-slice-write-structs
+slice-write-structs c = word-fits _ _ (c .before .before .before .before .before .before .before .before .before .before .before .before .before .before .args .structs .now) (c .before .before .before .before .before .before .before .before .before .room .ensures _ refl) (c .before .before .before .before .before .before .before .before .if2 .left)
+
+add-t19 : tie.Need-add-t19
+add-t19 c = search needs
+
+same-length : tie.Need-same-length
+same-length c = search needs
+
+same-length-2 : tie.Need-same-length-2
+same-length-2 c = search needs
+
+returns-3 : tie.Need-returns-3
+unfolding structsLent
+returns-3 c = λ rest. struct-added _ _ _ (c .before .before .before .before .before .before .before .before .before .before .if1 .left) _ (c .before .before .before .before .before .before .before .before .before .room .ensures _ refl) (c .before .before .before .before .before .before .before .before .if2 .left) _ (c .before .before .before .before .before .before .text-room .ensures _ refl) (c .before .before .before .before .before .if3 .taken) _ _ _ (c .before .before .before .put-bytes .ensures) (c .pack .ensures) refl
+
+same-length-3 : tie.Need-same-length-3
+same-length-3 c = search needs
+
+returns-4 : tie.Need-returns-4
+unfolding structsLent
+returns-4 c = λ rest. struct-text-21 _ _ _ (c .before .before .before .before .before .if1 .left) _ (c .before .before .before .before .room .ensures _ refl) (c .before .before .before .if2 .left) _ (c .before .text-room .ensures _ refl) (c .if3 .left)
+
+pub add-struct-spec : {M : Type 1} → statement M
+add-struct-spec =
+    tie.close
+    (tie.spec
+    returns
+    room-requires
+    returns-2
+    text-room-requires
+    add-end
+    put-bytes-requires
+    pack-requires
+    mul-structs
+    slice-write-structs
+    add-t19
+    same-length
+    same-length-2
+    returns-3
+    same-length-3
+    returns-4)

@@ -1,0 +1,69 @@
+-- `program::structs::add_struct_info` meets its contract.
+use Rattle.program.specs.Links.{structsLent}
+use Rattle.program.proofs.Adding.{struct-19, struct-known, struct-new}
+use borrow.Author.Needs.{needs}
+use Rattle.program.proofs.structs.add_struct_info.Statement.{statement}
+use Rattle.program.proofs.structs.add_struct_info.Tie as tie
+
+struct-order-requires : tie.Need-struct-order-requires
+struct-order-requires c κs = search needs
+
+same-length : tie.Need-same-length
+same-length c = search needs
+
+same-length-2 : tie.Need-same-length-2
+same-length-2 c = search needs
+
+returns : tie.Need-returns
+returns c = λ rest. struct-19 _ _ _ _ (c .before .struct-order .ensures rest) (c .if1 .taken)
+
+first-struct-requires : tie.Need-first-struct-requires
+first-struct-requires c κs = search needs
+
+enum-known-found : tie.Need-enum-known-found
+enum-known-found c = search needs
+
+enum-told : tie.Need-enum-told
+enum-told c = search needs
+
+add-struct-requires : tie.Need-add-struct-requires
+add-struct-requires c κs = search needs
+
+same-length-3 : tie.Need-same-length-3
+same-length-3 c = search needs
+
+same-length-4 : tie.Need-same-length-4
+same-length-4 c = search needs
+
+returns-2 : tie.Need-returns-2
+unfolding structsLent
+returns-2 c = λ rest. struct-known _ _ _ _ (c .before .before .before .before .before .before .before .struct-order .ensures rest) (c .before .before .before .before .before .before .if1 .left) _ (c .before .before .before .first-struct .ensures) _ (c .before .found .given .1)
+
+same-length-5 : tie.Need-same-length-5
+same-length-5 c = search needs
+
+same-length-6 : tie.Need-same-length-6
+same-length-6 c = search needs
+
+returns-3 : tie.Need-returns-3
+unfolding structsLent
+returns-3 c = λ rest. struct-new _ _ _ _ (c .before .before .before .before .before .before .before .before .before .before .before .before .before .struct-order .ensures rest) (c .before .before .before .before .before .before .before .before .before .before .before .before .if1 .left) _ (c .before .before .before .before .before .before .before .before .before .first-struct .ensures) _ (c .before .before .before .before .before .before .before .enum-told .given .1) _ _ (c .before .before .before .before .add-struct .ensures rest)
+
+pub add-struct-info-spec : {M : Type 1} → statement M
+add-struct-info-spec =
+    tie.close
+    (tie.spec
+    struct-order-requires
+    same-length
+    same-length-2
+    returns
+    first-struct-requires
+    enum-known-found
+    enum-told
+    add-struct-requires
+    same-length-3
+    same-length-4
+    returns-2
+    same-length-5
+    same-length-6
+    returns-3)

@@ -1,0 +1,24 @@
+-- `program::words::code_end` meets its contract.
+use Rattle.program.proofs.Parts.{end-is}
+use borrow.Author.Needs.{needs}
+use Rattle.program.proofs.words.code_end.Statement.{statement}
+use Rattle.program.proofs.words.code_end.Tie as tie
+
+second-requires : tie.Need-second-requires
+second-requires c κs = search needs
+
+start-of-requires : tie.Need-start-of-requires
+start-of-requires c κs = search needs
+
+size-of-requires : tie.Need-size-of-requires
+size-of-requires c κs = search needs
+
+add-result : tie.Need-add-result
+add-result c = search needs
+
+returns : tie.Need-returns
+returns c = end-is _ _ _ _ _ (c .before .before .second .ensures) (c .before .start-of .ensures .0) (c .size-of .ensures .0)
+
+pub code-end-spec : {M : Type 1} → statement M
+code-end-spec =
+    tie.close (tie.spec second-requires start-of-requires size-of-requires add-result returns)

@@ -1,0 +1,23 @@
+-- `program::words::first` meets its contract.
+use Rattle.model.specs.Stores.{structWord}
+use Rattle.model.specs.Values.{kindAt}
+use Rattle.program.proofs.Parts.{past-0}
+use borrow.Author.Needs.{needs}
+use Rattle.program.proofs.words.first.Statement.{statement}
+use Rattle.program.proofs.words.first.Tie as tie
+
+returns : tie.Need-returns
+returns c = past-0 _ _ (c .if1 .taken)
+
+mul-word : tie.Need-mul-word
+mul-word c = search needs
+
+word-requires : tie.Need-word-requires
+word-requires c κs = search needs
+
+returns-2 : tie.Need-returns-2
+unfolding kindAt structWord
+returns-2 c = c .word .ensures
+
+pub first-spec : {M : Type 1} → statement M
+first-spec = tie.close (tie.spec returns mul-word word-requires returns-2)

@@ -1,0 +1,46 @@
+-- `program::words::part` meets its contract.
+use Rattle.program.proofs.Parts.{part-is}
+use borrow.Author.Needs.{needs}
+use Rattle.program.proofs.words.part.Statement.{statement}
+use Rattle.program.proofs.words.part.Tie as tie
+
+start-of-requires : tie.Need-start-of-requires
+start-of-requires c κs = search needs
+
+lesser-requires : tie.Need-lesser-requires
+lesser-requires c κs = search needs
+
+size-of-requires : tie.Need-size-of-requires
+size-of-requires c κs = search needs
+
+add-lesser : tie.Need-add-lesser
+add-lesser c = search needs
+
+lesser-requires-2 : tie.Need-lesser-requires-2
+lesser-requires-2 c κs = search needs
+
+sub-result : tie.Need-sub-result
+sub-result c = search needs
+
+part-result-start : tie.Need-part-result-start
+part-result-start c = search needs
+
+part-result-end : tie.Need-part-result-end
+part-result-end c = search needs
+
+returns : tie.Need-returns
+returns c = part-is _ _ _ _ _ _ (c .before .before .before .before .start-of .ensures .0) (c .before .before .size-of .ensures .0) (c .before .before .before .lesser .ensures) (c .before .lesser2 .ensures)
+
+pub part-spec : {M : Type 1} → statement M
+part-spec =
+    tie.close
+    (tie.spec
+    start-of-requires
+    lesser-requires
+    size-of-requires
+    add-lesser
+    lesser-requires-2
+    sub-result
+    part-result-start
+    part-result-end
+    returns)

@@ -1,0 +1,17 @@
+-- `program::words::room` meets its contract.
+use Rattle.program.proofs.Parts.{room-is}
+use borrow.Author.Needs.{needs}
+use Rattle.program.proofs.words.room.Statement.{statement}
+use Rattle.program.proofs.words.room.Tie as tie
+
+div-lesser : tie.Need-div-lesser
+div-lesser c = search needs
+
+lesser-requires : tie.Need-lesser-requires
+lesser-requires c κs = search needs
+
+returns : tie.Need-returns
+returns c = room-is _ _ _ (c .before .pre) (c .lesser .ensures)
+
+pub room-spec : {M : Type 1} → statement M
+room-spec = tie.close (tie.spec div-lesser lesser-requires returns)

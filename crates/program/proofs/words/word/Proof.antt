@@ -1,0 +1,23 @@
+-- `program::words::word` meets its contract.
+use mathlib.Core.Path.{refl}
+use Rattle.model.specs.Stores.{structWord}
+use Rattle.program.proofs.Parts.{past}
+use borrow.Author.Needs.{needs}
+use Rattle.program.proofs.words.word.Statement.{statement}
+use Rattle.program.proofs.words.word.Tie as tie
+
+mul-result : tie.Need-mul-result
+mul-result c = search needs
+
+shared-slice-read-result : tie.Need-shared-slice-read-result
+shared-slice-read-result c = search needs
+
+returns : tie.Need-returns
+unfolding structWord
+returns c = refl
+
+returns-2 : tie.Need-returns-2
+returns-2 c = past _ _ (c .if1 .left)
+
+pub word-spec : {M : Type 1} → statement M
+word-spec = tie.close (tie.spec mul-result shared-slice-read-result returns returns-2)

@@ -1,0 +1,167 @@
+// Good order of a program's counts and stores: each check answers exactly what the model's definition says.
+use crate::names::all_different;
+use crate::words::code_end;
+use crate::words::code_start;
+use crate::words::first;
+use crate::words::part;
+use crate::words::room;
+use crate::words::same_bytes;
+use crate::words::second;
+use crate::words::size_of;
+use crate::words::start_of;
+use crate::words::word;
+use model::Counts;
+ghost use mathlib.Core.Path.{_≡_};
+ghost use mathlib.Core.Bool.{_&&_};
+ghost use mathlib.Core.List.{List};
+ghost use Prim.Native.Nat.{ℕ, suc};
+ghost use lib.Dec.{eqb, leb};
+ghost use lib.ListN.{length};
+ghost use Rattle.model.specs.Basics.{everyFrom};
+ghost use Rattle.model.specs.Values.{places};
+ghost use Rattle.model.specs.Stores.{structWord};
+ghost use Rattle.model.specs.Orders.{countsOk, textOk, insideText, constantOk, constantsOk, structsOk, functionOk, functionsOk, mainOk, insideCodes};
+
+// Whether i is the last of n.
+fn last_of(i: usize, n: usize) -> bool
+    ensures { λ r. ⌜ r ≡ eqb (suc i) n ⌝ }
+{
+    if n == 0 {
+        return false;
+    }
+    i == n - 1
+}
+
+// Counts within limits; the current function main or the newest.
+pub fn counts_ok(c: Counts) -> bool
+    ensures { λ r. ⌜ r ≡ countsOk c ⌝ }
+{
+    (c.constants <= 65535)
+        & (c.structs <= 65536)
+        & (1 <= c.functions)
+        & (c.functions <= 65536)
+        & (c.text <= 0xFFFF_FFFF)
+        & ((c.current == 0) | last_of(c.current, c.functions))
+}
+
+// The text that is taken lies in its store.
+pub fn text_ok(c: Counts, text: &[u8]) -> bool
+    ensures { λ r. ⌜ r ≡ textOk c (now (text .entry)) ⌝ }
+{
+    c.text <= room(text.len(), 1)
+}
+
+// A name or a text lies inside the text that is taken.
+pub fn inside_text(c: Counts, w: u64) -> bool
+    ensures { λ r. ⌜ r ≡ insideText c w ⌝ }
+{
+    start_of(w) + size_of(w) <= c.text
+}
+
+// A constant of one of the four kinds.
+pub fn constant_ok(c: Counts, kind: u64, payload: u64) -> bool
+    ensures { λ r. ⌜ r ≡ constantOk c kind payload ⌝ }
+{
+    if kind == 0 {
+        return true;
+    }
+    if kind == 1 {
+        return payload < 2;
+    }
+    if kind <= 3 {
+        return inside_text(c, payload);
+    }
+    false
+}
+
+pub fn constants_ok(c: Counts, constants: &[u64]) -> bool
+    ensures { λ r. ⌜ r ≡ constantsOk c (now (constants .entry)) ⌝ }
+{
+    let n = c.constants;
+    if room(constants.len(), 2) < n {
+        return false;
+    }
+    let mut i = 0;
+    while i < n {
+        let kind = first(constants, i);
+        let payload = second(constants, i);
+        let ok = constant_ok(c, kind, payload);
+        if !ok {
+            return false;
+        }
+        i += 1;
+    }
+    true
+}
+
+// The struct names lie in their store and inside the text.
+fn structs_inside(c: Counts, structs: &[u64]) -> bool
+    ensures { λ r. ⌜ r ≡ (leb (c .structs) (places 1 (now (structs .entry))) && everyFrom (c .structs) 0 (λ i. insideText c (structWord (now (structs .entry)) i))) ⌝ }
+{
+    let n = c.structs;
+    if room(structs.len(), 1) < n {
+        return false;
+    }
+    let mut i = 0;
+    while i < n {
+        let ok = inside_text(c, word(structs, i));
+        if !ok {
+            return false;
+        }
+        i += 1;
+    }
+    true
+}
+
+pub fn structs_ok(c: Counts, structs: &[u64], text: &[u8]) -> bool
+    ensures { λ r. ⌜ r ≡ structsOk c (now (structs .entry)) (now (text .entry)) ⌝ }
+{
+    if structs_inside(c, structs) {
+        return all_different(c.structs, structs, text);
+    }
+    false
+}
+
+// Function i: its name inside the text, its code behind the others and within its limit.
+pub fn function_ok(c: Counts, functions: &[u64], i: usize) -> bool
+    ensures { λ r. ⌜ r ≡ functionOk c (now (functions .entry)) i ⌝ }
+{
+    let code = second(functions, i);
+    inside_text(c, first(functions, i))
+        & (start_of(code) == code_start(functions, i))
+        & (size_of(code) <= 65535)
+        & (code_end(functions, i) <= 0xFFFF_FFFF)
+}
+
+pub fn functions_ok(c: Counts, functions: &[u64]) -> bool
+    ensures { λ r. ⌜ r ≡ functionsOk c (now (functions .entry)) ⌝ }
+{
+    let n = c.functions;
+    if room(functions.len(), 2) < n {
+        return false;
+    }
+    let mut i = 0;
+    while i < n {
+        let ok = function_ok(c, functions, i);
+        if !ok {
+            return false;
+        }
+        i += 1;
+    }
+    true
+}
+
+// Function 0 is `<main>`.
+pub fn main_ok(functions: &[u64], text: &[u8]) -> bool
+    ensures { λ r. ⌜ r ≡ mainOk (now (functions .entry)) (now (text .entry)) ⌝ }
+{
+    same_bytes(part(text, first(functions, 0)), b"<main>")
+}
+
+// The codes lie inside stores of these lengths, for main and for the others; it serves code and places alike.
+pub fn inside_codes(c: Counts, functions: &[u64], main: usize, other: usize) -> bool
+    ensures { λ r. ⌜ ((m o : List ℕ) → length m ≡ main → length o ≡ other → r ≡ insideCodes c (now (functions .entry)) m o) ⌝ }
+{
+    (code_end(functions, 0) <= room(main, 1))
+        & (code_start(functions, c.functions) <= room(other, 1))
+}
