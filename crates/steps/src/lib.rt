@@ -12,7 +12,7 @@ use model::Fault;
 use model::Op;
 ghost use mathlib.Core.Path.{_≡_};
 ghost use mathlib.Core.List.{List};
-ghost use Prim.Native.Nat.{_<_};
+ghost use Prim.Native.Nat.{_≤_, _<_};
 ghost use lib.ListN.{length, getD};
 ghost use Rattle.model.specs.declared.Frame.{Frame};
 ghost use Rattle.model.specs.Programs.{wordAt};
@@ -59,7 +59,7 @@ fn execute(
     stack: &mut [u64],
     cells: &mut [u64],
 ) -> Answer
-    requires { ⌜ ((w : World) × Lent w k (now constants) (now functions) (now text) (now cells)) × (Blocks (length (now text)) k g (now stack) (now cells) × ((g .position < 0x1_0000_0000) × (g .base < 0x1_0000_0000) × (a < 0x1_0000) × (b < 0x1_0000))) ⌝ }
+    requires { ⌜ ((w : World) × Lent w k (now constants) (now functions) (now text) (now cells)) × (Blocks (length (now text)) k g (now stack) (now cells) × ((g .position < 0x1_0000_0000) × (g .base ≤ k .slots) × (a < 0x1_0000) × (b < 0x1_0000))) ⌝ }
     ensures { λ r. ⌜ ((w : World) → Lent w k (now (constants .entry)) (now (functions .entry)) (now (text .entry)) (now (cells .entry)) → BlockPost (execOf w o a b) k g (now (stack .entry)) (now (cells .entry)) r (now (stack .exit)) (now (cells .exit))) ⌝ }
 {
     match o {
@@ -87,91 +87,4 @@ fn execute(
         Op::BuildList => blocks::build(true, 0, a, k, g, stack, cells),
         Op::Return => frames::go_back(k, g, stack),
     }
-}
-
-// One step, where the position is inside the code.
-fn step(
-    k: Fixed,
-    g: Going,
-    code: &[u8],
-    constants: &[u64],
-    functions: &[u64],
-    text: &[u8],
-    stack: &mut [u64],
-    cells: &mut [u64],
-) -> Answer
-    requires { ⌜ ((w : World) × (cs : List Frame) × Ready w cs k g (now code) (now constants) (now functions) (now text) (now stack) (now cells)) × (g .position < length (now code)) ⌝ }
-    ensures { λ r. ⌜ ((w : World) (cs : List Frame) → Ready w cs k g (now (code .entry)) (now (constants .entry)) (now (functions .entry)) (now (text .entry)) (now (stack .entry)) (now (cells .entry)) → BlockPost (stepOf w) k g (now (stack .entry)) (now (cells .entry)) r (now (stack .exit)) (now (cells .exit))) ⌝ }
-{
-    let units = g.units;
-    if units == 0 {
-        return Answer::Stopped(g, Fault::UnitsSpent);
-    }
-    let position = g.position;
-    let opcode = code[position];
-    let next = position + 1;
-    let fetched = Going {
-        position: next,
-        units: units - 1,
-        ..g
-    };
-    match opcode::decode(opcode) {
-        Decoded::Unknown => Answer::Stopped(fetched, Fault::UnknownOpcode),
-        Decoded::NotCarried => Answer::Stopped(fetched, Fault::NotCarried),
-        Decoded::Carried(o) => {
-            let behind = next + 2 * opcode::operands_read(opcode);
-            if code.len() < behind {
-                return Answer::Stopped(fetched, Fault::CodeEnds);
-            }
-            let a = word_at(code, next);
-            let b = word_at(code, next + 2);
-            let read = Going {
-                position: behind,
-                ..fetched
-            };
-            execute(o, a, b, k, read, constants, functions, text, stack, cells)
-        }
-    }
-}
-
-// The steps inside the current function.
-pub fn exec(
-    k: Fixed,
-    start: Going,
-    code: &[u8],
-    constants: &[u64],
-    functions: &[u64],
-    text: &[u8],
-    stack: &mut [u64],
-    cells: &mut [u64],
-) -> Event
-    requires { ⌜ ((w : World) × (cs : List Frame) × Ready w cs k start (now code) (now constants) (now functions) (now text) (now stack) (now cells)) ⌝ }
-    ensures { λ r. ⌜ ((w : World) (cs : List Frame) → Ready w cs k start (now (code .entry)) (now (constants .entry)) (now (functions .entry)) (now (text .entry)) (now (stack .entry)) (now (cells .entry)) → ExecPost w cs k start (now (stack .entry)) (now (cells .entry)) r (now (stack .exit)) (now (cells .exit))) ⌝ }
-{
-    let mut g = start;
-    while g.position < code.len() {
-        match step(k, g, code, constants, functions, text, stack, cells) {
-            Answer::Went(next) => {
-                g = next;
-            }
-            Answer::Returned(done) => {
-                let next = done.going;
-                g = Going {
-                    mark: next.used,
-                    answered: 1,
-                    ..next
-                };
-            }
-            Answer::Call(next, i, base) => {
-                return Event::Call(next, i, base);
-            }
-            Answer::Back(next) => {
-                return Event::Back(next);
-            }
-            Answer::Stopped(next, fault) => {
-                return Event::Stopped(next, fault);
-            }
-        }
-    }
-    Event::Over(g)
 }
