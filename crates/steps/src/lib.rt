@@ -88,3 +88,48 @@ fn execute(
         Op::Return => frames::go_back(k, g, stack),
     }
 }
+
+// One step, where the position is inside the code.
+fn step(
+    k: Fixed,
+    g: Going,
+    code: &[u8],
+    constants: &[u64],
+    functions: &[u64],
+    text: &[u8],
+    stack: &mut [u64],
+    cells: &mut [u64],
+) -> Answer
+    requires { ⌜ ((w : World) × (cs : List Frame) × Ready w cs k g (now code) (now constants) (now functions) (now text) (now stack) (now cells)) × (g .position < length (now code)) ⌝ }
+    ensures { λ r. ⌜ ((w : World) (cs : List Frame) → Ready w cs k g (now (code .entry)) (now (constants .entry)) (now (functions .entry)) (now (text .entry)) (now (stack .entry)) (now (cells .entry)) → BlockPost (stepOf w) k g (now (stack .entry)) (now (cells .entry)) r (now (stack .exit)) (now (cells .exit))) ⌝ }
+{
+    let units = g.units;
+    if units == 0 {
+        return Answer::Stopped(g, Fault::UnitsSpent);
+    }
+    let position = g.position;
+    let opcode = code[position];
+    let next = position + 1;
+    let fetched = Going {
+        position: next,
+        units: units - 1,
+        ..g
+    };
+    match opcode::decode(opcode) {
+        Decoded::Unknown => Answer::Stopped(fetched, Fault::UnknownOpcode),
+        Decoded::NotCarried => Answer::Stopped(fetched, Fault::NotCarried),
+        Decoded::Carried(o) => {
+            let behind = next + 2 * opcode::operands_read(opcode);
+            if code.len() < behind {
+                return Answer::Stopped(fetched, Fault::CodeEnds);
+            }
+            let a = word_at(code, next);
+            let b = word_at(code, next + 2);
+            let read = Going {
+                position: behind,
+                ..fetched
+            };
+            execute(o, a, b, k, read, constants, functions, text, stack, cells)
+        }
+    }
+}
