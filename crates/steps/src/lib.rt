@@ -133,3 +133,48 @@ fn step(
         }
     }
 }
+
+// The steps inside the current function.
+pub fn exec(
+    k: Fixed,
+    start: Going,
+    code: &[u8],
+    constants: &[u64],
+    functions: &[u64],
+    text: &[u8],
+    stack: &mut [u64],
+    cells: &mut [u64],
+) -> Event
+    requires { ⌜ ((w : World) × (cs : List Frame) × Ready w cs k start (now code) (now constants) (now functions) (now text) (now stack) (now cells)) ⌝ }
+    ensures { λ r. ⌜ ((w : World) (cs : List Frame) → Ready w cs k start (now (code .entry)) (now (constants .entry)) (now (functions .entry)) (now (text .entry)) (now (stack .entry)) (now (cells .entry)) → ExecPost w cs k start (now (stack .entry)) (now (cells .entry)) r (now (stack .exit)) (now (cells .exit))) ⌝ }
+{
+    let mut g = start;
+    while g.position < code.len() {
+        match step(k, g, code, constants, functions, text, stack, cells) {
+            Answer::Went(next) => {
+                g = next;
+            }
+            Answer::Returned(done) => {
+                let next = done.going;
+                g = Going {
+                    mark: next.used,
+                    answered: 1,
+                    ..next
+                };
+            }
+            Answer::Call(next, i, base) => {
+                return Event::Call(next, i, base);
+            }
+            Answer::Back(next) => {
+                if next.callers == 0 {
+                    return Event::Stopped(next, Fault::FramesFull);
+                }
+                return Event::Back(next);
+            }
+            Answer::Stopped(next, fault) => {
+                return Event::Stopped(next, fault);
+            }
+        }
+    }
+    Event::Over(g)
+}
