@@ -1,12 +1,11 @@
 -- The steps inside one function: where one step comes to, and what the run comes to from there.
 use mathlib.Core.Path.{_≡_, refl, sym, ap, subst, _∙_}
-use mathlib.Core.Bool.{true, false}
+use mathlib.Core.Bool.{false}
 use mathlib.Core.List.{List, [], _∷_}
-use Prim.Native.Nat.{ℕ, suc, _≤_, _<_}
+use Prim.Native.Nat.{ℕ, _≤_, _<_}
 use native.Mathlib.Omega.{arith}
 use borrow.Author.Tests.{le-leb, lt-leb}
 use lib.ListN.{length, length-append}
-use Rattle.model.specs.declared.Value.{Value}
 use Rattle.model.specs.declared.Last.{Last}
 use Rattle.model.specs.declared.Last.the-variants.{Is}
 use Rattle.model.specs.declared.Fault.{Fault}
@@ -15,7 +14,7 @@ use Rattle.model.specs.declared.Frame.{Frame}
 use Rattle.model.specs.Values.{places}
 use Rattle.model.specs.Heap.{Cell, heapOf}
 use Rattle.model.specs.Steps.{World, State, Outcome, went, returned, faulted, codeOf, stepOf}
-use Rattle.model.specs.Runs.{Mark, Ended, stopped, over, next}
+use Rattle.model.specs.Runs.{Mark, stopped, over, next}
 use Rattle.cells.proofs.Stands.{length-heap}
 use Rattle.rules.specs.Sane as sane
 use Rattle.rules.specs.Paths.{Spends, Grows, Adds, endFrom}

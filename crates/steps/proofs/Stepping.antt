@@ -1,5 +1,5 @@
 -- One step: the opcode is fetched and decoded, its operands are read, and the instruction is executed.
-use mathlib.Core.Path.{_≡_, refl, sym, ap, _∙_}
+use mathlib.Core.Path.{_≡_, refl, sym, _∙_}
 use mathlib.Core.Bool.{Bool, true, false, _&&_}
 use mathlib.Core.List.{List, [], _∷_}
 use Prim.Native.Nat.{ℕ, zero, suc, _+_, _-_, _*_, _≤_, _<_}
@@ -8,7 +8,6 @@ use native.Mathlib.Omega.{arith}
 use borrow.Author.Tests.{leb-true, le-leb, lt-leb, ne-eqb}
 use lib.Dec.{leb}
 use lib.ListN.{length, getD}
-use Rattle.model.specs.declared.Value.{Value}
 use Rattle.model.specs.declared.Value.the-variants as v
 use Rattle.model.specs.declared.Op.{Op}
 use Rattle.model.specs.declared.Decoded.{Decoded}
@@ -20,7 +19,7 @@ use Rattle.model.specs.Basics.{ascii}
 use Rattle.model.specs.Values.{vals, valueAt}
 use Rattle.model.specs.Heap.{heapOf, placedBelow}
 use Rattle.model.specs.Opcodes.{Opcode, opcodeAt, opcodes}
-use Rattle.model.specs.Programs.{functionAt, wordAt}
+use Rattle.model.specs.Programs.{wordAt}
 use Rattle.model.specs.Steps.{World, State, Outcome, faulted, codeOf, execOf, operandsThen, decodedThen, fetched, stepOf}
 use Rattle.value.proofs.Stores.{length-vals, vals-slot}
 use Rattle.cells.proofs.Stands.{length-heap}
@@ -33,7 +32,7 @@ use Rattle.arms.specs.declared.Fixed.{Fixed}
 use Rattle.arms.specs.declared.Going.{Going}
 use Rattle.arms.specs.declared.Answer.{Answer}
 use Rattle.arms.specs.declared.Answer.the-variants.{Stopped}
-use Rattle.arms.specs.Links.{stateOf, Kept, Within, CellsWithin, Blocks, BlockPost}
+use Rattle.arms.specs.Links.{stateOf, Within, CellsWithin, Blocks, BlockPost}
 use Rattle.arms.proofs.Posts.{refused}
 use Rattle.arms.proofs.Cellwise.{arm-block}
 use Rattle.steps.specs.Links.{Ready}

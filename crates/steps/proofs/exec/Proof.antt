@@ -9,9 +9,6 @@ use Rattle.steps.specs.Links.{Ready}
 use Rattle.steps.proofs.Following.{Came, came-none, came-on, ends-on, ends-over, told, went-on, went-less, returned-on, returned-less, calls-out, stops, back-none, back-out}
 use Rattle.steps.proofs.exec.Statement.{statement}
 use Rattle.steps.proofs.exec.Tie as tie
-use Rattle.steps.proofs.exec.Reads as reads
-use Rattle.steps.proofs.exec.Lts as lts
-use Rattle.steps.proofs.step.Reads as step-reads
 
 abbrev Inv-loop : tie.InvT-loop
 Inv-loop k code constants functions text stack₀ cells₀ g₀ stack cells g =

@@ -8,25 +8,6 @@ use Rattle.arms.proofs.Cellwise.{equal-is, not-equal-is, list-is-build}
 use Rattle.steps.proofs.Dispatch.{by-arm, by-block}
 use Rattle.steps.proofs.execute.Statement.{statement}
 use Rattle.steps.proofs.execute.Tie as tie
-use Rattle.steps.proofs.execute.Reads as reads
-use Rattle.steps.proofs.execute.Lts as lts
-use Rattle.arms.proofs.blocks.access_struct_field.Reads as access-struct-field-reads
-use Rattle.arms.proofs.blocks.build.Reads as build-reads
-use Rattle.arms.proofs.blocks.build_struct.Reads as build-struct-reads
-use Rattle.arms.proofs.blocks.equal.Reads as equal-reads
-use Rattle.arms.proofs.frames.call.Reads as call-reads
-use Rattle.arms.proofs.frames.call_callable.Reads as call-callable-reads
-use Rattle.arms.proofs.frames.go_back.Reads as go-back-reads
-use Rattle.arms.proofs.logic.jump.Reads as jump-reads
-use Rattle.arms.proofs.logic.jump_if_false.Reads as jump-if-false-reads
-use Rattle.arms.proofs.logic.logical.Reads as logical-reads
-use Rattle.arms.proofs.logic.logical_neg.Reads as logical-neg-reads
-use Rattle.arms.proofs.pushes.get_last_result.Reads as get-last-result-reads
-use Rattle.arms.proofs.pushes.get_slot.Reads as get-slot-reads
-use Rattle.arms.proofs.pushes.load_constant.Reads as load-constant-reads
-use Rattle.arms.proofs.scalars.arithmetic.Reads as arithmetic-reads
-use Rattle.arms.proofs.scalars.negate.Reads as negate-reads
-use Rattle.arms.proofs.scalars.ordering.Reads as ordering-reads
 
 enum-told : tie.Need-enum-told
 enum-told c = search needs

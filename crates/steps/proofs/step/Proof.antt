@@ -6,12 +6,6 @@ use Rattle.model.specs.Steps.{decodedThen}
 use Rattle.steps.proofs.Stepping.{read-few, code-short, blocks-at, base-fits, unpaid, unread, cut-short, carried}
 use Rattle.steps.proofs.step.Statement.{statement}
 use Rattle.steps.proofs.step.Tie as tie
-use Rattle.steps.proofs.step.Reads as reads
-use Rattle.steps.proofs.step.Lts as lts
-use Rattle.opcode.proofs.decode.Reads as decode-reads
-use Rattle.opcode.proofs.operands_read.Reads as operands-read-reads
-use Rattle.steps.proofs.execute.Reads as execute-reads
-use Rattle.steps.proofs.word_at.Reads as word-at-reads
 
 returns : tie.Need-returns
 returns c = λ w cs at. unpaid at (c .if1 .taken)

@@ -4,8 +4,6 @@ use native.Mathlib.Omega.{arith}
 use Prim.Native.Nat.{_+_}
 use Rattle.steps.proofs.word_at.Statement.{statement}
 use Rattle.steps.proofs.word_at.Tie as tie
-use Rattle.steps.proofs.word_at.Reads as reads
-use Rattle.steps.proofs.word_at.Lts as lts
 use Rattle.steps.proofs.Dispatch.{word-is}
 
 byte-at-requires : tie.Need-byte-at-requires
