@@ -166,6 +166,7 @@ pub fn exec(
                 return Event::Call(next, i, base);
             }
             Answer::Back(next) => {
+                // With no caller a Back stands for this fault, so that an Event::Back always has one.
                 if next.callers == 0 {
                     return Event::Stopped(next, Fault::FramesFull);
                 }
