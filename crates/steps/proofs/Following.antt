@@ -133,6 +133,7 @@ module _ {w : World} {cs : List Frame} {k : Fixed} {code constants functions tex
       sane = sane-on (z .units) _ _ e (q .sane);
       callers = q .callers ∙ z .callers;
       units = let a = z .units in let b = q .units in omega arith;
+      mark = let a = z .mark in let b = q .mark in omega arith;
       before = λ i h. q .before i (let a = z .mark in omega arith) ∙ z .before i h;
     }
 
@@ -146,6 +147,7 @@ module _ {w : World} {cs : List Frame} {k : Fixed} {code constants functions tex
       sane = at .sane;
       callers = refl;
       units = omega arith;
+      mark = omega arith;
       before = λ i h. refl;
     }
 
@@ -230,6 +232,7 @@ module _ {w : World} {cs : List Frame} {k : Fixed} {code constants functions tex
             sane = (l, kept h p);
             callers = p .kept .callers;
             units = omega arith;
+            mark = let m = p .kept .mark in omega arith;
             before = before-mark h p;
           }
 
@@ -244,6 +247,7 @@ module _ {w : World} {cs : List Frame} {k : Fixed} {code constants functions tex
             sane = kept h p .traced;
             callers = p .kept .callers;
             units = l;
+            mark = let m = p .kept .mark in omega arith;
             before = before-mark h p;
           }
 
@@ -303,6 +307,7 @@ back-out {w} (c ∷ cs) {g = g} {x = x} at h {n} {s'} {x'} b p =
       sane = (l, kept at h p);
       callers = p .kept .callers;
       units = omega arith;
+      mark = let m = p .kept .mark in omega arith;
       before = before-mark at h p;
     }
 

@@ -1,6 +1,6 @@
 -- What the code leans on while a run is under way, and what the steps inside one function ensure.
 use mathlib.Core.Path.{_≡_}
-use mathlib.Core.Bool.{Bool, true}
+use mathlib.Core.Bool.{true}
 use mathlib.Core.List.{List, [], _∷_}
 use Prim.Native.Nat.{ℕ, _*_, _≤_, _<_}
 use lib.Dec.{eqb}
@@ -93,4 +93,5 @@ pub record ExecPost (w : World) (cs : List Frame) (k : Fixed) (g : Going) (s x :
   pub sane : SaneAt w cs (g .units) r s' x'
   pub callers : goingAt r .callers ≡ g .callers
   pub units : goingAt r .units ≤ g .units
+  pub mark : g .mark ≤ goingAt r .mark
   pub before : (n : ℕ) → n ≤ g .mark → heapOf n x' ≡ heapOf n x
