@@ -29,10 +29,10 @@ use Rattle.arms.specs.declared.Going.{Going}
 use Rattle.arms.specs.declared.Completed.{Completed}
 use Rattle.arms.specs.declared.Answer.{Answer}
 use Rattle.arms.specs.declared.Answer.the-variants as r
-use Rattle.arms.specs.Links.{stateOf, outcomeOf, backTo, lastIn, Kept, BlockPost}
+use Rattle.arms.specs.Links.{stateOf, outcomeOf, backTo, goingIn, lastIn, Kept, BlockPost}
 use Rattle.steps.specs.declared.Event.{Event}
 use Rattle.steps.specs.declared.Event.the-variants.{Over, Call, Back, Stopped}
-use Rattle.steps.specs.Links.{Lent, Ready, answerIn, markIn, backIn, afterEvent, SaneAt, ExecPost}
+use Rattle.steps.specs.Links.{Lent, Ready, answerIn, markIn, backIn, afterEvent, goingAt, SaneAt, ExecPost}
 
 -- ---- a step that keeps the callers keeps the function
 
@@ -200,6 +200,20 @@ module _ {w : World} {cs : List Frame} {k : Fixed} {code constants functions tex
         marked : Grows (heapOf (g .used) x) (heapOf (n .used) x') → n .mark ≤ n .used
         marked z = let a = grown z in let b = length-heap (g .used) x in let d = length-heap (n .used) x' in let q = at .fits .mark in let m = c .mark in omega arith
 
+      -- what the run comes to where the step leaves the function
+      leaves : (e : Event) → goingAt e ≡ goingIn r → lastIn (goingIn r .kind) (goingIn r .payload) ≡ lastIn (g .kind) (g .payload)
+          → Grows (heapOf (g .used) x) (heapOf (goingIn r .used) x') → goingIn r .units ≤ g .units
+          → endFrom w (answerIn g) (markIn g x) (stateOf g s x cs) ≡ afterEvent w cs e s' x' → SaneAt w cs (g .units) e s' x' → ExecPost w cs k g s x e s' x'
+      leaves e q l z u m i = record {
+        means = m;
+        fits = rw q (record { stack = p .within; cells = p .cells; mark = marked (p .kept) l z });
+        sane = i;
+        callers = rw q (p .kept .callers);
+        units = rw q u;
+        mark = rw q (let y = p .kept .mark in omega arith);
+        before = before-mark;
+      }
+
     module _ (h : g .position < length code) {n : Going} {s' x' : List ℕ} where
       pub went-on : BlockPost (stepOf w) k g s x (r.Went n) s' x' → length x' ≡ length x → Came w cs k code constants functions text g s x n s' x'
       unfolding next
@@ -226,30 +240,16 @@ module _ {w : World} {cs : List Frame} {k : Fixed} {code constants functions tex
       calls-out {i} {b} p =
           let a : Adds (heapOf (g .used) x) (lastIn (g .kind) (g .payload)) (outcomeOf cs (r.Call n i b) s' x') = adds h p in
           let l : n .units < g .units = spends h p in
-          record {
-            means = follows h p ∙ ends-same w (same-answer h p (p .kept) (a .1)) (same-mark h p (p .kept) (a .1)) _;
-            fits = record { stack = p .within; cells = p .cells; mark = marked h p (p .kept) (a .1) (a .0) };
-            sane = (l, kept h p);
-            callers = p .kept .callers;
-            units = omega arith;
-            mark = let m = p .kept .mark in omega arith;
-            before = before-mark h p;
-          }
+          leaves h p (Call n i b) refl (a .1) (a .0) (omega arith)
+          (follows h p ∙ ends-same w (same-answer h p (p .kept) (a .1)) (same-mark h p (p .kept) (a .1)) _) (l, kept h p)
 
       pub stops : {m : Fault} → BlockPost (stepOf w) k g s x (r.Stopped n m) s' x' → ExecPost w cs k g s x (Stopped n m) s' x'
       unfolding next afterEvent
       stops {m} p =
           let a : Adds (heapOf (g .used) x) (lastIn (g .kind) (g .payload)) (faulted m (stateOf n s' x' cs)) = adds h p in
           let l : n .units ≤ g .units = spends h p in
-          record {
-            means = follows h p ∙ ap (stopped m (stateOf n s' x' cs)) (same-mark h p (p .kept) (a .1));
-            fits = record { stack = p .within; cells = p .cells; mark = marked h p (p .kept) (a .1) (a .0) };
-            sane = kept h p .traced;
-            callers = p .kept .callers;
-            units = l;
-            mark = let m = p .kept .mark in omega arith;
-            before = before-mark h p;
-          }
+          leaves h p (Stopped n m) refl (a .1) (a .0) l
+          (follows h p ∙ ap (stopped m (stateOf n s' x' cs)) (same-mark h p (p .kept) (a .1))) (kept h p .traced)
 
     pub returned-on : g .position < length code → {d : Completed} {s' x' : List ℕ} → BlockPost (stepOf w) k g s x (r.Returned d) s' x' → length x' ≡ length x
         → Came w cs k code constants functions text g s x (answeredIn (d .going)) s' x'
@@ -301,15 +301,8 @@ back-out [] at h b p = absurd (b (p .kept .callers ∙ sym (at .callers)))
 back-out {w} (c ∷ cs) {g = g} {x = x} at h {n} {s'} {x'} b p =
     let a : Adds (heapOf (g .used) x) (lastIn (g .kind) (g .payload)) (outcomeOf (c ∷ cs) (r.Back n) s' x') = adds at h p in
     let l : n .units < g .units = spends at h p in
-    record {
-      means = follows at h p ∙ ends-same w (same-answer at h p (p .kept) (a .1)) (same-mark at h p (p .kept) (a .1)) _;
-      fits = record { stack = p .within; cells = p .cells; mark = marked at h p (p .kept) (a .1) (a .0) };
-      sane = (l, kept at h p);
-      callers = p .kept .callers;
-      units = omega arith;
-      mark = let m = p .kept .mark in omega arith;
-      before = before-mark at h p;
-    }
+    leaves at h p (Back n) refl (a .1) (a .0) (omega arith)
+    (follows at h p ∙ ends-same w (same-answer at h p (p .kept) (a .1)) (same-mark at h p (p .kept) (a .1)) _) (l, kept at h p)
 
 -- ---- a step that goes on spends a unit
 
