@@ -1,0 +1,3 @@
+pub mod Dispatch
+pub mod Stepping
+pub mod Following

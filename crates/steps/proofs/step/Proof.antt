@@ -1,0 +1,99 @@
+-- `steps::step` meets its contract: each way out of the code is one of the rule.
+use mathlib.Core.Path.{refl, sym, _∙_}
+use native.Mathlib.Omega.{arith}
+use borrow.Author.Needs.{needs}
+use Rattle.model.specs.Steps.{decodedThen}
+use Rattle.steps.proofs.Stepping.{read-few, code-short, blocks-at, base-fits, unpaid, unread, cut-short, carried}
+use Rattle.steps.proofs.step.Statement.{statement}
+use Rattle.steps.proofs.step.Tie as tie
+
+returns : tie.Need-returns
+returns c = λ w cs at. unpaid at (c .if1 .taken)
+
+shared-slice-read-opcode : tie.Need-shared-slice-read-opcode
+shared-slice-read-opcode c = search needs
+
+add-next : tie.Need-add-next
+add-next c = search needs
+
+sub-t23 : tie.Need-sub-t23
+sub-t23 c = search needs
+
+decode-requires : tie.Need-decode-requires
+decode-requires c κs = search needs
+
+enum-told : tie.Need-enum-told
+enum-told c = search needs
+
+enum-told-2 : tie.Need-enum-told-2
+enum-told-2 c = search needs
+
+enum-known-o : tie.Need-enum-known-o
+enum-known-o c = search needs
+
+operands-read-requires : tie.Need-operands-read-requires
+operands-read-requires c κs = search needs
+
+mul-behind : tie.Need-mul-behind
+mul-behind c = omega (arith, read-few _ (c .operands-read .ensures))
+
+add-behind : tie.Need-add-behind
+add-behind c = omega (arith, read-few _ (c .operands-read .ensures), code-short (c .before .before .before .before .before .before .before .before .before .before .before .before .before .pre .0 .2), c .before .before .before .before .before .before .before .before .before .before .before .before .before .pre .1)
+
+returns-2 : tie.Need-returns-2
+returns-2 c = λ w cs at. cut-short at (c .before .before .before .before .before .before .before .if1 .left) refl (sym (c .before .before .before .o .given .1) ∙ c .before .before .before .before .before .decode .ensures) (c .before .operands-read .ensures) (c .if2 .taken)
+
+word-at-requires : tie.Need-word-at-requires
+word-at-requires c κs = search needs
+
+add-word-at : tie.Need-add-word-at
+add-word-at c = search needs
+
+word-at-requires-2 : tie.Need-word-at-requires-2
+word-at-requires-2 c κs = search needs
+
+execute-requires : tie.Need-execute-requires
+execute-requires c κs = ((c .before .before .before .before .before .before .before .before .before .before .before .before .before .before .before .before .before .before .pre .0 .0, (c .before .before .before .before .before .before .before .before .before .before .before .before .before .before .before .before .before .before .pre .0 .2) .lent), (blocks-at (c .before .before .before .before .before .before .before .before .before .before .before .before .before .before .before .before .before .before .pre .0 .2) _ _, (omega (arith, code-short (c .before .before .before .before .before .before .before .before .before .before .before .before .before .before .before .before .before .before .pre .0 .2)), base-fits (c .before .before .before .before .before .before .before .before .before .before .before .before .before .before .before .before .before .before .pre .0 .2), c .before .before .before .word-at .ensures .1, c .before .before .word-at2 .ensures .1)))
+
+returns-3 : tie.Need-returns-3
+unfolding decodedThen
+returns-3 c = λ w cs at. unread at (c .before .before .before .before .if1 .left) refl (sym (c .enum-told .given .1) ∙ c .before .before .decode .ensures) (λ st h p. refl)
+
+returns-4 : tie.Need-returns-4
+unfolding decodedThen
+returns-4 c = λ w cs at. unread at (c .before .before .before .before .if1 .left) refl (sym (c .enum-told2 .given .1) ∙ c .before .before .decode .ensures) (λ st h p. refl)
+
+same-length : tie.Need-same-length
+same-length c = search needs
+
+same-length-2 : tie.Need-same-length-2
+same-length-2 c = search needs
+
+returns-5 : tie.Need-returns-5
+returns-5 c = λ w cs at. carried at (c .before .before .before .before .before .before .before .before .before .before .before .before .before .before .before .before .if1 .left) refl (sym (c .before .before .before .before .before .before .before .before .before .before .before .before .o .given .1) ∙ c .before .before .before .before .before .before .before .before .before .before .before .before .before .before .decode .ensures) (c .before .before .before .before .before .before .before .before .before .before .operands-read .ensures) (c .before .before .before .before .before .before .before .before .before .if2 .left) (c .before .before .before .before .before .before .before .before .word-at .ensures .0) (c .before .before .before .before .before .before .before .word-at2 .ensures .0) (c .before .before .before .before .execute .ensures w (at .lent))
+
+pub step-spec : {M : Type 1} → statement M
+step-spec =
+    tie.close
+    (tie.spec
+    returns
+    shared-slice-read-opcode
+    add-next
+    sub-t23
+    decode-requires
+    enum-told
+    enum-told-2
+    enum-known-o
+    operands-read-requires
+    mul-behind
+    add-behind
+    returns-2
+    word-at-requires
+    add-word-at
+    word-at-requires-2
+    execute-requires
+    returns-3
+    returns-4
+    same-length
+    same-length-2
+    returns-5)

@@ -1,0 +1,97 @@
+-- What the code leans on while a run is under way, and what the steps inside one function ensure.
+use mathlib.Core.Path.{_≡_}
+use mathlib.Core.Bool.{true}
+use mathlib.Core.List.{List, [], _∷_}
+use Prim.Native.Nat.{ℕ, _*_, _≤_, _<_}
+use lib.Dec.{eqb}
+use lib.ListN.{length}
+use Rattle.model.specs.declared.Last.{Last}
+use Rattle.model.specs.declared.Last.the-variants.{Nothing}
+use Rattle.model.specs.declared.Frame.{Frame}
+use Rattle.model.specs.Basics.{if_then_else_}
+use Rattle.model.specs.Values.{places, valuesFrom}
+use Rattle.model.specs.Heap.{heapOf}
+use Rattle.model.specs.Programs.{functionAt}
+use Rattle.model.specs.Steps.{World, State, withFrames}
+use Rattle.model.specs.Runs.{Mark, Ended, ended, stopped, traceable}
+use Rattle.model.specs.Stores.{Stores}
+use Rattle.program.specs.Links.{namesLent}
+use Rattle.rules.specs.Sane.{Sane, SaneWorld}
+use Rattle.rules.specs.Paths.{endFrom}
+use Rattle.arms.specs.declared.Fixed.{Fixed}
+use Rattle.arms.specs.declared.Going.{Going}
+use Rattle.arms.specs.Links.{Within, Suits, Named, CellsWithin, stateOf, frameIn, entered, lastIn}
+use Rattle.steps.specs.declared.Event.{Event}
+use Rattle.steps.specs.declared.Event.the-variants.{Over, Call, Back, Stopped}
+
+-- the world is what the lent slices say
+pub record Lent (w : World) (k : Fixed) (constants functions text cells : List ℕ) : Type 0 where
+  pub suits : Suits k w
+  pub values : w .constants ≡ valuesFrom (k .constants) 0 constants
+  pub room : 2 * k .constants ≤ length constants
+  -- the stores that are not lent
+  pub rest : Stores
+  pub named : Named k (namesLent rest functions text) w
+  pub cellRoom : w .cellRoom ≡ places 2 cells
+  pub sane : SaneWorld w
+
+-- the answer so far: the last result, once a root Return has set it
+unfoldable pub answerIn : Going → Last
+answerIn g = if eqb (g .answered) 0 then Nothing else lastIn (g .kind) (g .payload)
+
+-- what a fault goes back to
+abbrev pub markIn : Going → List ℕ → Mark
+markIn g x = record { heap = heapOf (g .mark) x; last = lastIn (g .kind) (g .payload) }
+
+-- counts within their stores, in exact words
+pub record Fits (k : Fixed) (g : Going) (s x : List ℕ) : Type 0 where
+  pub stack : Within k g s
+  pub cells : CellsWithin g x
+  pub mark : g .mark ≤ g .used
+
+-- a run under way in the function whose code this is, with these callers
+pub record Ready (w : World) (cs : List Frame) (k : Fixed) (g : Going) (code constants functions text s x : List ℕ) : Type 0 where
+  pub lent : Lent w k constants functions text x
+  pub callers : length cs ≡ g .callers
+  pub coded : functionAt (w .functions) (g .function) .code ≡ code
+  pub fits : Fits k g s x
+  pub sane : Sane w (stateOf g s x cs)
+
+-- ---- what the steps inside one function come to
+
+-- the run goes on in the caller
+unfoldable pub backIn : World → List Frame → Last → Mark → State → Ended
+backIn w [] a m t = ended a t
+backIn w (c ∷ cs) a m t = endFrom w a m (withFrames c cs t)
+
+unfoldable pub afterEvent : World → List Frame → Event → List ℕ → List ℕ → Ended
+afterEvent w cs (Over n) s x = ended (answerIn n) (stateOf n s x cs)
+afterEvent w cs (Call n i b) s x = endFrom w (answerIn n) (markIn n x) (withFrames (entered i b) (frameIn n ∷ cs) (stateOf n s x cs))
+afterEvent w cs (Back n) s x = backIn w cs (answerIn n) (markIn n x) (stateOf n s x cs)
+afterEvent w cs (Stopped n f) s x = stopped f (stateOf n s x cs) (markIn n x)
+
+abbrev pub goingAt : Event → Going
+goingAt (Over n) = n
+goingAt (Call n i b) = n
+goingAt (Back n) = n
+goingAt (Stopped n f) = n
+
+-- a sane machine goes on; a fault's backtrace stands; a call or a return has spent a unit
+abbrev pub SaneBack : World → List Frame → State → Type 0
+SaneBack w [] t = ⊥
+SaneBack w (c ∷ cs) t = Sane w (withFrames c cs t)
+
+abbrev pub SaneAt : World → List Frame → ℕ → Event → List ℕ → List ℕ → Type 0
+SaneAt w cs u (Over n) s x = Sane w (stateOf n s x cs)
+SaneAt w cs u (Call n i b) s x = (n .units < u) × Sane w (withFrames (entered i b) (frameIn n ∷ cs) (stateOf n s x cs))
+SaneAt w cs u (Back n) s x = (n .units < u) × SaneBack w cs (stateOf n s x cs)
+SaneAt w cs u (Stopped n f) s x = traceable (w .functions) (frameIn n ∷ cs) ≡ true
+
+pub record ExecPost (w : World) (cs : List Frame) (k : Fixed) (g : Going) (s x : List ℕ) (r : Event) (s' x' : List ℕ) : Type 0 where
+  pub means : endFrom w (answerIn g) (markIn g x) (stateOf g s x cs) ≡ afterEvent w cs r s' x'
+  pub fits : Fits k (goingAt r) s' x'
+  pub sane : SaneAt w cs (g .units) r s' x'
+  pub callers : goingAt r .callers ≡ g .callers
+  pub units : goingAt r .units ≤ g .units
+  pub mark : g .mark ≤ goingAt r .mark
+  pub before : (n : ℕ) → n ≤ g .mark → heapOf n x' ≡ heapOf n x
