@@ -1,11 +1,11 @@
 -- Constants and names added, way by way.
-use mathlib.Core.Path.{_≡_, refl, sym, ap, _∙_}
+use mathlib.Core.Path.{_≡_, refl, sym, _∙_}
 use mathlib.Core.Bool.{Bool, true, false, not, _&&_}
-use mathlib.Core.List.{List, [], _∷_}
+use mathlib.Core.List.{List, []}
 use Prim.Native.Nat.{ℕ, zero, suc, _+_, _-_, _*_, _≤_, _<_, _^_}
 use native.Mathlib.Omega.{arith}
 use native.Mathlib.Numerals.{add-one}
-use lib.Dec.{eqb, leb, ltb}
+use lib.Dec.{leb}
 use lib.ListN.{length, set}
 use borrow.Author.Tests.{le-leb, lt-leb, leb-true, leb-false, not-true, not-false}
 use Rattle.model.specs.declared.Constant.{Constant}
@@ -14,15 +14,15 @@ use Rattle.model.specs.declared.Counts.{Counts}
 use Rattle.model.specs.declared.Emitted.{Emitted}
 use Rattle.model.specs.declared.Emitted.the-variants.{Done, Refused}
 use Rattle.model.specs.Values.{places, putWords, bit}
-use mathlib.Core.Option.{Option, none, some}
+use mathlib.Core.Option.{Option}
 use Rattle.model.specs.declared.Told.{Told}
 use Rattle.model.specs.declared.Told.the-variants as tl
 use Rattle.model.specs.Programs.{newestFrom, firstFrom}
 use Rattle.model.specs.Stores.{Stores, pack, structsFrom, withConstants, withStructs, withFunctions, withText}
 use Rattle.model.specs.Orders.{countsOk, textOk, constantsOk, structsOk, codeStart, otherTaken, functionsOk, mainOk}
-use Rattle.model.specs.Emission.{Res, counts, written, textRoom, withConstant, withTextConstant, constantAdded, constantOrder, addConstantOf, structAdded, structFound, structOrder, addStructOf, functionOrder, begun, beginFunctionOf, namesFrom, toldName, functionIdxOf}
+use Rattle.model.specs.Emission.{counts, written, textRoom, withConstant, withTextConstant, constantAdded, constantOrder, addConstantOf, structAdded, structFound, structOrder, addStructOf, functionOrder, begun, beginFunctionOf, namesFrom, toldName, functionIdxOf}
 use Rattle.program.specs.Links.{Is, constantsLent, structsLent, namesLent}
-use Rattle.program.proofs.Bools.{apart, either-way, and-left, and-right}
+use Rattle.program.proofs.Bools.{either-way, and-left, and-right}
 use Rattle.program.proofs.Parts.{room-1, room-2}
 use Rattle.program.proofs.Known.{function-known}
 use Rattle.program.proofs.Searching.{told-some, told-none}
@@ -185,7 +185,7 @@ module _ (c : Counts) (name fs t : List ℕ) (b : Bool) (e : (rest : Stores) →
   index-told h r er rest = rw (← (e rest), h) (er rest)
 
 -- the codes of the other functions end where a word can name it
-start-below : (c : Counts) (fs : List ℕ) → functionsOk c fs ≡ true → (n : ℕ) → n ≤ c .functions → codeStart fs n ≤ 0xFFFF_FFFF
+pub start-below : (c : Counts) (fs : List ℕ) → functionsOk c fs ≡ true → (n : ℕ) → n ≤ c .functions → codeStart fs n ≤ 0xFFFF_FFFF
 unfolding codeStart
 start-below c fs e zero h = omega arith
 start-below c fs e (suc zero) h = omega arith

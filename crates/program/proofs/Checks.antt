@@ -1,16 +1,15 @@
 -- Each check answers what the definition says.
-use mathlib.Core.Path.{_≡_, refl, sym, ap, _∙_}
+use mathlib.Core.Path.{_≡_, refl, _∙_}
 use mathlib.Core.Bool.{Bool, true, false, _&&_, _||_}
 use mathlib.Core.List.{List, [], _∷_}
 use Prim.Native.Nat.{ℕ, suc, _+_, _≤_, _<_}
 use lib.Dec.{eqb, leb, ltb}
-use lib.ListN.{length}
 use borrow.Author.Tests.{eq-eqb, ne-eqb, le-leb, lt-leb}
 use Rattle.model.specs.declared.Counts.{Counts}
 use Rattle.model.specs.Values.{places, kindAt, payloadAt}
 use Rattle.model.specs.Equality.{sameBytes}
 use Rattle.model.specs.Stores.{start, size, part, structWord, structsFrom, nameWord, codeWord, codeEnd}
-use Rattle.model.specs.Programs.{mainName, codeLimit}
+use Rattle.model.specs.Programs.{mainName}
 use Rattle.model.specs.Basics.{ascii, everyFrom}
 use Rattle.program.proofs.Every.{Judged}
 use Rattle.model.specs.Orders.{countsOk, textOk, insideText, constantOk, constantsOk, allDifferent, structsOk, codeStart, functionOk, functionsOk, mainOk, mainTaken, otherTaken, insideCodes}

@@ -1,23 +1,21 @@
 -- Code emitted and patched, way by way.
-use mathlib.Core.Path.{_≡_, refl, sym, ap, _∙_}
+use mathlib.Core.Path.{_≡_, sym, _∙_}
 use mathlib.Core.Bool.{Bool, true, false, not, _&&_}
-use mathlib.Core.List.{List, [], _∷_, _++_}
-use Prim.Native.Nat.{ℕ, suc, _+_, _-_, _*_, _≤_, _<_, min}
+use mathlib.Core.List.{List, []}
+use Prim.Native.Nat.{ℕ, _+_, _-_, _*_, _≤_, _<_, min}
 use native.Mathlib.Omega.{arith}
-use native.Mathlib.Nat.{min-le-left, min-le-right, le-trans}
-use lib.Dec.{eqb, leb, ltb}
+use native.Mathlib.Nat.{min-le-left, min-le-right}
 use lib.ListN.{length, set, replicate}
-use borrow.Author.Tests.{eq-eqb, ne-eqb, le-leb, lt-leb, lt-ltb, le-ltb, leb-true, not-true, not-false}
+use borrow.Author.Tests.{eq-eqb, ne-eqb, le-leb, lt-leb, lt-ltb, le-ltb, not-true, not-false}
 use Rattle.model.specs.declared.Counts.{Counts}
-use Rattle.model.specs.declared.Emitted.{Emitted}
 use Rattle.model.specs.declared.Emitted.the-variants.{Done, Refused}
 use Rattle.model.specs.Values.{places, payloadAt}
 use Rattle.model.specs.Stores.{Stores, start, size, pack, codeWord, codeEnd, codeHere, placesHere, withCode, withFunctions, withMain, withOther}
 use Rattle.model.specs.Orders.{countsOk, functionsOk, insideCodes}
-use Rattle.model.specs.Emission.{Res, written, sizeHere, endHere, codeRoom, longer, appended, codeOrder, emitIn, emitOf, u16, patchOrder, patched, patchOf}
+use Rattle.model.specs.Emission.{written, sizeHere, endHere, codeRoom, longer, appended, codeOrder, emitIn, emitOf, u16, patchOrder, patched, patchOf}
 use Rattle.program.specs.Links.{Is, codeLent, bytesLent}
 use Rattle.program.proofs.Bools.{and-left, and-right}
-use Rattle.program.proofs.Parts.{room-1, room-2}
+use Rattle.program.proofs.Parts.{room-1}
 use Rattle.program.proofs.Known.{Limited, limited, Known, function-known, code-in-main, code-in-other}
 
 pub order-is : (c : Counts) (fs m mp o op : List ℕ) (b1 b2 b3 b4 : Bool) → b1 ≡ countsOk c → b2 ≡ functionsOk c fs → b3 ≡ insideCodes c fs m o → b4 ≡ insideCodes c fs mp op

@@ -48,3 +48,11 @@ unfolding everyFrom
 passed-at zero i t e j h = absurd (let y : ⊥ = omega arith in y)
 passed-at (suc n) i t e zero h = let z : i + 0 ≡ i = omega arith in rw z (and-left (t i) (everyFrom n (suc i) t) e)
 passed-at (suc n) i t e (suc j) h = let z : i + suc j ≡ suc i + j = omega arith in rw z (passed-at n (suc i) t (and-right (t i) (everyFrom n (suc i) t) e) j (omega arith))
+
+-- and what each place passes, all pass
+pub pass-all : (n i : ℕ) (t : ℕ → Bool) → ((j : ℕ) → j < n → t (i + j) ≡ true) → everyFrom n i t ≡ true
+unfolding everyFrom
+pass-all zero i t h = refl
+pass-all (suc n) i t h =
+    let z : i + 0 ≡ i = omega arith in
+    and-both (t i) (everyFrom n (suc i) t) (rw z at (h 0 (omega arith))) (pass-all n (suc i) t (λ j l. let y : i + suc j ≡ suc i + j = omega arith in rw y at (h (suc j) (omega arith))))

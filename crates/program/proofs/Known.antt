@@ -1,5 +1,5 @@
 -- What good order hands on.
-use mathlib.Core.Path.{_≡_, refl, sym, ap, _∙_}
+use mathlib.Core.Path.{_≡_, refl}
 use mathlib.Core.Bool.{Bool, true, false, _&&_, _||_}
 use mathlib.Core.List.{List}
 use Prim.Native.Nat.{ℕ, zero, suc, _+_, _*_, _≤_, _<_}
@@ -10,7 +10,7 @@ use borrow.Author.Tests.{leb-true, eqb-true}
 use Rattle.model.specs.declared.Counts.{Counts}
 use Rattle.model.specs.Basics.{everyFrom}
 use Rattle.model.specs.Values.{places, kindAt, payloadAt}
-use Rattle.model.specs.Programs.{codeLimit, constantLimit, nameLimit}
+use Rattle.model.specs.Programs.{codeLimit}
 use Rattle.model.specs.Stores.{start, size, nameWord, codeWord, codeEnd}
 use Rattle.model.specs.Orders.{countsOk, textOk, insideText, constantOk, constantsOk, codeStart, functionOk, functionsOk, mainTaken, otherTaken, insideCodes}
 use Rattle.program.proofs.Bools.{and-left, and-right}
@@ -25,6 +25,7 @@ pub record Limited (c : Counts) : Type 0 where
   pub functions : c .functions ≤ 65536
   pub text : c .text ≤ 0xFFFF_FFFF
   pub current : c .current < c .functions
+  pub main-or-newest : (eqb (c .current) 0 || eqb (suc (c .current)) (c .functions)) ≡ true
   pub newest : (c .current ≡ 0 → ⊥) → suc (c .current) ≡ c .functions
 
 -- main or the newest
@@ -53,6 +54,7 @@ limited c e =
       functions = leb-true (c .functions) 65536 (and-right (a1 && a2 && a3) a4 e4);
       text = leb-true (c .text) 0xFFFF_FFFF (and-right (a1 && a2 && a3 && a4) a5 e5);
       current = w .0;
+      main-or-newest = and-right (a1 && a2 && a3 && a4 && a5) a6 e;
       newest = w .1;
     }
 
@@ -110,7 +112,7 @@ function-known c fs e i h =
     }
 
 -- the current function's code lies in its store
-codes-behind : (fs : List ℕ) (i n : ℕ) → (i ≡ 0 → ⊥) → suc i ≡ n → codeStart fs n ≡ codeEnd fs i
+pub codes-behind : (fs : List ℕ) (i n : ℕ) → (i ≡ 0 → ⊥) → suc i ≡ n → codeStart fs n ≡ codeEnd fs i
 unfolding codeStart
 codes-behind fs zero n h e = absurd (h refl)
 codes-behind fs (suc i) n h e = rw (← e)

@@ -8,3 +8,6 @@ pub mod Entered
 pub mod Emitting
 pub mod Searching
 pub mod Adding
+pub mod Keeping
+pub mod Growing
+pub mod Reading

@@ -2,14 +2,14 @@
 use mathlib.Core.Path.{_≡_, refl, sym, ap, _∙_}
 use mathlib.Core.Bool.{Bool, true, false, _&&_}
 use mathlib.Core.List.{List, [], _∷_}
-use Prim.Native.Nat.{ℕ, zero, suc, _+_, _-_, _*_, _/_, _%_, _≤_, _<_, _^_, min}
+use Prim.Native.Nat.{ℕ, zero, suc, _+_, _-_, _*_, _/_, _≤_, _<_, _^_, min}
 use native.Mathlib.Omega.{arith}
 use native.Mathlib.Nat.{min-eq-left, min-eq-right, min-le-left, min-le-right}
 use native.Mathlib.Numerals.{add-one}
 use lib.Dec.{eqb, leb, eqb·suc-suc}
 use lib.ListN.{length, getD, take, drop, length-drop, drop-of-length-le, List·getD-eq-default}
 use lib.Seq.{take-all, drop-cons, take-nil}
-use borrow.Author.Tests.{eqb-true, ne-eqb, eq-eqb, leb-true, leb-false}
+use borrow.Author.Tests.{ne-eqb, eq-eqb, leb-true, leb-false}
 use Rattle.model.specs.Values.{places, mostPlaces, kindAt, payloadAt, textAt}
 use Rattle.model.specs.Equality.{sameBytes}
 use Rattle.model.specs.Stores.{start, size, pack, part, structWord, codeWord, codeEnd}

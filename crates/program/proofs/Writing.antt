@@ -1,11 +1,11 @@
 -- A store written from a place on, number by number.
-use mathlib.Core.Path.{_≡_, refl, sym, ap, _∙_}
+use mathlib.Core.Path.{_≡_, refl, sym, _∙_}
 use mathlib.Core.List.{List, [], _∷_, _++_}
 use Prim.Native.Nat.{ℕ, suc, _+_, _*_, _≤_, _<_}
 use native.Mathlib.Omega.{arith}
 use native.Mathlib.Numerals.{add-one}
-use lib.ListN.{length, getD, set, take, replicate, length-set, length-replicate, getD-replicate}
-use lib.Seq.{sets, take-suc, take-all, length-take-le, length-sets, lt-length-set}
+use lib.ListN.{length, getD, set, take, replicate, length-set, getD-replicate}
+use lib.Seq.{take-suc, take-all, length-take-le, length-sets, lt-length-set}
 use Rattle.model.specs.Values.{putWords}
 use Rattle.model.specs.Emission.{written}
 

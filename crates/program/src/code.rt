@@ -133,7 +133,7 @@ pub fn add_op(
     )
 }
 
-// An instruction with one operand, low byte first; with two; with three.
+// An instruction with one operand, low byte first.
 pub fn add_op1(
     c: Counts,
     op: u8,
@@ -161,6 +161,7 @@ pub fn add_op1(
     )
 }
 
+// An instruction with two operands.
 pub fn add_op2(
     c: Counts,
     op: u8,
@@ -195,6 +196,7 @@ pub fn add_op2(
     )
 }
 
+// An instruction with three operands.
 pub fn add_op3(
     c: Counts,
     op: u8,

@@ -74,6 +74,7 @@ pub fn constant_ok(c: Counts, kind: u64, payload: u64) -> bool
     false
 }
 
+// The constants lie in their store, each of one of the four kinds.
 pub fn constants_ok(c: Counts, constants: &[u64]) -> bool
     ensures { λ r. ⌜ r ≡ constantsOk c (now (constants .entry)) ⌝ }
 {
@@ -113,6 +114,7 @@ fn structs_inside(c: Counts, structs: &[u64]) -> bool
     true
 }
 
+// Struct names inside the text, all different.
 pub fn structs_ok(c: Counts, structs: &[u64], text: &[u8]) -> bool
     ensures { λ r. ⌜ r ≡ structsOk c (now (structs .entry)) (now (text .entry)) ⌝ }
 {
@@ -133,6 +135,7 @@ pub fn function_ok(c: Counts, functions: &[u64], i: usize) -> bool
         & (code_end(functions, i) <= 0xFFFF_FFFF)
 }
 
+// The functions lie in their store, each in order.
 pub fn functions_ok(c: Counts, functions: &[u64]) -> bool
     ensures { λ r. ⌜ r ≡ functionsOk c (now (functions .entry)) ⌝ }
 {

@@ -40,13 +40,14 @@ pub fn text_room(c: Counts, text: &[u8], n: usize) -> bool
     n <= all - taken
 }
 
-// Where the part that a word names starts, and how long it is.
+// Where the part that a word names starts.
 pub fn start_of(w: u64) -> usize
     ensures { λ r. ⌜ (r ≡ start w) × (r < 2 ^ 32) ⌝ }
 {
     (w % 0x1_0000_0000) as usize
 }
 
+// How long that part is.
 pub fn size_of(w: u64) -> usize
     ensures { λ r. ⌜ (r ≡ size w) × (r < 2 ^ 32) ⌝ }
 {
@@ -97,7 +98,7 @@ pub fn word(s: &[u64], i: usize) -> u64
     0
 }
 
-// The two words of place i.
+// The first of the two words of place i: a constant's kind, a function's name.
 pub fn first(s: &[u64], i: usize) -> u64
     ensures { λ r. ⌜ r ≡ kindAt (now (s .entry)) i ⌝ }
 {
@@ -107,6 +108,7 @@ pub fn first(s: &[u64], i: usize) -> u64
     word(s, 2 * i)
 }
 
+// The second: a constant's payload, a function's code.
 pub fn second(s: &[u64], i: usize) -> u64
     ensures { λ r. ⌜ r ≡ payloadAt (now (s .entry)) i ⌝ }
 {
