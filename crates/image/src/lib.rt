@@ -24,6 +24,7 @@ pub enum Text {
     Broken,
 }
 
+// A number as a length or a count.
 fn wide(n: u32) -> usize
     ensures { λ r. ⌜ (r ≡ n) × (r < 4294967296) ⌝ }
 {
@@ -77,11 +78,13 @@ pub struct Entry {
     pub next: usize,
 }
 
+// A constant, or where the item that breaks a rule begins.
 pub enum Item {
     Is(Entry),
     Broken(usize),
 }
 
+// A byte as a number.
 fn byte(b: u8) -> u64
     ensures { λ r. ⌜ (r ≡ b) × (r < 256) ⌝ }
 {
@@ -102,6 +105,7 @@ fn word_at(image: &[u8], at: usize) -> u64
     w
 }
 
+// A scalar's eight bytes.
 fn read_scalar(image: &[u8], at: usize) -> Item
     requires { ⌜ at ≤ length (now image) ⌝ }
     ensures { λ r. ⌜ ItemPost (readBody 0) (now (image .entry)) at r ⌝ }
@@ -119,6 +123,7 @@ fn read_scalar(image: &[u8], at: usize) -> Item
     })
 }
 
+// A boolean's byte, 0 or 1.
 fn read_flag(image: &[u8], at: usize) -> Item
     requires { ⌜ at ≤ length (now image) ⌝ }
     ensures { λ r. ⌜ ItemPost (readBody 1) (now (image .entry)) at r ⌝ }
@@ -185,6 +190,7 @@ pub struct Section {
     pub text: usize,
 }
 
+// A section, or where it breaks a rule.
 pub enum Checked {
     Fine(Section),
     Broken(usize),
@@ -251,6 +257,7 @@ pub struct Run {
     pub next: usize,
 }
 
+// A run, or where it breaks a rule.
 pub enum NextRun {
     Is(Run),
     Broken(usize),
@@ -317,6 +324,7 @@ pub struct Head {
     pub size: usize,
 }
 
+// A head, or where it breaks a rule.
 pub enum Begun {
     Is(Head),
     Broken(usize),
@@ -366,6 +374,7 @@ pub struct Span {
     pub code: usize,
 }
 
+// A function, or where it breaks a rule.
 pub enum Spanned {
     Is(Span),
     Broken(usize),
@@ -400,6 +409,7 @@ pub struct Others {
     pub within: bool,
 }
 
+// The functions behind main, or where they break a rule.
 pub enum Rest {
     Fine(Others),
     Broken(usize),
@@ -448,6 +458,7 @@ pub struct Ended {
     pub within: bool,
 }
 
+// The functions, or where they break a rule.
 pub enum Coded {
     Fine(Ended),
     Broken(usize),
@@ -495,6 +506,7 @@ pub struct Sizes {
     pub within: bool,
 }
 
+// What an image needs, or the offset of the first item that breaks a rule.
 pub enum Judgement {
     Fine(Sizes),
     Broken(usize),

@@ -39,6 +39,7 @@ fn put_number(out: &mut [u8], at: usize, n: u32) -> usize
     next
 }
 
+// A byte.
 fn put_byte(out: &mut [u8], at: usize, b: u8) -> usize
     requires { ⌜ Near at (b ∷ []) ⌝ }
     ensures { λ r. ⌜ Put (b ∷ []) (now (out .entry)) at (now (out .exit)) r ⌝ }
@@ -51,6 +52,7 @@ fn put_byte(out: &mut [u8], at: usize, b: u8) -> usize
     next
 }
 
+// Bytes.
 fn put_part(out: &mut [u8], at: usize, bytes: &[u8]) -> usize
     requires { ⌜ Near at (now bytes) ⌝ }
     ensures { λ r. ⌜ Put (now (bytes .entry)) (now (out .entry)) at (now (out .exit)) r ⌝ }
@@ -108,6 +110,7 @@ fn put_constant(out: &mut [u8], at: usize, kind: u64, payload: u64, text: &[u8])
     put_text(out, mid, bytes)
 }
 
+// The count of the constants, and each.
 fn put_constants(out: &mut [u8], at: usize, n: usize, constants: &[u64], text: &[u8]) -> usize
     requires { ⌜ ConstantsPut at n (now constants) (now text) ⌝ }
     ensures { λ r. ⌜ Put (counted constantImage (constantsFrom n 0 (now (constants .entry)) (now (text .entry)))) (now (out .entry)) at (now (out .exit)) r ⌝ }
@@ -124,6 +127,7 @@ fn put_constants(out: &mut [u8], at: usize, n: usize, constants: &[u64], text: &
     next
 }
 
+// The count of the struct names, and each.
 fn put_structs(out: &mut [u8], at: usize, n: usize, structs: &[u64], text: &[u8]) -> usize
     requires { ⌜ StructsPut at n (now structs) (now text) ⌝ }
     ensures { λ r. ⌜ Put (counted textImage (structsFrom n 0 (now (structs .entry)) (now (text .entry)))) (now (out .entry)) at (now (out .exit)) r ⌝ }
