@@ -5,14 +5,14 @@ use mathlib.Core.List.{List, [], _∷_}
 use Prim.Native.Nat.{ℕ, zero, suc, _+_, _-_, _*_, _<_, _≤_, _^_, min}
 use lib.Dec.{ltb, leb, eqb}
 use lib.ListN.{length, getD, set}
-use lib.Seq as Seq
 use Rattle.model.specs.declared.Frame.{Frame}
 use Rattle.model.specs.Basics.{if_then_else_, everyFrom}
 use Rattle.model.specs.Values.{mostPlaces}
 use Rattle.model.specs.Stores.{start, size, codeWord}
-use Rattle.model.specs.Runs.{Entry}
 use Rattle.frames.specs.declared.order.Scan.{Scan}
 use Rattle.frames.specs.declared.backtrace.Left.{Left}
+unfoldable pub use Rattle.model.specs.Basics.{written}
+unfoldable pub use Rattle.model.specs.Machines.{entryWords}
 
 -- what reading past the frames gives: no contract lets it happen
 abbrev pub noFrame : Frame
@@ -73,15 +73,6 @@ placeOf words main other r = getD (placesOf main other r) (placeAt words r) 0
 unfoldable pub traceWords : List ℕ → List ℕ → List ℕ → List Frame → List ℕ
 traceWords words main other [] = []
 traceWords words main other (r ∷ rs) = r .function ∷ placeOf words main other r ∷ traceWords words main other rs
-
--- the model's entries in numbers
-unfoldable pub entryWords : List Entry → List ℕ
-entryWords [] = []
-entryWords (e ∷ es) = e .function ∷ e .place ∷ entryWords es
-
--- the store with these numbers from i on
-unfoldable pub written : List ℕ → ℕ → List ℕ → List ℕ
-written out i ws = Seq.sets out i ws
 
 -- every frame's place lies inside its code: the model's `traceable`, by the functions' words
 unfoldable pub insideGood : List ℕ → Frame → Bool
