@@ -13,7 +13,6 @@ use Rattle.model.specs.Programs.{Constant}
 use Rattle.model.specs.Images.{joined, counted, bytesOf, textImage, constantImage}
 use Rattle.model.specs.Stores.{part, structWord, constantIn, constantsFrom, structsFrom}
 use Rattle.model.specs.Emission.{written}
-use Rattle.number.specs.Links as n
 use Rattle.number.specs.Links.{WritePost}
 use Rattle.image.specs.Puts.{Put, Near, TextPuts, Known, ConstantPuts, ConstantsPut, StructsPut, SameRun}
 use Rattle.image.proofs.Codecs.{by-test}
@@ -100,7 +99,6 @@ unfolding Near
 number-fits at v k h e = omega arith
 
 pub number-put : (out out′ : List ℕ) (at v next : ℕ) → WritePost (digits v) out at out′ next → Put (digits v) out at out′ next
-unfolding written n.written
 number-put out out′ at v next w = put-is (digits v) out out′ at next (w .next) (w .stored)
 
 pub number-not : (out : List ℕ) (at v k : ℕ) → k ≡ length (digits v) → length out < at + k → Put (digits v) out at out (at + k)
