@@ -166,7 +166,7 @@ examples =
     ∷ (shown (again p6 1000000) shows ran (continue 0) [] (frame 1 0 0 ∷ frame 0 5 0 ∷ []) Nothing)
     -- P7: position 8, and the backtrace
     ∷ (shown (run p7 1000000) shows ran (continue 1) [] (frame 0 8 0 ∷ []) Nothing)
-    ∷ (traced (backtraceOf (world p7) (run p7 1000000 .machine)) shows traced (untraced 16))
+    ∷ (traced (backtraceOf (p7 .functions) (run p7 1000000 .machine .frame ∷ [])) shows traced (untraced 16))
     -- P8
     ∷ (shown (run p8 1000000) shows ran (value (scalarOf n43) 6) [] (frame 0 12 0 ∷ []) (Is (scalarOf n43)))
     -- P9

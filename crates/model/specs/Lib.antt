@@ -21,5 +21,6 @@ pub mod Orders
 pub mod Emission
 pub mod Loading
 pub mod Machines
+pub mod Readers
 -- the examples to hold
 pub mod Examples

@@ -1,4 +1,4 @@
--- [run] The run as an entry, over what a host lends.
+-- [run] The entries of a machine, over what a host lends: a run, the backtrace, and making a machine.
 use mathlib.Core.Bool.{Bool, true, false, _&&_, _||_}
 use mathlib.Core.List.{List, [], _∷_, reverse}
 use Prim.Native.Nat.{ℕ, zero, suc, _+_, _-_, _*_, min}
@@ -9,14 +9,23 @@ use Rattle.model.specs.declared.Vm.{Vm}
 use Rattle.model.specs.declared.RunResult.{RunResult}
 use Rattle.model.specs.declared.RunResult.the-variants as r
 use Rattle.model.specs.declared.Frame.{Frame}
+use Rattle.model.specs.declared.Last.the-variants.{Nothing}
+use Rattle.model.specs.declared.Emitted.{Emitted}
+use Rattle.model.specs.declared.Emitted.the-variants as e
+use Rattle.model.specs.declared.Loaded.{Loaded}
+use Rattle.model.specs.declared.Loaded.the-variants as l
+use Rattle.model.specs.declared.Told.the-variants as t
+use Rattle.model.specs.declared.Started.{Started}
+use Rattle.model.specs.declared.Started.the-variants as st
 use Rattle.model.specs.Basics.{if_then_else_}
 use Rattle.model.specs.Values.{places, mostPlaces, vals}
 use Rattle.model.specs.Heap.{heapOf}
 use Rattle.model.specs.Steps.{World}
-use Rattle.model.specs.Runs.{Machine, root, Entry, entry, Reply, value, continue, fault, Ran, runOf}
+use Rattle.model.specs.Runs.{Machine, root, Entry, entry, Traced, trace, untraced, backtraceOf, Reply, value, continue, fault, Ran, runOf}
 use Rattle.model.specs.Stores.{Stores, worldIn, functionsFrom}
 use Rattle.model.specs.Orders.{countsOk, textOk, constantsOk, functionsOk, mainOk, insideCodes, cellsOk, stackOk, lastOk, frameStoreOk}
-use Rattle.model.specs.Emission.{written}
+use Rattle.model.specs.Emission.{written, newOf}
+use Rattle.model.specs.Loading.{OutRes, listOrder, loadOf}
 
 -- what a host lends a run besides the program's stores
 pub record Lent : Type 0 where
@@ -116,3 +125,49 @@ answerIn l (r.Value m v n) = ranAs m l (value v n)
 answerIn l (r.Continue m n) = ranAs m l (continue n)
 answerIn l (r.Fault m k n j) = ranAs m l (fault k n (entriesIn j 0 (l .backtrace)))
 answerIn l (r.Refused n) = refused n
+
+-- ---- [backtrace] as an entry: 19, 17 where a frame has no place in the lent store, 16
+
+unfoldable pub traceOrder : Vm → Stores → List Frame → Bool
+traceOrder m s frames =
+    listOrder (m .program) s
+    && insideCodes (m .program) (s .functions) (s .mainPlaces) (s .otherPlaces)
+    && frameStoreOk (functionsFrom (m .program .functions) 0 s) mostPlaces (m .frames) frames
+
+unfoldable pub putTrace : Traced → List ℕ → OutRes
+putTrace (trace es) out = record { answer = t.Number (length es); out = written out 0 (entryWords es) }
+putTrace (untraced n) out = record { answer = t.Refused n; out = out }
+
+unfoldable pub backtraceIn : Vm → Stores → List Frame → List ℕ → OutRes
+backtraceIn m s frames out =
+    if traceOrder m s frames then
+    (if ltb (places 2 out) (m .frames) then record { answer = t.Refused 17; out = out } else
+    putTrace (backtraceOf (functionsFrom (m .program .functions) 0 s) (innermost (m .frames) frames ∷ callersIn (m .frames) frames)) out)
+    else record { answer = t.Refused 19; out = out }
+
+-- ---- [start] a machine that has not run: an empty stack, no last result, one frame: function 0, base 0, position 0
+
+unfoldable pub fresh : Counts → Vm
+fresh c = record { program = c; stack = 0; frames = 1; cells = 0; last = Nothing }
+
+pub record StartRes : Type 0 where
+  pub answer : Started
+  pub stores : Stores
+  pub frames : List Frame
+
+-- the frame is laid with the program; a frame store without a place is refused 21, and then nothing is written
+unfoldable pub startWith : Loaded → Stores → Stores → List Frame → StartRes
+startWith (l.Done c) s' s [] = record { answer = st.Refused 21; stores = s; frames = [] }
+startWith (l.Done c) s' s (r ∷ rs) = record { answer = st.Done (fresh c); stores = s'; frames = root 0 ∷ rs }
+startWith (l.Broken i) s' s rs = record { answer = st.Broken i; stores = s; frames = rs }
+startWith (l.Refused n) s' s rs = record { answer = st.Refused n; stores = s; frames = rs }
+
+unfoldable pub loadMachineOf : List ℕ → Stores → List Frame → StartRes
+loadMachineOf image s rs = startWith (loadOf image s .answer) (loadOf image s .stores) s rs
+
+unfoldable pub asLoaded : Emitted → Loaded
+asLoaded (e.Done c n) = l.Done c
+asLoaded (e.Refused n) = l.Refused n
+
+unfoldable pub newMachineOf : Stores → List Frame → StartRes
+newMachineOf s rs = startWith (asLoaded (newOf s .answer)) (newOf s .stores) s rs

@@ -90,9 +90,8 @@ pub data Traced : Type 0 where
   trace : List Entry → Traced
   untraced : ℕ → Traced
 
-unfoldable pub backtraceOf : World → Machine → Traced
-backtraceOf w m =
-    if traceable (w .functions) (m .frame ∷ m .callers) then trace (traceOf (w .functions) (m .frame ∷ m .callers)) else untraced 16
+unfoldable pub backtraceOf : List Function → List Frame → Traced
+backtraceOf fs rs = if traceable fs rs then trace (traceOf fs rs) else untraced 16
 
 -- ---- [recovery] the stack of the start, one frame at the end of main, the mark's cells and last result
 

@@ -165,3 +165,22 @@ pub enum RunResult {
     Fault(Vm, u8, u64, usize),
     Refused(u8),
 }
+
+// What making a machine answers: the machine, or a refusal; Broken is refusal 20 with the offset of the first item that breaks a rule.
+pub enum Started {
+    Done(Vm),
+    Broken(usize),
+    Refused(u8),
+}
+
+// What a reader answers: the header of a list or struct, or a refusal.
+pub enum Headed {
+    Is(Header),
+    Refused(u8),
+}
+
+// What a reader answers: a value, or a refusal.
+pub enum Shown {
+    Value(Value),
+    Refused(u8),
+}
