@@ -1,4 +1,5 @@
 -- [run] The entries of a machine, over what a host lends: a run, the backtrace, and making a machine.
+use mathlib.Core.Path.{_≡_}
 use mathlib.Core.Bool.{Bool, true, false, _&&_, _||_}
 use mathlib.Core.List.{List, [], _∷_, reverse}
 use Prim.Native.Nat.{ℕ, zero, suc, _+_, _-_, _*_, min}
@@ -125,6 +126,26 @@ answerIn l (r.Value m v n) = ranAs m l (value v n)
 answerIn l (r.Continue m n) = ranAs m l (continue n)
 answerIn l (r.Fault m k n j) = ranAs m l (fault k n (entriesIn j 0 (l .backtrace)))
 answerIn l (r.Refused n) = refused n
+
+-- ---- [run] in full: the answer; copy and backtrace whole; a machine in good order, in stores as long as before; a refusal changes nothing
+
+pub record SameRooms (l l' : Lent) : Type 0 where
+  pub stack : length (l' .stack) ≡ length (l .stack)
+  pub cells : length (l' .cells) ≡ length (l .cells)
+  pub frames : length (l' .frames) ≡ length (l .frames)
+
+abbrev pub Left : Stores → Lent → RunResult → Lent → Type 0
+Left s l (r.Value m v n) l' = runOrder m s l' ≡ true
+Left s l (r.Continue m n) l' = runOrder m s l' ≡ true
+Left s l (r.Fault m k n j) l' = runOrder m s l' ≡ true
+Left s l (r.Refused n) l' = l' ≡ l
+
+pub record RunPost (m : Vm) (s : Stores) (l : Lent) (u : ℕ) (r : RunResult) (l' : Lent) : Type 0 where
+  pub answer : answerIn l' r ≡ runAnswer m s l u
+  pub copy : l' .copy ≡ copyAfter m l (runAnswer m s l u)
+  pub backtrace : l' .backtrace ≡ traceAfter l (runAnswer m s l u)
+  pub rooms : SameRooms l l'
+  pub left : Left s l r l'
 
 -- ---- [backtrace] as an entry: 19, 17 where a frame has no place in the lent store, 16
 
