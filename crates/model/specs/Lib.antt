@@ -22,5 +22,7 @@ pub mod Emission
 pub mod Loading
 pub mod Machines
 pub mod Readers
+-- what the two programs print
+pub mod Reports
 -- the examples to hold
 pub mod Examples
