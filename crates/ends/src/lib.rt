@@ -289,7 +289,8 @@ pub fn faulted(m: Vm, units: u64, g: Going, fault: u8) -> RunResult
     let last = last_in(g.kind, g.payload);
     let left = vm_with(m, m.stack, 1, g.mark, last);
     let spent = units - g.units;
-    RunResult::Fault(left, fault, spent, g.callers + 1)
+    let traced = g.callers + 1;
+    RunResult::Fault(left, fault, spent, traced)
 }
 
 // The frame that a fault leaves: function 0 at the end of main.

@@ -13,11 +13,11 @@ vm-with-requires c κs = search needs
 sub-spent : tie.Need-sub-spent
 sub-spent c = search needs
 
-add-t8 : tie.Need-add-t8
-add-t8 c = search needs
+add-traced : tie.Need-add-traced
+add-traced c = search needs
 
 returns : tie.Need-returns
 returns c = faults _ _ _ (c .before .before .before .last-in .ensures) (c .before .before .vm-with .ensures) _
 
 pub faulted-spec : {M : Type 1} → statement M
-faulted-spec = tie.close (tie.spec last-in-requires vm-with-requires sub-spent add-t8 returns)
+faulted-spec = tie.close (tie.spec last-in-requires vm-with-requires sub-spent add-traced returns)
