@@ -150,7 +150,8 @@ pub fn judge(
     }
     let good = stack_ok(texts, used, cells, m.stack, stack);
     let last = m.last;
-    good & last_ok(texts, used, cells, last)
+    let stands = last_ok(texts, used, cells, last);
+    good & stands
 }
 
 // Whether the copy store is shorter than the stack store, or the backtrace store than the frame store, by their lengths.
