@@ -1,4 +1,3 @@
 pub mod Judging
 pub mod Starting
 pub mod Answering
-pub mod Begins
