@@ -105,7 +105,8 @@ pub enum Booleans {
     Bad(Fault),
 }
 
-// A call frame.
+// A call frame. Its layout is C's, so that a host in C can lend frames.
+#[repr(C)]
 pub struct Frame {
     pub function: usize,
     pub position: usize,
