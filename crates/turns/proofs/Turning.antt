@@ -7,14 +7,16 @@ use Prim.Native.Nat.{ℕ, zero, suc, _+_, _≤_, _<_}
 use native.Mathlib.Numerals.{add-one}
 use native.Mathlib.Omega.{arith}
 use lib.Dec.{T}
-use lib.ListN.{length, take, getD, set, length-set}
+use lib.ListN.{length, take, getD, set, length-take, length-set}
+use borrow.Author.Tests.{eq-eqb, ne-eqb}
 use lib.Seq.{getD-set-same, getD-set-other}
 use Rattle.model.specs.declared.Fault.{Fault}
 use Rattle.model.specs.declared.Frame.{Frame}
-use Rattle.model.specs.Values.{places}
+use Rattle.model.specs.Values.{places, payloadAt}
 use Rattle.model.specs.Heap.{heapOf}
 use Rattle.model.specs.Steps.{World, State, withFrames}
 use Rattle.model.specs.Runs.{Ended, ended, stopped, traceable}
+use Rattle.model.specs.Stores.{part, codeWord}
 use Rattle.rules.specs.Sane.{Sane}
 use Rattle.rules.specs.Paths.{endFrom}
 use Rattle.frames.specs.Links.{noFrame, callersOf}
@@ -28,6 +30,25 @@ use Rattle.steps.specs.Links.{Lent, Fits, Ready, answerIn, markIn, backIn, afte
 use Rattle.turns.specs.declared.Course.{Course}
 use Rattle.turns.specs.Links.{codeIn, Under, Ends, TurnsPost, goesOn, isOver, isStopped, inFrame}
 use Rattle.turns.specs.Links as ends
+
+-- ---- what the steps inside a function are lent
+
+-- its code, from main's store or from the others'
+module _ (functions main other : List ℕ) (i : ℕ) {v : ℕ} {code : List ℕ} (word : v ≡ payloadAt functions i) where
+  pub in-main : i ≡ 0 → code ≡ part main v → codeIn functions main other i ≡ code
+  unfolding codeIn codeWord
+  in-main e h = sym (h ∙ rw (word, eq-eqb i 0 e))
+
+  pub in-other : (i ≡ 0 → ⊥) → code ≡ part other v → codeIn functions main other i ≡ code
+  unfolding codeIn codeWord
+  in-other e h = sym (h ∙ rw (word, ne-eqb i 0 e))
+
+pub coded-as : {w : World} {cs : List Frame} {k : Fixed} {g : Going} {c d constants functions text s x : List ℕ} → c ≡ d → Ready w cs k g c constants functions text s x → Ready w cs k g d constants functions text s x
+coded-as {w} {cs} {k} {g} {constants = constants} {functions} {text} {s} {x} e r = subst (λ (c : List ℕ). Ready w cs k g c constants functions text s x) e r
+
+-- the text that is taken
+pub taken-count : (n : ℕ) (text : List ℕ) → n ≤ length text → n ≡ length (take n text)
+taken-count n text h = let z = length-take n text in omega arith
 
 -- ---- the callers in the lent frames
 

@@ -1,59 +1,44 @@
+-- `advance`: the steps inside the function whose code is found by the test.
 use borrow.Author.Needs.{needs}
+use Rattle.turns.proofs.Turning.{in-main, in-other, coded-as, taken-count}
 use Rattle.turns.proofs.advance.Statement.{statement}
 use Rattle.turns.proofs.advance.Tie as tie
-use Rattle.turns.proofs.advance.Reads as reads
-use Rattle.turns.proofs.advance.Lts as lts
-use Rattle.program.proofs.words.part.Reads as part-reads
-use Rattle.program.proofs.words.second.Reads as second-reads
-use Rattle.steps.proofs.exec.Reads as exec-reads
 
--- src/lib.rt:78:9
 second-requires : tie.Need-second-requires
 second-requires c κs = search needs
 
--- src/lib.rt:79:9
 slice-aggregate-taken : tie.Need-slice-aggregate-taken
-slice-aggregate-taken c = ?
+slice-aggregate-taken c = taken-count _ _ (c .before .before .before .before .before .before .before .before .before .pre .1)
 
--- src/lib.rt:81:13
 part-requires : tie.Need-part-requires
 part-requires c κs = search needs
 
--- src/lib.rt:82:9
 exec-requires : tie.Need-exec-requires
-exec-requires c κs = ?
+exec-requires c κs = (c .before .before .before .before .before .before .before .before .before .before .before .before .before .pre .0 .0, c .before .before .before .before .before .before .before .before .before .before .before .before .before .pre .0 .1, coded-as (in-main _ _ _ _ (c .before .before .before .before .before .second .ensures) (c .before .before .before .if1 .taken) (c .before .before .part .ensures)) (c .before .before .before .before .before .before .before .before .before .before .before .before .before .pre .0 .2))
 
--- src/lib.rt:82:9
 same-length : tie.Need-same-length
 same-length c = search needs
 
--- src/lib.rt:82:9
 same-length-2 : tie.Need-same-length-2
 same-length-2 c = search needs
 
--- src/lib.rt:82:9
 returns : tie.Need-returns
-returns c = ?
+returns c = λ w cs at. c .before .before .before .before .exec .ensures w cs (coded-as (in-main _ _ _ _ (c .before .before .before .before .before .before .before .before .before .before .second .ensures) (c .before .before .before .before .before .before .before .before .if1 .taken) (c .before .before .before .before .before .before .before .part .ensures)) at)
 
--- src/lib.rt:84:9
 part-requires-2 : tie.Need-part-requires-2
 part-requires-2 c κs = search needs
 
--- src/lib.rt:85:5
 exec-requires-2 : tie.Need-exec-requires-2
-exec-requires-2 c κs = ?
+exec-requires-2 c κs = (c .before .before .before .before .before .before .before .before .before .before .before .before .before .pre .0 .0, c .before .before .before .before .before .before .before .before .before .before .before .before .before .pre .0 .1, coded-as (in-other _ _ _ _ (c .before .before .before .before .before .second .ensures) (c .before .before .before .if1 .left) (c .before .before .part2 .ensures)) (c .before .before .before .before .before .before .before .before .before .before .before .before .before .pre .0 .2))
 
--- src/lib.rt:62:1
 same-length-3 : tie.Need-same-length-3
 same-length-3 c = search needs
 
--- src/lib.rt:62:1
 same-length-4 : tie.Need-same-length-4
 same-length-4 c = search needs
 
--- src/lib.rt:62:1
 returns-2 : tie.Need-returns-2
-returns-2 c = ?
+returns-2 c = λ w cs at. c .before .before .before .before .exec2 .ensures w cs (coded-as (in-other _ _ _ _ (c .before .before .before .before .before .before .before .before .before .before .second .ensures) (c .before .before .before .before .before .before .before .before .if1 .left) (c .before .before .before .before .before .before .before .part2 .ensures)) at)
 
 pub advance-spec : {M : Type 1} → statement M
 advance-spec =
