@@ -12,7 +12,7 @@ use borrow.Author.Tests.{eq-eqb, ne-eqb}
 use lib.Seq.{getD-set-same, getD-set-other}
 use Rattle.model.specs.declared.Fault.{Fault}
 use Rattle.model.specs.declared.Frame.{Frame}
-use Rattle.model.specs.Values.{places, payloadAt}
+use Rattle.model.specs.Values.{payloadAt}
 use Rattle.model.specs.Heap.{heapOf}
 use Rattle.model.specs.Steps.{World, State, withFrames}
 use Rattle.model.specs.Runs.{Ended, ended, stopped, traceable}
@@ -26,7 +26,8 @@ use Rattle.arms.specs.declared.Going.{Going}
 use Rattle.arms.specs.Links.{stateOf, frameIn, entered}
 use Rattle.steps.specs.declared.Event.{Event}
 use Rattle.steps.specs.declared.Event.the-variants.{Over, Call, Back, Stopped}
-use Rattle.steps.specs.Links.{Lent, Fits, Ready, answerIn, markIn, backIn, afterEvent, SaneBack, goingAt, ExecPost}
+use Rattle.steps.specs.Links.{Ready, answerIn, markIn, backIn, afterEvent, SaneBack, goingAt, ExecPost}
+use Rattle.steps.proofs.Following.{lent-on}
 use Rattle.turns.specs.declared.Course.{Course}
 use Rattle.turns.specs.Links.{codeIn, Under, Ends, TurnsPost, goesOn, isOver, isStopped, inFrame}
 use Rattle.turns.specs.Links as ends
@@ -72,21 +73,6 @@ unfolding callersOf
 callers-first n frames = refl
 
 -- ---- what the run comes to
-
-same-room : (x y : List ℕ) → length y ≡ length x → places 2 y ≡ places 2 x
-unfolding places
-same-room x y e = rw e
-
-lent-on : {w : World} {k : Fixed} {constants functions text x x' : List ℕ} → Lent w k constants functions text x → length x' ≡ length x → Lent w k constants functions text x'
-lent-on {x = x} {x' = x'} l e = record {
-  suits = l .suits;
-  values = l .values;
-  room = l .room;
-  rest = l .rest;
-  named = l .named;
-  cellRoom = l .cellRoom ∙ sym (same-room x x' e);
-  sane = l .sane;
-}
 
 -- where there is a caller, a Back goes on in it
 back-means : {w : World} {cs : List Frame} {k : Fixed} {g : Going} {s x : List ℕ} {m : Going} {s' x' : List ℕ} (c : Frame) (ds : List Frame) → cs ≡ c ∷ ds → ExecPost w cs k g s x (Back m) s' x'

@@ -172,7 +172,18 @@ pub fn turns(
 {
     let mut c = begun(start);
     while c.on {
-        match advance(k, c.going, n, constants, functions, text, main, other, stack, cells) {
+        match advance(
+            k,
+            c.going,
+            n,
+            constants,
+            functions,
+            text,
+            main,
+            other,
+            stack,
+            cells,
+        ) {
             Event::Over(g) => {
                 let next = over(g);
                 c = next;

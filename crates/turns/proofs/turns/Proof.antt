@@ -1,11 +1,10 @@
 -- `turns` meets its contract: a walk of its MIR, by hand. Each turn runs the covered `advance`; a call writes the frame that it leaves behind the callers, a return reads the innermost one.
 -- Assumes nothing.
-use Rattle.frames.proofs.Walk.{_≡_, refl, sym, _∙_, subst, Bool, true, false, List, [], _∷_, Option, none, some, ℕ, _+_, _<_, _≤_, _^_, T, length, getD, set, URA, w64, Val, WT, hasTy, vint, SProp, ent, id⊢, Memory, Routine, Heap, Tables, WpFn, Atoms, Lfts, Shares, Fun, givenOf, tables, tablesOf, FmC, fmOf}
+use Rattle.frames.proofs.Walk.{_≡_, refl, sym, _∙_, subst, Bool, true, false, List, [], _∷_, Option, none, some, ℕ, _+_, _<_, _≤_, _^_, T, length, URA, w64, Val, WT, hasTy, vint, SProp, ent, id⊢, Memory, Routine, Heap, Tables, WpFn, Atoms, Lfts, Shares, Fun, givenOf, tables, tablesOf, FmC, fmOf}
 use Rattle.frames.proofs.Walk.{Given, Sq, ‵, ⋆, runs, atRet, _$_, _∵_, !, qed, by, move, keep, drop, suffices, frame, done, agg, addr, of-opd, Is, uint-makes, u8, u64, usize, now, Room, nothing, owned, onEntry, tripleOf, Contract, Triple, cited, says, needs, walkOf, ends-at}
 use Rattle.frames.proofs.Walk.{Blocks, envAt, Locals, of, ofs, behind, sets, sets-last, lands-in, enters, leaves, trims, Sl, sl, sval, Arg, val, shr, mut, Holds, Toks, Owns, lfts, shares, denots, valss, values, passing, lent, takes, gives, splits, joins, Rule, call-with, asked, unasked, Loop, Turn, rounds, whiles, again, tag-of, payload-of, matches, Kind, own, number, shared, unique, stays, Passed, Known, closed}
 use Rattle.frames.proofs.Frames.{R, fval, tells, frame-typed, frame-makes}
 use Rattle.frames.proofs.FrameCalls.{Read, Write, call-peek, call-write}
-use Rattle.frames.specs.Links.{noFrame}
 use denote.Plain.{uint-tells}
 use lib.ListN.{take}
 use denote.Struct.Laws as LL
@@ -371,35 +370,35 @@ module _ {M : Type 1} (𝓤 : URA M) (H : Heap 𝓤) (A : Atoms 𝓤) (W : Given
           (λ on. sets ! (addr ! (behind ! refl refl)) (tt, tt) $ sets ! (agg ! (ofs ! refl)) (tt, (tt, (record { fits = room5 .0 }, tt))) $
           sets ! (addr ! (behind ! refl refl)) (tt, tt) $ sets ! (agg ! (ofs ! refl)) (tt, (tt, (record { fits = room6 .0 }, tt))) $
           call-advance (c .going) st cs (going-is c isc) e5 e6 (asks k n constants functions text main other c (way on) under) .calls ! fm k-advance refl (λ e. elim e [
-            Over g ↦ λ ts said lens ise. lands-in ! (event-typed (Over g) ise) $ matches ! (tag-of ! refl refl refl refl) refl $
-              sets ! (of-opd ! (payload-of ! refl refl refl refl refl refl)) (going-typed g (over-is g ise)) $
-              nothing ! $ move ! (1 ∷ []) $ call-over g (over-is g ise) .calls ! fm k-over refl (λ r us er lens′ isr. lands-in ! (course-typed r isr) $ move ! (1 ∷ []) $ drop ! $
-              sets-last ! (of-opd ! (of ! refl)) (course-typed r isr) $ trims ! 13 $
-              again ! loop (c, st, cs, fs, (isc, e5, e6, e7, came)) (r, ts .1 .1 .1 .1 .1 .1 .1 .1 .0, ts .1 .1 .1 .1 .1 .1 .1 .1 .1 .0, fs, (isr, lens .0, lens .1 .0, e7, over-on k n constants functions text main other c (way on) (lens .1 .0 ∙ sym e6) said er)) (over-less c er on))
+            | Over g ↦ λ ts said lens ise. lands-in ! (event-typed (Over g) ise) $ matches ! (tag-of ! refl refl refl refl) refl $
+                sets ! (of-opd ! (payload-of ! refl refl refl refl refl refl)) (going-typed g (over-is g ise)) $
+                nothing ! $ move ! (1 ∷ []) $ call-over g (over-is g ise) .calls ! fm k-over refl (λ r us er lens′ isr. lands-in ! (course-typed r isr) $ move ! (1 ∷ []) $ drop ! $
+                sets-last ! (of-opd ! (of ! refl)) (course-typed r isr) $ trims ! 13 $
+                again ! loop (c, st, cs, fs, (isc, e5, e6, e7, came)) (r, ts .1 .1 .1 .1 .1 .1 .1 .1 .0, ts .1 .1 .1 .1 .1 .1 .1 .1 .1 .0, fs, (isr, lens .0, lens .1 .0, e7, over-on k n constants functions text main other c (way on) (lens .1 .0 ∙ sym e6) said er)) (over-less c er on))
             | Call g i b ↦ λ ts said lens ise. lands-in ! (event-typed (Call g i b) ise) $ matches ! (tag-of ! refl refl refl refl) refl $
-              sets ! (of-opd ! (payload-of ! refl refl refl refl refl refl)) (going-typed g (call-is g i b ise .0)) $
-              sets ! (of-opd ! (payload-of ! refl refl refl refl refl refl)) (tt, record { fits = call-is g i b ise .1 }) $
-              sets ! (of-opd ! (payload-of ! refl refl refl refl refl refl)) (tt, record { fits = call-is g i b ise .2 }) $
-              nothing ! $ move ! (1 ∷ []) $ call-frame-of g (call-is g i b ise .0) .calls ! fm k-frame-of refl (λ f us ef lens′ isf. lands-in ! (frame-typed 𝓤 H A W f isf) $ move ! (1 ∷ []) $ drop ! $
-              sets ! (addr ! (behind ! refl refl)) (tt, tt) $ sets ! (agg ! (ofs ! refl)) (tt, (tt, (record { fits = room7 .0 }, tt))) $
-              move ! (0 ∷ 2 ∷ []) $ call-write 𝓤 H A W mem run s7 fs e7 room7 (g .callers) (callers-fit g (call-is g i b ise .0)) (omega (arith, within k n constants functions text main other c (way on) under (Call g i b) said, roomy k n constants functions text main other c (way on) under)) f isf .calls ! fm k-write refl (λ u ws ew lens″ isu. lands-in ! (tt, tt) $
-              nothing ! $ move ! (1 ∷ []) $ call-enter g (call-is g i b ise .0) i b (call-is g i b ise .1) (call-is g i b ise .2) (omega (arith, within k n constants functions text main other c (way on) under (Call g i b) said, frames-fit k is-k)) .calls ! fm k-enter refl (λ r vs er lens‴ isr. lands-in ! (course-typed r isr) $ move ! (1 ∷ []) $ drop ! $ move ! (0 ∷ 2 ∷ []) $
-              sets-last ! (of-opd ! (of ! refl)) (course-typed r isr) $ trims ! 13 $
-              again ! loop (c, st, cs, fs, (isc, e5, e6, e7, came)) (r, ts .1 .1 .1 .1 .1 .1 .1 .1 .0, ts .1 .1 .1 .1 .1 .1 .1 .1 .1 .0, ws .0, (isr, lens .0, lens .1 .0, lens″ .0, call-on k n constants functions text main other c (way on) (lens .1 .0 ∙ sym e6) said ef ew er)) (call-less k n constants functions text main other c (way on) under said er on))))
+                sets ! (of-opd ! (payload-of ! refl refl refl refl refl refl)) (going-typed g (call-is g i b ise .0)) $
+                sets ! (of-opd ! (payload-of ! refl refl refl refl refl refl)) (tt, record { fits = call-is g i b ise .1 }) $
+                sets ! (of-opd ! (payload-of ! refl refl refl refl refl refl)) (tt, record { fits = call-is g i b ise .2 }) $
+                nothing ! $ move ! (1 ∷ []) $ call-frame-of g (call-is g i b ise .0) .calls ! fm k-frame-of refl (λ f us ef lens′ isf. lands-in ! (frame-typed 𝓤 H A W f isf) $ move ! (1 ∷ []) $ drop ! $
+                sets ! (addr ! (behind ! refl refl)) (tt, tt) $ sets ! (agg ! (ofs ! refl)) (tt, (tt, (record { fits = room7 .0 }, tt))) $
+                move ! (0 ∷ 2 ∷ []) $ call-write 𝓤 H A W mem run s7 fs e7 room7 (g .callers) (callers-fit g (call-is g i b ise .0)) (omega (arith, within k n constants functions text main other c (way on) under (Call g i b) said, roomy k n constants functions text main other c (way on) under)) f isf .calls ! fm k-write refl (λ u ws ew lens″ isu. lands-in ! (tt, tt) $
+                nothing ! $ move ! (1 ∷ []) $ call-enter g (call-is g i b ise .0) i b (call-is g i b ise .1) (call-is g i b ise .2) (omega (arith, within k n constants functions text main other c (way on) under (Call g i b) said, frames-fit k is-k)) .calls ! fm k-enter refl (λ r vs er lens‴ isr. lands-in ! (course-typed r isr) $ move ! (1 ∷ []) $ drop ! $ move ! (0 ∷ 2 ∷ []) $
+                sets-last ! (of-opd ! (of ! refl)) (course-typed r isr) $ trims ! 13 $
+                again ! loop (c, st, cs, fs, (isc, e5, e6, e7, came)) (r, ts .1 .1 .1 .1 .1 .1 .1 .1 .0, ts .1 .1 .1 .1 .1 .1 .1 .1 .1 .0, ws .0, (isr, lens .0, lens .1 .0, lens″ .0, call-on k n constants functions text main other c (way on) (lens .1 .0 ∙ sym e6) said ef ew er)) (call-less k n constants functions text main other c (way on) under said er on))))
             | Back g ↦ λ ts said lens ise. lands-in ! (event-typed (Back g) ise) $ matches ! (tag-of ! refl refl refl refl) refl $
-              sets ! (of-opd ! (payload-of ! refl refl refl refl refl refl)) (going-typed g (back-is g ise)) $
-              nothing ! $ move ! (1 ∷ []) $ call-caller-at g (back-is g ise) (some-back k n constants functions text main other c (way on) under said) .calls ! fm k-caller-at refl (λ j us ej lens′ isj. lands-in ! (tt, record { fits = isj .1 }) $ move ! (1 ∷ []) $ drop ! $
-              sets ! (addr ! (behind ! refl refl)) (tt, tt) $ sets ! (agg ! (ofs ! refl)) (tt, (tt, (record { fits = room7 .0 }, tt))) $
-              move ! (0 ∷ 2 ∷ []) $ call-peek 𝓤 H A W mem run s7 fs e7 room7 j (isj .1) (omega (arith, ej, within k n constants functions text main other c (way on) under (Back g) said, roomy k n constants functions text main other c (way on) under)) .calls ! fm k-read refl (λ f ws ef lens″ isf. lands-in ! (frame-typed 𝓤 H A W f isf) $
-              nothing ! $ move ! (1 ∷ []) $ call-resume g (back-is g ise) j (isj .1) f isf .calls ! fm k-resume refl (λ r vs er lens‴ isr. lands-in ! (course-typed r isr) $ move ! (1 ∷ []) $ drop ! $ move ! (0 ∷ 2 ∷ []) $
-              sets-last ! (of-opd ! (of ! refl)) (course-typed r isr) $ trims ! 13 $
-              again ! loop (c, st, cs, fs, (isc, e5, e6, e7, came)) (r, ts .1 .1 .1 .1 .1 .1 .1 .1 .0, ts .1 .1 .1 .1 .1 .1 .1 .1 .1 .0, fs, (isr, lens .0, lens .1 .0, e7, back-on k n constants functions text main other c (way on) (lens .1 .0 ∙ sym e6) said ej ef er)) (back-less k n constants functions text main other c (way on) under said er on))))
+                sets ! (of-opd ! (payload-of ! refl refl refl refl refl refl)) (going-typed g (back-is g ise)) $
+                nothing ! $ move ! (1 ∷ []) $ call-caller-at g (back-is g ise) (some-back k n constants functions text main other c (way on) under said) .calls ! fm k-caller-at refl (λ j us ej lens′ isj. lands-in ! (tt, record { fits = isj .1 }) $ move ! (1 ∷ []) $ drop ! $
+                sets ! (addr ! (behind ! refl refl)) (tt, tt) $ sets ! (agg ! (ofs ! refl)) (tt, (tt, (record { fits = room7 .0 }, tt))) $
+                move ! (0 ∷ 2 ∷ []) $ call-peek 𝓤 H A W mem run s7 fs e7 room7 j (isj .1) (omega (arith, ej, within k n constants functions text main other c (way on) under (Back g) said, roomy k n constants functions text main other c (way on) under)) .calls ! fm k-read refl (λ f ws ef lens″ isf. lands-in ! (frame-typed 𝓤 H A W f isf) $
+                nothing ! $ move ! (1 ∷ []) $ call-resume g (back-is g ise) j (isj .1) f isf .calls ! fm k-resume refl (λ r vs er lens‴ isr. lands-in ! (course-typed r isr) $ move ! (1 ∷ []) $ drop ! $ move ! (0 ∷ 2 ∷ []) $
+                sets-last ! (of-opd ! (of ! refl)) (course-typed r isr) $ trims ! 13 $
+                again ! loop (c, st, cs, fs, (isc, e5, e6, e7, came)) (r, ts .1 .1 .1 .1 .1 .1 .1 .1 .0, ts .1 .1 .1 .1 .1 .1 .1 .1 .1 .0, fs, (isr, lens .0, lens .1 .0, e7, back-on k n constants functions text main other c (way on) (lens .1 .0 ∙ sym e6) said ej ef er)) (back-less k n constants functions text main other c (way on) under said er on))))
             | Stopped g f ↦ λ ts said lens ise. lands-in ! (event-typed (Stopped g f) ise) $ matches ! (tag-of ! refl refl refl refl) refl $
-              sets ! (of-opd ! (payload-of ! refl refl refl refl refl refl)) (going-typed g (stopped-is g f ise .0)) $
-              sets ! (of-opd ! (payload-of ! refl refl refl refl refl refl)) (fault-typed f (stopped-is g f ise .1)) $
-              nothing ! $ move ! (1 ∷ []) $ call-stop g (stopped-is g f ise .0) f (stopped-is g f ise .1) .calls ! fm k-stop refl (λ r us er lens′ isr. lands-in ! (course-typed r isr) $ move ! (1 ∷ []) $ drop ! $
-              sets-last ! (of-opd ! (of ! refl)) (course-typed r isr) $ trims ! 13 $
-              again ! loop (c, st, cs, fs, (isc, e5, e6, e7, came)) (r, ts .1 .1 .1 .1 .1 .1 .1 .1 .0, ts .1 .1 .1 .1 .1 .1 .1 .1 .1 .0, fs, (isr, lens .0, lens .1 .0, e7, stopped-on k n constants functions text main other c (way on) (lens .1 .0 ∙ sym e6) said er)) (stopped-less c f er on))
+                sets ! (of-opd ! (payload-of ! refl refl refl refl refl refl)) (going-typed g (stopped-is g f ise .0)) $
+                sets ! (of-opd ! (payload-of ! refl refl refl refl refl refl)) (fault-typed f (stopped-is g f ise .1)) $
+                nothing ! $ move ! (1 ∷ []) $ call-stop g (stopped-is g f ise .0) f (stopped-is g f ise .1) .calls ! fm k-stop refl (λ r us er lens′ isr. lands-in ! (course-typed r isr) $ move ! (1 ∷ []) $ drop ! $
+                sets-last ! (of-opd ! (of ! refl)) (course-typed r isr) $ trims ! 13 $
+                again ! loop (c, st, cs, fs, (isc, e5, e6, e7, came)) (r, ts .1 .1 .1 .1 .1 .1 .1 .1 .0, ts .1 .1 .1 .1 .1 .1 .1 .1 .1 .0, fs, (isr, lens .0, lens .1 .0, e7, stopped-on k n constants functions text main other c (way on) (lens .1 .0 ∙ sym e6) said er)) (stopped-less c f er on))
           ]))
           (λ off. sets ! (of-opd ! (of ! refl)) (course-typed c isc) $ leaves ! refl $ by ! (exits c st cs fs isc e5 e6 e7 (ends-so k n constants functions text main other c came off)))
         where
