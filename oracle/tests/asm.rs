@@ -546,5 +546,5 @@ fn the_examples_are_as_made() {
         );
         rules += 1;
     }
-    assert!(rules >= 19, "{rules}");
+    assert!(rules >= 20, "{rules}");
 }

@@ -13,8 +13,10 @@ fn load(source: &str) -> Machine {
     Machine::load(&image(&program), Stores::RUNNER).unwrap()
 }
 
+const STORY: &str = include_str!("../../examples/story.rule");
+
 fn story() -> Machine {
-    load(include_str!("../../examples/story.rule"))
+    load(STORY)
 }
 
 fn last(machine: &Machine) -> Option<f64> {
@@ -47,6 +49,15 @@ fn faulted() -> Machine {
     machine
 }
 
+/// What stands behind the rule's Return, with 2 for the zero.
+fn mended_rest(machine: &mut Machine) {
+    let two = Constant::Scalar(2f64.to_bits());
+    let two = machine.add_constant(two).unwrap();
+    machine.add_op1(Op::LoadConstant, 1, 0).unwrap();
+    machine.add_op1(Op::LoadConstant, two, 0).unwrap();
+    machine.add_op(Op::Divide, 0).unwrap();
+}
+
 #[test]
 fn the_fault_leaves_what_was_returned_before_it() {
     let machine = faulted();
@@ -72,29 +83,52 @@ fn a_further_run_of_the_same_machine_runs_nothing() {
     assert_eq!(last(&machine), Some(42.0));
 }
 
+/// The last result after the fault, and the whole rule: twice.
 #[test]
-fn the_whole_rule_mended_and_added_behind_counts_twice() {
+fn after_and_the_whole_counts_twice() {
     let mut machine = faulted();
     machine.add_op(Op::GetLastResult, 0).unwrap();
     machine.add_op1(Op::LoadConstant, 1, 0).unwrap();
     machine.add_op(Op::Add, 0).unwrap();
     machine.add_op(Op::Return, 0).unwrap();
+    mended_rest(&mut machine);
     let report = machine.run(UNITS);
-    assert_eq!((scalar(&report), report.spent), (43.0, 4));
+    assert_eq!((scalar(&report), report.spent), (43.0, 7));
+}
+
+/// The last result after the fault, and the rest: once.
+#[test]
+fn after_and_the_rest_counts_once() {
+    let mut machine = faulted();
+    mended_rest(&mut machine);
+    let report = machine.run(UNITS);
+    assert!(matches!(report.answer, Answer::Continue));
+    assert_eq!((report.spent, machine.stack.len()), (3, 1));
+    assert_eq!(last(&machine), Some(42.0));
+}
+
+/// The last result before the run, as a constant of a newly loaded machine,
+/// and the whole rule: once.
+#[test]
+fn before_and_the_whole_counts_once() {
+    let mended = STORY.replace("constant homes scalar 0", "constant homes scalar 2");
+    let mut machine = load(&mended);
+    let report = machine.run(UNITS);
+    assert_eq!((scalar(&report), report.spent), (42.0, 9));
+    assert_eq!(machine.stack.len(), 1);
 }
 
 #[test]
-fn the_rest_alone_mended_and_added_behind_counts_once() {
-    let mut machine = faulted();
-    let two = machine
-        .add_constant(Constant::Scalar(2f64.to_bits()))
-        .unwrap();
-    machine.add_op1(Op::LoadConstant, 1, 0).unwrap();
-    machine.add_op1(Op::LoadConstant, two, 0).unwrap();
-    machine.add_op(Op::Divide, 0).unwrap();
-    machine.add_op(Op::Return, 0).unwrap();
+fn a_rule_whose_return_comes_last_has_not_counted_when_it_faults() {
+    let safe = include_str!("../../examples/story-safe.rule");
+    let mut machine = load(safe);
     let report = machine.run(UNITS);
-    assert_eq!((scalar(&report), report.spent), (0.5, 4));
+    assert_eq!((fault(&report), report.spent), (8, 5));
+    assert_eq!(last(&machine), Some(41.0));
+
+    let mended = safe.replace("constant homes scalar 0", "constant homes scalar 2");
+    let report = load(&mended).run(UNITS);
+    assert_eq!((scalar(&report), report.spent), (42.0, 12));
 }
 
 /// With 6 units the run stops behind the Return of line 14, which has counted;
