@@ -103,6 +103,8 @@ struct Reader {
 
 /// Reads a source into the program that it says.
 pub fn assemble(source: &[u8]) -> Result<Program, Error> {
+    // Some editors put a byte order mark before a text.
+    let source = source.strip_prefix(b"\xEF\xBB\xBF").unwrap_or(source);
     let mut reader = Reader::default();
     reader.functions.insert("main".to_owned(), 0);
     for (index, bytes) in source.split(|byte| *byte == b'\n').enumerate() {
@@ -131,8 +133,8 @@ fn tokens(line: &str) -> Words<Vec<Token>> {
             let (text, after) = text(quoted)?;
             if !(after.is_empty() || after.starts_with([' ', '\t', '\r', '#'])) {
                 return Err(
-                    "something touches a closing quote; put a space there, or write a \
-                            quote inside a text as \\\""
+                    "something touches a closing quote; put a space there, or write a quote \
+                     inside a text as \\\""
                         .to_owned(),
                 );
             }
@@ -279,8 +281,8 @@ impl Reader {
             ("struct", [Word(name)]) => self.struct_name(name, name.as_bytes()),
             ("struct", [Word(name), Text(text)]) => self.struct_name(name, text),
             ("struct", _) => Err(
-                "a struct has a name, and may have a quoted text after it that \
-                 stands for it in the image"
+                "a struct has a name, and may have a quoted text after it that stands for it in \
+                 the image"
                     .to_owned(),
             ),
             ("main", []) => self.main(line),
@@ -288,8 +290,8 @@ impl Reader {
             ("function", [Word(name)]) => self.function(name, name.as_bytes()),
             ("function", [Word(name), Text(text)]) => self.function(name, text),
             ("function", _) => Err(
-                "a function has a name, and may have a quoted text after it \
-                 that stands for it in the image"
+                "a function has a name, and may have a quoted text after it that stands for it \
+                 in the image"
                     .to_owned(),
             ),
             ("place", [Word(word)]) => self.place(word),

@@ -36,7 +36,7 @@ fn p1_with_all_places_0_is_the_image_written_out_in_document_01() {
 
 #[test]
 fn nothing_said_is_an_empty_main() {
-    for source in ["", "\n", "# nothing\n  \t # at all", "main", "main\r\n"] {
+    for source in ["", "\n", "# nothing\n  \t # at all", "main", "\u{FEFF}main\r\n"] {
         assert_eq!(program(source), Program::new(), "{source:?}");
     }
 }
