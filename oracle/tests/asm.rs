@@ -21,12 +21,17 @@ fn main_code(source: &str) -> Vec<u8> {
     program(source).functions.swap_remove(0).code
 }
 
+fn example(file: &str) -> Vec<u8> {
+    let path = Path::new(env!("CARGO_MANIFEST_DIR"))
+        .join("../examples")
+        .join(file);
+    std::fs::read(&path).unwrap_or_else(|error| panic!("{file}: {error}"))
+}
+
 #[test]
 fn p1_with_all_places_0_is_the_image_written_out_in_document_01() {
-    let source = "constant a scalar 42\nconstant b scalar 1\nplace 0\nmain\n\
-                  LoadConstant a\nLoadConstant b\nAdd\nReturn\n";
     assert_eq!(
-        image(&program(source)),
+        example("P1-places-0.img"),
         hex(
             "02 00 00 00 00 00 00 00 45 40 00 00 00 00 00 00 00 F0 3F 00 01 06 3C 6D 61 69 6E 3E \
              08 00 00 00 00 01 00 08 25 08 00"
@@ -36,7 +41,13 @@ fn p1_with_all_places_0_is_the_image_written_out_in_document_01() {
 
 #[test]
 fn nothing_said_is_an_empty_main() {
-    for source in ["", "\n", "# nothing\n  \t # at all", "main", "\u{FEFF}main\r\n"] {
+    for source in [
+        "",
+        "\n",
+        "# nothing\n  \t # at all",
+        "main",
+        "\u{FEFF}main\r\n",
+    ] {
         assert_eq!(program(source), Program::new(), "{source:?}");
     }
 }
@@ -521,30 +532,58 @@ fn what_no_machine_can_load_is_refused_at_its_line() {
 
 #[test]
 fn the_examples_are_as_made() {
-    let folder = Path::new(env!("CARGO_MANIFEST_DIR")).join("../examples");
-    let read =
-        |name: &str| std::fs::read(folder.join(name)).unwrap_or_else(|e| panic!("{name}: {e}"));
     let mut rules = 0;
-    for entry in std::fs::read_dir(&folder).unwrap() {
+    for entry in std::fs::read_dir(concat!(env!("CARGO_MANIFEST_DIR"), "/../examples")).unwrap() {
         let file = entry.unwrap().file_name().into_string().unwrap();
         let Some(name) = file.strip_suffix(".rule") else {
             continue;
         };
-        let program = assemble(&read(&file)).unwrap_or_else(|error| panic!("{file}, {error}"));
+        let program = assemble(&example(&file)).unwrap_or_else(|error| panic!("{file}, {error}"));
         let image = image(&program);
         assert_eq!(parse(&image), Ok(program), "{name}");
-        assert_eq!(read(&format!("{name}.img")), image, "{name}");
+        assert_eq!(example(&format!("{name}.img")), image, "{name}");
         assert_eq!(
-            read(&format!("{name}.list")),
+            example(&format!("{name}.list")),
             print::lister(&image),
             "{name}"
         );
         assert_eq!(
-            read(&format!("{name}.out")),
+            example(&format!("{name}.out")),
             print::runner(&image).as_bytes(),
             "{name}"
         );
         rules += 1;
     }
     assert!(rules >= 20, "{rules}");
+}
+
+#[test]
+fn the_p_images_have_document_01s_constants_and_code() {
+    let two_lists = "00 00 00 00 01 00 24 02 00 00 00 00 00 01 00 24 02 00 12 25";
+    for (name, constants, codes) in [
+        ("P1", [42.0, 1.0], vec!["00 00 00 00 01 00 08 25"]),
+        ("P1-places-0", [42.0, 1.0], vec!["00 00 00 00 01 00 08 25"]),
+        ("P2", [42.0, 1.0], vec!["00 00 00 00 01 00 08 25"]),
+        ("P3", [1.0, 0.0], vec!["00 00 00 00 01 00 0B 25"]),
+        (
+            "P4",
+            [1.0, 0.0],
+            vec!["00 00 00 25 00 00 00 00 01 00 0B 25"],
+        ),
+        ("P5", [42.0, 1.0], vec![two_lists]),
+        ("P6", [42.0, 1.0], vec!["1C 01 00 00 00", ""]),
+        ("P7", [42.0, 1.0], vec!["1B 05 00"]),
+        (
+            "P8",
+            [42.0, 1.0],
+            vec!["00 00 00 00 01 00 1C 01 00 00 00 25", "08 25"],
+        ),
+    ] {
+        let program = parse(&example(&format!("{name}.img"))).unwrap();
+        assert_eq!(program.constants, constants.map(number), "{name}");
+        assert!(program.structs.is_empty(), "{name}");
+        let read: Vec<Vec<u8>> = program.functions.into_iter().map(|f| f.code).collect();
+        let said: Vec<Vec<u8>> = codes.into_iter().map(hex).collect();
+        assert_eq!(read, said, "{name}");
+    }
 }
