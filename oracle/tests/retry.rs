@@ -118,6 +118,17 @@ fn before_and_the_whole_counts_once() {
     assert_eq!(machine.stack.len(), 1);
 }
 
+/// The last result before the run, and the rest: never.
+#[test]
+fn before_and_the_rest_never_counts() {
+    let mended = STORY.replace("constant homes scalar 0", "constant homes scalar 2");
+    let lines: Vec<&str> = mended.lines().collect();
+    let rest = [&lines[..10], &lines[14..]].concat().join("\n");
+    let mut machine = load(&rest);
+    machine.run(UNITS);
+    assert_eq!(last(&machine), Some(41.0));
+}
+
 #[test]
 fn a_rule_whose_return_comes_last_has_not_counted_when_it_faults() {
     let safe = include_str!("../../examples/story-safe.rule");
