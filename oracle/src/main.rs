@@ -8,7 +8,7 @@ use oracle::limits::Answer;
 use oracle::plain::{self, Ending};
 use oracle::print::{self, value_text};
 use oracle::vm::Vm;
-use oracle::{generate, image};
+use oracle::{asm, generate, image};
 
 const HELP: &str = "\
 oracle: source document 000 over f64, and document 01's machine on top of it
@@ -17,6 +17,7 @@ oracle: source document 000 over f64, and document 01's machine on top of it
   oracle list FILE              what the lister prints
   oracle judge FILE             `ok`, or `refused 20 OFFSET`; also checks that
                                 the image of what was read is FILE again
+  oracle asm FILE               the image of a rule source (examples/README.md)
   oracle rust FILE              what the plain Rust does: its answer, error or
                                 panic, and stack, frames and last result after
   oracle generate SEED COUNT DIR
@@ -38,6 +39,7 @@ fn main() -> ExitCode {
         ["run", file] => read(file).and_then(|bytes| put(print::runner(&bytes).as_bytes())),
         ["list", file] => read(file).and_then(|bytes| put(&print::lister(&bytes))),
         ["judge", file] => read(file).and_then(|bytes| judge(&bytes)),
+        ["asm", file] => read(file).and_then(|source| assemble(file, &source)),
         ["rust", file] => read(file).and_then(|bytes| rust(&bytes)),
         ["generate", seed, count, dir] => numbers(seed, count).and_then(|(s, c)| write(s, c, dir)),
         ["sample", seed, count] => numbers(seed, count).and_then(|(s, c)| sample(s, c)),
@@ -85,6 +87,11 @@ fn judge(bytes: &[u8]) -> Done {
         Ok(program) if image::image(&program) == bytes => put(b"ok\n"),
         Ok(_) => Err("the image of what was read differs from what was read".to_owned()),
     }
+}
+
+fn assemble(file: &str, source: &[u8]) -> Done {
+    let program = asm::assemble(source).map_err(|e| format!("{file}, {e}"))?;
+    put(&image::image(&program))
 }
 
 fn rust(bytes: &[u8]) -> Done {
