@@ -1,5 +1,3 @@
-pub mod Puts
-pub mod Digits
 pub mod Names
 pub mod Pieces
 pub mod Lent

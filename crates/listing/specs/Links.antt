@@ -1,4 +1,4 @@
--- What was put into a store, what an answer stands for, and the stores that the listing is lent.
+-- What an answer stands for, and the stores that the listing is lent.
 use mathlib.Core.Path.{_≡_}
 use mathlib.Core.List.{List}
 use Prim.Native.Nat.{ℕ, _+_, _≤_}
@@ -8,12 +8,6 @@ use Rattle.model.specs.declared.Told.the-variants.{Number, Refused}
 use Rattle.model.specs.Listings.{Listed, text, unlisted}
 use Rattle.model.specs.Stores.{Stores}
 use Rattle.model.specs.Emission.{written}
-
--- the text l was put into s from place i on, as far as s reaches; r is the place behind it, at most k further
-pub record Put (k : ℕ) (l s : List ℕ) (i : ℕ) (s' : List ℕ) (r : ℕ) : Type 0 where
-  pub stored : s' ≡ written s i l
-  pub next : r ≡ i + length l
-  pub near : r ≤ i + k
 
 -- the answer where a listing begins at place i: the place behind it, or its refusal
 abbrev pub toldOf : ℕ → Listed → Told

@@ -1,10 +1,9 @@
 // The listing of a program: the `.CODE` part of disassemble.
-mod texts; // texts.rt: bytes, texts and numbers put into a lent store
 mod lines; // lines.rt: the lines of one function's code
 
 use crate::lines::write_lines;
-use crate::texts::put_text;
-use crate::texts::write_decimal;
+use texts::put_text;
+use texts::write_decimal;
 use model::Counts;
 use model::Told;
 use program::order::counts_ok;
@@ -23,7 +22,8 @@ ghost use lib.ListN.{length};
 ghost use Rattle.model.specs.Listings.{headerLine, linesFor, inFront, listingOf};
 ghost use Rattle.model.specs.Stores.{Stores, functionIn, programIn};
 ghost use Rattle.model.specs.Loading.{listOrder, listOf};
-ghost use Rattle.listing.specs.Links.{Put, Listing, lent};
+ghost use Rattle.listing.specs.Links.{Listing, lent};
+ghost use Rattle.texts.specs.Links.{Put};
 
 // The line above a function's code.
 fn write_header(i: usize, name: &[u8], out: &mut [u8], at: usize) -> usize

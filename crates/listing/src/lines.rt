@@ -1,7 +1,7 @@
 // The lines of one function's code.
-use crate::texts::put_byte;
-use crate::texts::put_text;
-use crate::texts::write_decimal;
+use texts::put_byte;
+use texts::put_text;
+use texts::write_decimal;
 use model::Decoded;
 use model::Told;
 use opcode::decode;
@@ -14,7 +14,8 @@ ghost use lib.ListN.{length};
 ghost use Rattle.model.specs.Opcodes.{opcodeAt};
 ghost use Rattle.model.specs.Programs.{wordAt, behind};
 ghost use Rattle.model.specs.Listings.{paddedTo, operandsFrom, lineOf, linesFor};
-ghost use Rattle.listing.specs.Links.{Put, Listing};
+ghost use Rattle.listing.specs.Links.{Listing};
+ghost use Rattle.texts.specs.Links.{Put};
 
 // An opcode's name, padded with spaces to 13.
 fn write_name(b: u8, out: &mut [u8], at: usize) -> usize

@@ -4,13 +4,13 @@ use native.Mathlib.Omega.{arith}
 use borrow.Author.Needs.{needs}
 use borrow.Fn.Kinds.{In}
 use borrow.Fn.PlainCycle.{Measures, is, falls, and}
-use Rattle.listing.proofs.Digits.{digit, one-digit, falling, last-fits, more-digits}
-use Rattle.listing.proofs.texts.put_byte.Reads as put-byte
-use Rattle.listing.proofs.texts.write_decimal.Reads as reads
-use Rattle.listing.proofs.texts.write_decimal.Kinds as kinds
-use Rattle.listing.proofs.texts.+write_decimal.Lts-write_decimal as lts
-use Rattle.listing.proofs.texts.+write_decimal.{statement}
-use Rattle.listing.proofs.texts.+write_decimal.Tie.{close}
+use Rattle.texts.proofs.Digits.{digit, one-digit, falling, last-fits, more-digits}
+use Rattle.texts.proofs.put_byte.Reads as put-byte
+use Rattle.texts.proofs.write_decimal.Reads as reads
+use Rattle.texts.proofs.write_decimal.Kinds as kinds
+use Rattle.texts.proofs.+write_decimal.Lts-write_decimal as lts
+use Rattle.texts.proofs.+write_decimal.{statement}
+use Rattle.texts.proofs.+write_decimal.Tie.{close}
 
 abbrev μ : Measures 1 kinds.ps ℕ
 μ κs a = a .0 + a .1 .0

@@ -4,7 +4,7 @@ ghost use mathlib.Core.List.{[], _∷_};
 ghost use Prim.Native.Nat.{_+_, _<_, _^_};
 ghost use lib.ListN.{length};
 ghost use Rattle.model.specs.Listings.{decimal, digitsOrMore};
-ghost use Rattle.listing.specs.Links.{Put};
+ghost use Rattle.texts.specs.Links.{Put};
 
 // One byte.
 pub fn put_byte(b: u8, out: &mut [u8], at: usize) -> usize

@@ -1,8 +1,8 @@
 -- `put_byte`: a store past the end changes nothing.
 use borrow.Author.Needs.{needs}
-use Rattle.listing.proofs.Puts.{byte-inside, byte-past}
-use Rattle.listing.proofs.texts.put_byte.Statement.{statement}
-use Rattle.listing.proofs.texts.put_byte.Tie as tie
+use Rattle.texts.proofs.Puts.{byte-inside, byte-past}
+use Rattle.texts.proofs.put_byte.Statement.{statement}
+use Rattle.texts.proofs.put_byte.Tie as tie
 
 slice-write-out : tie.Need-slice-write-out
 slice-write-out c = search needs

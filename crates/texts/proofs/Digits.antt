@@ -9,8 +9,8 @@ use lib.ListN.{length, replicate, length-append, length-replicate}
 use borrow.Author.Tests.{lt-ltb, le-ltb, ltb-true, ltb-false}
 use Rattle.model.specs.Listings.{decimalFor, decimal, digitsOrMore}
 use Rattle.program.proofs.Bools.{apart, and-left, and-right, either-way}
-use Rattle.listing.specs.Links.{Put}
-use Rattle.listing.proofs.Puts.{is, within, both}
+use Rattle.texts.specs.Links.{Put}
+use Rattle.texts.proofs.Puts.{is, within, both}
 
 -- a is below b, or not
 pub by-lt : {P : Type 0} (a b : ℕ) → (a < b → P) → (b ≤ a → P) → P

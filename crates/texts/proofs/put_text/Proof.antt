@@ -3,9 +3,9 @@ use mathlib.Core.Path.{refl}
 use Prim.Native.Nat.{_-_}
 use borrow.Author.Needs.{needs}
 use lib.ListN.{length}
-use Rattle.listing.proofs.Puts.{Along, at-first, another, whole, kept}
-use Rattle.listing.proofs.texts.put_text.Statement.{statement}
-use Rattle.listing.proofs.texts.put_text.Tie as tie
+use Rattle.texts.proofs.Puts.{Along, at-first, another, whole, kept}
+use Rattle.texts.proofs.put_text.Statement.{statement}
+use Rattle.texts.proofs.put_text.Tie as tie
 
 abbrev Inv-loop : tie.InvT-loop
 Inv-loop text out₀ at i₀ next₀ out i next = Along text out₀ at out i next

@@ -7,7 +7,7 @@ use native.Mathlib.Numerals.{add-one}
 use lib.ListN.{length, getD, set, take, length-append}
 use lib.Seq.{length-sets, set-out, take-suc, take-all}
 use Rattle.model.specs.Emission.{written}
-use Rattle.listing.specs.Links.{Put}
+use Rattle.texts.specs.Links.{Put}
 
 -- a and then b is a ++ b
 pub written-both : (s : List ℕ) (i : ℕ) (a b : List ℕ) → written (written s i a) (i + length a) b ≡ written s i (a ++ b)
