@@ -1,0 +1,73 @@
+//! The damaged images, and the records to compare with.
+
+mod common;
+
+use std::collections::BTreeSet;
+
+use common::hex;
+use oracle::image::{image, parse};
+use oracle::{damage, print};
+
+#[test]
+fn a_damaged_image_is_refused_or_is_the_image_of_what_it_says() {
+    let (mut taken, mut refused) = (0, 0);
+    for bytes in damage::every() {
+        match parse(&bytes) {
+            Ok(program) => {
+                assert_eq!(image(&program), bytes);
+                taken += 1;
+            }
+            Err(offset) => {
+                assert!(offset <= bytes.len());
+                refused += 1;
+            }
+        }
+    }
+    assert_eq!((taken, refused), (12_965, 20_384));
+}
+
+#[test]
+fn each_item_is_named_by_some_refusal() {
+    for program in damage::small() {
+        let whole = image(&program);
+        // Where a cut image is refused, an item begins.
+        let items: BTreeSet<usize> = (0..whole.len())
+            .map(|length| parse(&whole[..length]).expect_err("it is cut"))
+            .collect();
+        let named: BTreeSet<usize> = damage::every()
+            .iter()
+            .filter(|bytes| bytes.len() >= whole.len())
+            .filter_map(|bytes| parse(bytes).err())
+            .collect();
+        assert!(items.is_subset(&named));
+        // What follows the end.
+        assert!(named.contains(&whole.len()));
+    }
+}
+
+#[test]
+fn what_loading_answers() {
+    let p1 = image(&damage::small()[1]);
+    assert_eq!(print::loader(&p1), "loaded 2 0 1 6\n");
+    assert_eq!(print::loader(&p1[..38]), "refused 20 38\n");
+    assert_eq!(print::loader(&[0; 16_385]), "refused 22\n");
+    let all = image(&damage::small()[2]);
+    assert_eq!(print::loader(&all), "loaded 5 3 3 13\n");
+}
+
+#[test]
+fn the_record_of_an_empty_main() {
+    let empty = image(&damage::small()[0]);
+    assert_eq!(empty, hex("00 00 01 06 3C 6D 61 69 6E 3E 00"));
+    let parts: [&[u8]; 8] = [
+        &[11, 0, 0, 0],
+        &empty,
+        &[15, 0, 0, 0],
+        b"loaded 0 0 1 6\n",
+        &[25, 0, 0, 0],
+        b"continue\nspent 0\nstack 0\n",
+        &[17, 0, 0, 0],
+        b".CODE 0 (<main>)\n",
+    ];
+    assert_eq!(print::record(&empty), parts.concat());
+}
