@@ -30,9 +30,9 @@ oracle: source document 000 over f64, and document 01's machine on top of it
   oracle damage EVERY           the records of every damage of a few small
                                 images, or of each EVERY-th
 
-A record is four parts: the image, what `load` prints, what the runner prints,
-what the lister prints. Each part is its length (u32, low byte first) and its
-bytes. Records stand one behind the other up to the end.
+A record is the lengths of four parts (each u32, low byte first) and then the
+parts: the image, what `load` prints, what the runner prints, what the lister
+prints. Records stand one behind the other up to the end.
 
 FILE may be - for standard input. The plain Rust is stopped after 2,000,000
 steps or at a nesting of 1,000, which it would not be by itself.

@@ -55,21 +55,21 @@ pub fn loader(image: &[u8]) -> String {
     }
 }
 
-/// The record of an image: the image, then what loading it answers, what the
-/// runner prints and what the lister prints. Each of the four is its length
-/// (u32, low byte first) and its bytes.
+/// The record of an image: the lengths of four parts (each u32, low byte
+/// first), then the parts: the image, what loading it answers, what the runner
+/// prints, what the lister prints.
 pub fn record(image: &[u8]) -> Vec<u8> {
-    let mut out = vec![];
-    for part in [
+    let parts = [
         image,
         loader(image).as_bytes(),
         runner(image).as_bytes(),
         &lister(image),
-    ] {
-        out.extend_from_slice(&(part.len() as u32).to_le_bytes());
-        out.extend_from_slice(part);
-    }
-    out
+    ]
+    .map(<[u8]>::to_vec);
+    let lengths = parts
+        .each_ref()
+        .map(|part| (part.len() as u32).to_le_bytes());
+    [lengths.concat(), parts.concat()].concat()
 }
 
 pub fn refused_text(refused: Refused) -> String {

@@ -59,14 +59,11 @@ fn what_loading_answers() {
 fn the_record_of_an_empty_main() {
     let empty = image(&damage::small()[0]);
     assert_eq!(empty, hex("00 00 01 06 3C 6D 61 69 6E 3E 00"));
-    let parts: [&[u8]; 8] = [
-        &[11, 0, 0, 0],
+    let parts: [&[u8]; 5] = [
+        &[11, 0, 0, 0, 15, 0, 0, 0, 25, 0, 0, 0, 17, 0, 0, 0],
         &empty,
-        &[15, 0, 0, 0],
         b"loaded 0 0 1 6\n",
-        &[25, 0, 0, 0],
         b"continue\nspent 0\nstack 0\n",
-        &[17, 0, 0, 0],
         b".CODE 0 (<main>)\n",
     ];
     assert_eq!(print::record(&empty), parts.concat());
