@@ -1,5 +1,5 @@
 // The listing of a program: the `.CODE` part of disassemble.
-mod texts; // texts.rt: bytes, texts and numbers put into a lent store
+pub mod texts; // texts.rt: bytes, texts and numbers put into a lent store
 mod lines; // lines.rt: the lines of one function's code
 
 use crate::lines::write_lines;
