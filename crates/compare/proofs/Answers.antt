@@ -4,7 +4,7 @@ use mathlib.Core.Bool.{Bool, true, false}
 use mathlib.Core.List.{List, [], _∷_}
 use Prim.Native.Nat.{ℕ, _≤_, _<_}
 use lib.Dec.{leb}
-use lib.ListN.{length, take}
+use lib.ListN.{length, take, replicate}
 use denote.Enum.Declared.{tagOf}
 use types.Run.{OneOf, miss}
 use borrow.Author.Tests.{le-leb, lt-leb}
@@ -19,7 +19,7 @@ use Rattle.model.specs.Equality.{sameBytes}
 use Rattle.model.specs.Stores.{Stores}
 use Rattle.model.specs.Loading.{LoadRes, loadOf, OutRes, saveOf, listOf}
 use Rattle.listing.specs.Links.{lent}
-use Rattle.compare.specs.Compared.{refusal, loadText, outText, readOf, Tried, backTo, savingOf, listingOf, Compared, comparedAt, compareOf}
+use Rattle.compare.specs.Compared.{refusal, loadText, outText, readOf, Tried, backTo, savingOf, listingOf, Compared, comparedAt, compareOf, runnerStores, verdictOf}
 
 pub too-long : (image : List ℕ) (s : Stores) → 16384 < length image → record { answer = l.Refused 22; stores = s } ≡ readOf image s
 unfolding readOf
@@ -91,3 +91,12 @@ pub all : (image loading listing : List ℕ) (s : Stores) (saved listed : List �
     → record { loading = a; saving = b; listing = d; stores = s'; saved = saved'; listed = listed' } ≡ compareOf image loading listing s saved listed
 unfolding compareOf comparedAt lent
 all image loading listing s saved listed {s' = s'} h f g k = rw (← h, f, ← g, ← (k s'))
+
+-- ---- with the runner's stores
+
+pub judged : (image loading listing : List ℕ) {a b d : Bool} {s : Stores} {saved listed : List ℕ}
+    → record { loading = a; saving = b; listing = d; stores = s; saved = saved; listed = listed } ≡ compareOf image loading listing
+    record { constants = replicate 512 0; structs = replicate 256 0; functions = replicate 512 0; text = replicate 16384 0; main = replicate 8192 0; mainPlaces = replicate 8192 0; other = replicate 8192 0; otherPlaces = replicate 8192 0 } (replicate 16384 0) (replicate 524288 0)
+    → (a ≡ verdictOf image loading listing .loading) × (b ≡ verdictOf image loading listing .saving) × (d ≡ verdictOf image loading listing .listing)
+unfolding verdictOf runnerStores
+judged image loading listing h = (ap (λ (x : Compared). x .loading) h, ap (λ (x : Compared). x .saving) h, ap (λ (x : Compared). x .listing) h)

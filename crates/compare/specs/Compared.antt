@@ -3,7 +3,7 @@ use mathlib.Core.Bool.{Bool, true, false}
 use mathlib.Core.List.{List, [], _∷_, _++_}
 use Prim.Native.Nat.{ℕ}
 use lib.Dec.{leb}
-use lib.ListN.{length, take}
+use lib.ListN.{length, take, replicate}
 use Rattle.model.specs.declared.Counts.{Counts}
 use Rattle.model.specs.declared.Loaded.{Loaded}
 use Rattle.model.specs.declared.Loaded.the-variants as l
@@ -94,3 +94,22 @@ comparedAt image loading listing r saved listed = record {
 -- an image against what loading should answer and what the lister should print
 unfoldable pub compareOf : List ℕ → List ℕ → List ℕ → Stores → List ℕ → List ℕ → Compared
 compareOf image loading listing s saved listed = comparedAt image loading listing (readOf image s) saved listed
+
+-- ---- with the runner's stores
+
+-- they hold 256 each of constants, structs and functions, 8,192 bytes of main, 8,192 of other code and 16,384 of text
+unfoldable pub runnerStores : Stores
+runnerStores = record {
+  constants = replicate 512 0;
+  structs = replicate 256 0;
+  functions = replicate 512 0;
+  text = replicate 16384 0;
+  main = replicate 8192 0;
+  mainPlaces = replicate 8192 0;
+  other = replicate 8192 0;
+  otherPlaces = replicate 8192 0;
+}
+
+-- room for every image that is read, and for its listing
+unfoldable pub verdictOf : List ℕ → List ℕ → List ℕ → Compared
+verdictOf image loading listing = compareOf image loading listing runnerStores (replicate 16384 0) (replicate 524288 0)

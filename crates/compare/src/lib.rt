@@ -18,7 +18,7 @@ ghost use Rattle.model.specs.Loading.{LoadRes};
 ghost use Rattle.image.specs.Fills.{lent};
 ghost use Rattle.listing.specs.Links.{Put};
 ghost use Rattle.listing.specs.Links as part;
-ghost use Rattle.compare.specs.Compared.{field, refusal, breach, loaded, loadText, outText, readOf, Tried, savingOf, listingOf, Compared, compareOf};
+ghost use Rattle.compare.specs.Compared.{field, refusal, breach, loaded, loadText, outText, readOf, Tried, savingOf, listingOf, Compared, compareOf, verdictOf};
 
 // Which answers agree.
 pub struct Verdict {
@@ -249,4 +249,35 @@ pub fn compare(
         saving: saving,
         listing: lists,
     }
+}
+
+// The same with the runner's stores.
+pub fn judge(image: &[u8], loading: &[u8], listing: &[u8]) -> Verdict
+    ensures { λ r. ⌜ (r .loading ≡ verdictOf (now (image .entry)) (now (loading .entry)) (now (listing .entry)) .loading) × (r .saving ≡ verdictOf (now (image .entry)) (now (loading .entry)) (now (listing .entry)) .saving) × (r .listing ≡ verdictOf (now (image .entry)) (now (loading .entry)) (now (listing .entry)) .listing) ⌝ }
+{
+    let mut constants = [0u64; 512];
+    let mut structs = [0u64; 256];
+    let mut functions = [0u64; 512];
+    let mut text = [0u8; 16384];
+    let mut main = [0u8; 8192];
+    let mut main_places = [0u32; 8192];
+    let mut other = [0u8; 8192];
+    let mut other_places = [0u32; 8192];
+    let mut saved = [0u8; 16384];
+    let mut listed = [0u8; 524288];
+    compare(
+        image,
+        loading,
+        listing,
+        &mut constants,
+        &mut structs,
+        &mut functions,
+        &mut text,
+        &mut main,
+        &mut main_places,
+        &mut other,
+        &mut other_places,
+        &mut saved,
+        &mut listed,
+    )
 }
