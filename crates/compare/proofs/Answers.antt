@@ -1,9 +1,8 @@
 -- What the three answers are, way by way.
-use mathlib.Core.Path.{_≡_, refl, sym, ap, _∙_}
+use mathlib.Core.Path.{_≡_, refl, ap}
 use mathlib.Core.Bool.{Bool, true, false}
 use mathlib.Core.List.{List, [], _∷_}
 use Prim.Native.Nat.{ℕ, _≤_, _<_}
-use lib.Dec.{leb}
 use lib.ListN.{length, take, replicate}
 use denote.Enum.Declared.{tagOf}
 use types.Run.{OneOf, miss}
@@ -17,9 +16,9 @@ use Rattle.model.specs.declared.Told.{Told}
 use Rattle.model.specs.declared.Told.the-variants as t
 use Rattle.model.specs.Equality.{sameBytes}
 use Rattle.model.specs.Stores.{Stores}
-use Rattle.model.specs.Loading.{LoadRes, loadOf, OutRes, saveOf, listOf}
+use Rattle.model.specs.Loading.{LoadRes, loadOf, saveOf, listOf}
 use Rattle.listing.specs.Links.{lent}
-use Rattle.compare.specs.Compared.{refusal, loadText, outText, readOf, Tried, backTo, savingOf, listingOf, Compared, comparedAt, compareOf, runnerStores, verdictOf}
+use Rattle.compare.specs.Compared.{loadText, outText, readOf, backTo, savingOf, listerOf, listerText, listingOf, Compared, comparedAt, compareOf, runnerStores, verdictOf}
 
 pub too-long : (image : List ℕ) (s : Stores) → 16384 < length image → record { answer = l.Refused 22; stores = s } ≡ readOf image s
 unfolding readOf
@@ -70,17 +69,17 @@ module _ (image : List ℕ) (s : Stores) (out : List ℕ) where
 
 module _ (want : List ℕ) (s : Stores) (out : List ℕ) (r : Bool) where
   pub listed-as : {answer : Loaded} {c : Counts} → answer ≡ l.Done c → {told : Told} {o : List ℕ} → record { answer = told; out = o } ≡ listOf c s out → r ≡ sameBytes (outText told o) want → record { agrees = r; out = o } ≡ listingOf want answer s out
-  unfolding listingOf
+  unfolding listingOf listerOf listerText
   listed-as e h g = rw (e, ← h, g)
 
   pub listed-broken : (answer : Loaded) → OneOf (1 ∷ []) (tagOf loaded-type answer) → r ≡ sameBytes (loadText (l.Refused 20)) want → record { agrees = r; out = out } ≡ listingOf want answer s out
-  unfolding listingOf loadText
+  unfolding listingOf listerOf listerText outText loadText
   listed-broken (l.Done c) d g = absurd (miss (1 ∷ []) 0 tt d)
   listed-broken (l.Broken o) d g = rw g
   listed-broken (l.Refused n) d g = absurd (miss (1 ∷ []) 2 tt d)
 
   pub listed-refused : {answer : Loaded} {n : ℕ} → answer ≡ l.Refused n → r ≡ sameBytes (loadText (l.Refused n)) want → record { agrees = r; out = out } ≡ listingOf want answer s out
-  unfolding listingOf loadText
+  unfolding listingOf listerOf listerText outText loadText
   listed-refused e g = rw (e, g)
 
 -- ---- all of it

@@ -1,7 +1,7 @@
 -- Lines put into a store from its start on, and read off again.
 use mathlib.Core.Path.{_≡_, sym, ap, _∙_}
 use mathlib.Core.Bool.{Bool}
-use mathlib.Core.List.{List, [], _∷_, _++_}
+use mathlib.Core.List.{List, [], _∷_}
 use Prim.Native.Nat.{ℕ, _+_, _≤_, _<_, min}
 use native.Mathlib.Omega.{arith}
 use native.Mathlib.Nat.{min-eq-left, min-eq-right, min-le-right}
@@ -14,7 +14,6 @@ use Rattle.model.specs.declared.Loaded.{Loaded}
 use Rattle.model.specs.declared.Loaded.the-variants as l
 use Rattle.model.specs.Basics.{ascii}
 use Rattle.model.specs.Equality.{sameBytes}
-use Rattle.model.specs.Listings.{decimal}
 use Rattle.model.specs.Emission.{written}
 use Rattle.program.proofs.Bools.{either-way}
 use Rattle.listing.specs.Links.{Put}

@@ -1,6 +1,6 @@
 -- What is printed of an image's loading and listing, and when it agrees with texts that say what it should be.
 use mathlib.Core.Bool.{Bool, true, false}
-use mathlib.Core.List.{List, [], _∷_, _++_}
+use mathlib.Core.List.{List, _∷_, _++_}
 use Prim.Native.Nat.{ℕ}
 use lib.Dec.{leb}
 use lib.ListN.{length, take, replicate}
@@ -66,10 +66,16 @@ savingOf image (l.Broken o) s out = record { agrees = true; out = out }
 savingOf image (l.Refused n) s out = record { agrees = true; out = out }
 
 -- the lister prints each function's listing in order, or `refused N` alone
+unfoldable pub listerOf : Loaded → Stores → List ℕ → OutRes
+listerOf (l.Done c) s out = listOf c s out
+listerOf (l.Broken o) s out = record { answer = t.Refused 20; out = out }
+listerOf (l.Refused n) s out = record { answer = t.Refused n; out = out }
+
+unfoldable pub listerText : OutRes → List ℕ
+listerText r = outText (r .answer) (r .out)
+
 unfoldable pub listingOf : List ℕ → Loaded → Stores → List ℕ → Tried
-listingOf want (l.Done c) s out = record { agrees = sameBytes (outText (listOf c s out .answer) (listOf c s out .out)) want; out = listOf c s out .out }
-listingOf want (l.Broken o) s out = record { agrees = sameBytes (refusal 20) want; out = out }
-listingOf want (l.Refused n) s out = record { agrees = sameBytes (refusal n) want; out = out }
+listingOf want answer s out = record { agrees = sameBytes (listerText (listerOf answer s out)) want; out = listerOf answer s out .out }
 
 -- ---- all of it
 

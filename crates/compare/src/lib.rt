@@ -11,14 +11,13 @@ use program::words::lesser;
 use program::words::same_bytes;
 ghost use mathlib.Core.Path.{_≡_};
 ghost use Prim.Native.Nat.{_+_, _<_, _^_};
-ghost use lib.ListN.{length, take};
+ghost use lib.ListN.{take};
 ghost use Rattle.model.specs.Equality.{sameBytes};
 ghost use Rattle.model.specs.Stores.{Stores};
-ghost use Rattle.model.specs.Loading.{LoadRes};
 ghost use Rattle.image.specs.Fills.{lent};
 ghost use Rattle.listing.specs.Links.{Put};
 ghost use Rattle.listing.specs.Links as part;
-ghost use Rattle.compare.specs.Compared.{field, refusal, breach, loaded, loadText, outText, readOf, Tried, savingOf, listingOf, Compared, compareOf, verdictOf};
+ghost use Rattle.compare.specs.Compared.{field, refusal, breach, loaded, loadText, outText, readOf, savingOf, listingOf, compareOf, verdictOf};
 
 // Which answers agree.
 pub struct Verdict {

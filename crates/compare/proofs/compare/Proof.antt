@@ -3,12 +3,6 @@ use borrow.Author.Needs.{needs}
 use Rattle.compare.proofs.Answers.{all}
 use Rattle.compare.proofs.compare.Statement.{statement}
 use Rattle.compare.proofs.compare.Tie as tie
-use Rattle.compare.proofs.compare.Reads as reads
-use Rattle.compare.proofs.compare.Lts as lts
-use Rattle.compare.proofs.lists.Reads as lists-reads
-use Rattle.compare.proofs.read.Reads as read-reads
-use Rattle.compare.proofs.same_line.Reads as same-line-reads
-use Rattle.compare.proofs.saves.Reads as saves-reads
 
 read-requires : tie.Need-read-requires
 read-requires c κs = search needs

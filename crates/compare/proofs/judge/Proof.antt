@@ -3,9 +3,6 @@ use borrow.Author.Needs.{needs}
 use Rattle.compare.proofs.Answers.{judged}
 use Rattle.compare.proofs.judge.Statement.{statement}
 use Rattle.compare.proofs.judge.Tie as tie
-use Rattle.compare.proofs.judge.Reads as reads
-use Rattle.compare.proofs.judge.Lts as lts
-use Rattle.compare.proofs.compare.Reads as compare-reads
 
 slice-aggregate-compare : tie.Need-slice-aggregate-compare
 slice-aggregate-compare c = search needs

@@ -3,11 +3,6 @@ use borrow.Author.Needs.{needs}
 use Rattle.compare.proofs.Answers.{listed-as, listed-broken, listed-refused}
 use Rattle.compare.proofs.lists.Statement.{statement}
 use Rattle.compare.proofs.lists.Tie as tie
-use Rattle.compare.proofs.lists.Reads as reads
-use Rattle.compare.proofs.lists.Lts as lts
-use Rattle.compare.proofs.same_line.Reads as same-line-reads
-use Rattle.compare.proofs.same_out.Reads as same-out-reads
-use Rattle.listing.proofs.disassemble.Reads as disassemble-reads
 
 enum-known-answer : tie.Need-enum-known-answer
 enum-known-answer c = search needs

@@ -3,11 +3,6 @@ use borrow.Author.Needs.{needs}
 use Rattle.compare.proofs.Lines.{line-done, line-broken, line-refused}
 use Rattle.compare.proofs.put_answer.Statement.{statement}
 use Rattle.compare.proofs.put_answer.Tie as tie
-use Rattle.compare.proofs.put_answer.Reads as reads
-use Rattle.compare.proofs.put_answer.Lts as lts
-use Rattle.compare.proofs.put_breach.Reads as put-breach-reads
-use Rattle.compare.proofs.put_loaded.Reads as put-loaded-reads
-use Rattle.compare.proofs.put_refusal.Reads as put-refusal-reads
 
 enum-known-answer : tie.Need-enum-known-answer
 enum-known-answer c = search needs

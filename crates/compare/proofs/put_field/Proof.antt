@@ -3,10 +3,6 @@ use borrow.Author.Needs.{needs}
 use Rattle.compare.proofs.Lines.{field-is}
 use Rattle.compare.proofs.put_field.Statement.{statement}
 use Rattle.compare.proofs.put_field.Tie as tie
-use Rattle.compare.proofs.put_field.Reads as reads
-use Rattle.compare.proofs.put_field.Lts as lts
-use Rattle.listing.proofs.texts.put_text.Reads as put-text-reads
-use Rattle.listing.proofs.texts.write_decimal.Reads as write-decimal-reads
 
 slice-aggregate-put-text : tie.Need-slice-aggregate-put-text
 slice-aggregate-put-text c = search needs

@@ -3,10 +3,6 @@ use borrow.Author.Needs.{needs}
 use Rattle.compare.proofs.Lines.{refusal-is}
 use Rattle.compare.proofs.put_refusal.Statement.{statement}
 use Rattle.compare.proofs.put_refusal.Tie as tie
-use Rattle.compare.proofs.put_refusal.Reads as reads
-use Rattle.compare.proofs.put_refusal.Lts as lts
-use Rattle.compare.proofs.put_field.Reads as put-field-reads
-use Rattle.listing.proofs.texts.put_text.Reads as put-text-reads
 
 slice-aggregate-put-text : tie.Need-slice-aggregate-put-text
 slice-aggregate-put-text c = search needs

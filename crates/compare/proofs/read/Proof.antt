@@ -3,9 +3,6 @@ use borrow.Author.Needs.{needs}
 use Rattle.compare.proofs.Answers.{too-long, loads}
 use Rattle.compare.proofs.read.Statement.{statement}
 use Rattle.compare.proofs.read.Tie as tie
-use Rattle.compare.proofs.read.Reads as reads
-use Rattle.compare.proofs.read.Lts as lts
-use Rattle.image.proofs.load.Reads as load-reads
 
 returns : tie.Need-returns
 returns c = too-long _ _ (c .if1 .taken)

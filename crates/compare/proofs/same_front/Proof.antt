@@ -5,10 +5,6 @@ use lib.Seq.{length-take-le}
 use Rattle.compare.proofs.Lines.{same-front, cut}
 use Rattle.compare.proofs.same_front.Statement.{statement}
 use Rattle.compare.proofs.same_front.Tie as tie
-use Rattle.compare.proofs.same_front.Reads as reads
-use Rattle.compare.proofs.same_front.Lts as lts
-use Rattle.program.proofs.words.lesser.Reads as lesser-reads
-use Rattle.program.proofs.words.same_bytes.Reads as same-bytes-reads
 
 lesser-requires : tie.Need-lesser-requires
 lesser-requires c κs = search needs

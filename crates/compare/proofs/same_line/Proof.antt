@@ -4,10 +4,6 @@ use native.Mathlib.Omega.{arith}
 use Rattle.compare.proofs.Lines.{same-line}
 use Rattle.compare.proofs.same_line.Statement.{statement}
 use Rattle.compare.proofs.same_line.Tie as tie
-use Rattle.compare.proofs.same_line.Reads as reads
-use Rattle.compare.proofs.same_line.Lts as lts
-use Rattle.compare.proofs.put_answer.Reads as put-answer-reads
-use Rattle.compare.proofs.same_front.Reads as same-front-reads
 
 slice-aggregate-put-answer : tie.Need-slice-aggregate-put-answer
 slice-aggregate-put-answer c = search needs

@@ -3,10 +3,6 @@ use borrow.Author.Needs.{needs}
 use Rattle.compare.proofs.Answers.{out-number, out-refused}
 use Rattle.compare.proofs.same_out.Statement.{statement}
 use Rattle.compare.proofs.same_out.Tie as tie
-use Rattle.compare.proofs.same_out.Reads as reads
-use Rattle.compare.proofs.same_out.Lts as lts
-use Rattle.compare.proofs.same_front.Reads as same-front-reads
-use Rattle.compare.proofs.same_line.Reads as same-line-reads
 
 enum-known-told : tie.Need-enum-known-told
 enum-known-told c = search needs

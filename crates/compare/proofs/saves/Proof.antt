@@ -3,10 +3,6 @@ use borrow.Author.Needs.{needs}
 use Rattle.compare.proofs.Answers.{not-loaded, not-saved, saved-as}
 use Rattle.compare.proofs.saves.Statement.{statement}
 use Rattle.compare.proofs.saves.Tie as tie
-use Rattle.compare.proofs.saves.Reads as reads
-use Rattle.compare.proofs.saves.Lts as lts
-use Rattle.compare.proofs.same_front.Reads as same-front-reads
-use Rattle.image.proofs.save.Reads as save-reads
 
 enum-known-answer : tie.Need-enum-known-answer
 enum-known-answer c = search needs

@@ -4,9 +4,6 @@ use mathlib.Core.Path.{sym}
 use lib.Seq.{length-take-le}
 use Rattle.replay.proofs.judged.Statement.{statement}
 use Rattle.replay.proofs.judged.Tie as tie
-use Rattle.replay.proofs.judged.Reads as reads
-use Rattle.replay.proofs.judged.Lts as lts
-use Rattle.compare.proofs.judge.Reads as judge-reads
 
 slice-aggregate-judge : tie.Need-slice-aggregate-judge
 slice-aggregate-judge c = sym (length-take-le _ (c .before .before .args .body .now) (search needs))

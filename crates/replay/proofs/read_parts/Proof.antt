@@ -4,11 +4,6 @@ use mathlib.Core.Path.{sym}
 use lib.Seq.{length-take-le}
 use Rattle.replay.proofs.read_parts.Statement.{statement}
 use Rattle.replay.proofs.read_parts.Tie as tie
-use Rattle.replay.proofs.read_parts.Reads as reads
-use Rattle.replay.proofs.read_parts.Lts as lts
-use Rattle.io.proofs.read_full.Reads as read-full-reads
-use Rattle.replay.proofs.judged.Reads as judged-reads
-use Rattle.replay.proofs.report.Reads as report-reads
 
 returns : tie.Need-returns
 returns c = search needs
