@@ -45,12 +45,14 @@ pub fn small() -> Vec<Program> {
     vec![Program::new(), p1, all]
 }
 
-/// Every damage of the small images.
-pub fn every() -> Vec<Vec<u8>> {
-    let mut out = vec![];
+/// Every damage of names and runs, and each `step`-th damage of the small
+/// images' bytes.
+pub fn each(step: usize) -> Vec<Vec<u8>> {
+    let mut all = vec![];
     for program in small() {
-        bytes(&image(&program), &mut out);
+        bytes(&image(&program), &mut all);
     }
+    let mut out: Vec<_> = all.into_iter().step_by(step).collect();
     struct_names(&mut out);
     mains(&mut out);
     runs(&mut out);
@@ -124,8 +126,8 @@ fn mains(out: &mut Vec<Vec<u8>>) {
     }
 }
 
-/// Up to three runs of 0 to 5 bytes with two places, for 4 bytes of code:
-/// empty, too long, too few, repeated, and right.
+/// Up to three runs of 0, 1, 2 or 5 bytes with two places, for 4 bytes of
+/// code: empty, too long, too few, repeated, and right.
 fn runs(out: &mut Vec<Vec<u8>>) {
     let mut program = Program::new();
     program.functions[0].code = vec![Op::Return as u8; 4];
@@ -133,10 +135,10 @@ fn runs(out: &mut Vec<Vec<u8>>) {
     let whole = image(&program);
     // The last two bytes are the one run: its length and its place.
     let front = &whole[..whole.len() - 2];
-    for choice in choices(12, 3) {
+    for choice in choices(8, 3) {
         let mut bytes = front.to_vec();
         for run in choice {
-            bytes.extend([(run / 2) as u8, 3 + (run % 2) as u8]);
+            bytes.extend([[0, 1, 2, 5][run / 2], 3 + (run % 2) as u8]);
         }
         out.push(bytes);
     }

@@ -27,8 +27,9 @@ oracle: source document 000 over f64, and document 01's machine on top of it
                                 of text; or `refused N`, 20 with its offset
   oracle batch SEED COUNT       the records of generated images, on standard
                                 output
-  oracle damage EVERY           the records of every damage of a few small
-                                images, or of each EVERY-th
+  oracle damage STEP            the records of damaged small images: names and
+                                runs in every way, and bytes in each STEP-th
+                                way (1: in every way)
 
 A record is the lengths of four parts (each u32, low byte first) and then the
 parts: the image, what `load` prints, what the runner prints, what the lister
@@ -51,8 +52,9 @@ fn main() -> ExitCode {
         ["load", file] => read(file).and_then(|bytes| put(print::loader(&bytes).as_bytes())),
         ["batch", seed, count] => numbers(seed, count)
             .and_then(|(s, c)| records((0..c).map(|index| generate::case(s, index)))),
-        ["damage", every] => number(every)
-            .and_then(|e| records(damage::every().into_iter().step_by(e.max(1) as usize))),
+        ["damage", step] => {
+            number(step).and_then(|step| records(damage::each(step.max(1) as usize).into_iter()))
+        }
         [] | ["help" | "--help" | "-h"] => put(HELP.as_bytes()),
         _ => Err(format!("not understood\n\n{HELP}")),
     };

@@ -11,7 +11,7 @@ use oracle::{damage, print};
 #[test]
 fn a_damaged_image_is_refused_or_is_the_image_of_what_it_says() {
     let (mut taken, mut refused) = (0, 0);
-    for bytes in damage::every() {
+    for bytes in damage::each(1) {
         match parse(&bytes) {
             Ok(program) => {
                 assert_eq!(image(&program), bytes);
@@ -23,7 +23,7 @@ fn a_damaged_image_is_refused_or_is_the_image_of_what_it_says() {
             }
         }
     }
-    assert_eq!((taken, refused), (12_965, 20_384));
+    assert_eq!((taken, refused), (12_959, 19_090));
 }
 
 #[test]
@@ -34,7 +34,7 @@ fn each_item_is_named_by_some_refusal() {
         let items: BTreeSet<usize> = (0..whole.len())
             .map(|length| parse(&whole[..length]).expect_err("it is cut"))
             .collect();
-        let named: BTreeSet<usize> = damage::every()
+        let named: BTreeSet<usize> = damage::each(1)
             .iter()
             .filter(|bytes| bytes.len() >= whole.len())
             .filter_map(|bytes| parse(bytes).err())
@@ -42,6 +42,44 @@ fn each_item_is_named_by_some_refusal() {
         assert!(items.is_subset(&named));
         // What follows the end.
         assert!(named.contains(&whole.len()));
+    }
+}
+
+#[test]
+fn names_and_runs_are_damaged_in_every_way() {
+    let damaged = damage::each(usize::MAX);
+    for (bytes, offset) in [
+        // a repeated struct name, the second and the third
+        ("00 02 01 41 01 41 01 06 3C 6D 61 69 6E 3E 00", 4),
+        ("00 03 00 01 41 00 01 06 3C 6D 61 69 6E 3E 00", 5),
+        // no function; function 0 of another name
+        ("00 00 00", 2),
+        ("00 00 01 06 3C 4D 61 69 6E 3E 00", 3),
+        // an empty run, first and second; one too long, first and second
+        ("00 00 01 06 3C 6D 61 69 6E 3E 04 25 25 25 25 00 03", 15),
+        (
+            "00 00 01 06 3C 6D 61 69 6E 3E 04 25 25 25 25 01 03 00 04",
+            17,
+        ),
+        ("00 00 01 06 3C 6D 61 69 6E 3E 04 25 25 25 25 05 03", 15),
+        (
+            "00 00 01 06 3C 6D 61 69 6E 3E 04 25 25 25 25 01 03 05 04",
+            17,
+        ),
+        // a repeated place; too few runs; one more behind them
+        (
+            "00 00 01 06 3C 6D 61 69 6E 3E 04 25 25 25 25 02 03 02 03",
+            18,
+        ),
+        ("00 00 01 06 3C 6D 61 69 6E 3E 04 25 25 25 25 02 03", 17),
+        (
+            "00 00 01 06 3C 6D 61 69 6E 3E 04 25 25 25 25 02 03 02 04 01 03",
+            19,
+        ),
+    ] {
+        let bytes = hex(bytes);
+        assert_eq!(parse(&bytes), Err(offset));
+        assert!(damaged.contains(&bytes));
     }
 }
 
