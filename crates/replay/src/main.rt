@@ -2,8 +2,10 @@
 use compare::Verdict;
 use libc::STDIN_FILENO;
 use libc::STDOUT_FILENO;
-ghost use Prim.Native.Nat.{_≤_, _<_, _^_};
+ghost use mathlib.Core.Path.{_≡_};
+ghost use Prim.Native.Nat.{_+_, _*_, _≤_};
 ghost use lib.ListN.{length};
+ghost use Rattle.replay.specs.Turns.{wanted, Judged, turnOf};
 
 // Where each of a record's four parts ends: they stand one behind the other.
 struct Ends {
@@ -24,7 +26,8 @@ enum Turn {
 
 // A length: four bytes, low byte first.
 fn size(a: u8, b: u8, c: u8, d: u8) -> usize
-    ensures { λ r. ⌜ r < 2 ^ 32 ⌝ }
+    ensures { λ r. ⌜ r ≡ a + 256 * b + 65536 * c + 16777216 * d ⌝ }
+    ensures { λ r. ⌜ r ≤ 4294967295 ⌝ }
 {
     a as usize + 256 * (b as usize) + 65536 * (c as usize) + 16777216 * (d as usize)
 }
@@ -48,6 +51,7 @@ fn ends_of(h: [u8; 16]) -> Ends
 // The verdict on a record's parts.
 fn judged(body: &[u8], e: Ends) -> Verdict
     requires { ⌜ (e .image ≤ e .loading) × (e .loading ≤ e .running) × (e .running ≤ e .listing) × (e .listing ≤ length (now body)) ⌝ }
+    ensures { λ r. ⌜ Judged (wanted (now (body .entry)) e) r ⌝ }
 {
     let image = e.image;
     let loading = e.loading;
@@ -68,8 +72,11 @@ fn say(at: u64, what: &[u8]) {
 }
 
 // Says what differs in record `at`.
-fn report(at: u64, v: Verdict) -> Turn {
-    if v.loading & v.saving & v.listing {
+fn report(at: u64, v: Verdict) -> Turn
+    ensures { λ r. ⌜ r ≡ turnOf v ⌝ }
+{
+    let all = v.loading & v.saving & v.listing;
+    if all {
         return Turn::Same;
     }
     if !v.loading {

@@ -2,6 +2,7 @@
 use borrow.Author.Needs.{needs}
 use mathlib.Core.Path.{sym}
 use lib.Seq.{length-take-le}
+use Rattle.replay.specs.Turns.{wanted}
 use Rattle.replay.proofs.judged.Statement.{statement}
 use Rattle.replay.proofs.judged.Tie as tie
 
@@ -30,6 +31,7 @@ judge-requires : tie.Need-judge-requires
 judge-requires c κs = search needs
 
 returns : tie.Need-returns
+unfolding wanted
 returns c = search needs
 
 pub judged-spec : {M : Type 1} → statement M
