@@ -9,10 +9,11 @@
 //!   with lent stores, units, cells, depth, and a number for every fault.
 //!
 //! Both read programs from the rule image ([`image`]). [`print`] holds what
-//! the runner and the lister print, [`generate`] makes images to compare on,
-//! [`asm`] makes an image of a rule that a person wrote.
+//! the runner and the lister print, [`generate`] and [`damage`] make images to
+//! compare on, [`asm`] makes an image of a rule that a person wrote.
 
 pub mod asm;
+pub mod damage;
 pub mod generate;
 pub mod image;
 pub mod limits;

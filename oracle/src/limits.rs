@@ -618,7 +618,7 @@ fn constant_text(constant: &Constant) -> usize {
 }
 
 /// All texts lie in the text store, each with its own copy.
-fn text(program: &Program) -> usize {
+pub fn text(program: &Program) -> usize {
     program.constants.iter().map(constant_text).sum::<usize>()
         + program.structs.iter().map(Vec::len).sum::<usize>()
         + program

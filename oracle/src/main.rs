@@ -8,7 +8,7 @@ use oracle::limits::Answer;
 use oracle::plain::{self, Ending};
 use oracle::print::{self, value_text};
 use oracle::vm::Vm;
-use oracle::{asm, generate, image};
+use oracle::{asm, damage, generate, image};
 
 const HELP: &str = "\
 oracle: source document 000 over f64, and document 01's machine on top of it
@@ -23,10 +23,18 @@ oracle: source document 000 over f64, and document 01's machine on top of it
   oracle generate SEED COUNT DIR
                                 writes images DIR/000000.img and so on
   oracle sample SEED COUNT      runs generated images, counts their endings
-  oracle batch SEED COUNT       for each generated image, on standard output:
-                                its length (u32, low byte first) and bytes,
-                                the same for the runner's text, the same for
-                                the lister's text
+  oracle load FILE              what loading answers: `loaded` and the numbers of
+                                constants, structs and functions and the bytes
+                                of text; or `refused N`, 20 with its offset
+  oracle batch SEED COUNT       the records of generated images, on standard
+                                output
+  oracle damage STEP            the records of damaged small images: names and
+                                runs in every way, and bytes in each STEP-th
+                                way (1: in every way)
+
+A record is the lengths of four parts (each u32, low byte first) and then the
+parts: the image, what `load` prints, what the runner prints, what the lister
+prints. Records stand one behind the other up to the end.
 
 FILE may be - for standard input. The plain Rust is stopped after 2,000,000
 steps or at a nesting of 1,000, which it would not be by itself.
@@ -43,7 +51,12 @@ fn main() -> ExitCode {
         ["rust", file] => read(file).and_then(|bytes| rust(&bytes)),
         ["generate", seed, count, dir] => numbers(seed, count).and_then(|(s, c)| write(s, c, dir)),
         ["sample", seed, count] => numbers(seed, count).and_then(|(s, c)| sample(s, c)),
-        ["batch", seed, count] => numbers(seed, count).and_then(|(s, c)| batch(s, c)),
+        ["load", file] => read(file).and_then(|bytes| put(print::loader(&bytes).as_bytes())),
+        ["batch", seed, count] => numbers(seed, count)
+            .and_then(|(s, c)| records((0..c).map(|index| generate::case(s, index)))),
+        ["damage", step] => {
+            number(step).and_then(|step| records(damage::each(step.max(1) as usize).into_iter()))
+        }
         [] | ["help" | "--help" | "-h"] => put(HELP.as_bytes()),
         _ => Err(format!("not understood\n\n{HELP}")),
     };
@@ -77,8 +90,11 @@ fn put(bytes: &[u8]) -> Done {
 }
 
 fn numbers(seed: &str, count: &str) -> Result<(u64, u64), String> {
-    let number = |text: &str| text.parse().map_err(|_| format!("{text}: not a number"));
     Ok((number(seed)?, number(count)?))
+}
+
+fn number(text: &str) -> Result<u64, String> {
+    text.parse().map_err(|_| format!("{text}: not a number"))
 }
 
 fn judge(bytes: &[u8]) -> Done {
@@ -159,18 +175,11 @@ fn sample(seed: u64, count: u64) -> Done {
     put(out.as_bytes())
 }
 
-fn batch(seed: u64, count: u64) -> Done {
+fn records(images: impl Iterator<Item = Vec<u8>>) -> Done {
     let mut out = std::io::BufWriter::new(std::io::stdout().lock());
-    for index in 0..count {
-        let image = generate::case(seed, index);
-        let runner = print::runner(&image);
-        let lister = print::lister(&image);
-        for part in [image.as_slice(), runner.as_bytes(), &lister] {
-            let length = part.len() as u32;
-            out.write_all(&length.to_le_bytes())
-                .and_then(|()| out.write_all(part))
-                .map_err(|e| format!("standard output: {e}"))?;
-        }
+    for image in images {
+        out.write_all(&print::record(&image))
+            .map_err(|e| format!("standard output: {e}"))?;
     }
     out.flush().map_err(|e| format!("standard output: {e}"))
 }

@@ -1,6 +1,6 @@
-//! What the runner and the lister print.
+//! What the runner and the lister print, and the records to compare with.
 
-use crate::limits::{Answer, Machine, Refused, Report, Stores};
+use crate::limits::{self, Answer, Machine, Refused, Report, Stores};
 use crate::op::Op;
 use crate::value::{shown_bits, Value};
 
@@ -34,6 +34,42 @@ pub fn runner(image: &[u8]) -> String {
         Ok(ran) => ran_text(&ran),
         Err(refused) => refused_text(refused),
     }
+}
+
+/// What loading an image answers: `loaded`, the numbers of constants, structs
+/// and functions and the bytes of text; or `refused N`, 20 with its offset.
+pub fn loader(image: &[u8]) -> String {
+    match load(image) {
+        Ok(machine) => {
+            let program = &machine.program;
+            format!(
+                "loaded {} {} {} {}\n",
+                program.constants.len(),
+                program.structs.len(),
+                program.functions.len(),
+                limits::text(program)
+            )
+        }
+        Err(Refused::Image(offset)) => format!("refused 20 {offset}\n"),
+        Err(refused) => refused_text(refused),
+    }
+}
+
+/// The record of an image: the lengths of four parts (each u32, low byte
+/// first), then the parts: the image, what loading it answers, what the runner
+/// prints, what the lister prints.
+pub fn record(image: &[u8]) -> Vec<u8> {
+    let parts = [
+        image,
+        loader(image).as_bytes(),
+        runner(image).as_bytes(),
+        &lister(image),
+    ]
+    .map(<[u8]>::to_vec);
+    let lengths = parts
+        .each_ref()
+        .map(|part| (part.len() as u32).to_le_bytes());
+    [lengths.concat(), parts.concat()].concat()
 }
 
 pub fn refused_text(refused: Refused) -> String {

@@ -1,0 +1,68 @@
+-- A verdict says that texts agree exactly where they are equal.
+use mathlib.Core.Path.{_≡_, refl}
+use mathlib.Core.Bool.{true, false}
+use mathlib.Core.List.{List, [], _∷_}
+use Prim.Native.Nat.{ℕ}
+use lib.Dec.{eqb}
+use lib.ListN.{take}
+use borrow.Author.Tests.{eqb-true, eq-eqb}
+use Rattle.model.specs.declared.Counts.{Counts}
+use Rattle.model.specs.declared.Loaded.the-variants as l
+use Rattle.model.specs.declared.Told.{Told}
+use Rattle.model.specs.declared.Told.the-variants as t
+use Rattle.model.specs.Equality.{sameBytes}
+use Rattle.model.specs.Stores.{Stores}
+use Rattle.model.specs.Loading.{saveOf}
+use Rattle.program.proofs.Bools.{apart, and-left, and-right}
+use Rattle.compare.specs.Compared.{loadText, readOf, backTo, savingOf, listerOf, listerText, listingOf, comparedAt, compareOf}
+
+same-is : (a b : List ℕ) → sameBytes a b ≡ true → a ≡ b
+unfolding sameBytes
+same-is [] [] e = refl
+same-is [] (y ∷ ys) e = apart false e refl
+same-is (x ∷ xs) [] e = apart false e refl
+same-is (x ∷ xs) (y ∷ ys) e =
+    let h : x ≡ y = eqb-true _ _ (and-left (eqb x y) (sameBytes xs ys) e) in
+    let k = same-is xs ys (and-right (eqb x y) (sameBytes xs ys) e) in
+    rw (h, k)
+
+same-self : (a : List ℕ) → sameBytes a a ≡ true
+unfolding sameBytes
+same-self [] = refl
+same-self (x ∷ xs) = rw (eq-eqb x x refl) (same-self xs)
+
+same-so : (a b : List ℕ) → a ≡ b → sameBytes a b ≡ true
+same-so a b e = rw e (same-self b)
+
+-- bytes were written, and they are the image
+pub record Back (image : List ℕ) (told : Told) (out : List ℕ) : Type 0 where
+  pub count : ℕ
+  pub number : told ≡ t.Number count
+  pub bytes : take count out ≡ image
+
+back-is : (image : List ℕ) (told : Told) (out : List ℕ) → backTo image told out ≡ true → Back image told out
+unfolding backTo
+back-is image (t.Number n) out e = record { count = n; number = refl; bytes = same-is _ _ e }
+back-is image (t.Refused n) out e = apart false e refl
+
+module _ (image loading listing : List ℕ) (s : Stores) (saved listed : List ℕ) where
+  pub loading-is : compareOf image loading listing s saved listed .loading ≡ true → loadText (readOf image s .answer) ≡ loading
+  unfolding compareOf comparedAt
+  loading-is e = same-is _ _ e
+
+  pub loading-so : loadText (readOf image s .answer) ≡ loading → compareOf image loading listing s saved listed .loading ≡ true
+  unfolding compareOf comparedAt
+  loading-so e = same-so _ _ e
+
+  pub listing-is : compareOf image loading listing s saved listed .listing ≡ true → listerText (listerOf (readOf image s .answer) (readOf image s .stores) listed) ≡ listing
+  unfolding compareOf comparedAt listingOf
+  listing-is e = same-is _ _ e
+
+  pub listing-so : listerText (listerOf (readOf image s .answer) (readOf image s .stores) listed) ≡ listing → compareOf image loading listing s saved listed .listing ≡ true
+  unfolding compareOf comparedAt listingOf
+  listing-so e = same-so _ _ e
+
+  pub saving-is : compareOf image loading listing s saved listed .saving ≡ true → (c : Counts) → readOf image s .answer ≡ l.Done c
+      → Back image (saveOf c (readOf image s .stores) saved .answer) (saveOf c (readOf image s .stores) saved .out)
+  unfolding compareOf comparedAt savingOf
+  saving-is e c h = back-is _ _ _ (rw h at e)

@@ -1,0 +1,70 @@
+-- `compare::compare` meets its contract.
+use borrow.Author.Needs.{needs}
+use Rattle.compare.proofs.Answers.{all}
+use Rattle.compare.proofs.compare.Statement.{statement}
+use Rattle.compare.proofs.compare.Tie as tie
+
+read-requires : tie.Need-read-requires
+read-requires c κs = search needs
+
+same-line-requires : tie.Need-same-line-requires
+same-line-requires c κs = search needs
+
+saves-requires : tie.Need-saves-requires
+saves-requires c κs = search needs
+
+lists-requires : tie.Need-lists-requires
+lists-requires c κs = search needs
+
+same-length : tie.Need-same-length
+same-length c = c .before .before .before .before .before .before .before .before .before .before .before .before .before .before .before .before .before .before .before .before .before .before .before .before .before .before .before .before .before .before .before .before .before .before .before .before .constants .given
+
+same-length-2 : tie.Need-same-length-2
+same-length-2 c = search needs
+
+same-length-3 : tie.Need-same-length-3
+same-length-3 c = search needs
+
+same-length-4 : tie.Need-same-length-4
+same-length-4 c = search needs
+
+same-length-5 : tie.Need-same-length-5
+same-length-5 c = search needs
+
+same-length-6 : tie.Need-same-length-6
+same-length-6 c = search needs
+
+same-length-7 : tie.Need-same-length-7
+same-length-7 c = search needs
+
+same-length-8 : tie.Need-same-length-8
+same-length-8 c = search needs
+
+same-length-9 : tie.Need-same-length-9
+same-length-9 c = search needs
+
+same-length-10 : tie.Need-same-length-10
+same-length-10 c = search needs
+
+returns : tie.Need-returns
+returns c = all _ _ _ _ _ _ (c .before .before .before .before .before .before .before .before .before .before .before .before .before .before .before .before .before .before .before .before .before .before .before .before .before .before .before .before .before .before .before .before .before .before .before .before .before .read .ensures) (c .before .before .before .before .before .before .before .before .before .before .before .before .before .before .before .before .before .before .before .before .same-line .ensures) (c .before .before .before .before .before .before .before .before .before .before .saves .ensures) (c .before .before .lists .ensures)
+
+pub compare-spec : {M : Type 1} → statement M
+compare-spec =
+    tie.close
+    (tie.spec
+    read-requires
+    same-line-requires
+    saves-requires
+    lists-requires
+    same-length
+    same-length-2
+    same-length-3
+    same-length-4
+    same-length-5
+    same-length-6
+    same-length-7
+    same-length-8
+    same-length-9
+    same-length-10
+    returns)

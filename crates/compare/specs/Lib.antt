@@ -1,0 +1,2 @@
+-- What an image's loading, saving and listing are held against.
+pub mod Compared

@@ -1,0 +1,282 @@
+// What loading, saving and listing an image answer, held against texts that say what they should.
+use image::load;
+use image::save;
+use listing::disassemble;
+use model::Counts;
+use model::Loaded;
+use model::Told;
+use program::words::lesser;
+use program::words::same_bytes;
+use texts::put_text;
+use texts::write_decimal;
+ghost use mathlib.Core.Path.{_≡_};
+ghost use Prim.Native.Nat.{_+_, _<_, _^_};
+ghost use lib.ListN.{take};
+ghost use Rattle.model.specs.Equality.{sameBytes};
+ghost use Rattle.model.specs.Stores.{Stores};
+ghost use Rattle.image.specs.Fills.{lent};
+ghost use Rattle.texts.specs.Links.{Put};
+ghost use Rattle.listing.specs.Links as part;
+ghost use Rattle.compare.specs.Compared.{field, refusal, breach, loaded, loadText, outText, readOf, savingOf, listingOf, compareOf, verdictOf};
+
+// Which answers agree.
+pub struct Verdict {
+    pub loading: bool,
+    pub saving: bool,
+    pub listing: bool,
+}
+
+// ---- texts
+
+// A space and a number.
+fn put_field(n: usize, out: &mut [u8], at: usize) -> usize
+    requires { ⌜ at + 21 < 2 ^ 64 ⌝ }
+    ensures { λ r. ⌜ Put 21 (field n) (now (out .entry)) at (now (out .exit)) r ⌝ }
+{
+    let number = put_text(b" ", out, at);
+    write_decimal(n, 0, out, number)
+}
+
+// The line of a refusal.
+fn put_refusal(n: u8, out: &mut [u8]) -> usize
+    ensures { λ r. ⌜ Put 96 (refusal n) (now (out .entry)) 0 (now (out .exit)) r ⌝ }
+{
+    let number = put_text(b"refused", out, 0);
+    let end = put_field(n as usize, out, number);
+    put_text(b"\n", out, end)
+}
+
+// The line of refusal 20, with its offset.
+fn put_breach(o: usize, out: &mut [u8]) -> usize
+    ensures { λ r. ⌜ Put 96 (breach o) (now (out .entry)) 0 (now (out .exit)) r ⌝ }
+{
+    let offset = put_text(b"refused 20", out, 0);
+    let end = put_field(o, out, offset);
+    put_text(b"\n", out, end)
+}
+
+// The line of a program that was loaded.
+fn put_loaded(c: Counts, out: &mut [u8]) -> usize
+    ensures { λ r. ⌜ Put 96 (loaded c) (now (out .entry)) 0 (now (out .exit)) r ⌝ }
+{
+    let constants = put_text(b"loaded", out, 0);
+    let structs = put_field(c.constants, out, constants);
+    let functions = put_field(c.structs, out, structs);
+    let text = put_field(c.functions, out, functions);
+    let end = put_field(c.text, out, text);
+    put_text(b"\n", out, end)
+}
+
+// The line of what loading answered.
+fn put_answer(answer: Loaded, out: &mut [u8]) -> usize
+    ensures { λ r. ⌜ Put 96 (loadText answer) (now (out .entry)) 0 (now (out .exit)) r ⌝ }
+{
+    match answer {
+        Loaded::Done(c) => put_loaded(c, out),
+        Loaded::Broken(o) => put_breach(o, out),
+        Loaded::Refused(n) => put_refusal(n, out),
+    }
+}
+
+// ---- texts against texts
+
+// Whether the first n bytes of a store are these.
+fn same_front(s: &[u8], n: usize, want: &[u8]) -> bool
+    ensures { λ r. ⌜ r ≡ sameBytes (take n (now (s .entry))) (now (want .entry)) ⌝ }
+{
+    let end = lesser(n, s.len());
+    same_bytes(&s[..end], want)
+}
+
+// Whether the line of what loading answered is this.
+fn same_line(answer: Loaded, want: &[u8]) -> bool
+    ensures { λ r. ⌜ r ≡ sameBytes (loadText answer) (now (want .entry)) ⌝ }
+{
+    let mut line = [0u8; 96];
+    let n = put_answer(answer, &mut line);
+    same_front(&line, n, want)
+}
+
+// Whether what was written, or the line of the refusal, is this.
+fn same_out(told: Told, out: &[u8], want: &[u8]) -> bool
+    ensures { λ r. ⌜ r ≡ sameBytes (outText told (now (out .entry))) (now (want .entry)) ⌝ }
+{
+    match told {
+        Told::Number(n) => same_front(out, n, want),
+        Told::Refused(n) => same_line(Loaded::Refused(n), want),
+    }
+}
+
+// ---- the three answers
+
+// Loads an image of at most 16,384 bytes.
+fn read(
+    image: &[u8],
+    constants: &mut [u64],
+    structs: &mut [u64],
+    functions: &mut [u64],
+    text: &mut [u8],
+    main: &mut [u8],
+    main_places: &mut [u32],
+    other: &mut [u8],
+    other_places: &mut [u32],
+) -> Loaded
+    ensures { λ r. ⌜ record { answer = r; stores = lent (now (constants .exit)) (now (structs .exit)) (now (functions .exit)) (now (text .exit)) (now (main .exit)) (now («main_places» .exit)) (now (other .exit)) (now («other_places» .exit)) } ≡ readOf (now (image .entry)) (lent (now (constants .entry)) (now (structs .entry)) (now (functions .entry)) (now (text .entry)) (now (main .entry)) (now («main_places» .entry)) (now (other .entry)) (now («other_places» .entry))) ⌝ }
+{
+    if 16384 < image.len() {
+        return Loaded::Refused(22);
+    }
+    load(
+        image,
+        constants,
+        structs,
+        functions,
+        text,
+        main,
+        main_places,
+        other,
+        other_places,
+    )
+}
+
+// Whether a program that was loaded is saved as its image.
+fn saves(
+    answer: Loaded,
+    image: &[u8],
+    constants: &[u64],
+    structs: &[u64],
+    functions: &[u64],
+    text: &[u8],
+    main: &[u8],
+    main_places: &[u32],
+    other: &[u8],
+    other_places: &[u32],
+    saved: &mut [u8],
+) -> bool
+    ensures { λ r. ⌜ record { agrees = r; out = now (saved .exit) } ≡ savingOf (now (image .entry)) answer (lent (now (constants .entry)) (now (structs .entry)) (now (functions .entry)) (now (text .entry)) (now (main .entry)) (now («main_places» .entry)) (now (other .entry)) (now («other_places» .entry))) (now (saved .entry)) ⌝ }
+{
+    let Loaded::Done(c) = answer else {
+        return true;
+    };
+    let told = save(
+        c,
+        constants,
+        structs,
+        functions,
+        text,
+        main,
+        main_places,
+        other,
+        other_places,
+        saved,
+    );
+    let Told::Number(n) = told else {
+        return false;
+    };
+    same_front(saved, n, image)
+}
+
+// Whether this is what the lister prints.
+fn lists<'a>(
+    answer: Loaded,
+    want: &[u8],
+    functions: &[u64],
+    text: &[u8],
+    main: &'a [u8],
+    other: &'a [u8],
+    listed: &mut [u8],
+) -> bool
+    ensures { λ r. ⌜ ((rest : Stores) → record { agrees = r; out = now (listed .exit) } ≡ listingOf (now (want .entry)) answer (part.lent rest (now (functions .entry)) (now (text .entry)) (now (main .entry)) (now (other .entry))) (now (listed .entry))) ⌝ }
+{
+    match answer {
+        Loaded::Done(c) => {
+            let told = disassemble(c, functions, text, main, other, listed);
+            same_out(told, listed, want)
+        }
+        Loaded::Broken(_) => same_line(Loaded::Refused(20), want),
+        Loaded::Refused(n) => same_line(Loaded::Refused(n), want),
+    }
+}
+
+// An image against what loading should answer, `loading`, and what the lister should print, `listing`. What was loaded, saved and listed
+// stays in the stores.
+pub fn compare(
+    image: &[u8],
+    loading: &[u8],
+    listing: &[u8],
+    constants: &mut [u64],
+    structs: &mut [u64],
+    functions: &mut [u64],
+    text: &mut [u8],
+    main: &mut [u8],
+    main_places: &mut [u32],
+    other: &mut [u8],
+    other_places: &mut [u32],
+    saved: &mut [u8],
+    listed: &mut [u8],
+) -> Verdict
+    ensures { λ r. ⌜ record { loading = r .loading; saving = r .saving; listing = r .listing; stores = lent (now (constants .exit)) (now (structs .exit)) (now (functions .exit)) (now (text .exit)) (now (main .exit)) (now («main_places» .exit)) (now (other .exit)) (now («other_places» .exit)); saved = now (saved .exit); listed = now (listed .exit) } ≡ compareOf (now (image .entry)) (now (loading .entry)) (now (listing .entry)) (lent (now (constants .entry)) (now (structs .entry)) (now (functions .entry)) (now (text .entry)) (now (main .entry)) (now («main_places» .entry)) (now (other .entry)) (now («other_places» .entry))) (now (saved .entry)) (now (listed .entry)) ⌝ }
+{
+    let answer = read(
+        image,
+        constants,
+        structs,
+        functions,
+        text,
+        main,
+        main_places,
+        other,
+        other_places,
+    );
+    let loads = same_line(answer, loading);
+    let saving = saves(
+        answer,
+        image,
+        constants,
+        structs,
+        functions,
+        text,
+        main,
+        main_places,
+        other,
+        other_places,
+        saved,
+    );
+    let lists = lists(answer, listing, functions, text, main, other, listed);
+    Verdict {
+        loading: loads,
+        saving: saving,
+        listing: lists,
+    }
+}
+
+// The same with the runner's stores.
+pub fn judge(image: &[u8], loading: &[u8], listing: &[u8]) -> Verdict
+    ensures { λ r. ⌜ (r .loading ≡ verdictOf (now (image .entry)) (now (loading .entry)) (now (listing .entry)) .loading) × (r .saving ≡ verdictOf (now (image .entry)) (now (loading .entry)) (now (listing .entry)) .saving) × (r .listing ≡ verdictOf (now (image .entry)) (now (loading .entry)) (now (listing .entry)) .listing) ⌝ }
+{
+    let mut constants = [0u64; 512];
+    let mut structs = [0u64; 256];
+    let mut functions = [0u64; 512];
+    let mut text = [0u8; 16384];
+    let mut main = [0u8; 8192];
+    let mut main_places = [0u32; 8192];
+    let mut other = [0u8; 8192];
+    let mut other_places = [0u32; 8192];
+    let mut saved = [0u8; 16384];
+    let mut listed = [0u8; 524288];
+    compare(
+        image,
+        loading,
+        listing,
+        &mut constants,
+        &mut structs,
+        &mut functions,
+        &mut text,
+        &mut main,
+        &mut main_places,
+        &mut other,
+        &mut other_places,
+        &mut saved,
+        &mut listed,
+    )
+}

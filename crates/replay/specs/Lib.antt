@@ -1,0 +1,2 @@
+-- What a record's verdicts come to.
+pub mod Turns
