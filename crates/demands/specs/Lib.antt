@@ -1,0 +1,2 @@
+-- What the demands speak of: a host's calls; then a file for each demand.
+pub mod Host
