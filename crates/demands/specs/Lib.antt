@@ -1,2 +1,3 @@
 -- What the demands speak of: a host's calls; then a file for each demand.
 pub mod Host
+pub mod Agree
