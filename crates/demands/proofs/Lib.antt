@@ -1,3 +1,4 @@
 pub mod Fronts
 pub mod Agreeing
 pub mod Fixed
+pub mod OneRun

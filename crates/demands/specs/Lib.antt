@@ -1,3 +1,4 @@
 -- What the demands speak of: a host's calls; then a file for each demand.
 pub mod Host
 pub mod Agree
+pub mod One
