@@ -2,3 +2,5 @@ pub mod Fronts
 pub mod Agreeing
 pub mod Fixed
 pub mod OneRun
+pub mod Asks
+pub mod Chains

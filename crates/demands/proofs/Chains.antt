@@ -1,0 +1,55 @@
+-- Calls one after another: states that agree give the same answers, whatever the calls.
+use mathlib.Core.Path.{_≡_, refl, sym, ap, subst, _∙_}
+use mathlib.Core.List.{List, [], _∷_}
+use Prim.Native.Nat.{ℕ}
+use Rattle.model.specs.declared.Vm.{Vm}
+use Rattle.model.specs.Stores.{Stores}
+use Rattle.model.specs.Machines.{Lent, answerIn, RunPost}
+use Rattle.demands.specs.Host.{Held, Ask, Call, run, ask, Answer, ran, Done, done, vmAfter, RanBy, After, Chain, none, more}
+use Rattle.demands.specs.Agree.{LentAlike, Agree}
+use Rattle.demands.proofs.OneRun.{same-answer, same-vm, same-lent}
+use Rattle.demands.proofs.Asks.{DoneAlike, ask-alike}
+
+pub record SameCall (a b : Answer) (h k : Held) : Type 0 where
+  pub answer : a ≡ b
+  pub agree : Agree h k
+
+-- in states that agree
+module _ {h k : Held} (g : Agree h k) where
+  moved : k ≡ record { vm = h .vm; stores = h .stores; lent = k .lent }
+  moved = rw (g .vm, g .stores)
+
+  run-agrees : (u : ℕ) {a b : Answer} {h' k' : Held} → RanBy u h a h' → RanBy u k b k' → SameCall a b h' k'
+  run-agrees u {h' = h'} {k' = k'} p q =
+      let post : RunPost (h .vm) (h .stores) (k .lent) u (q .result) (k' .lent) = rw (g .vm, g .stores) (q .post) in
+      let vm : vmAfter (h .vm) (p .result) ≡ vmAfter (h .vm) (q .result) = same-vm (h .vm) (h .stores) u (g .lent) (p .post) post in
+      record {
+        answer = p .answer ∙ ap ran (same-answer (h .vm) (h .stores) u (g .lent) (p .post) post) ∙ sym (q .answer);
+        agree = record {
+          vm = p .vm ∙ vm ∙ ap (λ (m : Vm). vmAfter m (q .result)) (g .vm) ∙ sym (q .vm);
+          stores = p .stores ∙ g .stores ∙ sym (q .stores);
+          lent = rw (p .vm) (same-lent (h .vm) (h .stores) u (g .lent) (p .post) post);
+        };
+      }
+
+  ask-agrees : (q : Ask) {a b : Answer} {h' k' : Held} → After (ask q) h a h' → After (ask q) k b k' → SameCall a b h' k'
+  ask-agrees q {a} {b} {h'} {k'} p r =
+      let d : DoneAlike (done q h) (done q (record { vm = h .vm; stores = h .stores; lent = k .lent })) = ask-alike (h .vm) (h .stores) (g .lent) q in
+      let f : DoneAlike (record { answer = a; held = h' }) (record { answer = b; held = k' }) = rw (p, ← moved, r) at d in
+      record { answer = f .answer; agree = f .agree }
+
+  pub call-agrees : (c : Call) {a b : Answer} {h' k' : Held} → After c h a h' → After c k b k' → SameCall a b h' k'
+  call-agrees (run u) p q = run-agrees u p q
+  call-agrees (ask q) p r = ask-agrees q p r
+
+pub record SameChain (as′ bs : List Answer) (h k : Held) : Type 0 where
+  pub answers : as′ ≡ bs
+  pub agree : Agree h k
+
+-- whatever calls come: the same answers, and states that agree at the end
+pub chains-agree : {cs : List Call} {h k e f : Held} {as′ bs : List Answer} → Agree h k → Chain cs h as′ e → Chain cs k bs f → SameChain as′ bs e f
+chains-agree g none none = record { answers = refl; agree = g }
+chains-agree g (more {c = c} p ps) (more q qs) =
+    let x = call-agrees g c p q in
+    let y = chains-agree (x .agree) ps qs in
+    record { answers = rw (x .answer, y .answers); agree = y .agree }
