@@ -23,7 +23,7 @@ use Rattle.value.proofs.Stores.{length-vals, vals-slot, getD-cells}
 use Rattle.cells.proofs.Stands.{length-heap}
 use Rattle.rules.specs.Ordered.{Exact}
 use Rattle.rules.proofs.Ordered.{order-of, order-sane, order-exact}
-use Rattle.demands.specs.Agree.{Alike, LentAlike}
+use Rattle.demands.specs.Agree.{Alike, Rooms, LentAlike}
 
 -- ---- words
 
@@ -84,7 +84,7 @@ module _ (c : ℕ) (a b : List ℕ) (fits : 2 * c ≤ length a) (room : length a
 -- ---- frames
 
 module _ (n : ℕ) (fs : List Frame) (some : 1 ≤ n) (fits : n ≤ length fs) where
-  counted : suc (length (callersIn n fs)) ≡ n
+  pub counted : suc (length (callersIn n fs)) ≡ n
   unfolding callersIn
   counted = simp (length-reverse, length-take) (omega arith)
 
@@ -94,17 +94,17 @@ module _ (n : ℕ) (fs : List Frame) (some : 1 ≤ n) (fits : n ≤ length fs) w
 
 -- ---- a machine in good order
 
-record Standing (m : Vm) (l : Lent) : Type 0 where
-  stack : 2 * m .stack ≤ length (l .stack)
-  cells : 2 * m .cells ≤ length (l .cells)
-  frames : m .frames ≤ length (l .frames)
-  exact : Exact m l
+pub record Standing (m : Vm) (l : Lent) : Type 0 where
+  pub stack : 2 * m .stack ≤ length (l .stack)
+  pub cells : 2 * m .cells ≤ length (l .cells)
+  pub frames : m .frames ≤ length (l .frames)
+  pub exact : Exact m l
 
 half : (n : ℕ) (s : List ℕ) → n ≤ places 2 s → 2 * n ≤ length s
 unfolding places
 half n s h = omega arith
 
-standing : (m : Vm) (s : Stores) (l : Lent) → runOrder m s l ≡ true → Standing m l
+pub standing : (m : Vm) (s : Stores) (l : Lent) → runOrder m s l ≡ true → Standing m l
 unfolding worldOf worldIn machineIn frameStoreOk
 standing m s l e =
     let h = order-sane m s l e 0 in
@@ -127,13 +127,6 @@ counts-fix {m} {m'} {l} {l'} a b p e =
     let frames : m .frames ≡ m' .frames = sym (counted (m .frames) (l .frames) (a .exact .frames) (a .frames)) ∙ ap (λ (x : Machine). suc (length (x .callers))) e ∙ counted (m' .frames) (l' .frames) (b .exact .frames) (b .frames) in
     let last : m .last ≡ m' .last = ap (λ (x : Machine). x .last) e in
     rw (p, stack, cells, frames, last)
-
-pub record Rooms (l l' : Lent) : Type 0 where
-  pub stack : length (l .stack) ≡ length (l' .stack)
-  pub cells : length (l .cells) ≡ length (l' .cells)
-  pub frames : length (l .frames) ≡ length (l' .frames)
-  pub copy : length (l .copy) ≡ length (l' .copy)
-  pub backtrace : length (l .backtrace) ≡ length (l' .backtrace)
 
 -- and in stores of the same lengths the same below them
 lent-fix : (m : Vm) {l l' : Lent} → Standing m l → Standing m l' → Rooms l l' → machineIn m l ≡ machineIn m l' → LentAlike m l l'

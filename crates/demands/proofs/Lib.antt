@@ -4,3 +4,4 @@ pub mod Fixed
 pub mod OneRun
 pub mod Asks
 pub mod Chains
+pub mod Recovering

@@ -15,11 +15,11 @@ use Rattle.model.specs.Stores.{Stores}
 use Rattle.model.specs.Emission.{written}
 use Rattle.model.specs.Machines.{Lent, machineIn, runOrder, RunAnswer, ran, refused, runAnswer, copyAfter, traceAfter, entriesIn, ranAs, answerIn, SameRooms, Left, RunPost}
 use Rattle.demands.specs.Host.{vmAfter}
-use Rattle.demands.specs.Agree.{Alike, LentAlike}
+use Rattle.demands.specs.Agree.{Rooms, LentAlike}
 use Rattle.demands.specs.One.{SameRun}
 use Rattle.demands.proofs.Fronts.{alike-same}
 use Rattle.demands.proofs.Agreeing.{answer-alike}
-use Rattle.demands.proofs.Fixed.{Rooms, FixedBy, machine-fixes}
+use Rattle.demands.proofs.Fixed.{FixedBy, machine-fixes}
 
 -- ---- the result, from the machine and the answer
 
@@ -69,15 +69,28 @@ unfolding traceAfter written
 trace-room l (ran c x) = simp length-sets
 trace-room l (refused n) = refl
 
+-- a run leaves every lent store as long as it was
+pub ran-rooms : (m : Vm) (s : Stores) (u : ℕ) {l l' : Lent} {x : RunResult} → RunPost m s l u x l' → Rooms l' l
+ran-rooms m s u {l} p = record {
+  stack = p .rooms .stack;
+  cells = p .rooms .cells;
+  frames = p .rooms .frames;
+  copy = ap length (p .copy) ∙ copy-room m l (runAnswer m s l u);
+  backtrace = ap length (p .backtrace) ∙ trace-room l (runAnswer m s l u);
+}
+
 module _ (m : Vm) (s : Stores) (u : ℕ) {l k l' k' : Lent} {x y : RunResult} (before : LentAlike m l k) (p : RunPost m s l u x l') (q : RunPost m s k u y k') where
   rooms : Rooms l' k'
-  rooms = record {
-    stack = p .rooms .stack ∙ before .stack .room ∙ sym (q .rooms .stack);
-    cells = p .rooms .cells ∙ before .cells .room ∙ sym (q .rooms .cells);
-    frames = p .rooms .frames ∙ before .frames .room ∙ sym (q .rooms .frames);
-    copy = ap length (p .copy) ∙ copy-room m l (runAnswer m s l u) ∙ before .copy ∙ sym (ap length (q .copy) ∙ copy-room m k (runAnswer m s k u));
-    backtrace = ap length (p .backtrace) ∙ trace-room l (runAnswer m s l u) ∙ before .backtrace ∙ sym (ap length (q .backtrace) ∙ trace-room k (runAnswer m s k u));
-  }
+  rooms =
+      let a = ran-rooms m s u p in
+      let b = ran-rooms m s u q in
+      record {
+        stack = a .stack ∙ before .stack .room ∙ sym (b .stack);
+        cells = a .cells ∙ before .cells .room ∙ sym (b .cells);
+        frames = a .frames ∙ before .frames .room ∙ sym (b .frames);
+        copy = a .copy ∙ before .copy ∙ sym (b .copy);
+        backtrace = a .backtrace ∙ before .backtrace ∙ sym (b .backtrace);
+      }
 
   pub same-answer : answerIn l' x ≡ answerIn k' y
   same-answer = p .answer ∙ answer-alike m s before u ∙ sym (q .answer)

@@ -12,6 +12,14 @@ pub record Alike {A : Type 0} (n : ℕ) (a b : List A) : Type 0 where
   pub front : take n a ≡ take n b
   pub room : length a ≡ length b
 
+-- stores of the same lengths
+pub record Rooms (l l' : Lent) : Type 0 where
+  pub stack : length (l .stack) ≡ length (l' .stack)
+  pub cells : length (l .cells) ≡ length (l' .cells)
+  pub frames : length (l .frames) ≡ length (l' .frames)
+  pub copy : length (l .copy) ≡ length (l' .copy)
+  pub backtrace : length (l .backtrace) ≡ length (l' .backtrace)
+
 -- the same below the counts of stack, cells and frames. Of the copy and the backtrace store only the lengths count: nothing reads them.
 pub record LentAlike (m : Vm) (l l' : Lent) : Type 0 where
   pub stack : Alike (2 * m .stack) (l .stack) (l' .stack)

@@ -2,3 +2,4 @@
 pub mod Host
 pub mod Agree
 pub mod One
+pub mod Recovery
