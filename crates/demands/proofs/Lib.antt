@@ -5,3 +5,4 @@ pub mod OneRun
 pub mod Asks
 pub mod Chains
 pub mod Recovering
+pub mod Paying

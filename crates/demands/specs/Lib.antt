@@ -3,3 +3,4 @@ pub mod Host
 pub mod Agree
 pub mod One
 pub mod Recovery
+pub mod Units
