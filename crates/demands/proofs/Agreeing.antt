@@ -24,11 +24,13 @@ module _ (m : Vm) (s : Stores) {l l' : Lent} (k : LentAlike m l l') where
   pub order-alike : runOrder m s l ≡ runOrder m s l'
   unfolding runOrder
   order-alike =
-      rw (cells-alike (m .cells) (k .cells) (m .program .text),
-      heap-alike (m .cells) (k .cells),
-      stack-alike (m .stack) (k .stack) (m .program .text) (heapOf (m .cells) (l' .cells)),
-      places-alike (l .stack) (l' .stack) (k .stack .room) 2,
-      frames-alike (k .frames) (functionsFrom (m .program .functions) 0 s) (places 2 (l' .stack)))
+      rw (
+        cells-alike (m .cells) (k .cells) (m .program .text),
+        heap-alike (m .cells) (k .cells),
+        stack-alike (m .stack) (k .stack) (m .program .text) (heapOf (m .cells) (l' .cells)),
+        places-alike (l .stack) (l' .stack) (k .stack .room) 2,
+        frames-alike (k .frames) (functionsFrom (m .program .functions) 0 s) (places 2 (l' .stack)),
+      )
 
   pub short-alike : tooShort l ≡ tooShort l'
   unfolding tooShort

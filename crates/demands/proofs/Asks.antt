@@ -28,8 +28,7 @@ use Rattle.model.specs.Machines.{Lent, innermost, callersIn, traceOrder, putTra
 use Rattle.model.specs.Readers.{stackValueOf, reads, blockHeaderOf, elementOf}
 use Rattle.value.proofs.Coding.{and-right}
 use Rattle.rules.proofs.Frames.{some-frame}
-use Rattle.demands.specs.Host.{Held, Ask, Answer, Done, started, counted, replaced, withFrames, emits, starts, looks, done}
-use Rattle.demands.specs.Host as h
+use Rattle.demands.specs.Host.{Held, Ask, new, load, addOp, addOp1, addOp2, addOp3, patch, addConstant, addStruct, beginFunction, endFunction, currentOffset, functionIdx, save, disassemble, backtrace, lastResult, stackValue, blockHeader, element, textBytes, Answer, put, shown, headed, Done, counted, withFrames, emits, starts, looks, done}
 use Rattle.demands.specs.Agree.{Alike, LentAlike, Agree}
 use Rattle.demands.proofs.Fronts.{places-alike, kind-alike, payload-alike, value-alike, heap-alike, frames-alike, innermost-alike, callers-alike}
 
@@ -126,24 +125,24 @@ module _ (m : Vm) (s : Stores) {l l' : Lent} (k : LentAlike m l l') where
 
   pub ask-alike : (q : Ask) → DoneAlike (done q (here l)) (done q (here l'))
   unfolding done newMachineOf loadMachineOf
-  ask-alike h.Ask.new = start-alike _ _ (l .frames) (l' .frames) (k .frames)
-  ask-alike (h.Ask.load image) = start-alike _ _ (l .frames) (l' .frames) (k .frames)
-  ask-alike (h.Ask.addOp op place) = emits-alike _
-  ask-alike (h.Ask.addOp1 op a place) = emits-alike _
-  ask-alike (h.Ask.addOp2 op a b place) = emits-alike _
-  ask-alike (h.Ask.addOp3 op a b c place) = emits-alike _
-  ask-alike (h.Ask.patch offset word) = emits-alike _
-  ask-alike (h.Ask.addConstant x text) = emits-alike _
-  ask-alike (h.Ask.addStruct text) = emits-alike _
-  ask-alike (h.Ask.beginFunction text) = emits-alike _
-  ask-alike h.Ask.endFunction = emits-alike _
-  ask-alike h.Ask.currentOffset = looks-alike refl
-  ask-alike (h.Ask.functionIdx text) = looks-alike refl
-  ask-alike (h.Ask.save out) = looks-alike refl
-  ask-alike (h.Ask.disassemble out) = looks-alike refl
-  ask-alike (h.Ask.backtrace out) = looks-alike (ap h.Answer.put (trace-alike out))
-  ask-alike h.Ask.lastResult = looks-alike refl
-  ask-alike (h.Ask.stackValue i) = looks-alike (ap h.Answer.shown (value-shown i))
-  ask-alike (h.Ask.blockHeader x) = looks-alike (ap h.Answer.headed (header-shown x))
-  ask-alike (h.Ask.element x i) = looks-alike (ap h.Answer.shown (element-shown x i))
-  ask-alike (h.Ask.textBytes x out) = looks-alike refl
+  ask-alike new = start-alike _ _ (l .frames) (l' .frames) (k .frames)
+  ask-alike (load image) = start-alike _ _ (l .frames) (l' .frames) (k .frames)
+  ask-alike (addOp op place) = emits-alike _
+  ask-alike (addOp1 op a place) = emits-alike _
+  ask-alike (addOp2 op a b place) = emits-alike _
+  ask-alike (addOp3 op a b c place) = emits-alike _
+  ask-alike (patch offset word) = emits-alike _
+  ask-alike (addConstant x text) = emits-alike _
+  ask-alike (addStruct text) = emits-alike _
+  ask-alike (beginFunction text) = emits-alike _
+  ask-alike endFunction = emits-alike _
+  ask-alike currentOffset = looks-alike refl
+  ask-alike (functionIdx text) = looks-alike refl
+  ask-alike (save out) = looks-alike refl
+  ask-alike (disassemble out) = looks-alike refl
+  ask-alike (backtrace out) = looks-alike (ap (put out) (trace-alike out))
+  ask-alike lastResult = looks-alike refl
+  ask-alike (stackValue i) = looks-alike (ap shown (value-shown i))
+  ask-alike (blockHeader x) = looks-alike (ap headed (header-shown x))
+  ask-alike (element x i) = looks-alike (ap shown (element-shown x i))
+  ask-alike (textBytes x out) = looks-alike refl

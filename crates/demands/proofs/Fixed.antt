@@ -45,7 +45,7 @@ module _ (c : ℕ) (a b : List ℕ) (fits : 2 * c ≤ length a) (room : length a
     pub words-alike : Alike (2 * c) a b
     words-alike = record {
       front = ext-getD 0 (take (2 * c) a) (take (2 * c) b) (length-take-le (2 * c) a fits ∙ sym (length-take-le (2 * c) b (omega arith)))
-        (λ i h. let l : i < 2 * c = omega (arith, length-take-le (2 * c) a fits) in getD-take (2 * c) a i 0 l ∙ word-same i l ∙ sym (getD-take (2 * c) b i 0 l));
+          (λ i h. let l : i < 2 * c = omega (arith, length-take-le (2 * c) a fits) in getD-take (2 * c) a i 0 l ∙ word-same i l ∙ sym (getD-take (2 * c) b i 0 l));
       room = room;
     }
 
@@ -54,11 +54,12 @@ module _ (c : ℕ) (a b : List ℕ) (fits : 2 * c ≤ length a) (room : length a
   unfolding valueAt
   values-fix p q e =
       let same : (i : ℕ) → i < c → valueAt a i ≡ valueAt b i =
-          (λ i h. sym (vals-slot c a i (v.Boolean false) h) ∙ ap (λ (l : List Value). getD l (c - suc i) (v.Boolean false)) e ∙ vals-slot c b i (v.Boolean false) h) in
+      (λ i h. sym (vals-slot c a i (v.Boolean false) h) ∙ ap (λ (l : List Value). getD l (c - suc i) (v.Boolean false)) e ∙ vals-slot c b i (v.Boolean false) h) in
       words-alike (λ i h. kinds i (p i h) (q i h) (same i h)) (λ i h. payloads i (p i h) (q i h) (same i h))
     where
       kinds : (i : ℕ) → exactValue (kindAt a i) (payloadAt a i) ≡ true → exactValue (kindAt b i) (payloadAt b i) ≡ true → valueAt a i ≡ valueAt b i → kindAt a i ≡ kindAt b i
       kinds i p q e = exact-kind (kindAt a i) (payloadAt a i) p ∙ ap kind e ∙ sym (exact-kind (kindAt b i) (payloadAt b i) q)
+
       payloads : (i : ℕ) → exactValue (kindAt a i) (payloadAt a i) ≡ true → exactValue (kindAt b i) (payloadAt b i) ≡ true → valueAt a i ≡ valueAt b i → payloadAt a i ≡ payloadAt b i
       payloads i p q e = exact-payload (kindAt a i) (payloadAt a i) p ∙ ap payload e ∙ sym (exact-payload (kindAt b i) (payloadAt b i) q)
 
@@ -74,10 +75,13 @@ module _ (c : ℕ) (a b : List ℕ) (fits : 2 * c ≤ length a) (room : length a
       exact-at zero i w e j h = absurd (let z : ⊥ = omega arith in z)
       exact-at (suc n) i w e zero h = let z : i + 0 ≡ i = omega arith in rw z (and-left (exactCell (kindAt w i) (payloadAt w i)) (exactCells n (suc i) w) e)
       exact-at (suc n) i w e (suc j) h = let z : i + suc j ≡ suc i + j = omega arith in rw z (exact-at n (suc i) w (and-right (exactCell (kindAt w i) (payloadAt w i)) (exactCells n (suc i) w) e) j (omega arith))
+
       first : (w : List ℕ) → exactCells c 0 w ≡ true → (j : ℕ) → j < c → exactCell (kindAt w j) (payloadAt w j) ≡ true
       first w e j h = let z : 0 + j ≡ j = omega arith in rw z at (exact-at c 0 w e j h)
+
       kinds : (i : ℕ) → exactCell (kindAt a i) (payloadAt a i) ≡ true → exactCell (kindAt b i) (payloadAt b i) ≡ true → cellAt a i ≡ cellAt b i → kindAt a i ≡ kindAt b i
       kinds i p q e = exact-cell-kind (kindAt a i) (payloadAt a i) p ∙ ap cellKind e ∙ sym (exact-cell-kind (kindAt b i) (payloadAt b i) q)
+
       payloads : (i : ℕ) → exactCell (kindAt a i) (payloadAt a i) ≡ true → exactCell (kindAt b i) (payloadAt b i) ≡ true → cellAt a i ≡ cellAt b i → payloadAt a i ≡ payloadAt b i
       payloads i p q e = exact-cell-payload (kindAt a i) (payloadAt a i) p ∙ ap cellPayload e ∙ sym (exact-cell-payload (kindAt b i) (payloadAt b i) q)
 

@@ -79,9 +79,11 @@ module _ (c : ℕ) {a b : List ℕ} (k : Alike (2 * c) a b) where
   pub stack-alike : (t : ℕ) (H : List Cell) → stackOk t H c a ≡ stackOk t H c b
   unfolding stackOk
   stack-alike t H =
-      rw (places-alike a b (k .room) 2,
-      every-alike c 0 (λ i. exactValue (kindAt a i) (payloadAt a i) && placedBelow t H (length H) (valueAt a i)) (λ i. exactValue (kindAt b i) (payloadAt b i) && placedBelow t H (length H) (valueAt b i))
-      (λ i h. rw (kind-alike i (omega arith), payload-alike i (omega arith), value-alike i (omega arith))))
+      rw (
+        places-alike a b (k .room) 2,
+        every-alike c 0 (λ i. exactValue (kindAt a i) (payloadAt a i) && placedBelow t H (length H) (valueAt a i)) (λ i. exactValue (kindAt b i) (payloadAt b i) && placedBelow t H (length H) (valueAt b i))
+            (λ i h. rw (kind-alike i (omega arith), payload-alike i (omega arith), value-alike i (omega arith))),
+      )
 
 module _ {n : ℕ} {a b : List Frame} (k : Alike n a b) where
   pub room-alike : frameRoom a ≡ frameRoom b

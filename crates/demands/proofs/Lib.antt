@@ -6,3 +6,4 @@ pub mod Asks
 pub mod Chains
 pub mod Recovering
 pub mod Paying
+pub mod Refusing

@@ -46,11 +46,11 @@ result-back m l (r.Refused n) = refl
 
 -- ---- a run went, or was refused
 
-data Seen (m : Vm) (s : Stores) (l : Lent) (x : RunResult) (l' : Lent) : Type 0 where
+pub data Seen (m : Vm) (s : Stores) (l : Lent) (x : RunResult) (l' : Lent) : Type 0 where
   went : (y : Reply) → answerIn l' x ≡ ranAs (vmAfter m x) l' y → runOrder (vmAfter m x) s l' ≡ true → Seen m s l x l'
   stayed : (n : ℕ) → answerIn l' x ≡ refused n → vmAfter m x ≡ m → l' ≡ l → Seen m s l x l'
 
-seen : (m : Vm) (s : Stores) (l : Lent) (x : RunResult) (l' : Lent) → Left s l x l' → Seen m s l x l'
+pub seen : (m : Vm) (s : Stores) (l : Lent) (x : RunResult) (l' : Lent) → Left s l x l' → Seen m s l x l'
 unfolding answerIn
 seen m s l (r.Value m' v n) l' e = went (value v n) refl e
 seen m s l (r.Continue m' n) l' e = went (continue n) refl e

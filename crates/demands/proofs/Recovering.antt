@@ -106,9 +106,14 @@ module _ (m : Vm) (s : Stores) (l : Lent) (u : ℕ) {m' : Vm} {n spent j : ℕ} 
 set-up-agrees : {x : Machine} {h k d : Held} → SetUp x h k → SetUp x h d → Agree k d
 set-up-agrees {k = k} {d = d} a b =
     let f = machine-fixes (k .stores) (d .stores) (a .order) (b .order)
-        (record { stack = a .rooms .stack ∙ sym (b .rooms .stack); cells = a .rooms .cells ∙ sym (b .rooms .cells); frames = a .rooms .frames ∙ sym (b .rooms .frames);
-          copy = a .rooms .copy ∙ sym (b .rooms .copy); backtrace = a .rooms .backtrace ∙ sym (b .rooms .backtrace) })
-        (a .program ∙ sym (b .program)) (a .machine ∙ sym (b .machine)) in
+    (record {
+      stack = a .rooms .stack ∙ sym (b .rooms .stack);
+      cells = a .rooms .cells ∙ sym (b .rooms .cells);
+      frames = a .rooms .frames ∙ sym (b .rooms .frames);
+      copy = a .rooms .copy ∙ sym (b .rooms .copy);
+      backtrace = a .rooms .backtrace ∙ sym (b .rooms .backtrace);
+    })
+    (a .program ∙ sym (b .program)) (a .machine ∙ sym (b .machine)) in
     record { vm = f .vm; stores = a .stores ∙ sym (b .stores); lent = f .lent }
 
 -- DEMAND 3
@@ -117,5 +122,5 @@ pub fault-recovers : {h h' : Held} (u : ℕ) {n spent j : ℕ} → RunPost (h .v
 fault-recovers {h} {h'} u {n} {spent} {j} p q =
     let x : Recovers (h .vm) (h .stores) (h .lent) u (h' .vm) n spent (entriesIn j 0 (h' .lent .backtrace)) (h' .lent) = fault-leaves (h .vm) (h .stores) (h .lent) u p in
     let so : SetUp (recovered (worldOf (h .vm) (h .stores) (h .lent)) (machineIn (h .vm) (h .lent)) (x .rules .kept)) h h' =
-        record { program = x .program; stores = q; rooms = ran-rooms (h .vm) (h .stores) u p; machine = x .leaves; order = rw q (x .order) } in
+    record { program = x .program; stores = q; rooms = ran-rooms (h .vm) (h .stores) u p; machine = x .leaves; order = rw q (x .order) } in
     record { leaves = x; later = λ d b cs xs ys e f c k. chains-agree (set-up-agrees so b) c k .answers }

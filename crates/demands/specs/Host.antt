@@ -57,13 +57,13 @@ pub data Call : Type 0 where
   run : (units : ℕ) → Call
   ask : Ask → Call
 
--- what comes back; of an entry that writes a result store, the store too
+-- what comes back; of an entry that writes a result store, the store as it was lent, the answer, and the store then
 pub data Answer : Type 0 where
   ran : RunAnswer → Answer
   emitted : Emitted → Answer
   started : Started → Answer
   told : Told → Answer
-  put : OutRes → Answer
+  put : (out : List ℕ) → OutRes → Answer
   shown : Shown → Answer
   headed : Headed → Answer
 
@@ -111,14 +111,14 @@ done (beginFunction text) h = emits h (beginFunctionOf (h .vm .program) text (h 
 done endFunction h = emits h (record { answer = endFunctionOf (h .vm .program); stores = h .stores })
 done currentOffset h = looks h (told (currentOffsetOf (h .vm .program) (h .stores .functions)))
 done (functionIdx text) h = looks h (told (functionIdxOf (h .vm .program) text (h .stores)))
-done (save out) h = looks h (put (saveOf (h .vm .program) (h .stores) out))
-done (disassemble out) h = looks h (put (listOf (h .vm .program) (h .stores) out))
-done (backtrace out) h = looks h (put (backtraceIn (h .vm) (h .stores) (h .lent .frames) out))
+done (save out) h = looks h (put out (saveOf (h .vm .program) (h .stores) out))
+done (disassemble out) h = looks h (put out (listOf (h .vm .program) (h .stores) out))
+done (backtrace out) h = looks h (put out (backtraceIn (h .vm) (h .stores) (h .lent .frames) out))
 done lastResult h = looks h (shown (lastResultOf (h .vm)))
 done (stackValue i) h = looks h (shown (stackValueOf (h .vm) i (h .lent .stack)))
 done (blockHeader x) h = looks h (headed (blockHeaderOf (h .vm) x (h .lent .cells)))
 done (element x i) h = looks h (shown (elementOf (h .vm) x i (h .lent .cells)))
-done (textBytes x out) h = looks h (put (textBytesOf (h .vm) x (h .stores .text) out))
+done (textBytes x out) h = looks h (put out (textBytesOf (h .vm) x (h .stores .text) out))
 
 -- ---- a run
 

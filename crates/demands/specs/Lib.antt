@@ -4,3 +4,4 @@ pub mod Agree
 pub mod One
 pub mod Recovery
 pub mod Units
+pub mod Refusals
