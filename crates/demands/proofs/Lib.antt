@@ -7,3 +7,4 @@ pub mod Chains
 pub mod Recovering
 pub mod Paying
 pub mod Refusing
+pub mod Growing

@@ -5,3 +5,4 @@ pub mod One
 pub mod Recovery
 pub mod Units
 pub mod Refusals
+pub mod Trees
