@@ -64,16 +64,16 @@ pairsBy w d.Unknown s = 0
 unfoldable pub pairsAt : World → State → ℕ
 pairsAt w s = pairsBy w (opcodeAt (getD (codeOf w s) (position s) 0) .what) s
 
--- k units are spent by a step that completes
+-- k units are spent by a step that completes; a step for which they are too few is fault 13, and spends all that are left
 abbrev pub Costs : ℕ → State → Outcome → Type 0
 Costs k s (went t) = s .units ≡ t .units + k
 Costs k s (returned x t) = s .units ≡ t .units + k
-Costs k s (faulted n t) = Unit
+Costs k s (faulted n t) = faultNumber n ≡ 13 → t .units ≡ 0
 
--- a step that faults spends one unit, or all that are left: then the units were too few
+-- a step that faults spends one unit; where the units are too few it is fault 13, and spends all that are left
 pub data Fee (s : State) (n : Fault) (t : State) : Type 0 where
-  one : s .units ≡ t .units + 1 → Fee s n t
-  all : n ≡ f.UnitsSpent → t .units ≡ 0 → Fee s n t
+  one : (faultNumber n ≡ 13 → ⊥) → s .units ≡ t .units + 1 → Fee s n t
+  all : faultNumber n ≡ 13 → t .units ≡ 0 → Fee s n t
 
 -- ---- a path
 
