@@ -4,7 +4,9 @@ pub mod Fixed
 pub mod OneRun
 pub mod Asks
 pub mod Chains
+pub mod Went
 pub mod Recovering
 pub mod Paying
-pub mod Refusing
 pub mod Growing
+pub mod Written
+pub mod Refusing

@@ -281,7 +281,7 @@ module _ (w : World) (m : Machine) (u : ℕ) where
   run-by-steps (ended b t) r = run-ends r
   run-by-steps (stopped i t k) r = run-faults r
 
-  -- DEMAND 2: a run is a path of written steps, and each unit is tied to one of them
+  -- a run is a path of written steps, and each unit is tied to one of them
   pub run-is-steps : RunIs w m u (runOf w m u)
   unfolding runOf
   run-is-steps = let s = begin m u in run-by-steps (endOf w s) (run-path w Nothing (mark s) s (sym (end-of w s)))

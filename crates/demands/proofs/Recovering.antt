@@ -29,6 +29,7 @@ use Rattle.demands.specs.Recovery.{Kept, start, return, Recovers, SetUp,
 use Rattle.demands.proofs.Fixed.{Standing, standing, counted, values-fix, machine-fixes}
 use Rattle.demands.proofs.Chains.{chains-agree}
 use Rattle.demands.proofs.OneRun.{ran-rooms}
+use Rattle.demands.proofs.Went.{Went, went}
 
 -- what the mark of a path kept
 kept-since : {w : World} {a : Last} {s t : State} {k : Mark} → Since w a (mark s) s k t → Kept w s t (k .last) (k .heap)
@@ -36,22 +37,6 @@ kept-since (d.Since.start p) = start p
 kept-since {w} {s = s} {t = t} (d.Since.return {q = q} {q' = q'} {v = v} p o e z) =
     let x : Adds (q .heap) (q .last) (returned v q') = subst (Adds (q .heap) (q .last)) e (step-adds w q) in
     subst (λ (b : Last). Kept w s t b (q' .heap)) (sym (x .1)) (return p o e z)
-
--- a run that went was in good order, and is the rules' run
-record Went (m : Vm) (s : Stores) (l : Lent) (u : ℕ) (c : Counts) (x : Ran) : Type 0 where
-  order : runOrder m s l ≡ true
-  program : c ≡ m .program
-  run : x ≡ runOf (worldOf m s l) (machineIn m l) u
-
-went-by : (m : Vm) (s : Stores) (l : Lent) (u : ℕ) (c : Counts) (x : Ran) (a b : Bool) → runOrder m s l ≡ a
-    → ran c x ≡ (if a then (if b then refused 17 else ran (m .program) (runOf (worldOf m s l) (machineIn m l) u)) else refused 19) → Went m s l u c x
-went-by m s l u c x true true o e = absurd (let z : _≡_ {A = ℕ} 0 1 = cc in let y : ⊥ = omega arith in y)
-went-by m s l u c x true false o e = record { order = o; program = cc; run = cc }
-went-by m s l u c x false b o e = absurd (let z : _≡_ {A = ℕ} 0 1 = cc in let y : ⊥ = omega arith in y)
-
-went : (m : Vm) (s : Stores) (l : Lent) (u : ℕ) {c : Counts} {x : Ran} → ran c x ≡ runAnswer m s l u → Went m s l u c x
-unfolding runAnswer
-went m s l u {c} {x} e = went-by m s l u c x (runOrder m s l) (tooShort l) refl e
 
 module _ (m : Vm) (s : Stores) (l : Lent) (u : ℕ) {m' : Vm} {n spent j : ℕ} {l' : Lent} (p : RunPost m s l u (r.Fault m' n spent j) l') where
   abbrev trace : List Entry

@@ -1,8 +1,12 @@
--- What the demands speak of: a host's calls; then a file for each demand.
+-- What the demands speak of: what a host holds, and its calls
 pub mod Host
-pub mod Agree
-pub mod One
-pub mod Recovery
-pub mod Units
+-- demand 1: refusals
 pub mod Refusals
+-- demand 2: values as trees, units and written steps
 pub mod Trees
+pub mod Units
+-- demand 3: what no answer tells apart, and what a fault leaves
+pub mod Agree
+pub mod Recovery
+-- demand 4: no second answer
+pub mod One

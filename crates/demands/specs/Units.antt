@@ -10,6 +10,8 @@ use Rattle.model.specs.declared.Decoded.{Decoded}
 use Rattle.model.specs.declared.Decoded.the-variants as d
 use Rattle.model.specs.declared.Value.{Value}
 use Rattle.model.specs.declared.Last.{Last}
+use Rattle.model.specs.declared.Counts.{Counts}
+use Rattle.model.specs.declared.Vm.{Vm}
 use Rattle.model.specs.declared.Last.the-variants.{Nothing}
 use Rattle.model.specs.declared.Fault.{Fault}
 use Rattle.model.specs.declared.Fault.the-variants as f
@@ -18,8 +20,12 @@ use Rattle.model.specs.Heap.{Cell}
 use Rattle.model.specs.Opcodes.{opcodeAt}
 use Rattle.model.specs.Equality.{Same, same, sameOf}
 use Rattle.model.specs.Steps.{World, State, Outcome, went, returned, faulted, position, codeOf, stepOf}
-use Rattle.model.specs.Runs.{Machine, begin, machineOf, Mark, mark, over, traceOf, Reply, fault, Ran, answered, recovered}
+use Rattle.model.specs.Runs.{Machine, begin, machineOf, Mark, mark, over, Entry, traceOf, Reply, value, continue, fault, Ran, answered, recovered}
+use Rattle.model.specs.Stores.{Stores}
+use Rattle.model.specs.Machines.{Lent, machineIn, worldOf}
+use Rattle.rules.specs.Ordered.{CodeBytes}
 use Rattle.rules.specs.Paths.{Steps, none, on, ret}
+use Rattle.demands.specs.Trees.{AsTrees}
 
 -- ---- a step
 
@@ -91,3 +97,20 @@ pub data RunIs (w : World) (m : Machine) (u : ℕ) : Ran → Type 0 where
       → RunIs w m u (record { reply = answered b (spentOn p); machine = machineOf t })
   faults : {n : ℕ} {b : Last} {k : Mark} {s t : State} {i : Fault} (p : Steps w n Nothing (mark (begin m u)) (begin m u) b k s) → over w s ≡ false → stepOf w s ≡ faulted i t → Fee s i t
       → RunIs w m u (record { reply = fault (faultNumber i) (spentOn p + (s .units - t .units)) (traceOf (w .functions) (t .frame ∷ t .callers)); machine = recovered w m k })
+
+-- the units spent are at most those given, and a fault is one of the 14 faults of a run
+abbrev pub Within : ℕ → Reply → Type 0
+Within u (value x spent) = spent ≤ u
+Within u (continue spent) = spent ≤ u
+Within u (fault n spent es) = (spent ≤ u) × ((1 ≤ n) × (n ≤ 14))
+
+-- DEMAND 2, of a run of m with u units that was not refused; c and x are what its result and the lent stores then stand for
+pub record Demand2 (m : Vm) (s : Stores) (l : Lent) (u : ℕ) (c : Counts) (x : Ran) : Type 0 where
+  pub program : c ≡ m .program
+  -- its answer, stack, frames, last result and units are those of the written steps
+  pub steps : RunIs (worldOf m s l) (machineIn m l) u x
+  pub within : Within u (x .reply)
+  -- where the units were too few, the units spent are the whole budget
+  pub whole : (spent : ℕ) (es : List Entry) → x .reply ≡ fault 13 spent es → spent ≡ u
+  -- in each state that it comes to, values are trees
+  pub trees : CodeBytes s → {n : ℕ} {b : Last} {k : Mark} {t : State} → Steps (worldOf m s l) n Nothing (mark (begin (machineIn m l) u)) (begin (machineIn m l) u) b k t → AsTrees (worldOf m s l) t
