@@ -53,3 +53,11 @@ chains-agree g (more {c = c} p ps) (more q qs) =
     let x = call-agrees g c p q in
     let y = chains-agree (x .agree) ps qs in
     record { answers = rw (x .answer, y .answers); agree = y .agree }
+
+-- nothing past the counts can be seen: whatever lies there, and whatever calls come, the answers are the same
+pub past-counts-unseen : {calls : List Call} {h k e f : Held} {xs ys : List Answer} → Agree h k → Chain calls h xs e → Chain calls k ys f → xs ≡ ys
+past-counts-unseen g c d = chains-agree g c d .answers
+
+-- DEMAND 4 for the entries whose contract is an equation
+pub ask-one : (q : Ask) (h : Held) {h' k' : Held} {a b : Answer} → After (ask q) h a h' → After (ask q) h b k' → (a ≡ b) × (h' ≡ k')
+ask-one q h p r = let e = sym p ∙ r in (ap (λ (d : Done). d .answer) e, ap (λ (d : Done). d .held) e)

@@ -9,4 +9,5 @@ pub mod Recovering
 pub mod Paying
 pub mod Growing
 pub mod Written
+pub mod Listing
 pub mod Refusing

@@ -87,8 +87,8 @@ module _ (m : Vm) (s : Stores) (l : Lent) (u : ℕ) {m' : Vm} {n spent j : ℕ} 
     order = p .left;
   }
 
--- what a host then holds agrees with any machine that is set up so
-set-up-agrees : {x : Machine} {h k d : Held} → SetUp x h k → SetUp x h d → Agree k d
+-- two machines in good order that are set up alike agree
+pub set-up-agrees : {x : Machine} {h k d : Held} → SetUp x h k → SetUp x h d → Agree k d
 set-up-agrees {k = k} {d = d} a b =
     let f = machine-fixes (k .stores) (d .stores) (a .order) (b .order)
     (record {

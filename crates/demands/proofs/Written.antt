@@ -12,10 +12,12 @@ use Rattle.model.specs.declared.Fault.the-variants as f
 use Rattle.model.specs.declared.RunResult.{RunResult}
 use Rattle.model.specs.Values.{faultNumber}
 use Rattle.model.specs.Steps.{World, State}
-use Rattle.model.specs.Runs.{Machine, Ended, ended, stopped, begin, endOf, Entry, fault, Ran, answered, settle, runOf}
+use Rattle.model.specs.Runs.{Machine, begin, Mark, Ended, ended, stopped, endOf, Entry, fault, Ran, answered, settle, runOf}
 use Rattle.model.specs.Stores.{Stores}
 use Rattle.model.specs.Machines.{Lent, machineIn, worldOf, RunAnswer, ran, answerIn, RunPost}
+use Rattle.rules.specs.Paths.{Steps}
 use Rattle.rules.specs.Demand.{Recovered}
+use Rattle.rules.proofs.Paths.{path-spends}
 use Rattle.rules.proofs.Demands.{run-recovered}
 use Rattle.rules.proofs.Ordered.{order-world, order-sane}
 use Rattle.rules.proofs.Runs.{path-sane}
@@ -66,6 +68,10 @@ module _ (w : World) (m : Machine) (u : ℕ) where
           fee : (r : Recovered w m u 13 spent es) → Fee (r .at) (r .fault) (r .after) → spent ≡ u
           fee r (one h e) = absurd (h (sym (r .number)))
           fee r (all h e) = omega (arith, r .units)
+
+-- DEMAND 1: no code makes a run go on; with u units there is no path of more than u written steps
+pub steps-within : {w : World} {m : Machine} {u n : ℕ} {a b : Last} {j k : Mark} {t : State} → Steps w n a j (begin m u) b k t → n ≤ u
+steps-within {w} p = omega (arith, path-spends w p)
 
 -- DEMAND 2
 pub run-written : (m : Vm) (s : Stores) (l : Lent) (u : ℕ) {q : RunResult} {l' : Lent} → RunPost m s l u q l' → {c : Counts} {x : Ran} → answerIn l' q ≡ ran c x → Demand2 m s l u c x

@@ -42,6 +42,10 @@ pub data Check : Type 0 where
   must : Bool → ℕ → Check
   mustNot : Bool → ℕ → Check
 
+-- the number comes back at once
+abbrev pub always : ℕ → Check
+always n = mustNot true n
+
 -- the checks are made in order: the number of the first that fails
 unfoldable pub firstOf : List Check → Option ℕ
 firstOf [] = none
@@ -75,7 +79,7 @@ hasText k.FunctionReference = true
 
 -- 20 comes with the offset of the first item that breaks a rule
 unfoldable pub loadChecks : Held → Judged → List Check
-loadChecks h (broken i) = mustNot true 20 ∷ []
+loadChecks h (broken i) = always 20 ∷ []
 loadChecks h (fine p) =
     must (withinLimits p) 22
     ∷ must (roomFor p (h .stores)) 21
@@ -89,10 +93,10 @@ newName h name = isNone (firstFrom 0 name (structsFrom (h .vm .program .structs)
 unfoldable pub fitsOut : List ℕ → ℕ → Bool
 fitsOut out n = leb n (places 1 out)
 
--- 1 or 3, as met first
+-- n is 1 or 3, as met first (`listing-numbers`)
 unfoldable pub listChecks : List ℕ → Listed → List Check
 listChecks out (text bytes) = must (fitsOut out (length bytes)) 17 ∷ []
-listChecks out (unlisted n) = mustNot true n ∷ []
+listChecks out (unlisted n) = always n ∷ []
 
 abbrev pub noLast : Last → Bool
 noLast Nothing = true
@@ -105,12 +109,12 @@ hasElement h i (some p) = ltb i (headIn (heapOf (h .vm .cells) (h .lent .cells))
 
 -- the text of a string or a function reference fits; other values have none
 abbrev pub textChecks : List ℕ → Value → List Check
-textChecks out (v.Scalar x) = mustNot true 5 ∷ []
-textChecks out (v.Boolean x) = mustNot true 5 ∷ []
+textChecks out (v.Scalar x) = always 5 ∷ []
+textChecks out (v.Boolean x) = always 5 ∷ []
 textChecks out (v.String o n) = must (fitsOut out n) 17 ∷ []
 textChecks out (v.FunctionReference o n) = must (fitsOut out n) 17 ∷ []
-textChecks out (v.List p) = mustNot true 5 ∷ []
-textChecks out (v.StructInstance p) = mustNot true 5 ∷ []
+textChecks out (v.List p) = always 5 ∷ []
+textChecks out (v.StructInstance p) = always 5 ∷ []
 
 unfoldable pub askChecks : Ask → Held → List Check
 askChecks new h =
