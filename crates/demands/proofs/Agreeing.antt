@@ -1,17 +1,14 @@
 -- A run judges and answers the same of lent stores that are the same below the counts.
-use mathlib.Core.Path.{_≡_, refl, sym, ap, _∙_}
+use mathlib.Core.Path.{_≡_, refl}
 use mathlib.Core.Bool.{Bool, true, false}
 use Prim.Native.Nat.{ℕ, _≤_}
-use native.Mathlib.Omega.{arith}
-use lib.ListN.{length}
 use Rattle.model.specs.declared.Vm.{Vm}
 use Rattle.model.specs.Basics.{if_then_else_}
 use Rattle.model.specs.Values.{places}
 use Rattle.model.specs.Heap.{heapOf}
 use Rattle.model.specs.Runs.{runOf}
 use Rattle.model.specs.Stores.{Stores, functionsFrom}
-use Rattle.model.specs.Machines.{Lent, machineIn, worldOf, runOrder, tooShort, RunAnswer, ran, refused, runAnswer}
-use Rattle.rules.specs.Ordered.{Exact}
+use Rattle.model.specs.Machines.{Lent, machineIn, worldOf, runOrder, tooShort, ran, refused, runAnswer}
 use Rattle.rules.proofs.Ordered.{order-exact}
 use Rattle.demands.specs.Agree.{LentAlike}
 use Rattle.demands.proofs.Fronts.{places-alike, vals-alike, heap-alike, cells-alike, stack-alike, room-alike, frames-alike, innermost-alike, callers-alike}

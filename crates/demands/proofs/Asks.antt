@@ -2,11 +2,10 @@
 use mathlib.Core.Path.{_≡_, refl, ap}
 use mathlib.Core.Bool.{Bool, true, false, _&&_}
 use mathlib.Core.List.{List, [], _∷_}
-use Prim.Native.Nat.{ℕ, suc, _*_, _≤_}
+use Prim.Native.Nat.{ℕ, _≤_}
 use native.Mathlib.Omega.{arith}
 use borrow.Author.Tests.{ltb-true}
-use lib.Dec.{ltb, leb}
-use lib.ListN.{length, take}
+use lib.Dec.{ltb}
 use Rattle.model.specs.declared.Vm.{Vm}
 use Rattle.model.specs.declared.Value.{Value}
 use Rattle.model.specs.declared.Frame.{Frame}
@@ -14,7 +13,6 @@ use Rattle.model.specs.declared.Emitted.{Emitted}
 use Rattle.model.specs.declared.Emitted.the-variants as e
 use Rattle.model.specs.declared.Loaded.{Loaded}
 use Rattle.model.specs.declared.Loaded.the-variants as ld
-use Rattle.model.specs.declared.Shown.{Shown}
 use Rattle.model.specs.declared.Shown.the-variants as w
 use Rattle.model.specs.declared.Told.the-variants as t
 use Rattle.model.specs.Basics.{if_then_else_}
@@ -22,9 +20,9 @@ use Rattle.model.specs.Values.{places, mostPlaces, kindAt, payloadAt, valueAt, 
 use Rattle.model.specs.Runs.{backtraceOf}
 use Rattle.model.specs.Stores.{Stores, functionsFrom}
 use Rattle.model.specs.Orders.{insideCodes, frameStoreOk}
-use Rattle.model.specs.Emission.{newOf, Res}
-use Rattle.model.specs.Loading.{OutRes, listOrder, loadOf}
-use Rattle.model.specs.Machines.{Lent, innermost, callersIn, traceOrder, putTrace, backtraceIn, StartRes, startWith, asLoaded, fresh, loadMachineOf, newMachineOf}
+use Rattle.model.specs.Emission.{Res}
+use Rattle.model.specs.Loading.{listOrder}
+use Rattle.model.specs.Machines.{Lent, innermost, callersIn, traceOrder, putTrace, backtraceIn, startWith, fresh, loadMachineOf, newMachineOf}
 use Rattle.model.specs.Readers.{stackValueOf, reads, blockHeaderOf, elementOf}
 use Rattle.value.proofs.Coding.{and-right}
 use Rattle.rules.proofs.Frames.{some-frame}

@@ -1,12 +1,11 @@
 -- Calls one after another: states that agree give the same answers, whatever the calls.
-use mathlib.Core.Path.{_≡_, refl, sym, ap, subst, _∙_}
-use mathlib.Core.List.{List, [], _∷_}
+use mathlib.Core.Path.{_≡_, refl, sym, ap, _∙_}
+use mathlib.Core.List.{List}
 use Prim.Native.Nat.{ℕ}
 use Rattle.model.specs.declared.Vm.{Vm}
-use Rattle.model.specs.Stores.{Stores}
-use Rattle.model.specs.Machines.{Lent, answerIn, RunPost}
+use Rattle.model.specs.Machines.{RunPost}
 use Rattle.demands.specs.Host.{Held, Ask, Call, run, ask, Answer, ran, Done, done, vmAfter, RanBy, After, Chain, none, more}
-use Rattle.demands.specs.Agree.{LentAlike, Agree}
+use Rattle.demands.specs.Agree.{Agree}
 use Rattle.demands.proofs.OneRun.{same-answer, same-vm, same-lent}
 use Rattle.demands.proofs.Asks.{DoneAlike, ask-alike}
 

@@ -1,7 +1,7 @@
 -- Stores that are the same below a count stand for the same things.
 use mathlib.Core.Path.{_≡_, refl, sym, ap, _∙_}
 use mathlib.Core.Bool.{Bool, _&&_}
-use mathlib.Core.List.{List, [], _∷_, reverse}
+use mathlib.Core.List.{List, reverse}
 use Prim.Native.Nat.{ℕ, zero, suc, _+_, _-_, _*_, _≤_, _<_}
 use native.Mathlib.Omega.{arith}
 use lib.ListN.{length, getD, take}
@@ -9,7 +9,7 @@ use lib.Seq.{getD-take, take-take}
 use Rattle.model.specs.declared.Frame.{Frame}
 use Rattle.model.specs.Basics.{everyFrom}
 use Rattle.model.specs.Values.{places, kindAt, payloadAt, valueAt, vals, exactValue}
-use Rattle.model.specs.Heap.{Cell, cellAt, cellsFrom, heapOf, exactCell, exactCells, placedBelow}
+use Rattle.model.specs.Heap.{Cell, cellAt, cellsFrom, heapOf, exactCells, placedBelow}
 use Rattle.model.specs.Programs.{Function}
 use Rattle.model.specs.Runs.{root}
 use Rattle.model.specs.Orders.{cellsOk, stackOk, frameStoreOk}

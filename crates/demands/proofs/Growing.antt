@@ -1,13 +1,12 @@
 -- In good order the values of a state are trees.
-use mathlib.Core.Path.{_≡_, refl, ap, subst, _∙_}
-use mathlib.Core.List.{List, _∷_, _++_}
+use mathlib.Core.Path.{refl, ap, subst, _∙_}
+use mathlib.Core.List.{List, _∷_}
 use Prim.Native.Nat.{ℕ}
 use lib.ListN.{length}
-use Rattle.model.specs.declared.Value.{Value}
 use Rattle.model.specs.declared.Last.{Last}
 use Rattle.model.specs.Heap.{Cell}
-use Rattle.model.specs.Trees.{Tree, meaning}
-use Rattle.model.specs.Steps.{World, State, went, returned, stepOf}
+use Rattle.model.specs.Trees.{meaning}
+use Rattle.model.specs.Steps.{World, State, went, returned}
 use Rattle.model.specs.Runs.{Mark}
 use Rattle.cells.proofs.Meaning.{equal-is-trees, new-list, new-struct, field-is, meaning-kept}
 use Rattle.rules.specs.Sane.{AllPlaced, Sane}

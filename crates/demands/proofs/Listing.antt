@@ -4,11 +4,11 @@ use mathlib.Core.Bool.{Bool, true, false, _||_}
 use mathlib.Core.List.{List, [], _∷_}
 use Prim.Native.Nat.{ℕ, zero, suc}
 use lib.Dec.{eqb, leb, ltb}
-use lib.ListN.{length, getD}
+use lib.ListN.{length}
 use Rattle.model.specs.declared.Decoded.{Decoded}
 use Rattle.model.specs.declared.Decoded.the-variants as d
 use Rattle.model.specs.Basics.{if_then_else_}
-use Rattle.model.specs.Opcodes.{Opcode, opcodeAt}
+use Rattle.model.specs.Opcodes.{Opcode}
 use Rattle.model.specs.Programs.{Function, Program, behind}
 use Rattle.model.specs.Listings.{lineOf, Listed, text, unlisted, inFront, knownThen, opcodeThen, lineThen, linesFor, andListed, listingFrom, listingOf}
 

@@ -1,19 +1,18 @@
 -- A run's contract fixes its result and what it leaves.
 use mathlib.Core.Path.{_≡_, refl, sym, ap, _∙_}
 use mathlib.Core.Bool.{true}
-use mathlib.Core.List.{List, []}
+use mathlib.Core.List.{List}
 use Prim.Native.Nat.{ℕ, zero, suc}
 use native.Mathlib.Omega.{arith}
 use lib.ListN.{length}
 use lib.Seq.{length-sets}
-use Rattle.model.specs.declared.Counts.{Counts}
 use Rattle.model.specs.declared.Vm.{Vm}
 use Rattle.model.specs.declared.RunResult.{RunResult}
 use Rattle.model.specs.declared.RunResult.the-variants as r
-use Rattle.model.specs.Runs.{Machine, Entry, Reply, value, continue, fault, Ran}
+use Rattle.model.specs.Runs.{Reply, value, continue, fault, Ran}
 use Rattle.model.specs.Stores.{Stores}
 use Rattle.model.specs.Emission.{written}
-use Rattle.model.specs.Machines.{Lent, machineIn, runOrder, RunAnswer, ran, refused, runAnswer, copyAfter, traceAfter, entriesIn, ranAs, answerIn, SameRooms, Left, RunPost}
+use Rattle.model.specs.Machines.{Lent, machineIn, runOrder, RunAnswer, ran, refused, runAnswer, copyAfter, traceAfter, entriesIn, ranAs, answerIn, Left, RunPost}
 use Rattle.demands.specs.Host.{vmAfter}
 use Rattle.demands.specs.Agree.{Rooms, LentAlike}
 use Rattle.demands.specs.One.{SameRun}

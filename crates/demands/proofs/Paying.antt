@@ -1,5 +1,5 @@
 -- Demand 2: what each step costs, and that a run is its written steps.
-use mathlib.Core.Path.{_≡_, refl, sym, ap, subst, _∙_}
+use mathlib.Core.Path.{_≡_, refl, sym, subst}
 use mathlib.Core.Bool.{Bool, true, false, not}
 use mathlib.Core.List.{List, [], _∷_, _++_}
 use mathlib.Core.Option.{Option, none as no, some}
@@ -26,8 +26,6 @@ use Rattle.model.specs.Values.{popping, poppingScalar, poppingBoolean, faultNum
 use Rattle.model.specs.Scalars.{zeroDivisor}
 use Rattle.model.specs.Heap.{Cell, headIn, deepest, blockOf, built, unbuilt, buildOf, fieldOf}
 use Rattle.model.specs.Equality.{Same, same, sameOf}
-use Rattle.model.specs.Opcodes.{opcodeAt}
-use Rattle.model.specs.Programs.{wordAt}
 use Rattle.model.specs.Steps.{World, State, Outcome, went, returned, faulted, withStack, withHeap, withUnits, at, position, codeOf, pushing, onFound, constantOf, slotOf, lastOf, loadStep, slotStep, lastStep, negateStep, arithmeticStep, orderingStep, onSame, equalStep, logicStep, notStep, jumpStep, jumpIfFalseStep, enter, callStep, enterNamed, callCallableStep, onBuilt, buildStep, structStep, fieldStep, returnTo, returnStep, execOf, operandsThen, decodedThen, fetched, stepOf}
 use Rattle.rules.proofs.Combinators.{if-each, ifScalar-each, ifBoolean-each, ifReference-each, ifStruct-each}
 use Rattle.model.specs.Runs.{Machine, begin, machineOf, Mark, mark, Ended, ended, stopped, endOf, traceOf, fault, answered, recovered, settle, runOf}

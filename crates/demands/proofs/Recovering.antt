@@ -1,30 +1,23 @@
 -- Demand 3, over lent stores.
-use mathlib.Core.Path.{_≡_, refl, sym, ap, subst, _∙_}
-use mathlib.Core.Bool.{Bool, true, false}
-use mathlib.Core.List.{List, []}
-use Prim.Native.Nat.{ℕ, suc, _-_, _*_, _≤_}
-use native.Mathlib.Omega.{arith}
-use lib.ListN.{length, getD}
+use mathlib.Core.Path.{_≡_, sym, ap, subst, _∙_}
+use mathlib.Core.List.{List}
+use Prim.Native.Nat.{ℕ, suc, _*_}
+use lib.ListN.{length}
 use Rattle.model.specs.declared.Vm.{Vm}
-use Rattle.model.specs.declared.Counts.{Counts}
-use Rattle.model.specs.declared.Value.{Value}
 use Rattle.model.specs.declared.Last.{Last}
-use Rattle.model.specs.declared.Last.the-variants.{Nothing, Is}
 use Rattle.model.specs.declared.RunResult.the-variants as r
-use Rattle.model.specs.Basics.{if_then_else_}
-use Rattle.model.specs.Heap.{Cell, heapOf}
-use Rattle.model.specs.Steps.{World, State, returned, stepOf}
-use Rattle.model.specs.Runs.{Machine, begin, Mark, mark, root, Entry, Reply, fault, Ran, recovered, runOf}
+use Rattle.model.specs.Steps.{World, State, returned}
+use Rattle.model.specs.Runs.{Machine, begin, Mark, mark, Entry, fault, Ran, recovered}
 use Rattle.model.specs.Stores.{Stores}
-use Rattle.model.specs.Machines.{Lent, innermost, machineIn, worldOf, runOrder, tooShort, RunAnswer, ran, refused, runAnswer, entriesIn, ranAs, answerIn, RunPost}
+use Rattle.model.specs.Machines.{Lent, innermost, machineIn, worldOf, entriesIn, answerIn, RunPost}
 use Rattle.rules.specs.Paths.{Adds}
 use Rattle.rules.specs.Demand.{Since, Recovered}
 use Rattle.rules.specs.Demand as d
 use Rattle.rules.proofs.Adds.{step-adds}
 use Rattle.rules.proofs.Demands.{run-recovered}
 use Rattle.value.proofs.Stores.{length-vals}
-use Rattle.demands.specs.Host.{Held, Call, Answer, RanBy, vmAfter, Chain}
-use Rattle.demands.specs.Agree.{Alike, Rooms, Agree}
+use Rattle.demands.specs.Host.{Held}
+use Rattle.demands.specs.Agree.{Alike, Agree}
 use Rattle.demands.specs.Recovery.{Kept, start, return, Recovers, SetUp, Demand3}
 use Rattle.demands.proofs.Fixed.{Standing, standing, counted, values-fix, machine-fixes}
 use Rattle.demands.proofs.Chains.{chains-agree}

@@ -5,7 +5,7 @@ use mathlib.Core.List.{List, [], _∷_}
 use mathlib.Core.Option.{Option, none, some}
 use Prim.Native.Nat.{ℕ, _+_, _/_, _≤_, min}
 use native.Mathlib.Omega.{arith}
-use lib.Dec.{ltb, leb, eqb}
+use lib.Dec.{ltb, leb}
 use lib.ListN.{length, drop, length-drop}
 use lib.Seq.{length-take-le}
 use borrow.Author.Tests.{leb-true}
@@ -13,40 +13,33 @@ use Rattle.model.specs.declared.Constant.{Constant}
 use Rattle.model.specs.declared.Constant.the-variants as k
 use Rattle.model.specs.declared.Value.{Value}
 use Rattle.model.specs.declared.Value.the-variants as v
-use Rattle.model.specs.declared.Vm.{Vm}
 use Rattle.model.specs.declared.Counts.{Counts}
 use Rattle.model.specs.declared.Frame.{Frame}
 use Rattle.model.specs.declared.Last.{Last}
 use Rattle.model.specs.declared.Last.the-variants.{Nothing, Is}
 use Rattle.model.specs.declared.Emitted.{Emitted}
 use Rattle.model.specs.declared.Emitted.the-variants as em
-use Rattle.model.specs.declared.Loaded.{Loaded}
 use Rattle.model.specs.declared.Loaded.the-variants as ld
-use Rattle.model.specs.declared.Started.the-variants as st
 use Rattle.model.specs.declared.Told.{Told}
-use Rattle.model.specs.declared.Told.the-variants as t
 use Rattle.model.specs.declared.Shown.{Shown}
-use Rattle.model.specs.declared.Shown.the-variants as w
 use Rattle.model.specs.declared.Headed.{Headed}
-use Rattle.model.specs.declared.Headed.the-variants as hd
 use Rattle.model.specs.declared.Found.{Found}
-use Rattle.model.specs.declared.RunResult.{RunResult}
 use Rattle.model.specs.declared.RunResult.the-variants as r
 use Rattle.model.specs.Basics.{if_then_else_}
-use Rattle.model.specs.Values.{places, kindAt, payloadAt, valueAt, exactValue, textAt, faultNumber}
-use Rattle.model.specs.Heap.{Cell, heapOf, headIn, itemIn, fieldOf}
-use Rattle.model.specs.Programs.{Function, newestFrom, firstFrom, codeLimit, constantLimit, nameLimit, withinLimits}
-use Rattle.model.specs.Images.{imageOf, Judged, fine, broken, judge}
-use Rattle.model.specs.Listings.{Listed, text, unlisted, listingOf}
-use Rattle.model.specs.Runs.{Machine, traceable, Traced, backtraceOf, Ran}
-use Rattle.model.specs.Stores.{Stores, size, codeWord, structsFrom, functionsFrom, programIn}
-use Rattle.model.specs.Orders.{countsOk, textOk, functionsOk, programOk}
-use Rattle.model.specs.Emission.{Res, refuse, textRoom, newOf, u16, sizeHere, endHere, codeRoom, appended, codeOrder, emitIn, emitOf, addOpOf, addOp1Of, addOp2Of, addOp3Of, currentOffsetOf, patchOrder, patched, patchOf, withConstant, withTextConstant, constantAdded, constantOrder, addConstantOf, structAdded, structFound, structOrder, addStructOf, functionOrder, begun, beginFunctionOf, endFunctionOf, namesFrom, toldName, functionIdxOf}
-use Rattle.model.specs.Loading.{roomFor, laid, countsFor, LoadRes, loadJudged, loadOf, OutRes, putOut, saveOf, putListing, listOrder, listOf}
-use Rattle.model.specs.Machines.{Lent, innermost, callersIn, runOrder, tooShort, RunAnswer, ran, refused, runAnswer, answerIn, RunPost, Left, traceOrder, putTrace, backtraceIn, StartRes, startWith, asLoaded, loadMachineOf, newMachineOf}
-use Rattle.model.specs.Readers.{lastShown, lastResultOf, stackValueOf, reads, headerAt, headerShown, blockHeaderOf, foundShown, elementShown, elementOf, textShown, readsText, textBytesOf}
+use Rattle.model.specs.Values.{places, textAt, faultNumber}
+use Rattle.model.specs.Heap.{Cell, heapOf, headIn, fieldOf}
+use Rattle.model.specs.Programs.{Function, nameLimit, withinLimits}
+use Rattle.model.specs.Images.{Judged, fine, broken, judge}
+use Rattle.model.specs.Listings.{Listed, text, unlisted}
+use Rattle.model.specs.Runs.{traceable, Traced, backtraceOf, Ran}
+use Rattle.model.specs.Stores.{Stores}
+use Rattle.model.specs.Orders.{textOk}
+use Rattle.model.specs.Emission.{Res, refuse, textRoom, newOf, u16, appended, emitIn, emitOf, addOpOf, addOp1Of, addOp2Of, addOp3Of, currentOffsetOf, patched, patchOf, withConstant, withTextConstant, constantAdded, addConstantOf, structAdded, structFound, addStructOf, begun, beginFunctionOf, endFunctionOf, toldName, functionIdxOf}
+use Rattle.model.specs.Loading.{roomFor, LoadRes, loadJudged, loadOf, OutRes, putOut, saveOf, putListing, listOf}
+use Rattle.model.specs.Machines.{runOrder, tooShort, ran, refused, runAnswer, putTrace, backtraceIn, startWith, asLoaded, loadMachineOf, newMachineOf}
+use Rattle.model.specs.Readers.{lastShown, lastResultOf, stackValueOf, headerAt, headerShown, blockHeaderOf, foundShown, elementShown, elementOf, textShown, readsText, textBytesOf}
 use Rattle.value.proofs.Coding.{and-left, and-right}
-use Rattle.demands.specs.Host.{Held, Ask, new, load, addOp, addOp1, addOp2, addOp3, patch, addConstant, addStruct, beginFunction, endFunction, currentOffset, functionIdx, save, disassemble, backtrace, lastResult, stackValue, blockHeader, element, textBytes, Call, run, ask, Answer, told, put, shown, headed, Done, withFrames, emits, starts, looks, done, RanBy, vmAfter, After}
+use Rattle.demands.specs.Host.{Held, Ask, new, load, addOp, addOp1, addOp2, addOp3, patch, addConstant, addStruct, beginFunction, endFunction, currentOffset, functionIdx, save, disassemble, backtrace, lastResult, stackValue, blockHeader, element, textBytes, Call, run, ask, Answer, told, put, shown, headed, Done, withFrames, emits, starts, looks, done, RanBy, After}
 use Rattle.demands.proofs.OneRun.{Seen, went, stayed, seen}
 use Rattle.demands.specs.Refusals.{Check, must, mustNot, firstOf, isNone, isEmpty, codeChecks, hasText, loadChecks, newName, fitsOut, listChecks, noLast, hasElement, textChecks, askChecks, checks, refusedRun, refusedBy, OutKept, Demand1}
 

@@ -1,5 +1,5 @@
 -- Demand 2, over lent stores.
-use mathlib.Core.Path.{_≡_, sym, ap, subst, _∙_}
+use mathlib.Core.Path.{_≡_, sym, _∙_}
 use mathlib.Core.List.{List}
 use Prim.Native.Nat.{ℕ, _-_, _≤_}
 use native.Mathlib.Omega.{arith}
@@ -14,7 +14,7 @@ use Rattle.model.specs.Values.{faultNumber}
 use Rattle.model.specs.Steps.{World, State}
 use Rattle.model.specs.Runs.{Machine, begin, Mark, Ended, ended, stopped, endOf, Entry, fault, Ran, answered, settle, runOf}
 use Rattle.model.specs.Stores.{Stores}
-use Rattle.model.specs.Machines.{Lent, machineIn, worldOf, RunAnswer, ran, answerIn, RunPost}
+use Rattle.model.specs.Machines.{Lent, machineIn, worldOf, ran, answerIn, RunPost}
 use Rattle.rules.specs.Paths.{Steps}
 use Rattle.rules.specs.Demand.{Recovered}
 use Rattle.rules.proofs.Paths.{path-spends}

@@ -1,8 +1,7 @@
 -- What a host holds, the calls that it can make, and what each call answers and leaves: as the contracts of the entries say.
 use mathlib.Core.Path.{_≡_}
-use mathlib.Core.List.{List, [], _∷_, _++_}
+use mathlib.Core.List.{List, [], _∷_}
 use Prim.Native.Nat.{ℕ}
-use Rattle.model.specs.declared.Counts.{Counts}
 use Rattle.model.specs.declared.Constant.{Constant}
 use Rattle.model.specs.declared.Value.{Value}
 use Rattle.model.specs.declared.Frame.{Frame}

@@ -29,7 +29,7 @@ use Rattle.model.specs.Programs.{newestFrom, firstFrom, codeLimit, constantLimi
 use Rattle.model.specs.Images.{imageOf, Judged, fine, broken, judge}
 use Rattle.model.specs.Listings.{Listed, text, unlisted, listingOf}
 use Rattle.model.specs.Runs.{traceable}
-use Rattle.model.specs.Stores.{Stores, structsFrom, functionsFrom, programIn}
+use Rattle.model.specs.Stores.{structsFrom, functionsFrom, programIn}
 use Rattle.model.specs.Orders.{countsOk, textOk, functionsOk, programOk}
 use Rattle.model.specs.Emission.{textRoom, sizeHere, endHere, codeRoom, codeOrder, patchOrder, constantOrder, structOrder, functionOrder, namesFrom}
 use Rattle.model.specs.Loading.{roomFor, listOrder}

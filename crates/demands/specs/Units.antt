@@ -14,7 +14,6 @@ use Rattle.model.specs.declared.Counts.{Counts}
 use Rattle.model.specs.declared.Vm.{Vm}
 use Rattle.model.specs.declared.Last.the-variants.{Nothing}
 use Rattle.model.specs.declared.Fault.{Fault}
-use Rattle.model.specs.declared.Fault.the-variants as f
 use Rattle.model.specs.Values.{faultNumber}
 use Rattle.model.specs.Heap.{Cell}
 use Rattle.model.specs.Opcodes.{opcodeAt}
