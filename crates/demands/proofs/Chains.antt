@@ -5,13 +5,13 @@ use Prim.Native.Nat.{ℕ}
 use Rattle.model.specs.declared.Vm.{Vm}
 use Rattle.model.specs.Machines.{RunPost}
 use Rattle.demands.specs.Host.{Held, Ask, Call, run, ask, Answer, ran, Done, done, vmAfter, RanBy, After, Chain, none, more}
-use Rattle.demands.specs.Agree.{Agree}
+use Rattle.demands.specs.Agree.{Agree, SameChain}
 use Rattle.demands.proofs.OneRun.{same-answer, same-vm, same-lent}
 use Rattle.demands.proofs.Asks.{DoneAlike, ask-alike}
 
-pub record SameCall (a b : Answer) (h k : Held) : Type 0 where
-  pub answer : a ≡ b
-  pub agree : Agree h k
+record SameCall (a b : Answer) (h k : Held) : Type 0 where
+  answer : a ≡ b
+  agree : Agree h k
 
 -- in states that agree
 module _ {h k : Held} (g : Agree h k) where
@@ -37,13 +37,9 @@ module _ {h k : Held} (g : Agree h k) where
       let f : DoneAlike (record { answer = a; held = h' }) (record { answer = b; held = k' }) = rw (p, ← moved, r) at d in
       record { answer = f .answer; agree = f .agree }
 
-  pub call-agrees : (c : Call) {a b : Answer} {h' k' : Held} → After c h a h' → After c k b k' → SameCall a b h' k'
+  call-agrees : (c : Call) {a b : Answer} {h' k' : Held} → After c h a h' → After c k b k' → SameCall a b h' k'
   call-agrees (run u) p q = run-agrees u p q
   call-agrees (ask q) p r = ask-agrees q p r
-
-pub record SameChain (as′ bs : List Answer) (h k : Held) : Type 0 where
-  pub answers : as′ ≡ bs
-  pub agree : Agree h k
 
 -- whatever calls come: the same answers, and states that agree at the end
 pub chains-agree : {cs : List Call} {h k e f : Held} {as′ bs : List Answer} → Agree h k → Chain cs h as′ e → Chain cs k bs f → SameChain as′ bs e f

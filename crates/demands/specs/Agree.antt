@@ -5,7 +5,7 @@ use Prim.Native.Nat.{ℕ, _*_}
 use lib.ListN.{length, take}
 use Rattle.model.specs.declared.Vm.{Vm}
 use Rattle.model.specs.Machines.{Lent}
-use Rattle.demands.specs.Host.{Held}
+use Rattle.demands.specs.Host.{Held, Answer}
 
 -- stores of the same length, with the same first n entries
 pub record Alike {A : Type 0} (n : ℕ) (a b : List A) : Type 0 where
@@ -33,3 +33,8 @@ pub record Agree (h h' : Held) : Type 0 where
   pub vm : h .vm ≡ h' .vm
   pub stores : h .stores ≡ h' .stores
   pub lent : LentAlike (h .vm) (h .lent) (h' .lent)
+
+-- of two chains of calls: the same answers, and what the host then holds agrees
+pub record SameChain (xs ys : List Answer) (h k : Held) : Type 0 where
+  pub answers : xs ≡ ys
+  pub agree : Agree h k
