@@ -14,7 +14,8 @@ use Rattle.rules.specs.Paths.{Adds}
 use Rattle.rules.specs.Demand.{Since, Recovered}
 use Rattle.rules.specs.Demand as d
 use Rattle.rules.proofs.Adds.{step-adds}
-use Rattle.rules.proofs.Demands.{run-recovered}
+use Rattle.rules.proofs.Demands.{run-recovered, recovered-faults}
+use Rattle.rules.proofs.Ordered.{order-world, order-sane}
 use Rattle.value.proofs.Stores.{length-vals}
 use Rattle.demands.specs.Host.{Held}
 use Rattle.demands.specs.Agree.{Alike, Agree}
@@ -78,6 +79,7 @@ module _ (m : Vm) (s : Stores) (l : Lent) (u : ℕ) {m' : Vm} {n spent j : ℕ} 
     kept = subst (λ (x : Machine). Kept (worldOf m s l) (begin (machineIn m l) u) (by-rules .at) (x .last) (x .heap)) (sym left-machine) (kept-since (by-rules .since));
     leaves = left-machine;
     order = p .left;
+    traced = λ b. recovered-faults (worldOf m s l) (order-world m s l (ran-so .order) b) (order-sane m s l (ran-so .order) u) by-rules;
   }
 
 -- two machines in good order that are set up alike agree

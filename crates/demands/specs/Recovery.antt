@@ -14,6 +14,8 @@ use Rattle.model.specs.Steps.{World, State, returned, stepOf}
 use Rattle.model.specs.Runs.{Machine, begin, Mark, over, root, Entry, recovered}
 use Rattle.model.specs.Stores.{Stores}
 use Rattle.model.specs.Machines.{Lent, machineIn, worldOf, runOrder}
+use Rattle.rules.specs.Ordered.{CodeBytes}
+use Rattle.rules.specs.Sane.{Faults}
 use Rattle.rules.specs.Paths.{Steps}
 use Rattle.rules.specs.Demand.{Quiet, Recovered}
 use Rattle.demands.specs.Host.{Held, Call, Answer, Chain}
@@ -43,6 +45,8 @@ pub record Recovers (m : Vm) (s : Stores) (l : Lent) (u : ℕ) (m' : Vm) (n spen
   -- all at once: the machine that is left, by the rules; and it is in good order
   pub leaves : machineIn m' l' ≡ recovered (worldOf m s l) (machineIn m l) (rules .kept)
   pub order : runOrder m' s l' ≡ true
+  -- the step that faulted has dropped and added no frame, and its backtrace stands
+  pub traced : CodeBytes s → Faults (worldOf m s l) (rules .at) (rules .after)
 
 -- a machine set up as x beside h: the same program, stores of the same lengths and so the same free cells, in good order
 pub record SetUp (x : Machine) (h d : Held) : Type 0 where
