@@ -20,3 +20,5 @@ pub mod Written
 -- `listing-numbers`, `refuses`
 pub mod Listing
 pub mod Refusing
+-- good order through every call
+pub mod Wider

@@ -10,3 +10,5 @@ pub mod Agree
 pub mod Recovery
 -- demand 4: no second answer
 pub mod One
+-- good order through every call
+pub mod Kept
