@@ -22,3 +22,5 @@ pub mod Listing
 pub mod Refusing
 -- good order through every call
 pub mod Wider
+pub mod Emitted
+pub mod Orderly

@@ -50,9 +50,9 @@ record Refusal (h : Held) (n : ℕ) (d : Done) : Type 0 where
   out : OutKept (d .answer)
 
 -- d is refused by the first check that fails, and a refusal changes nothing
-record Says (h : Held) (cs : List Check) (d : Done) : Type 0 where
-  number : refusedBy (d .answer) ≡ firstOf cs
-  kept : (n : ℕ) → refusedBy (d .answer) ≡ some n → (d .held ≡ h) × OutKept (d .answer)
+pub record Says (h : Held) (cs : List Check) (d : Done) : Type 0 where
+  pub number : refusedBy (d .answer) ≡ firstOf cs
+  pub kept : (n : ℕ) → refusedBy (d .answer) ≡ some n → (d .held ≡ h) × OutKept (d .answer)
 
 module _ {A : Type 0} (f : A → Done) (h : Held) where
   -- a test that must hold
@@ -230,7 +230,7 @@ module _ (h : Held) where
 
   -- ---- a line for each entry
 
-  ask-says : (q : Ask) → Says h (askChecks q h) (done q h)
+  pub ask-says : (q : Ask) → Says h (askChecks q h) (done q h)
   unfolding askChecks done newName loadMachineOf loadOf addOpOf addOp1Of addOp2Of addOp3Of u16 patchOf patched addConstantOf addStructOf beginFunctionOf begun endFunctionOf currentOffsetOf functionIdxOf saveOf listOf backtraceIn lastResultOf stackValueOf blockHeaderOf elementOf textBytesOf
   ask-says new = new-says
   ask-says (load image) = load-by (judge image)
