@@ -1,9 +1,9 @@
 -- A new struct name keeps good order, a new program is in good order, and emission only lets a program grow.
 use mathlib.Core.Path.{_≡_, refl, sym, ap, _∙_}
-use mathlib.Core.Bool.{Bool, true, false, not, _&&_, _||_}
+use mathlib.Core.Bool.{Bool, true, false, not, _&&_}
 use mathlib.Core.List.{List, [], _∷_, _++_}
 use mathlib.Core.Option.{Option, none, some}
-use Prim.Native.Nat.{ℕ, zero, suc, _+_, _*_, _≤_, _<_, _^_}
+use Prim.Native.Nat.{ℕ, zero, suc, _+_, _≤_, _<_, _^_}
 use native.Mathlib.Omega.{arith}
 use borrow.Author.Tests.{leb-true, leb-false, le-leb, eq-eqb, eqb-true, eqb-false, ltb-false}
 use lib.Dec.{eqb, leb, ltb}
@@ -14,16 +14,16 @@ use Rattle.model.specs.declared.Constant.{Constant}
 use Rattle.model.specs.declared.Constant.the-variants as k
 use Rattle.model.specs.declared.Emitted.the-variants.{Done}
 use Rattle.model.specs.Basics.{if_then_else_, ascii, everyFrom}
-use Rattle.model.specs.Values.{places, kindAt, payloadAt, putWords}
+use Rattle.model.specs.Values.{places, putWords}
 use Rattle.model.specs.Equality.{sameBytes}
 use Rattle.model.specs.Programs.{mainName, firstFrom, among, codeLimit, constantLimit, nameLimit}
 use Rattle.model.specs.Stores.{Stores, start, size, pack, part, structWord, nameWord, codeWord, codeEnd, structsFrom, withStructs, withText, withFunctions, withCode}
 use Rattle.model.specs.Orders.{countsOk, textOk, insideText, constantsOk, allDifferent, structsOk, codeStart, functionOk, functionsOk, mainOk, mainTaken, otherTaken, insideCodes, programOk}
-use Rattle.model.specs.Emission.{Res, counts, refuse, written, oneStruct, oneFunction, textRoom, newOf, sizeHere, endHere, codeRoom, longer, appended, codeOrder, emitIn, emitOf, patchOrder, patched, patchOf, withConstant, withTextConstant, constantAdded, constantOrder, addConstantOf, structAdded, structFound, structOrder, addStructOf, functionOrder, begun, beginFunctionOf}
-use Rattle.program.proofs.Bools.{either-way, and-left, and-right, and-both}
+use Rattle.model.specs.Emission.{Res, counts, refuse, written, oneStruct, oneFunction, textRoom, newOf, sizeHere, endHere, codeRoom, appended, codeOrder, emitIn, emitOf, patchOrder, patched, patchOf, withConstant, withTextConstant, constantAdded, constantOrder, addConstantOf, structAdded, structFound, structOrder, addStructOf, functionOrder, begun, beginFunctionOf}
+use Rattle.program.proofs.Bools.{either-way, and-left, and-right}
 use Rattle.program.proofs.Parts.{room-1, room-2, start-pack, size-pack}
 use Rattle.program.proofs.Every.{pass-all, passed-at}
-use Rattle.program.proofs.Known.{Limited, limited, text-inside}
+use Rattle.program.proofs.Known.{Limited, limited}
 use Rattle.program.proofs.Writing.{length-written, length-words}
 use Rattle.program.proofs.Keeping.{Good, good-of, of-good, inside-back, places-same, Kept, kept-if, kept-refused, now-longer}
 use Rattle.program.proofs.Growing.{part-kept, part-new, inside-more, constants-more, functions-more, names-same, main-kept, words-here, words-other}
@@ -74,9 +74,6 @@ structs-words (suc n) i ss ss' t h = rw (h i (omega arith), structs-words n (suc
 
 module _ (c : Counts) (s : Stores) (g : Good c s) (name : List ℕ) (few : c .structs < 65536) (fits : c .structs < places 1 (s .structs)) (room : c .text + length name ≤ places 1 (s .text))
     (new : firstFrom 0 name (structsFrom (c .structs) 0 (s .structs) (s .text)) ≡ none) where
-  n : ℕ
-  n = length name
-
   d : Counts
   d = oneStruct (length name) c
 
@@ -136,8 +133,8 @@ module _ (c : Counts) (s : Stores) (g : Good c s) (name : List ℕ) (few : c .st
   names-are =
       let z : 0 + c .structs ≡ c .structs = omega arith in
       let a : structsFrom (c .structs) 0 ss (written (s .text) (c .text) name) ≡ structsFrom (c .structs) 0 (s .structs) (s .text) =
-          structs-words (c .structs) 0 (s .structs) ss (written (s .text) (c .text) name) (λ j h. word-other j (omega arith))
-          ∙ names-same c (oneStruct (length name) c) (omega arith) (s .structs) (s .text) (written (s .text) (c .text) name) same (c .structs) 0 old-inside in
+      structs-words (c .structs) 0 (s .structs) ss (written (s .text) (c .text) name) (λ j h. word-other j (omega arith))
+      ∙ names-same c (oneStruct (length name) c) (omega arith) (s .structs) (s .text) (written (s .text) (c .text) name) same (c .structs) 0 old-inside in
       let b : part (written (s .text) (c .text) name) (pack (c .text) (length name)) ≡ name = part-new (s .text) (c .text) name text-fits text-small in
       structs-snoc (c .structs) 0 ss (written (s .text) (c .text) name) ∙ rw (a, z, word-here, b)
 
@@ -157,8 +154,13 @@ module _ (c : Counts) (s : Stores) (g : Good c s) (name : List ℕ) (few : c .st
   unfolding d u textOk countsOk insideCodes otherTaken
   struct-good = record {
     counts =
-        rw (le-leb (c .constants) 65535 (lim .constants), le-leb (suc (c .structs)) 65536 (omega arith), le-leb 1 (c .functions) (lim .some), le-leb (c .functions) 65536 (lim .functions),
-        le-leb (c .text + length name) 0xFFFF_FFFF (omega (arith, room-1 (s .text))))
+        rw (
+          le-leb (c .constants) 65535 (lim .constants),
+          le-leb (suc (c .structs)) 65536 (omega arith),
+          le-leb 1 (c .functions) (lim .some),
+          le-leb (c .functions) 65536 (lim .functions),
+          le-leb (c .text + length name) 0xFFFF_FFFF (omega (arith, room-1 (s .text))),
+        )
         (lim .main-or-newest);
     text = le-leb (c .text + length name) (places 1 (written (s .text) (c .text) name)) (rw (places-same 1 (written (s .text) (c .text) name) (s .text) (length-written (s .text) (c .text) name)) room);
     constants = constants-more c (oneStruct (length name) c) (omega arith) (s .constants) refl (g .constants);
@@ -279,8 +281,8 @@ module _ (c : Counts) (s : Stores) where
           text = omega arith;
           functions = omega arith;
           codes = λ j h. either-way (eqb j (c .current))
-            (λ t. let e : j ≡ c .current = eqb-true j (c .current) t in rw (e, l .here) (longer-size (codeWord (s .functions) (c .current)) (length bytes)))
-            (λ f. rw (l .others j (eqb-false j (c .current) f)) (omega arith));
+              (λ t. let e : j ≡ c .current = eqb-true j (c .current) t in rw (e, l .here) (longer-size (codeWord (s .functions) (c .current)) (length bytes)))
+              (λ f. rw (l .others j (eqb-false j (c .current) f)) (omega arith));
         });
   }
 

@@ -1,4 +1,5 @@
--- The theorems. Demand 1: `refuses`, `listing-numbers`, `steps-within`. Demand 2: `run-written`, with `step-cost`, `path-units`, `run-is-steps` and `as-trees`.
+-- The theorems. Demand 1: `refuses`, `listing-numbers`, `steps-within`, `chain-kept`, `run-in-order`.
+-- Demand 2: `run-written`, with `step-cost`, `fault-fee`, `path-units`, `run-is-steps` and `as-trees`.
 -- Demand 3: `fault-recovers`, with `fault-leaves`, `chains-agree` and `past-counts-unseen`. Demand 4: `run-one`, `ask-one`.
 
 -- lent stores that are the same below the counts; a machine in good order fixes its words
@@ -13,14 +14,14 @@ pub mod Chains
 -- `fault-leaves`, `fault-recovers`
 pub mod Went
 pub mod Recovering
--- `step-cost`, `path-units`, `run-is-steps`, `as-trees`, `run-written`, `steps-within`
+-- `step-cost`, `fault-fee`, `path-units`, `run-is-steps`, `as-trees`, `run-written`, `steps-within`
 pub mod Paying
 pub mod Growing
 pub mod Written
 -- `listing-numbers`, `refuses`
 pub mod Listing
 pub mod Refusing
--- good order through every call
+-- good order where a program grows; `order-kept`, `chain-kept`, `run-in-order`
 pub mod Wider
 pub mod Emitted
 pub mod Orderly

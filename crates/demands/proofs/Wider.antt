@@ -1,5 +1,5 @@
 -- A machine in good order stays so where its program grows.
-use mathlib.Core.Path.{_≡_, refl, sym}
+use mathlib.Core.Path.{_≡_, refl}
 use mathlib.Core.Bool.{Bool, true, false, _&&_}
 use mathlib.Core.List.{List, [], _∷_}
 use Prim.Native.Nat.{ℕ, zero, suc, _+_, _≤_, _<_}
@@ -16,15 +16,13 @@ use Rattle.model.specs.declared.Last.the-variants.{Nothing, Is}
 use Rattle.model.specs.declared.Frame.{Frame}
 use Rattle.model.specs.Basics.{if_then_else_}
 use Rattle.model.specs.Heap.{Cell, item, head, cellIn, headIn, elementsIn, deepest, wholeBelow, placedBelow, elementBelow, elementsBelow, blockOk, blocksFrom, heapOk}
-use Rattle.model.specs.Programs.{functionAt}
 use Rattle.model.specs.Steps.{World, State}
-use Rattle.model.specs.Runs.{begin}
 use Rattle.model.specs.Stores.{Stores, worldIn}
 use Rattle.model.specs.Machines.{Lent, machineIn, worldOf, runOrder}
 use Rattle.value.proofs.Coding.{and-left, and-right}
 use Rattle.cells.proofs.Order.{and-both}
 use Rattle.rules.specs.Sane.{AllPlaced, LastPlaced, FrameFits, CallersFit, Sane}
-use Rattle.rules.specs.Ordered.{runProgram, Exact}
+use Rattle.rules.specs.Ordered.{runProgram}
 use Rattle.rules.proofs.Ordered.{order-of, order-sane, order-exact, sane-ordered, text-length}
 use Rattle.rules.proofs.Programs.{length-functions, parts-of, code-size}
 use Rattle.demands.specs.Kept.{Grew, WorldGrew}

@@ -1,7 +1,8 @@
 -- What the demands speak of: what a host holds, and its calls
 pub mod Host
--- demand 1: refusals
+-- demand 1: refusals, and good order through every call
 pub mod Refusals
+pub mod Kept
 -- demand 2: values as trees, units and written steps
 pub mod Trees
 pub mod Units
@@ -10,5 +11,3 @@ pub mod Agree
 pub mod Recovery
 -- demand 4: no second answer
 pub mod One
--- good order through every call
-pub mod Kept
