@@ -1,4 +1,4 @@
--- The theorems. Demand 1: `refuses`, `listing-numbers`, `steps-within`, `chain-kept`, `run-in-order`.
+-- The theorems. Demand 1: `refuses`, `listing-numbers`, `steps-within`, `new-in-order`, `load-in-order`, `chain-kept`, `run-in-order`.
 -- Demand 2: `run-written`, with `step-cost`, `fault-fee`, `path-units`, `run-is-steps` and `as-trees`.
 -- Demand 3: `fault-recovers`, with `fault-leaves`, `chains-agree` and `past-counts-unseen`. Demand 4: `run-one`, `ask-one`.
 
@@ -21,7 +21,7 @@ pub mod Written
 -- `listing-numbers`, `refuses`
 pub mod Listing
 pub mod Refusing
--- good order where a program grows; `order-kept`, `chain-kept`, `run-in-order`
+-- good order where a program grows; `new-in-order`, `load-in-order`, `chain-kept`, `run-in-order`
 pub mod Wider
 pub mod Emitted
 pub mod Orderly

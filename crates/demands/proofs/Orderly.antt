@@ -9,6 +9,8 @@ use Rattle.model.specs.declared.Counts.{Counts}
 use Rattle.model.specs.declared.Frame.{Frame}
 use Rattle.model.specs.declared.Emitted.{Emitted}
 use Rattle.model.specs.declared.Emitted.the-variants as em
+use Rattle.model.specs.declared.Vm.{Vm}
+use Rattle.model.specs.declared.Started.the-variants as st
 use Rattle.model.specs.declared.Loaded.{Loaded}
 use Rattle.model.specs.declared.Loaded.the-variants as ld
 use Rattle.model.specs.Basics.{if_then_else_}
@@ -25,7 +27,7 @@ use Rattle.rules.proofs.Ordered.{fresh-order}
 use Rattle.rules.proofs.Programs.{program-runs}
 use Rattle.program.proofs.Keeping.{Kept, emit-keeps}
 use Rattle.program.proofs.Growing.{constant-keeps, patch-keeps, begin-keeps, end-keeps}
-use Rattle.demands.specs.Host.{Held, Ask, new, load, addOp, addOp1, addOp2, addOp3, patch, addConstant, addStruct, beginFunction, endFunction, currentOffset, functionIdx, save, disassemble, backtrace, lastResult, stackValue, blockHeader, element, textBytes, Call, run, ask, Answer, Done, withFrames, emits, starts, looks, done, RanBy, vmAfter, After, Chain, none, more}
+use Rattle.demands.specs.Host.{Held, Ask, new, load, addOp, addOp1, addOp2, addOp3, patch, addConstant, addStruct, beginFunction, endFunction, currentOffset, functionIdx, save, disassemble, backtrace, lastResult, stackValue, blockHeader, element, textBytes, Call, run, ask, Answer, started, Done, withFrames, emits, starts, looks, done, RanBy, vmAfter, After, Chain, none, more}
 use Rattle.image.proofs.Trip.{image-only, loaded-stands}
 use Rattle.demands.specs.Refusals.{Check, firstOf, checks, refusedEmitted, refusedBy}
 use Rattle.demands.specs.Kept.{InOrder, AllBytes}
@@ -54,6 +56,40 @@ load-good : (x : Judged) (s : Stores) → ((p : Program) → x ≡ fine p → So
 unfolding loadJudged
 load-good (broken i) s k c e = absurd (let z : _≡_ {A = ℕ} 0 1 = cc in let y : ⊥ = omega arith in y)
 load-good (fine p) s k c e = fine-good p s (k p refl) (withinLimits p) (roomFor p s) refl refl c e
+
+-- ---- a machine that is made, whatever the host held
+
+module _ (h : Held) where
+  fresh-in-order : (c : Counts) (s' : Stores) (f : Frame) (fs : List Frame) → programOk c s' ≡ true → InOrder (starts h (startWith (ld.Done c) s' (h .stores) (f ∷ fs)) .held)
+  unfolding starts startWith fresh
+  fresh-in-order c s' f fs p = record {
+    program = p;
+    machine = fresh-order (fresh c) s' (withFrames (root 0 ∷ fs) (h .lent)) (program-runs c s' p) (record { stack = refl; cells = refl; last = refl; frames = refl; room = omega arith; frame = refl });
+  }
+
+  made : (a : Loaded) (s' : Stores) (fs : List Frame) → ((c : Counts) → a ≡ ld.Done c → programOk c s' ≡ true) → (m : Vm) → starts h (startWith a s' (h .stores) fs) .answer ≡ started (st.Done m)
+      → InOrder (starts h (startWith a s' (h .stores) fs) .held)
+  unfolding starts startWith
+  made (ld.Done c) s' [] p m e = absurd (let z : _≡_ {A = ℕ} 0 1 = cc in let y : ⊥ = omega arith in y)
+  made (ld.Done c) s' (f ∷ fs) p m e = fresh-in-order c s' f fs (p c refl)
+  made (ld.Broken i) s' fs p m e = absurd (let z : _≡_ {A = ℕ} 0 1 = cc in let y : ⊥ = omega arith in y)
+  made (ld.Refused n) s' fs p m e = absurd (let z : _≡_ {A = ℕ} 0 1 = cc in let y : ⊥ = omega arith in y)
+
+  new-stands : (c : Counts) → asLoaded (newOf (h .stores) .answer) ≡ ld.Done c → programOk c (newOf (h .stores) .stores) ≡ true
+  new-stands c e = loaded-done (newOf (h .stores) .answer) c e (λ n q. new-keeps (h .stores) .kept c n q)
+
+  load-stands : (image : List ℕ) → Bytes image → (c : Counts) → loadOf image (h .stores) .answer ≡ ld.Done c → programOk c (loadOf image (h .stores) .stores) ≡ true
+  unfolding loadOf
+  load-stands image b = load-good (judge image) (h .stores) (λ p e. image-only image p b e .1)
+
+  -- a machine that was made is in good order
+  pub new-in-order : {h' : Held} {m : Vm} → After (ask new) h (started (st.Done m)) h' → InOrder h'
+  unfolding done newMachineOf
+  new-in-order {m = m} p = subst InOrder (ap (λ (d : Done). d .held) p) (made _ _ (h .lent .frames) new-stands m (ap (λ (d : Done). d .answer) p))
+
+  pub load-in-order : (image : List ℕ) → Bytes image → {h' : Held} {m : Vm} → After (ask (load image)) h (started (st.Done m)) h' → InOrder h'
+  unfolding done loadMachineOf
+  load-in-order image b {m = m} p = subst InOrder (ap (λ (d : Done). d .held) p) (made _ _ (h .lent .frames) (load-stands image b) m (ap (λ (d : Done). d .answer) p))
 
 -- ---- the end of a function
 
@@ -86,23 +122,19 @@ module _ (h : Held) (o : InOrder h) where
   -- ---- a machine that has not run
 
   start-by : (a : Loaded) (s' : Stores) (fs : List Frame) → h .lent .frames ≡ fs → ((c : Counts) → a ≡ ld.Done c → programOk c s' ≡ true) → InOrder (starts h (startWith a s' (h .stores) fs) .held)
-  unfolding starts startWith fresh
+  unfolding starts startWith
   start-by (ld.Done c) s' [] q p = subst InOrder (ap (λ (x : List Frame). record { vm = h .vm; stores = h .stores; lent = withFrames x (h .lent) }) q) o
-  start-by (ld.Done c) s' (f ∷ fs) q p = record {
-    program = p c refl;
-    machine = fresh-order (fresh c) s' (withFrames (root 0 ∷ fs) (h .lent)) (program-runs c s' (p c refl))
-        (record { stack = refl; cells = refl; last = refl; frames = refl; room = omega arith; frame = refl });
-  }
+  start-by (ld.Done c) s' (f ∷ fs) q p = fresh-in-order h c s' f fs (p c refl)
   start-by (ld.Broken i) s' fs q p = subst InOrder (ap (λ (x : List Frame). record { vm = h .vm; stores = h .stores; lent = withFrames x (h .lent) }) q) o
   start-by (ld.Refused n) s' fs q p = subst InOrder (ap (λ (x : List Frame). record { vm = h .vm; stores = h .stores; lent = withFrames x (h .lent) }) q) o
 
   new-kept : InOrder (starts h (newMachineOf (h .stores) (h .lent .frames)) .held)
   unfolding newMachineOf
-  new-kept = start-by _ _ (h .lent .frames) refl (λ c e. loaded-done (newOf (h .stores) .answer) c e (λ n q. new-keeps (h .stores) .kept c n q))
+  new-kept = start-by _ _ (h .lent .frames) refl (new-stands h)
 
   load-kept : (image : List ℕ) → Bytes image → InOrder (starts h (loadMachineOf image (h .stores) (h .lent .frames)) .held)
-  unfolding loadMachineOf loadOf
-  load-kept image b = start-by _ _ (h .lent .frames) refl (load-good (judge image) (h .stores) (λ p e. image-only image p b e .1))
+  unfolding loadMachineOf
+  load-kept image b = start-by _ _ (h .lent .frames) refl (load-stands h image b)
 
   -- ---- a line for each entry
 
