@@ -58,7 +58,7 @@ module _ (t : ℕ) (H : List Cell) where
   every-turned nil e = e
   every-turned (cons p ps) e = every-turned ps (cons p e)
 
-  every-made : {c : ℕ → Value} {elements : ℕ → List Value → List Value} {k : ℕ} → Makes c elements k → (n : ℕ) (vs : List Value) → AllPlaced t H vs
+  pub every-made : {c : ℕ → Value} {elements : ℕ → List Value → List Value} {k : ℕ} → Makes c elements k → (n : ℕ) (vs : List Value) → AllPlaced t H vs
       → Every (Placed t H (length H)) (elements n vs)
   unfolding listElements structFields
   every-made list n vs a = every-turned (every-take n vs a) nil

@@ -1,0 +1,158 @@
+-- A machine in good order fixes its counts, and the words and frames below them.
+use mathlib.Core.Path.{_≡_, refl, sym, ap, subst, _∙_}
+use mathlib.Core.Bool.{Bool, true, false}
+use mathlib.Core.List.{List, [], _∷_, _++_, reverse, reverse-reverse}
+use Prim.Native.Nat.{ℕ, zero, suc, _+_, _-_, _*_, _/_, _%_, _≤_, _<_, min}
+use native.Mathlib.Omega.{arith}
+use borrow.Author.Tests.{leb-true, eqb-true, eqb-false}
+use lib.Dec.{leb, eqb}
+use lib.ListN.{length, getD, take, length-take, length-reverse}
+use lib.Seq.{getD-take, ext-getD, length-take-le, take-suc}
+use Rattle.model.specs.declared.Vm.{Vm}
+use Rattle.model.specs.declared.Frame.{Frame}
+use Rattle.model.specs.declared.Value.{Value}
+use Rattle.model.specs.declared.Value.the-variants as v
+use Rattle.model.specs.Values.{places, mostPlaces, kind, payload, kindAt, payloadAt, valueAt, vals, exactValue}
+use Rattle.model.specs.Heap.{Cell, item, cellKind, cellPayload, cellAt, heapOf, exactCell, exactCells}
+use Rattle.model.specs.Runs.{Machine, root}
+use Rattle.model.specs.Stores.{Stores, functionsFrom, worldIn}
+use Rattle.model.specs.Orders.{framesOk, frameStoreOk}
+use Rattle.model.specs.Machines.{Lent, innermost, callersIn, machineIn, worldOf, runOrder}
+use Rattle.value.proofs.Coding.{and-left, and-right, exact-kind, exact-payload, exact-cell-kind, exact-cell-payload}
+use Rattle.value.proofs.Stores.{length-vals, vals-slot, getD-cells}
+use Rattle.cells.proofs.Stands.{length-heap}
+use Rattle.rules.specs.Ordered.{Exact}
+use Rattle.rules.proofs.Ordered.{order-of, order-sane, order-exact}
+use Rattle.demands.specs.Agree.{Alike, Rooms, LentAlike}
+
+-- ---- words
+
+by-test : {P : Type 0} (b : Bool) → (b ≡ true → P) → (b ≡ false → P) → P
+by-test true p q = p refl
+by-test false p q = q refl
+
+module _ (c : ℕ) (a b : List ℕ) (fits : 2 * c ≤ length a) (room : length a ≡ length b) where
+  module _ (ks : (i : ℕ) → i < c → kindAt a i ≡ kindAt b i) (ps : (i : ℕ) → i < c → payloadAt a i ≡ payloadAt b i) where
+    word-same : (i : ℕ) → i < 2 * c → getD a i 0 ≡ getD b i 0
+    unfolding kindAt payloadAt
+    word-same i h = by-test (eqb (i % 2) 0)
+        (λ e. let z : i ≡ 2 * (i / 2) = omega (arith, eqb-true (i % 2) 0 e) in subst (λ (j : ℕ). getD a j 0 ≡ getD b j 0) (sym z) (ks (i / 2) (omega arith)))
+        (λ e. let n : i % 2 ≡ 0 → ⊥ = eqb-false (i % 2) 0 e in let z : i ≡ 2 * (i / 2) + 1 = odd i n in subst (λ (j : ℕ). getD a j 0 ≡ getD b j 0) (sym z) (ps (i / 2) (omega arith)))
+      where
+        odd : (i : ℕ) → (i % 2 ≡ 0 → ⊥) → i ≡ 2 * (i / 2) + 1
+        odd i n = omega arith
+
+    pub words-alike : Alike (2 * c) a b
+    words-alike = record {
+      front = ext-getD 0 (take (2 * c) a) (take (2 * c) b) (length-take-le (2 * c) a fits ∙ sym (length-take-le (2 * c) b (omega arith)))
+          (λ i h. let l : i < 2 * c = omega (arith, length-take-le (2 * c) a fits) in getD-take (2 * c) a i 0 l ∙ word-same i l ∙ sym (getD-take (2 * c) b i 0 l));
+      room = room;
+    }
+
+  -- exact words are fixed by their values
+  pub values-fix : ((i : ℕ) → i < c → exactValue (kindAt a i) (payloadAt a i) ≡ true) → ((i : ℕ) → i < c → exactValue (kindAt b i) (payloadAt b i) ≡ true) → vals c a ≡ vals c b → Alike (2 * c) a b
+  unfolding valueAt
+  values-fix p q e =
+      let same : (i : ℕ) → i < c → valueAt a i ≡ valueAt b i =
+      (λ i h. sym (vals-slot c a i (v.Boolean false) h) ∙ ap (λ (l : List Value). getD l (c - suc i) (v.Boolean false)) e ∙ vals-slot c b i (v.Boolean false) h) in
+      words-alike (λ i h. kinds i (p i h) (q i h) (same i h)) (λ i h. payloads i (p i h) (q i h) (same i h))
+    where
+      kinds : (i : ℕ) → exactValue (kindAt a i) (payloadAt a i) ≡ true → exactValue (kindAt b i) (payloadAt b i) ≡ true → valueAt a i ≡ valueAt b i → kindAt a i ≡ kindAt b i
+      kinds i p q e = exact-kind (kindAt a i) (payloadAt a i) p ∙ ap kind e ∙ sym (exact-kind (kindAt b i) (payloadAt b i) q)
+
+      payloads : (i : ℕ) → exactValue (kindAt a i) (payloadAt a i) ≡ true → exactValue (kindAt b i) (payloadAt b i) ≡ true → valueAt a i ≡ valueAt b i → payloadAt a i ≡ payloadAt b i
+      payloads i p q e = exact-payload (kindAt a i) (payloadAt a i) p ∙ ap payload e ∙ sym (exact-payload (kindAt b i) (payloadAt b i) q)
+
+  -- and those of cells by their cells
+  pub cells-fix : exactCells c 0 a ≡ true → exactCells c 0 b ≡ true → heapOf c a ≡ heapOf c b → Alike (2 * c) a b
+  unfolding heapOf exactCells cellAt
+  cells-fix p q e =
+      let d : Cell = item (v.Boolean false) in
+      let same : (i : ℕ) → i < c → cellAt a i ≡ cellAt b i = (λ i h. let z : 0 + i ≡ i = omega arith in rw z at (sym (getD-cells c 0 a i d h) ∙ ap (λ (l : List Cell). getD l i d) e ∙ getD-cells c 0 b i d h)) in
+      words-alike (λ i h. kinds i (first a p i h) (first b q i h) (same i h)) (λ i h. payloads i (first a p i h) (first b q i h) (same i h))
+    where
+      exact-at : (n i : ℕ) (w : List ℕ) → exactCells n i w ≡ true → (j : ℕ) → j < n → exactCell (kindAt w (i + j)) (payloadAt w (i + j)) ≡ true
+      exact-at zero i w e j h = absurd (let z : ⊥ = omega arith in z)
+      exact-at (suc n) i w e zero h = let z : i + 0 ≡ i = omega arith in rw z (and-left (exactCell (kindAt w i) (payloadAt w i)) (exactCells n (suc i) w) e)
+      exact-at (suc n) i w e (suc j) h = let z : i + suc j ≡ suc i + j = omega arith in rw z (exact-at n (suc i) w (and-right (exactCell (kindAt w i) (payloadAt w i)) (exactCells n (suc i) w) e) j (omega arith))
+
+      first : (w : List ℕ) → exactCells c 0 w ≡ true → (j : ℕ) → j < c → exactCell (kindAt w j) (payloadAt w j) ≡ true
+      first w e j h = let z : 0 + j ≡ j = omega arith in rw z at (exact-at c 0 w e j h)
+
+      kinds : (i : ℕ) → exactCell (kindAt a i) (payloadAt a i) ≡ true → exactCell (kindAt b i) (payloadAt b i) ≡ true → cellAt a i ≡ cellAt b i → kindAt a i ≡ kindAt b i
+      kinds i p q e = exact-cell-kind (kindAt a i) (payloadAt a i) p ∙ ap cellKind e ∙ sym (exact-cell-kind (kindAt b i) (payloadAt b i) q)
+
+      payloads : (i : ℕ) → exactCell (kindAt a i) (payloadAt a i) ≡ true → exactCell (kindAt b i) (payloadAt b i) ≡ true → cellAt a i ≡ cellAt b i → payloadAt a i ≡ payloadAt b i
+      payloads i p q e = exact-cell-payload (kindAt a i) (payloadAt a i) p ∙ ap cellPayload e ∙ sym (exact-cell-payload (kindAt b i) (payloadAt b i) q)
+
+-- ---- frames
+
+module _ (n : ℕ) (fs : List Frame) (some : 1 ≤ n) (fits : n ≤ length fs) where
+  pub counted : suc (length (callersIn n fs)) ≡ n
+  unfolding callersIn
+  counted = simp (length-reverse, length-take) (omega arith)
+
+  split : take n fs ≡ reverse (callersIn n fs) ++ innermost n fs ∷ []
+  unfolding callersIn innermost
+  split = let z : n ≡ suc (n - 1) = omega arith in ap (λ (k : ℕ). take k fs) z ∙ take-suc fs (n - 1) (root 0) (omega arith) ∙ rw (reverse-reverse (take (n - 1) fs))
+
+-- ---- a machine in good order
+
+pub record Standing (m : Vm) (l : Lent) : Type 0 where
+  pub stack : 2 * m .stack ≤ length (l .stack)
+  pub cells : 2 * m .cells ≤ length (l .cells)
+  pub frames : m .frames ≤ length (l .frames)
+  pub exact : Exact m l
+
+half : (n : ℕ) (s : List ℕ) → n ≤ places 2 s → 2 * n ≤ length s
+unfolding places
+half n s h = omega arith
+
+pub standing : (m : Vm) (s : Stores) (l : Lent) → runOrder m s l ≡ true → Standing m l
+unfolding worldOf worldIn machineIn frameStoreOk
+standing m s l e =
+    let h = order-sane m s l e 0 in
+    let x = leb (m .frames) (min (length (l .frames)) mostPlaces) in
+    let y = framesOk (functionsFrom (m .program .functions) 0 s) (places 2 (l .stack)) (take (m .frames) (l .frames)) in
+    let z : m .frames ≤ min (length (l .frames)) mostPlaces = leb-true _ _ (and-left x y (order-of m s l e .frames)) in
+    record {
+      stack = half (m .stack) (l .stack) (rw (length-vals (m .stack) (l .stack)) at (h .stack));
+      cells = half (m .cells) (l .cells) (rw (length-heap (m .cells) (l .cells)) at (h .cells));
+      frames = omega arith;
+      exact = order-exact m s l e;
+    }
+
+-- the same machine of the same program: the same counts
+counts-fix : {m m' : Vm} {l l' : Lent} → Standing m l → Standing m' l' → m .program ≡ m' .program → machineIn m l ≡ machineIn m' l' → m ≡ m'
+unfolding machineIn
+counts-fix {m} {m'} {l} {l'} a b p e =
+    let stack : m .stack ≡ m' .stack = sym (length-vals (m .stack) (l .stack)) ∙ ap (λ (x : Machine). length (x .stack)) e ∙ length-vals (m' .stack) (l' .stack) in
+    let cells : m .cells ≡ m' .cells = sym (length-heap (m .cells) (l .cells)) ∙ ap (λ (x : Machine). length (x .heap)) e ∙ length-heap (m' .cells) (l' .cells) in
+    let frames : m .frames ≡ m' .frames = sym (counted (m .frames) (l .frames) (a .exact .frames) (a .frames)) ∙ ap (λ (x : Machine). suc (length (x .callers))) e ∙ counted (m' .frames) (l' .frames) (b .exact .frames) (b .frames) in
+    let last : m .last ≡ m' .last = ap (λ (x : Machine). x .last) e in
+    rw (p, stack, cells, frames, last)
+
+-- and in stores of the same lengths the same below them
+lent-fix : (m : Vm) {l l' : Lent} → Standing m l → Standing m l' → Rooms l l' → machineIn m l ≡ machineIn m l' → LentAlike m l l'
+unfolding machineIn
+lent-fix m {l} {l'} a b r e = record {
+  stack = values-fix (m .stack) (l .stack) (l' .stack) (a .stack) (r .stack) (a .exact .stack) (b .exact .stack) (ap (λ (x : Machine). x .stack) e);
+  cells = cells-fix (m .cells) (l .cells) (l' .cells) (a .cells) (r .cells) (a .exact .cells) (b .exact .cells) (ap (λ (x : Machine). x .heap) e);
+  frames = record {
+    front = split (m .frames) (l .frames) (a .exact .frames) (a .frames) ∙ ap (λ (x : Machine). reverse (x .callers) ++ x .frame ∷ []) e ∙ sym (split (m .frames) (l' .frames) (b .exact .frames) (b .frames));
+    room = r .frames;
+  };
+  copy = r .copy;
+  backtrace = r .backtrace;
+}
+
+pub record FixedBy (m m' : Vm) (l l' : Lent) : Type 0 where
+  pub vm : m ≡ m'
+  pub lent : LentAlike m l l'
+
+pub machine-fixes : {m m' : Vm} {l l' : Lent} (s s' : Stores) → runOrder m s l ≡ true → runOrder m' s' l' ≡ true → Rooms l l' → m .program ≡ m' .program → machineIn m l ≡ machineIn m' l' → FixedBy m m' l l'
+machine-fixes {m} {m'} {l} {l'} s s' a b r p e =
+    let x = standing m s l a in
+    let y = standing m' s' l' b in
+    let z : m ≡ m' = counts-fix x y p e in
+    record { vm = z; lent = lent-fix m x (rw (← z) at y) r (rw (← z) at e) }

@@ -1,0 +1,27 @@
+-- The theorems. Demand 1: `refuses`, `listing-numbers`, `steps-within`, `new-in-order`, `load-in-order`, `chain-kept`, `run-in-order`.
+-- Demand 2: `run-written`, with `step-cost`, `fault-fee`, `path-units`, `run-is-steps` and `as-trees`.
+-- Demand 3: `fault-recovers`, with `fault-leaves`, `chains-agree` and `past-counts-unseen`. Demand 4: `run-one`, `ask-one`.
+
+-- lent stores that are the same below the counts; a machine in good order fixes its words
+pub mod Fronts
+pub mod Agreeing
+pub mod Fixed
+-- `run-one`
+pub mod OneRun
+-- `chains-agree`, `past-counts-unseen`, `ask-one`
+pub mod Asks
+pub mod Chains
+-- `fault-leaves`, `fault-recovers`
+pub mod Went
+pub mod Recovering
+-- `step-cost`, `fault-fee`, `path-units`, `run-is-steps`, `as-trees`, `run-written`, `steps-within`
+pub mod Paying
+pub mod Growing
+pub mod Written
+-- `listing-numbers`, `refuses`
+pub mod Listing
+pub mod Refusing
+-- good order where a program grows; `new-in-order`, `load-in-order`, `chain-kept`, `run-in-order`
+pub mod Wider
+pub mod Emitted
+pub mod Orderly

@@ -1,0 +1,88 @@
+-- Demand 2, over lent stores.
+use mathlib.Core.Path.{_≡_, sym, _∙_}
+use mathlib.Core.List.{List}
+use Prim.Native.Nat.{ℕ, _-_, _≤_}
+use native.Mathlib.Omega.{arith}
+use Rattle.model.specs.declared.Vm.{Vm}
+use Rattle.model.specs.declared.Counts.{Counts}
+use Rattle.model.specs.declared.Last.{Last}
+use Rattle.model.specs.declared.Last.the-variants.{Nothing, Is}
+use Rattle.model.specs.declared.Fault.{Fault}
+use Rattle.model.specs.declared.Fault.the-variants as f
+use Rattle.model.specs.declared.RunResult.{RunResult}
+use Rattle.model.specs.Values.{faultNumber}
+use Rattle.model.specs.Steps.{World, State}
+use Rattle.model.specs.Runs.{Machine, begin, Mark, Ended, ended, stopped, endOf, Entry, fault, Ran, answered, settle, runOf}
+use Rattle.model.specs.Stores.{Stores}
+use Rattle.model.specs.Machines.{Lent, machineIn, worldOf, ran, answerIn, RunPost}
+use Rattle.rules.specs.Paths.{Steps}
+use Rattle.rules.specs.Demand.{Recovered}
+use Rattle.rules.proofs.Paths.{path-spends}
+use Rattle.rules.proofs.Demands.{run-recovered}
+use Rattle.rules.proofs.Ordered.{order-world, order-sane}
+use Rattle.rules.proofs.Runs.{path-sane}
+use Rattle.demands.specs.Units.{Fee, one, all, Within, Demand2}
+use Rattle.demands.proofs.Went.{Went, went}
+use Rattle.demands.proofs.Paying.{fault-fee, run-is-steps}
+use Rattle.demands.proofs.Growing.{as-trees}
+
+fault-known : (n : Fault) → (1 ≤ faultNumber n) × (faultNumber n ≤ 14)
+unfolding faultNumber
+fault-known f.UnknownOpcode = (omega arith, omega arith)
+fault-known f.NotCarried = (omega arith, omega arith)
+fault-known f.CodeEnds = (omega arith, omega arith)
+fault-known f.TooFewValues = (omega arith, omega arith)
+fault-known (f.WrongKind x) = (omega arith, omega arith)
+fault-known f.OutOfRange = (omega arith, omega arith)
+fault-known f.NoLastResult = (omega arith, omega arith)
+fault-known f.ZeroDivisor = (omega arith, omega arith)
+fault-known f.StackFull = (omega arith, omega arith)
+fault-known f.FramesFull = (omega arith, omega arith)
+fault-known f.CellsFull = (omega arith, omega arith)
+fault-known f.TooDeep = (omega arith, omega arith)
+fault-known f.UnitsSpent = (omega arith, omega arith)
+fault-known f.NoFunction = (omega arith, omega arith)
+
+module _ (w : World) (m : Machine) (u : ℕ) where
+  answered-within : (a : Last) (i : ℕ) → i ≤ u → Within u (answered a i)
+  unfolding answered
+  answered-within Nothing i h = h
+  answered-within (Is x) i h = h
+
+  settled-within : (e : Ended) → Within u (settle w m u e .reply)
+  unfolding settle
+  settled-within (ended a t) = answered-within a (u - t .units) (omega arith)
+  settled-within (stopped n t k) = (omega arith, fault-known n)
+
+  run-within : Within u (runOf w m u .reply)
+  unfolding runOf
+  run-within = settled-within (endOf w (begin m u))
+
+  -- fault 13 reports the whole budget
+  run-whole : (spent : ℕ) (es : List Entry) → runOf w m u .reply ≡ fault 13 spent es → spent ≡ u
+  run-whole spent es e = by (run-recovered w m u 13 spent es e)
+    where
+      by : Recovered w m u 13 spent es → spent ≡ u
+      by r = fee r (fault-fee w (r .at) (r .stops))
+        where
+          fee : (r : Recovered w m u 13 spent es) → Fee (r .at) (r .fault) (r .after) → spent ≡ u
+          fee r (one h e) = absurd (h (sym (r .number)))
+          fee r (all h e) = omega (arith, r .units)
+
+-- DEMAND 1: no code makes a run go on; with u units there is no path of more than u written steps
+pub steps-within : {w : World} {m : Machine} {u n : ℕ} {a b : Last} {j k : Mark} {t : State} → Steps w n a j (begin m u) b k t → n ≤ u
+steps-within {w} p = omega (arith, path-spends w p)
+
+-- DEMAND 2
+pub run-written : (m : Vm) (s : Stores) (l : Lent) (u : ℕ) {q : RunResult} {l' : Lent} → RunPost m s l u q l' → {c : Counts} {x : Ran} → answerIn l' q ≡ ran c x → Demand2 m s l u c x
+run-written m s l u p {c} {x} e =
+    let w = worldOf m s l in
+    let a = machineIn m l in
+    let z : Went m s l u c x = went m s l u (sym e ∙ p .answer) in
+    record {
+      program = z .program;
+      steps = rw (z .run) (run-is-steps w a u);
+      within = rw (z .run) (run-within w a u);
+      whole = λ spent es q. run-whole w a u spent es (rw (← (z .run)) q);
+      trees = λ b p. as-trees w _ (path-sane w (order-world m s l (z .order) b) (order-sane m s l (z .order) u) p);
+    }

@@ -1,0 +1,13 @@
+-- What the demands speak of: what a host holds, and its calls
+pub mod Host
+-- demand 1: refusals, and good order through every call
+pub mod Refusals
+pub mod Kept
+-- demand 2: values as trees, units and written steps
+pub mod Trees
+pub mod Units
+-- demand 3: what no answer tells apart, and what a fault leaves
+pub mod Agree
+pub mod Recovery
+-- demand 4: no second answer
+pub mod One

@@ -1,0 +1,64 @@
+-- Demand 3: what a run that ends in a fault leaves, and that no later answer tells it from a machine set up so by hand.
+use mathlib.Core.Path.{_≡_}
+use mathlib.Core.Bool.{true, false}
+use mathlib.Core.List.{List}
+use Prim.Native.Nat.{ℕ, _*_}
+use lib.ListN.{length, getD}
+use Rattle.model.specs.declared.Value.{Value}
+use Rattle.model.specs.declared.Last.{Last}
+use Rattle.model.specs.declared.Last.the-variants.{Is}
+use Rattle.model.specs.declared.Vm.{Vm}
+use Rattle.model.specs.Heap.{Cell, heapOf}
+use Rattle.model.specs.Programs.{functionAt}
+use Rattle.model.specs.Steps.{World, State, returned, stepOf}
+use Rattle.model.specs.Runs.{Machine, begin, Mark, over, root, Entry, recovered}
+use Rattle.model.specs.Stores.{Stores}
+use Rattle.model.specs.Machines.{Lent, machineIn, worldOf, runOrder}
+use Rattle.rules.specs.Ordered.{CodeBytes}
+use Rattle.rules.specs.Sane.{Faults}
+use Rattle.rules.specs.Paths.{Steps}
+use Rattle.rules.specs.Demand.{Quiet, Recovered}
+use Rattle.demands.specs.Host.{Held, Call, Answer, Chain}
+use Rattle.demands.specs.Agree.{Alike, Rooms}
+
+-- the last result and the cells that are kept of a run from s that was cut in t
+pub data Kept (w : World) (s t : State) : Last → List Cell → Type 0 where
+  -- no root Return was completed: the former ones
+  start : Quiet w s t → Kept w s t (s .last) (s .heap)
+  -- those of the last root Return completed before the cut, which returned v
+  return : {n : ℕ} {a b : Last} {m k : Mark} {q q' : State} {v : Value} → Steps w n a m s b k q → over w q ≡ false → stepOf w q ≡ returned v q' → Quiet w q' t → Kept w s t (Is v) (q' .heap)
+
+-- a run of m with u units that answered fault n, the units spent and a backtrace, and left m'. The program's stores are only read.
+pub record Recovers (m : Vm) (s : Stores) (l : Lent) (u : ℕ) (m' : Vm) (n spent : ℕ) (trace : List Entry) (l' : Lent) : Type 0 where
+  -- the written steps up to the cut, and the step that faulted there
+  pub rules : Recovered (worldOf m s l) (machineIn m l) u n spent trace
+  -- the stack of its start, word by word
+  pub height : m' .stack ≡ m .stack
+  pub stack : Alike (2 * m .stack) (l' .stack) (l .stack)
+  -- one frame: function 0, base 0, position at the end of main
+  pub frames : m' .frames ≡ 1
+  pub frame : getD (l' .frames) 0 (root 0) ≡ root (length (functionAt (worldOf m s l .functions) 0 .code))
+  -- unchanged code and constants
+  pub program : m' .program ≡ m .program
+  -- the last result is that of the last root Return completed before the cut, or the former one; so are the cells
+  pub kept : Kept (worldOf m s l) (begin (machineIn m l) u) (rules .at) (m' .last) (heapOf (m' .cells) (l' .cells))
+  -- all at once: the machine that is left, by the rules; and it is in good order
+  pub leaves : machineIn m' l' ≡ recovered (worldOf m s l) (machineIn m l) (rules .kept)
+  pub order : runOrder m' s l' ≡ true
+  -- the step that faulted has dropped and added no frame, and its backtrace stands
+  pub traced : CodeBytes s → Faults (worldOf m s l) (rules .at) (rules .after)
+
+-- a machine set up as x beside h: the same program, stores of the same lengths and so the same free cells, in good order
+pub record SetUp (x : Machine) (h d : Held) : Type 0 where
+  pub program : d .vm .program ≡ h .vm .program
+  pub stores : d .stores ≡ h .stores
+  pub rooms : Rooms (d .lent) (h .lent)
+  pub machine : machineIn (d .vm) (d .lent) ≡ x
+  pub order : runOrder (d .vm) (d .stores) (d .lent) ≡ true
+
+-- DEMAND 3, of a run with u units of what a host holds in h, that answered fault n, the units spent and a backtrace, and left h'
+pub record Demand3 (u : ℕ) (h : Held) (n spent : ℕ) (trace : List Entry) (h' : Held) : Type 0 where
+  pub leaves : Recovers (h .vm) (h .stores) (h .lent) u (h' .vm) n spent trace (h' .lent)
+  -- whatever calls come then, new code included and the same for both, runs among them: they answer as on a machine set up in that state with the same free cells
+  pub later : (d : Held) → SetUp (recovered (worldOf (h .vm) (h .stores) (h .lent)) (machineIn (h .vm) (h .lent)) (leaves .rules .kept)) h d
+      → (calls : List Call) (xs ys : List Answer) (e f : Held) → Chain calls h' xs e → Chain calls d ys f → xs ≡ ys

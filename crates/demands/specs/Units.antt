@@ -1,0 +1,115 @@
+-- Demand 2: each unit is tied to a written step.
+use mathlib.Core.Path.{_≡_}
+use mathlib.Core.Bool.{true, false}
+use mathlib.Core.List.{List, [], _∷_}
+use Prim.Native.Nat.{ℕ, suc, _+_, _-_, _≤_}
+use lib.ListN.{getD}
+use Rattle.model.specs.declared.Op.{Op}
+use Rattle.model.specs.declared.Op.the-variants as o
+use Rattle.model.specs.declared.Decoded.{Decoded}
+use Rattle.model.specs.declared.Decoded.the-variants as d
+use Rattle.model.specs.declared.Value.{Value}
+use Rattle.model.specs.declared.Last.{Last}
+use Rattle.model.specs.declared.Counts.{Counts}
+use Rattle.model.specs.declared.Vm.{Vm}
+use Rattle.model.specs.declared.Last.the-variants.{Nothing}
+use Rattle.model.specs.declared.Fault.{Fault}
+use Rattle.model.specs.Values.{faultNumber}
+use Rattle.model.specs.Heap.{Cell}
+use Rattle.model.specs.Opcodes.{opcodeAt}
+use Rattle.model.specs.Equality.{Same, same, sameOf}
+use Rattle.model.specs.Steps.{World, State, Outcome, went, returned, faulted, position, codeOf, stepOf}
+use Rattle.model.specs.Runs.{Machine, begin, machineOf, Mark, mark, over, Entry, traceOf, Reply, value, continue, fault, Ran, answered, recovered}
+use Rattle.model.specs.Stores.{Stores}
+use Rattle.model.specs.Machines.{Lent, machineIn, worldOf}
+use Rattle.rules.specs.Ordered.{CodeBytes}
+use Rattle.rules.specs.Paths.{Steps, none, on, ret}
+use Rattle.demands.specs.Trees.{AsTrees}
+
+-- ---- a step
+
+unfoldable pub pairs : Same → ℕ
+pairs (same b k) = k
+
+-- the pairs that a comparison of the two topmost values visits below the top pair
+unfoldable pub topPairs : World → List Cell → List Value → ℕ
+topPairs w H [] = 0
+topPairs w H (y ∷ []) = 0
+topPairs w H (y ∷ x ∷ r) = pairs (sameOf (w .text) H x y)
+
+-- Equal and NotEqual spend one more for each pair; no other opcode does
+unfoldable pub pairsOf : World → Op → List Cell → List Value → ℕ
+pairsOf w o.Equal H vs = topPairs w H vs
+pairsOf w o.NotEqual H vs = topPairs w H vs
+pairsOf w o.LoadConstant H vs = 0
+pairsOf w o.GetLocal H vs = 0
+pairsOf w o.GetUpvalue H vs = 0
+pairsOf w o.GetLastResult H vs = 0
+pairsOf w o.Negate H vs = 0
+pairsOf w (o.Arithmetic x) H vs = 0
+pairsOf w (o.Ordering x) H vs = 0
+pairsOf w o.LogicalAnd H vs = 0
+pairsOf w o.LogicalOr H vs = 0
+pairsOf w o.LogicalNeg H vs = 0
+pairsOf w o.JumpIfFalse H vs = 0
+pairsOf w o.Jump H vs = 0
+pairsOf w o.Call H vs = 0
+pairsOf w o.CallCallable H vs = 0
+pairsOf w o.BuildStructInstance H vs = 0
+pairsOf w o.AccessStructField H vs = 0
+pairsOf w o.BuildList H vs = 0
+pairsOf w o.Return H vs = 0
+
+unfoldable pub pairsBy : World → Decoded → State → ℕ
+pairsBy w (d.Carried p) s = pairsOf w p (s .heap) (s .stack)
+pairsBy w d.NotCarried s = 0
+pairsBy w d.Unknown s = 0
+
+-- the pairs of the instruction at the current position
+unfoldable pub pairsAt : World → State → ℕ
+pairsAt w s = pairsBy w (opcodeAt (getD (codeOf w s) (position s) 0) .what) s
+
+-- k units are spent by a step that completes; a step for which they are too few is fault 13, and spends all that are left
+abbrev pub Costs : ℕ → State → Outcome → Type 0
+Costs k s (went t) = s .units ≡ t .units + k
+Costs k s (returned x t) = s .units ≡ t .units + k
+Costs k s (faulted n t) = faultNumber n ≡ 13 → t .units ≡ 0
+
+-- a step that faults spends one unit; where the units are too few it is fault 13, and spends all that are left
+pub data Fee (s : State) (n : Fault) (t : State) : Type 0 where
+  one : (faultNumber n ≡ 13 → ⊥) → s .units ≡ t .units + 1 → Fee s n t
+  all : faultNumber n ≡ 13 → t .units ≡ 0 → Fee s n t
+
+-- ---- a path
+
+-- one for each step, and one for each pair that it visits
+abbrev pub spentOn : {w : World} {n : ℕ} {a b : Last} {m k : Mark} {s t : State} → Steps w n a m s b k t → ℕ
+spentOn none = 0
+spentOn {w} (on {s = s} o q p) = suc (pairsAt w s) + spentOn p
+spentOn {w} (ret {s = s} o q p) = suc (pairsAt w s) + spentOn p
+
+-- ---- a run of m with u units
+
+-- the run is n written steps to a state where it is over, or up to the step that faults: its reply and what it leaves are theirs
+pub data RunIs (w : World) (m : Machine) (u : ℕ) : Ran → Type 0 where
+  ends : {n : ℕ} {b : Last} {k : Mark} {t : State} (p : Steps w n Nothing (mark (begin m u)) (begin m u) b k t) → over w t ≡ true
+      → RunIs w m u (record { reply = answered b (spentOn p); machine = machineOf t })
+  faults : {n : ℕ} {b : Last} {k : Mark} {s t : State} {i : Fault} (p : Steps w n Nothing (mark (begin m u)) (begin m u) b k s) → over w s ≡ false → stepOf w s ≡ faulted i t → Fee s i t
+      → RunIs w m u (record { reply = fault (faultNumber i) (spentOn p + (s .units - t .units)) (traceOf (w .functions) (t .frame ∷ t .callers)); machine = recovered w m k })
+
+-- the units spent are at most those given, and a fault is one of the 14 faults of a run
+abbrev pub Within : ℕ → Reply → Type 0
+Within u (value x spent) = spent ≤ u
+Within u (continue spent) = spent ≤ u
+Within u (fault n spent es) = (spent ≤ u) × ((1 ≤ n) × (n ≤ 14))
+
+-- DEMAND 2, of a run of m with u units that was not refused; c and x are what its result and the lent stores then stand for
+pub record Demand2 (m : Vm) (s : Stores) (l : Lent) (u : ℕ) (c : Counts) (x : Ran) : Type 0 where
+  pub program : c ≡ m .program
+  -- its answer, stack, frames, last result and units are those of the written steps
+  pub steps : RunIs (worldOf m s l) (machineIn m l) u x
+  pub within : Within u (x .reply)
+  -- where the units were too few, the units spent are the whole budget
+  pub whole : (spent : ℕ) (es : List Entry) → x .reply ≡ fault 13 spent es → spent ≡ u
+  -- in each state that it comes to, values are trees
+  pub trees : CodeBytes s → {n : ℕ} {b : Last} {k : Mark} {t : State} → Steps (worldOf m s l) n Nothing (mark (begin (machineIn m l) u)) (begin (machineIn m l) u) b k t → AsTrees (worldOf m s l) t
