@@ -3,6 +3,7 @@ pub mod Locals
 pub mod Lends
 pub mod Slices
 pub mod Calls
+pub mod Elements
 pub mod Loops
 pub mod Matches
 pub mod Closing
