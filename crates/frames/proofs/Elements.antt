@@ -37,6 +37,7 @@ module _ {M : Type 1} {𝓤 : URA M} {H : Heap 𝓤} {A : Atoms 𝓤} {K : Type 
   row-known t R v tl q ys d b o (suc n) l k = elem-out t R (Is R) (shows 𝓤 H A R) (λ x. v x ∷ []) tl q ys n d b o l (λ p. elem-back t R q ys n d (v (getD ys n d) ∷ []) b o l $
       row-known t R v tl q ys d b o n (omega (arith, l)) (λ each. k (one-more (λ j. Is R (getD ys j d) (v (getD ys j d) ∷ [])) n p each)))
 
+module _ {M : Type 1} {𝓤 : URA M} {H : Heap 𝓤} {A : Atoms 𝓤} {K : Type 0} {W : Given 𝓤 H A} {Γ : List (Item 𝓤)} {G : Goal 𝓤 H} where
   pub elements-known : K → Soaks G → (R : RattleType) (v : R .Denot → Val) → Tells R (Is R) (λ x. v x ∷ []) → Copy 𝓤 H A R → (s : Sl) (ys : List (R .Denot)) (d : R .Denot) (xs : List Arg)
       → (Each R v ys d (length ys) → Seq K W (‵ (Holds (shr R s ys ∷ xs)) ∷ Γ) G) → Seq K W (‵ (Holds (shr R s ys ∷ xs)) ∷ Γ) G
   elements-known t z R v tl cp s ys d xs k = fsplit t $ fsplit t $ fsplit t $ move t (1 ∷ []) $ fsplit t $ move t (1 ∷ 3 ∷ []) $
