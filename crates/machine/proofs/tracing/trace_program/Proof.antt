@@ -1,0 +1,50 @@
+use borrow.Author.Needs.{needs}
+use Rattle.machine.proofs.tracing.trace_program.Statement.{statement}
+use Rattle.machine.proofs.tracing.trace_program.Tie as tie
+use Rattle.machine.proofs.tracing.trace_program.Reads as reads
+use Rattle.machine.proofs.tracing.trace_program.Lts as lts
+use Rattle.program.proofs.order.counts_ok.Reads as counts-ok-reads
+use Rattle.program.proofs.order.functions_ok.Reads as functions-ok-reads
+use Rattle.program.proofs.order.inside_codes.Reads as inside-codes-reads
+use Rattle.program.proofs.order.main_ok.Reads as main-ok-reads
+use Rattle.program.proofs.order.text_ok.Reads as text-ok-reads
+
+-- src/tracing.rt:39:5
+counts-ok-requires : tie.Need-counts-ok-requires
+counts-ok-requires c κs = search needs
+
+-- src/tracing.rt:40:11
+text-ok-requires : tie.Need-text-ok-requires
+text-ok-requires c κs = search needs
+
+-- src/tracing.rt:41:11
+functions-ok-requires : tie.Need-functions-ok-requires
+functions-ok-requires c κs = search needs
+
+-- src/tracing.rt:42:11
+main-ok-requires : tie.Need-main-ok-requires
+main-ok-requires c κs = search needs
+
+-- src/tracing.rt:43:11
+inside-codes-requires : tie.Need-inside-codes-requires
+inside-codes-requires c κs = search needs
+
+-- src/tracing.rt:44:11
+inside-codes-requires-2 : tie.Need-inside-codes-requires-2
+inside-codes-requires-2 c κs = search needs
+
+-- src/tracing.rt:27:1
+returns : tie.Need-returns
+returns c = ?
+
+pub trace-program-spec : {M : Type 1} → statement M
+trace-program-spec =
+    tie.close
+    (tie.spec
+    counts-ok-requires
+    text-ok-requires
+    functions-ok-requires
+    main-ok-requires
+    inside-codes-requires
+    inside-codes-requires-2
+    returns)
