@@ -1,0 +1,1 @@
+// A machine over lent stores: the public entries.
