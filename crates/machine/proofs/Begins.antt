@@ -5,45 +5,54 @@
 --     run-under     the loop may begin
 -- Assumes nothing.
 use mathlib.Core.Path.{_≡_, refl, sym, ap, _∙_}
-use mathlib.Core.Bool.{true}
+use mathlib.Core.Bool.{Bool, true, _&&_}
 use mathlib.Core.List.{List, map}
 use Prim.Native.Nat.{ℕ, zero, suc, _+_, _-_, _*_, _≤_, _<_}
 use native.Mathlib.Omega.{arith}
-use lib.ListN.{length, getD, take}
+use borrow.Author.Tests.{leb-true}
+use lib.Dec.{leb}
+use lib.ListN.{length, getD}
 use Rattle.model.specs.declared.Vm.{Vm}
 use Rattle.model.specs.declared.Last.the-variants.{Nothing}
 use Rattle.model.specs.Basics.{if_then_else_}
 use Rattle.model.specs.Values.{places}
+use Rattle.model.specs.Heap.{heapOf, heapOk, exactCells}
 use Rattle.model.specs.Steps.{State}
 use Rattle.model.specs.Runs.{begin, mark, endOf}
 use Rattle.model.specs.Stores.{Stores}
-use Rattle.model.specs.Machines.{Lent, frameRoom, innermost, machineIn, worldOf}
+use Rattle.model.specs.Orders.{cellsOk}
+use Rattle.model.specs.Machines.{Lent, frameRoom, machineIn, worldOf, runOrder}
+use Rattle.value.proofs.Coding.{and-left}
 use Rattle.rules.specs.Paths.{endFrom}
 use Rattle.rules.specs.Ordered.{CodeBytes}
 use Rattle.rules.proofs.Ends.{end-of}
+use Rattle.rules.proofs.Programs.{parts-of}
+use Rattle.rules.proofs.Ordered.{order-of, order-exact, order-sane}
 use Rattle.frames.specs.Links.{noFrame, callersOf}
 use Rattle.arms.specs.declared.Fixed.{Fixed}
 use Rattle.arms.specs.declared.Going.{Going}
 use Rattle.arms.specs.Links.{stateOf}
+use Rattle.arms.proofs.Keeping.{exact-all}
 use Rattle.steps.specs.Links.{answerIn, markIn}
+use Rattle.turns.specs.Links.{Under}
 use Rattle.ends.specs.Links.{Begun}
 use Rattle.machine.specs.Links.{Granted}
 use Rattle.machine.proofs.Callers.{innermost-is, callers-are}
 use Rattle.machine.proofs.Granted.{Lengths, lengths-of}
-
--- the counts and rooms that no step changes
-pub record FixedIn (m : Vm) (l : Lent) (k : Fixed) : Type 0 where
-  pub constants : k .constants ≡ m .program .constants
-  pub structs : k .structs ≡ m .program .structs
-  pub functions : k .functions ≡ m .program .functions
-  pub slots : k .slots ≡ places 2 (l .stack)
-  pub frames : k .frames ≡ frameRoom (l .frames)
+use Rattle.machine.proofs.Lends.{FixedIn, text-taken, lent-is, coded-is}
 
 pub record Begins (m : Vm) (s : Stores) (l : Lent) (u : ℕ) (k : Fixed) (g : Going) : Type 0 where
   pub granted : Granted m s l
   pub bytes : CodeBytes s
   pub fixed : FixedIn m l k
   pub begun : Begun m (getD (l .frames) (m .frames - 1) noFrame) u g
+
+cells-there : (m : Vm) (s : Stores) (l : Lent) → runOrder m s l ≡ true → m .cells ≤ places 2 (l .cells)
+unfolding cellsOk
+cells-there m s l e =
+    let there = leb (m .cells) (places 2 (l .cells)) in
+    let exact = exactCells (m .cells) 0 (l .cells) in
+    leb-true _ _ (and-left there exact (and-left (there && exact) (heapOk (m .program .text) (heapOf (m .cells) (l .cells))) (order-of m s l e .cells)))
 
 module _ (m : Vm) (s : Stores) (l : Lent) (u : ℕ) (k : Fixed) (g : Going) (h : Begins m s l u k g) where
   abbrev start : State
@@ -65,3 +74,24 @@ module _ (m : Vm) (s : Stores) (l : Lent) (u : ℕ) (k : Fixed) (g : Going) (h :
 
   pub begins-end : endOf (worldOf m s l) (begin (machineIn m l) u) ≡ endFrom (worldOf m s l) (answerIn g) (markIn g (l .cells)) start
   begins-end = rw (start-is, no-answer, same-mark) (end-of (worldOf m s l) start)
+
+  pub run-under : Under (worldOf m s l) k g (m .program .text) (s .constants) (s .functions) (s .text) (s .main) (s .other) (l .stack) (l .cells) (l .frames)
+  unfolding frameRoom places
+  run-under =
+      let o = h .granted .order in
+      let b = h .begun in
+      let x = h .fixed in
+      let exact = order-exact m s l o in
+      let n = lengths-of m s l (h .granted) in
+      record {
+        taken = text-taken (m .program) s (parts-of (m .program) s (order-of m s l o .program));
+        lent = lent-is m s l k x o (h .bytes);
+        coded = coded-is m s l k x;
+        room = omega arith;
+        fits = record {
+          stack = record { count = omega arith; room = omega arith; exact = rw (b .sp) (exact-all (m .stack) (l .stack) (exact .stack)); callers = omega arith };
+          cells = record { count = rw (b .used) (cells-there m s l o); exact = rw (b .used) (exact .cells) };
+          mark = omega arith;
+        };
+        sane = rw start-is at (order-sane m s l o u);
+      }

@@ -2,6 +2,7 @@
 pub mod Callers
 pub mod Copies
 pub mod Granted
+pub mod Lends
 pub mod Begins
 pub mod Traced
 pub mod Settles

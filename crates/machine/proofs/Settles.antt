@@ -46,7 +46,7 @@ use Rattle.machine.specs.Links.{runLent, Granted}
 use Rattle.machine.proofs.Callers.{innermost-is, callers-are, callers-kept, length-callers}
 use Rattle.machine.proofs.Copies.{restored-at, same-kind, same-payload, same-vals}
 use Rattle.machine.proofs.Granted.{Lengths, lengths-of}
-use Rattle.machine.proofs.Begins.{FixedIn, Begins, begins-end}
+use Rattle.machine.proofs.Begins.{Begins, begins-end}
 use Rattle.machine.proofs.Traced.{traced-first, traced-at, readable, trace-told, length-trace, entries-told}
 
 pub record Came (m : Vm) (s : Stores) (l : Lent) (u : ℕ) (k : Fixed) (g : Going) (c : Course) (stack cells : List ℕ) (frames : List Frame) : Type 0 where
