@@ -1,28 +1,19 @@
 -- A run from its start: what the loop leans on, and that its end is the run's.
 --     Begins        what is at hand when the loop begins
---     start-is      the running machine stands for the machine that the run is of
 --     begins-end    the end from there is the end of the run
 --     run-under     the loop may begin
 -- Assumes nothing.
-use mathlib.Core.Path.{_≡_, refl, sym, ap, _∙_}
-use mathlib.Core.Bool.{Bool, true, _&&_}
-use mathlib.Core.List.{List, map}
-use Prim.Native.Nat.{ℕ, zero, suc, _+_, _-_, _*_, _≤_, _<_}
+use mathlib.Core.Path.{_≡_, refl}
+use Prim.Native.Nat.{ℕ, _-_}
 use native.Mathlib.Omega.{arith}
-use borrow.Author.Tests.{leb-true}
-use lib.Dec.{leb}
-use lib.ListN.{length, getD}
+use lib.ListN.{getD}
 use Rattle.model.specs.declared.Vm.{Vm}
 use Rattle.model.specs.declared.Last.the-variants.{Nothing}
-use Rattle.model.specs.Basics.{if_then_else_}
 use Rattle.model.specs.Values.{places}
-use Rattle.model.specs.Heap.{heapOf, heapOk, exactCells}
 use Rattle.model.specs.Steps.{State}
 use Rattle.model.specs.Runs.{begin, mark, endOf}
 use Rattle.model.specs.Stores.{Stores}
-use Rattle.model.specs.Orders.{cellsOk}
-use Rattle.model.specs.Machines.{Lent, frameRoom, machineIn, worldOf, runOrder}
-use Rattle.value.proofs.Coding.{and-left}
+use Rattle.model.specs.Machines.{Lent, frameRoom, machineIn, worldOf}
 use Rattle.rules.specs.Paths.{endFrom}
 use Rattle.rules.specs.Ordered.{CodeBytes}
 use Rattle.rules.proofs.Ends.{end-of}
@@ -38,7 +29,7 @@ use Rattle.turns.specs.Links.{Under}
 use Rattle.ends.specs.Links.{Begun}
 use Rattle.machine.specs.Links.{Granted}
 use Rattle.machine.proofs.Callers.{innermost-is, callers-are}
-use Rattle.machine.proofs.Granted.{Lengths, lengths-of}
+use Rattle.machine.proofs.Granted.{lengths-of}
 use Rattle.machine.proofs.Lends.{FixedIn, text-taken, lent-is, coded-is}
 
 pub record Begins (m : Vm) (s : Stores) (l : Lent) (u : ℕ) (k : Fixed) (g : Going) : Type 0 where
@@ -47,17 +38,11 @@ pub record Begins (m : Vm) (s : Stores) (l : Lent) (u : ℕ) (k : Fixed) (g : Go
   pub fixed : FixedIn m l k
   pub begun : Begun m (getD (l .frames) (m .frames - 1) noFrame) u g
 
-cells-there : (m : Vm) (s : Stores) (l : Lent) → runOrder m s l ≡ true → m .cells ≤ places 2 (l .cells)
-unfolding cellsOk
-cells-there m s l e =
-    let there = leb (m .cells) (places 2 (l .cells)) in
-    let exact = exactCells (m .cells) 0 (l .cells) in
-    leb-true _ _ (and-left there exact (and-left (there && exact) (heapOk (m .program .text) (heapOf (m .cells) (l .cells))) (order-of m s l e .cells)))
-
 module _ (m : Vm) (s : Stores) (l : Lent) (u : ℕ) (k : Fixed) (g : Going) (h : Begins m s l u k g) where
   abbrev start : State
   start = stateOf g (l .stack) (l .cells) (callersOf (g .callers) (l .frames))
 
+  -- the running machine stands for the machine that the run is of
   start-is : begin (machineIn m l) u ≡ start
   unfolding machineIn
   start-is =
@@ -90,7 +75,7 @@ module _ (m : Vm) (s : Stores) (l : Lent) (u : ℕ) (k : Fixed) (g : Going) (h :
         room = omega arith;
         fits = record {
           stack = record { count = omega arith; room = omega arith; exact = rw (b .sp) (exact-all (m .stack) (l .stack) (exact .stack)); callers = omega arith };
-          cells = record { count = rw (b .used) (cells-there m s l o); exact = rw (b .used) (exact .cells) };
+          cells = record { count = rw (b .used) (n .cells); exact = rw (b .used) (exact .cells) };
           mark = omega arith;
         };
         sane = rw start-is at (order-sane m s l o u);

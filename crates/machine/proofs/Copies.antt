@@ -1,7 +1,7 @@
 -- Words copied to the front of a store, and back.
---     front-is        what is written at the front of a store, and the rest of it
---     restored-at     words that were copied, and copied back, are as they were
---     same-vals       the values of a stack are those of its words
+--     front-is                               what is written at the front of a store, and the rest of it
+--     restored-at                            words that were copied, and copied back, are as they were
+--     same-kind, same-payload, same-vals     the values of a stack are those of its words
 -- Assumes nothing.
 use mathlib.Core.Path.{_≡_, refl, _∙_}
 use mathlib.Core.List.{List, _++_}

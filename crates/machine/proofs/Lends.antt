@@ -4,7 +4,7 @@
 --     coded-is       each function's code is the part that its word names
 -- Assumes nothing.
 use mathlib.Core.Path.{_≡_, refl, sym, ap, _∙_}
-use mathlib.Core.Bool.{Bool, true, _&&_}
+use mathlib.Core.Bool.{true, _&&_}
 use mathlib.Core.List.{List, _++_, map}
 use Prim.Native.Nat.{ℕ, zero, suc, _+_, _*_, _≤_, _<_}
 use native.Mathlib.Omega.{arith}
@@ -46,7 +46,7 @@ part-taken t xs w h l =
     let n = length-take-le t xs h in
     let d = length-drop (start w) (take t xs) in
     let e : take (size w) (drop (start w) (take t xs ++ drop t xs)) ≡ take (size w) (drop (start w) (take t xs)) =
-        ap (λ (q : List ℕ). take (size w) q) (drop-append-le (start w) (take t xs) (drop t xs) (omega arith)) ∙ take-append-le (size w) (drop (start w) (take t xs)) (drop t xs) (omega arith) in
+    ap (λ (q : List ℕ). take (size w) q) (drop-append-le (start w) (take t xs) (drop t xs) (omega arith)) ∙ take-append-le (size w) (drop (start w) (take t xs)) (drop t xs) (omega arith) in
     sym e ∙ ap (λ (q : List ℕ). take (size w) (drop (start w) q)) (take-append-drop t xs)
 
 module _ (c : Counts) (s : Stores) (p : Parts c s) where

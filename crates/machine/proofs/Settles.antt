@@ -1,14 +1,14 @@
 -- A run to its end: what the entry has done is what the rules say of the run.
---     Came            what is at hand when the loop has ended
---     over-ready      the bounds behind a run that has ended, or stopped
---     trace-ready     the backtrace of a run that has stopped can be written
---     run-ended       the entry's contract where the run has ended
---     run-faulted     and where it has stopped
+--     Came                                          what is at hand when the loop has ended
+--     units-left, callers-small, callers-there      its counts are within bounds
+--     copy-there, stack-there                       the stack can be put back
+--     trace-ready                                   the backtrace of a run that has stopped can be written
+--     run-ended, run-faulted                        the entry's contract where the run has ended, and where it has stopped
 -- Assumes nothing.
-use mathlib.Core.Path.{_≡_, refl, sym, ap, subst, _∙_}
-use mathlib.Core.Bool.{true, false}
+use mathlib.Core.Path.{_≡_, refl, sym, ap, _∙_}
+use mathlib.Core.Bool.{true}
 use mathlib.Core.List.{List, [], _∷_}
-use Prim.Native.Nat.{ℕ, zero, suc, _+_, _-_, _*_, _≤_, _<_, _^_}
+use Prim.Native.Nat.{ℕ, suc, _-_, _*_, _≤_, _<_, _^_}
 use native.Mathlib.Omega.{arith}
 use lib.ListN.{length, getD, set, take, length-set}
 use lib.Seq.{getD-set-same, length-sets}
@@ -21,22 +21,20 @@ use Rattle.model.specs.declared.Frame.{Frame}
 use Rattle.model.specs.declared.RunResult.{RunResult}
 use Rattle.model.specs.declared.RunResult.the-variants as r
 use Rattle.model.specs.Basics.{written}
-use Rattle.model.specs.Values.{faultNumber, places, kindAt, payloadAt, exactValue, vals}
+use Rattle.model.specs.Values.{faultNumber, places}
 use Rattle.model.specs.Programs.{functionAt}
-use Rattle.model.specs.Steps.{State}
 use Rattle.model.specs.Runs.{Machine, begin, machineOf, Ended, ended, stopped, endOf, root, Entry, traceOf, traceable, recovered, Ran, answered, fault, settle, runOf}
 use Rattle.model.specs.Stores.{Stores, size, codeWord, functionsFrom, worldIn}
-use Rattle.model.specs.Machines.{Lent, frameRoom, innermost, callersIn, machineIn, worldOf, runOrder, tooShort, RunAnswer, ran, runAnswer, copyAfter, entryWords, traceOfReply, traceAfter, entriesIn, ranAs, SameRooms, Left, RunPost}
+use Rattle.model.specs.Machines.{Lent, frameRoom, machineIn, worldOf, runOrder, ran, runAnswer, copyAfter, entryWords, traceOfReply, traceAfter, entriesIn, ranAs, SameRooms, Left, RunPost}
 use Rattle.model.specs.Machines as mc
 use Rattle.cells.proofs.Stands.{exact-cut}
-use Rattle.rules.specs.Ordered.{CodeBytes, Exact, Beside}
-use Rattle.rules.specs.Paths.{endFrom}
+use Rattle.rules.specs.Ordered.{Exact}
 use Rattle.rules.proofs.Programs.{Parts, parts-of, has-main, code-size}
 use Rattle.rules.proofs.Ordered.{order-of, order-exact, run-order}
 use Rattle.frames.specs.Links.{noFrame, callersOf, traceWords, TraceFits}
 use Rattle.arms.specs.declared.Fixed.{Fixed}
 use Rattle.arms.specs.declared.Going.{Going}
-use Rattle.arms.specs.Links.{frameIn, stateOf, lastIn}
+use Rattle.arms.specs.Links.{frameIn, stateOf}
 use Rattle.arms.proofs.Keeping.{exact-at}
 use Rattle.steps.specs.Links.{answerIn, markIn}
 use Rattle.turns.specs.declared.Course.{Course}
@@ -81,7 +79,7 @@ unfolding entryWords traceOfReply answered
 no-trace Nothing n = refl
 no-trace (Is x) n = refl
 
-pub some-fault : (x : Fault) → faultNumber x ≡ 0 → ⊥
+some-fault : (x : Fault) → faultNumber x ≡ 0 → ⊥
 unfolding faultNumber
 some-fault f.UnknownOpcode e = omega arith
 some-fault f.NotCarried e = omega arith
@@ -182,9 +180,6 @@ module _ (m : Vm) (s : Stores) (l : Lent) (u : ℕ) (k : Fixed) (g : Going) (c :
         let there = callers-there in
         let n : suc (now .callers) - 1 ≡ now .callers = omega arith in
         rw (innermost-is (suc (now .callers)) framesEnded n, getD-set-same frames (now .callers) (frameIn now) noFrame there, callers-are (suc (now .callers)) framesEnded n (omega (arith, length-set frames (now .callers) (frameIn now))), callers-kept (now .callers) (now .callers) frames (frameIn now) (omega arith))
-
-    answer-ended : Ended → Ran
-    answer-ended e = settle (worldOf m s l) (machineIn m l) u e
 
     rooms-ended : SameRooms l lentEnded
     unfolding runLent

@@ -5,23 +5,22 @@
 --     entries-told     and the backtrace is what they tell
 -- Assumes nothing.
 use mathlib.Core.Path.{_≡_, refl, sym, ap, subst, _∙_}
-use mathlib.Core.Bool.{Bool, true, _&&_}
+use mathlib.Core.Bool.{true}
 use mathlib.Core.Logic.{⊎-elim}
 use mathlib.Core.List.{List, [], _∷_, _++_}
-use Prim.Native.Nat.{ℕ, zero, suc, _+_, _-_, _*_, _≤_, _<_, _^_}
+use Prim.Native.Nat.{ℕ, zero, suc, _+_, _-_, _*_, _≤_, _<_}
 use native.Mathlib.Nat.{eq-or-lt-of-le}
 use native.Mathlib.Omega.{arith}
-use borrow.Author.Tests.{leb-true, ltb-true}
-use lib.Dec.{leb, ltb, eqb}
-use lib.ListN.{length, getD, take, drop, length-take, length-drop, List·getD-eq-default}
+use borrow.Author.Tests.{ltb-true}
+use lib.Dec.{ltb, eqb}
+use lib.ListN.{length, getD, drop, length-take, length-drop, List·getD-eq-default}
 use Rattle.model.specs.declared.Counts.{Counts}
 use Rattle.model.specs.declared.Frame.{Frame}
-use Rattle.model.specs.Basics.{if_then_else_, everyFrom, written}
+use Rattle.model.specs.Basics.{if_then_else_, written}
 use Rattle.model.specs.Values.{places, textAt}
 use Rattle.model.specs.Programs.{Function, functionAt}
-use Rattle.model.specs.Runs.{Entry, entry, traceOf, traceable}
-use Rattle.model.specs.Stores.{Stores, start, size, part, codeWord, functionIn, functionsFrom}
-use Rattle.model.specs.Orders.{functionOk, functionsOk}
+use Rattle.model.specs.Runs.{Entry, traceOf, traceable}
+use Rattle.model.specs.Stores.{Stores, part, codeWord, functionIn, functionsFrom}
 use Rattle.model.specs.Machines.{entryWords, entriesIn}
 use Rattle.value.proofs.Coding.{and-left, and-right}
 use Rattle.cells.proofs.Order.{by-less}
@@ -29,6 +28,7 @@ use Rattle.rules.proofs.Programs.{Parts, length-functions, function-at, part-si
 use Rattle.frames.specs.Links.{noFrame, callersOf, placesOf, placeAt, traceWords, Readable}
 use Rattle.frames.proofs.Meaning.{AllKnown, trace-is-good, trace-is}
 use Rattle.machine.proofs.Copies.{front-is}
+use Rattle.machine.proofs.Granted.{functions-there}
 
 -- ---- frames whose places lie inside their codes
 
@@ -72,15 +72,11 @@ module _ (c : Counts) (s : Stores) (p : Parts c s) where
   abbrev functions : List Function
   functions = functionsFrom (c .functions) 0 s
 
-  functions-there : c .functions ≤ places 2 (s .functions)
-  unfolding functionsOk
-  functions-there = leb-true _ _ (and-left (leb (c .functions) (places 2 (s .functions))) (everyFrom (c .functions) 0 (functionOk c (s .functions))) (p .functions))
-
   pub readable : (r : Frame) → Inside functions r → Readable (s .functions) (s .mainPlaces) (s .otherPlaces) r
   unfolding placesOf placeAt places part textAt
   readable r h =
       let l : r .function < c .functions = rw (length-functions s (c .functions) 0) at (known functions r h) in
-      let there = functions-there in
+      let there = functions-there c s p in
       let code = code-size c s p (r .function) l in
       let store = if eqb (r .function) 0 then s .mainPlaces else s .otherPlaces in
       let whole = simp (length-take, length-drop) at (part-size c (s .functions) (p .functions) (s .mainPlaces) (s .otherPlaces) (p .places) (r .function) l) in
