@@ -4,6 +4,7 @@ pub mod Lends
 pub mod Slices
 pub mod Calls
 pub mod Elements
+pub mod Branches
 pub mod Loops
 pub mod Matches
 pub mod Closing

@@ -10,3 +10,5 @@ pub mod Traced
 pub mod Settles
 -- and all of it over the lent slices
 pub mod Slices
+-- the backtrace as an entry
+pub mod Tracings

@@ -29,7 +29,16 @@ pub fn backtrace(
     ensures { λ r. ⌜ ((structs constants : List ℕ) → record { answer = r; out = now (out .exit) } ≡ backtraceIn m (programLent structs constants (now (functions .entry)) (now (text .entry)) (now (main .entry)) (now («main_places» .entry)) (now (other .entry)) (now («other_places» .entry))) (now (frames .entry)) (now (out .entry))) ⌝ }
 {
     let n = m.frames;
-    let good = trace_order(m, functions, text, main, main_places, other, other_places, frames);
+    let good = trace_order(
+        m,
+        functions,
+        text,
+        main,
+        main_places,
+        other,
+        other_places,
+        frames,
+    );
     let why = trace_refusal(good, n, out.len());
     if why == 0 {
         let told = put_trace(n, functions, main_places, other_places, frames, out);

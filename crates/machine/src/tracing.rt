@@ -133,7 +133,15 @@ pub fn put_trace(
     let inner = read_frame(frames, callers);
     let fine = traceable(functions, inner, callers, frames);
     if fine {
-        trace(functions, main_places, other_places, inner, callers, frames, out);
+        trace(
+            functions,
+            main_places,
+            other_places,
+            inner,
+            callers,
+            frames,
+            out,
+        );
         let told = number(n);
         return told;
     }

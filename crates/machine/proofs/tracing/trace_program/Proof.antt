@@ -1,13 +1,9 @@
+-- `trace_program`: the six checks.
+use mathlib.Core.Path.{refl}
+use Rattle.machine.proofs.Tracings.{program-judged}
 use borrow.Author.Needs.{needs}
 use Rattle.machine.proofs.tracing.trace_program.Statement.{statement}
 use Rattle.machine.proofs.tracing.trace_program.Tie as tie
-use Rattle.machine.proofs.tracing.trace_program.Reads as reads
-use Rattle.machine.proofs.tracing.trace_program.Lts as lts
-use Rattle.program.proofs.order.counts_ok.Reads as counts-ok-reads
-use Rattle.program.proofs.order.functions_ok.Reads as functions-ok-reads
-use Rattle.program.proofs.order.inside_codes.Reads as inside-codes-reads
-use Rattle.program.proofs.order.main_ok.Reads as main-ok-reads
-use Rattle.program.proofs.order.text_ok.Reads as text-ok-reads
 
 -- src/tracing.rt:39:5
 counts-ok-requires : tie.Need-counts-ok-requires
@@ -35,7 +31,7 @@ inside-codes-requires-2 c κs = search needs
 
 -- src/tracing.rt:27:1
 returns : tie.Need-returns
-returns c = ?
+returns c = λ structs constants. program-judged _ structs constants _ _ _ _ _ _ (@counts-ok .ensures) (@text-ok .ensures) (@functions-ok .ensures) (@main-ok .ensures) (@inside-codes .ensures _ _ refl refl) (@inside-codes2 .ensures _ _ refl refl)
 
 pub trace-program-spec : {M : Type 1} → statement M
 trace-program-spec =

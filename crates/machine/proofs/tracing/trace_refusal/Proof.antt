@@ -1,3 +1,6 @@
+-- `trace_refusal`: 19, 17, or neither.
+use mathlib.Core.Path.{refl}
+use Rattle.machine.proofs.Tracings.{is-short, has-room, is-bad}
 use borrow.Author.Needs.{needs}
 use Rattle.machine.proofs.tracing.trace_refusal.Statement.{statement}
 use Rattle.machine.proofs.tracing.trace_refusal.Tie as tie
