@@ -1,3 +1,7 @@
+-- a law of walks
+pub mod Picks
+-- records and answers in a walk
+pub mod Rows
 -- a run as an entry: refused or granted
 pub mod Granted
 -- its frames and its copied stack

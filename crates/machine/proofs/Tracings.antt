@@ -30,7 +30,7 @@ use Rattle.value.proofs.Coding.{and-left, and-right}
 use Rattle.rules.proofs.Tests.{every-of}
 use Rattle.rules.proofs.Programs.{Parts, length-functions, code-size}
 use Rattle.rules.proofs.Frames.{some-frame}
-use Rattle.frames.specs.Links.{noFrame, frameGood, firstGood, callerGood, placeGood, framesGood, callersOf, traceGood, TraceFits}
+use Rattle.frames.specs.Links.{noFrame, frameGood, firstGood, callerGood, placeGood, framesGood, callersOf, traceWords, traceGood, TraceFits}
 use Rattle.frames.proofs.Orders.{function-known}
 use Rattle.frames.proofs.Meaning.{AllKnown, frames-are-good, known-callers, trace-is-good}
 use Rattle.ends.specs.Links.{programLent}
@@ -41,29 +41,55 @@ use Rattle.machine.proofs.Traced.{Inside, traced-first, traced-at, read
 
 -- ---- 19, 17, or neither
 
-module _ (n : ℕ) (out : List ℕ) {room : ℕ} (e : room ≡ places 2 out) where
-  pub is-short : room < n → 17 ≡ traceRefusal true n out
+module _ (good : Bool) (n : ℕ) (out : List ℕ) where
+  pub is-short : good ≡ true → {room : ℕ} → room ≡ places 2 out → room < n → 17 ≡ traceRefusal good n out
   unfolding traceRefusal
-  is-short h = rw (lt-ltb (places 2 out) n (omega (arith, e, h)))
+  is-short g e h = rw (g, lt-ltb (places 2 out) n (omega (arith, e, h)))
 
-  pub has-room : n ≤ room → 0 ≡ traceRefusal true n out
+  pub has-room : good ≡ true → {room : ℕ} → room ≡ places 2 out → n ≤ room → 0 ≡ traceRefusal good n out
   unfolding traceRefusal
-  has-room h = rw (le-ltb (places 2 out) n (omega (arith, e, h)))
+  has-room g e h = rw (g, le-ltb (places 2 out) n (omega (arith, e, h)))
 
-pub is-bad : (n : ℕ) (out : List ℕ) → 19 ≡ traceRefusal false n out
-unfolding traceRefusal
-is-bad n out = refl
+  pub is-bad : good ≡ false → 19 ≡ traceRefusal good n out
+  unfolding traceRefusal
+  is-bad g = rw g
 
-none-good : (a b : Bool) → (if a then (if b then 17 else 0) else 19) ≡ 0 → (a ≡ true) × (b ≡ false)
+-- ---- the frames' places, by the tests: k is the innermost frame's place, and f that frame
+
+module _ (words main other : List ℕ) (n : ℕ) (frames : List Frame) {k : ℕ} {f : Frame} {b : Bool} where
+  judged : k ≡ n - 1 → f ≡ getD frames k noFrame → b ≡ traceGood words (f ∷ callersOf k frames) → traceGood words (framesIn n frames) ≡ b
+  unfolding framesIn
+  judged ek ef eb = sym (eb ∙ rw (ef, ek))
+
+  pub trace-can : k ≡ n - 1 → f ≡ getD frames k noFrame → b ≡ traceGood words (f ∷ callersOf k frames) → b ≡ true → {room : ℕ} → Traceable words main other n frames room → TraceFits words main other f k frames room
+  trace-can ek ef eb on can = rw (ef, ek) (can .fits (judged ek ef eb ∙ on))
+
+  module _ (out : List ℕ) {r : Told} where
+    pub trace-wrote : k ≡ n - 1 → f ≡ getD frames k noFrame → b ≡ traceGood words (f ∷ callersOf k frames) → b ≡ true → {out' : List ℕ} → out' ≡ written out 0 (traceWords words main other (f ∷ callersOf k frames)) → r ≡ t.Number n
+        → record { answer = r; out = out' } ≡ traceInto words main other n frames out
+    unfolding traceInto framesIn
+    trace-wrote ek ef eb on ew er = rw (judged ek ef eb, on, ew, er, ef, ek)
+
+    pub trace-none : k ≡ n - 1 → f ≡ getD frames k noFrame → b ≡ traceGood words (f ∷ callersOf k frames) → b ≡ false → r ≡ t.Refused 16 → record { answer = r; out = out } ≡ traceInto words main other n frames out
+    unfolding traceInto
+    trace-none ek ef eb off er = rw (judged ek ef eb, off, er)
+
+-- the number, by the two tests
+abbrev number-by : Bool → Bool → ℕ
+number-by a b = if a then (if b then 17 else 0) else 19
+
+none-good : (a b : Bool) → number-by a b ≡ 0 → (a ≡ true) × (b ≡ false)
 none-good true true e = absurd (let z : ⊥ = omega (arith, e) in z)
 none-good true false e = (refl, refl)
 none-good false b e = absurd (let z : ⊥ = omega (arith, e) in z)
 
-refused-by : (a b : Bool) {w : ℕ} {out : List ℕ} {x : OutRes} → w ≡ (if a then (if b then 17 else 0) else 19) → (w ≡ 0 → ⊥)
-    → record { answer = t.Refused w; out = out } ≡ (if a then (if b then record { answer = t.Refused 17; out = out } else x) else record { answer = t.Refused 19; out = out })
-refused-by true true e some = rw e
-refused-by true false e some = absurd (some e)
-refused-by false b e some = rw e
+abbrev refused-with : ℕ → List ℕ → OutRes
+refused-with w out = record { answer = t.Refused w; out = out }
+
+refused-by : (a b : Bool) (x : OutRes) (out : List ℕ) {w : ℕ} → w ≡ number-by a b → (w ≡ 0 → ⊥) → refused-with w out ≡ (if a then (if b then refused-with 17 out else x) else refused-with 19 out)
+refused-by true true x out e some = ap (λ (w : ℕ). refused-with w out) e
+refused-by true false x out e some = absurd (some e)
+refused-by false b x out e some = ap (λ (w : ℕ). refused-with w out) e
 
 -- ---- what is lent
 
@@ -107,7 +133,7 @@ module _ (m : Vm) (structs constants functions text main mainPlaces other otherP
 
   module _ (ok : traceProgram c stores ≡ true) where
     parts : Parts (bare c) without-constants
-    unfolding traceProgram listOrder programLent textOk constantsOk functionsOk functionOk insideText insideCodes otherTaken
+    unfolding traceProgram listOrder programLent textOk constantsOk functionsOk functionOk insideText insideCodes otherTaken places everyFrom
     parts =
         let counts = countsOk c in
         let texts = textOk c text in
@@ -146,7 +172,7 @@ module _ (m : Vm) (structs constants functions text main mainPlaces other otherP
 
         there : n ≤ length frames
         unfolding frameStoreOk
-        there = omega (arith, leb-true _ _ (and-left (leb n (min (length frames) mostPlaces)) (framesOk fs mostPlaces (take n frames)) good))
+        there = omega (arith, leb-true n (min (length frames) mostPlaces) (and-left (leb n (min (length frames) mostPlaces)) (framesOk fs mostPlaces (take n frames)) good))
 
         known-at : (i : ℕ) → i < n → getD frames i noFrame .function < c .functions
         unfolding framesGood placeGood
@@ -188,7 +214,7 @@ module _ (m : Vm) (structs constants functions text main mainPlaces other otherP
         written-is : (b : Bool) → traceGood functions (framesIn n frames) ≡ b → (out : List ℕ) → traceInto functions mainPlaces otherPlaces n frames out ≡ putTrace (backtraceOf fs (framesIn n frames)) out
         unfolding traceInto putTrace backtraceOf
         written-is true e out =
-            let told = unfold programLent in trace-told (bare c) without-constants parts (framesIn n frames) (sym good-is ∙ e) in
+            let told : traceWords functions mainPlaces otherPlaces (framesIn n frames) ≡ entryWords (traceOf (functionsFrom (c .functions) 0 without-constants) (framesIn n frames)) = unfold programLent in trace-told (bare c) without-constants parts (framesIn n frames) (sym good-is ∙ e) in
             let same = same-functions (c .functions) 0 in
             rw (e, ← same, ← good-is, e, told, length-trace (functionsFrom (c .functions) 0 without-constants) (framesIn n frames), counted)
         written-is false e out = rw (e, ← same-functions (c .functions) 0, ← good-is, e)
@@ -233,6 +259,6 @@ module _ (m : Vm) (structs constants functions text main mainPlaces other otherP
           let k : n - 1 ≤ length frames = omega (arith, there program frames framed) in
           written-is program frames framed (traceGood functions (framesIn n frames)) refl out ∙ rw (order, room, innermost-is n frames refl, callers-are n frames refl k)
 
-    pub trace-refused : (w ≡ 0 → ⊥) → record { answer = t.Refused w; out = out } ≡ backtraceIn m stores frames out
+    pub trace-refused : (w ≡ 0 → ⊥) → refused-with w out ≡ backtraceIn m stores frames out
     unfolding backtraceIn traceRefusal
-    trace-refused some = refused-by (traceOrder m stores frames) (ltb (places 2 out) n) told some
+    trace-refused some = refused-by (traceOrder m stores frames) (ltb (places 2 out) n) _ out told some

@@ -1,4 +1,5 @@
 // The backtrace of a machine's frames: judging what it is lent, and writing.
+use ends::innermost_at;
 use frames::backtrace::trace;
 use frames::backtrace::traceable;
 use frames::order::frames_ok;
@@ -15,7 +16,7 @@ use program::words::room;
 ghost use mathlib.Core.Path.{_≡_};
 ghost use mathlib.Core.Bool.{_&&_};
 ghost use mathlib.Core.List.{List};
-ghost use Prim.Native.Nat.{ℕ, _-_};
+ghost use Prim.Native.Nat.{ℕ};
 ghost use lib.ListN.{length};
 ghost use Rattle.model.specs.declared.Told.the-variants as t;
 ghost use Rattle.model.specs.Basics.{if_then_else_};
@@ -107,16 +108,6 @@ fn number(n: usize) -> Told
     Told::Number(n)
 }
 
-// Where the innermost of n frames stands.
-fn last_of(n: usize) -> usize
-    ensures { λ r. ⌜ r ≡ n - 1 ⌝ }
-{
-    if n > 0 {
-        return n - 1;
-    }
-    0
-}
-
 // The backtrace of n frames, or 16.
 pub fn put_trace(
     n: usize,
@@ -129,7 +120,7 @@ pub fn put_trace(
     requires { ⌜ Traceable (now functions) (now «main_places») (now «other_places») n (now frames) (length (now out)) ⌝ }
     ensures { λ r. ⌜ record { answer = r; out = now (out .exit) } ≡ traceInto (now (functions .entry)) (now («main_places» .entry)) (now («other_places» .entry)) n (now (frames .entry)) (now (out .entry)) ⌝ }
 {
-    let callers = last_of(n);
+    let callers = innermost_at(n);
     let inner = read_frame(frames, callers);
     let fine = traceable(functions, inner, callers, frames);
     if fine {

@@ -31,7 +31,7 @@ inside-codes-requires-2 c κs = search needs
 
 -- src/tracing.rt:27:1
 returns : tie.Need-returns
-returns c = λ structs constants. program-judged _ structs constants _ _ _ _ _ _ (@counts-ok .ensures) (@text-ok .ensures) (@functions-ok .ensures) (@main-ok .ensures) (@inside-codes .ensures _ _ refl refl) (@inside-codes2 .ensures _ _ refl refl)
+returns c = λ structs constants. program-judged (c .before .before .before .before .before .before .before .before .before .before .before .before .before .args .m) structs constants _ _ _ _ _ _ (c .before .before .before .before .before .counts-ok .ensures) (c .before .before .before .before .text-ok .ensures) (c .before .before .before .functions-ok .ensures) (c .before .before .main-ok .ensures) (c .before .inside-codes .ensures _ _ refl refl) (c .inside-codes2 .ensures _ _ refl refl)
 
 pub trace-program-spec : {M : Type 1} → statement M
 trace-program-spec =
