@@ -1,5 +1,6 @@
 -- a law of walks
 pub mod Picks
+pub mod Tests
 -- records and answers in a walk
 pub mod Rows
 -- a run as an entry: refused or granted

@@ -20,6 +20,7 @@ ghost use Prim.Native.Nat.{ℕ};
 ghost use lib.ListN.{length};
 ghost use Rattle.model.specs.declared.Told.the-variants as t;
 ghost use Rattle.model.specs.Basics.{if_then_else_};
+ghost use Rattle.model.specs.Values.{mostPlaces};
 ghost use Rattle.model.specs.Machines.{traceOrder};
 ghost use Rattle.ends.specs.Links.{programLent};
 ghost use Rattle.machine.specs.Links.{traceProgram, traceRefusal, Traceable, traceInto};
@@ -55,6 +56,13 @@ pub fn counted(good: bool, m: Vm) -> usize
     0
 }
 
+// A backtrace is lent no stack store: of any store this many places count.
+fn most() -> usize
+    ensures { λ r. ⌜ r ≡ mostPlaces ⌝ }
+{
+    0xFFFF_FFFF
+}
+
 pub fn both(a: bool, b: bool) -> bool
     ensures { λ r. ⌜ r ≡ (a && b) ⌝ }
 {
@@ -77,7 +85,8 @@ pub fn trace_order(
     let n = m.frames;
     let good = trace_program(m, functions, text, main, main_places, other, other_places);
     let count = counted(good, m);
-    let fine = frames_ok(functions, count, 0xFFFF_FFFF, n, frames);
+    let slots = most();
+    let fine = frames_ok(functions, count, slots, n, frames);
     let all = both(good, fine);
     all
 }
