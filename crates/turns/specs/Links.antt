@@ -1,7 +1,7 @@
 -- What the run's loop leans on, and what it ensures.
 use mathlib.Core.Path.{_≡_}
-use mathlib.Core.Bool.{Bool, true, false}
-use mathlib.Core.List.{List, [], _∷_}
+use mathlib.Core.Bool.{true, false}
+use mathlib.Core.List.{List, _∷_}
 use Prim.Native.Nat.{ℕ, _≤_, _<_}
 use lib.Dec.{eqb}
 use lib.ListN.{length, take}
@@ -53,3 +53,30 @@ pub record TurnsPost (w : World) (k : Fixed) (g : Going) (s x : List ℕ) (frame
   pub units : r .going .units ≤ g .units
   pub mark : g .mark ≤ r .going .mark
   pub before : (i : ℕ) → i ≤ g .mark → heapOf i x' ≡ heapOf i x
+
+-- ---- a course after each event
+
+abbrev pub goesOn : Going → Course
+goesOn g = record { going = g; on = true; fault = 0 }
+
+abbrev pub isOver : Going → Course
+isOver g = record { going = g; on = false; fault = 0 }
+
+abbrev pub isStopped : Going → Fault → Course
+isStopped g f = record { going = g; on = false; fault = faultNumber f }
+
+-- the machine in the frame f, with n callers
+abbrev pub inFrame : Going → ℕ → Frame → Going
+inFrame g n f = record {
+  sp = g .sp;
+  function = f .function;
+  position = f .position;
+  base = f .base;
+  callers = n;
+  used = g .used;
+  units = g .units;
+  kind = g .kind;
+  payload = g .payload;
+  mark = g .mark;
+  answered = g .answered;
+}
