@@ -1,7 +1,5 @@
--- a law of walks
-pub mod Picks
+-- tests, records and answers in a walk
 pub mod Tests
--- records and answers in a walk
 pub mod Rows
 -- a run as an entry: refused or granted
 pub mod Granted
@@ -15,5 +13,6 @@ pub mod Traced
 pub mod Settles
 -- and all of it over the lent slices
 pub mod Slices
+pub mod Refusals
 -- the backtrace as an entry
 pub mod Tracings

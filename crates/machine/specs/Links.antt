@@ -8,13 +8,14 @@ use lib.ListN.{length, getD}
 use Rattle.model.specs.declared.Counts.{Counts}
 use Rattle.model.specs.declared.Vm.{Vm}
 use Rattle.model.specs.declared.Frame.{Frame}
+use Rattle.model.specs.declared.RunResult.the-variants as r
 use Rattle.model.specs.declared.Told.the-variants as t
 use Rattle.model.specs.Basics.{if_then_else_}
 use Rattle.model.specs.Values.{places}
 use Rattle.model.specs.Stores.{Stores}
 use Rattle.model.specs.Orders.{insideCodes}
 use Rattle.model.specs.Loading.{OutRes, listOrder}
-use Rattle.model.specs.Machines.{Lent, runOrder, tooShort}
+use Rattle.model.specs.Machines.{Lent, runOrder, tooShort, RunPost}
 use Rattle.frames.specs.Links.{noFrame, callersOf, traceWords, written, traceGood, TraceFits}
 
 -- what a run is lent besides the program's stores
@@ -25,6 +26,15 @@ runLent stack cells frames copy backtrace = record { stack = stack; cells = cell
 pub record Granted (m : Vm) (s : Stores) (l : Lent) : Type 0 where
   pub order : runOrder m s l ≡ true
   pub long : tooShort l ≡ false
+
+-- the number of a refusal, or 0: by the good order of all but the frames, that of the frames, and whether a store is too short
+unfoldable pub refusalBy : Bool → Bool → Bool → ℕ
+refusalBy good fine short = if good then (if fine then (if short then 17 else 0) else 19) else 19
+
+-- what this number says of a run
+pub record RunJudged (m : Vm) (s : Stores) (l : Lent) (n : ℕ) : Type 0 where
+  pub grants : n ≡ 0 → Granted m s l
+  pub refuses : (n ≡ 0 → ⊥) → (u : ℕ) → RunPost m s l u (r.Refused n) l
 
 -- ---- the backtrace
 

@@ -2,7 +2,7 @@
 -- Assumes nothing.
 use Rattle.frames.proofs.Walk.{_≡_, refl, ap, _∙_, Bool, true, false, not, List, [], _∷_, ℕ, length, URA, w64, Val, vbool, vint, SProp, ent, id⊢, Memory, Routine, Heap, Tables, WpFn, Atoms, Lfts, Shares, Fun, givenOf, tables, tablesOf, FmC, fmOf}
 use Rattle.frames.proofs.Walk.{Given, ‵, ⋆, _$_, _∵_, !, qed, by, keep, suffices, frame, done, agg, addr, of-opd, bin, Is, Boolean, bool-tells, uint-makes, u8, u32, u64, usize, now, Room, owned, onEntry, tripleOf, Contract, Triple, cited, says, walkOf, ends-at}
-use Rattle.frames.proofs.Walk.{of, ofs, behind, sets, lands-in, enters, leaves, Sl, sl, Arg, val, shr, mut, Holds, Toks, Owns, lfts, shares, denots, valss, values, passing, lent, takes, gives, Rule, call-with, asked, unasked, returns-if, Kind, own, shared, unique, stays, Passed, Known, closed}
+use Rattle.frames.proofs.Walk.{of, ofs, behind, sets, lands-in, enters, leaves, Sl, sl, Arg, val, shr, mut, Holds, Toks, Owns, lfts, shares, denots, valss, values, passing, lent, takes, gives, Rule, call-with, asked, unasked, unneeded, calls-on, returns-if, Kind, own, shared, unique, stays, Passed, Known, closed}
 use Rattle.model.specs.declared.Vm.{Vm}
 use Rattle.model.specs.declared.Frame.{Frame}
 use Rattle.model.specs.declared.Told.{Told}
@@ -10,7 +10,6 @@ use mir.Syntax.{w8}
 use denote.Plain.{uint-tells, bool-makes}
 use Rattle.frames.proofs.Frames.{R}
 use Rattle.machine.proofs.Rows.{VmRow, vmVal, vm-tells, frames-fit, vm-typed, vm-makes, ToldRow, toldVal, told-tells, told-typed, told-makes}
-use Rattle.machine.proofs.Picks.{calls-on, unneeded}
 use Rattle.model.specs.declared.Told.the-variants as t
 use Rattle.model.specs.Machines.{traceOrder, backtraceIn}
 use Rattle.ends.specs.Links.{programLent}

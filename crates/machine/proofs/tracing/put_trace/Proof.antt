@@ -2,7 +2,7 @@
 -- Assumes nothing.
 use Rattle.frames.proofs.Walk.{_≡_, refl, sym, ap, _∙_, subst, Bool, true, false, List, [], _∷_, Option, none, some, ℕ, _-_, _<_, _≤_, _^_, length, getD, URA, w64, Val, vunit, vbool, vint, SProp, ent, id⊢, Memory, Routine, Heap, Tables, WpFn, Atoms, Lfts, Shares, Fun, givenOf, tables, tablesOf, FmC, fmOf}
 use Rattle.frames.proofs.Walk.{Given, ‵, ⋆, _$_, _∵_, !, qed, by, keep, suffices, frame, done, agg, addr, of-opd, Is, Boolean, bool-tells, Nothing, uint-makes, u8, u32, u64, usize, now, Room, owned, onEntry, tripleOf, Contract, Triple, cited, says, needs, walkOf, ends-at}
-use Rattle.frames.proofs.Walk.{of, ofs, behind, sets, lands-in, enters, leaves, Sl, sl, sval, Arg, val, shr, mut, Holds, Toks, Owns, lfts, shares, denots, valss, values, passing, lent, takes, gives, Rule, call-with, asked, unasked, returns-if, Kind, number, shared, unique, stays, Passed, Known, closed}
+use Rattle.frames.proofs.Walk.{of, ofs, behind, sets, lands-in, enters, leaves, Sl, sl, sval, Arg, val, shr, mut, Holds, Toks, Owns, lfts, shares, denots, valss, values, passing, lent, takes, gives, Rule, call-with, asked, unasked, calls-on, returns-if, Kind, number, shared, unique, stays, Passed, Known, closed}
 use mir.Syntax.{w8}
 use denote.Plain.{uint-tells}
 use native.Mathlib.Omega.{arith}
@@ -15,7 +15,6 @@ use Rattle.frames.proofs.Orders.{is-true, is-false}
 use Rattle.frames.proofs.Frames.{R, fval, frame-typed, frame-makes}
 use Rattle.frames.proofs.FrameCalls.{Read, call-read}
 use Rattle.machine.proofs.Rows.{ToldRow, toldVal, IsTold, told-tells, told-typed, told-makes}
-use Rattle.machine.proofs.Picks.{calls-on}
 use Rattle.machine.proofs.Tracings.{trace-can, trace-wrote, trace-none}
 use Rattle.frames.proofs.read_frame.Symbol as read-def
 use Rattle.frames.proofs.read_frame.Symbol.{name as #read}

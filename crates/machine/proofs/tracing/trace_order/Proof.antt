@@ -2,13 +2,12 @@
 -- Assumes nothing.
 use Rattle.frames.proofs.Walk.{_≡_, refl, sym, ap, _∙_, subst, Bool, true, false, List, [], _∷_, ℕ, _*_, _<_, _≤_, _^_, length, URA, w64, Val, vbool, vint, SProp, ent, id⊢, Memory, Routine, Heap, Tables, WpFn, Atoms, Lfts, Shares, Fun, givenOf, tables, tablesOf, FmC, fmOf}
 use Rattle.frames.proofs.Walk.{Given, ‵, ⋆, _$_, _∵_, !, qed, by, keep, suffices, frame, done, of-opd, Is, Boolean, bool-tells, uint-makes, u8, u32, u64, usize, now, Room, owned, onEntry, tripleOf, Contract, Triple, cited, says, walkOf, ends-at}
-use Rattle.frames.proofs.Walk.{of, sets, lands-in, enters, leaves, Sl, sl, Arg, val, shr, Holds, Toks, Owns, lfts, shares, denots, valss, values, passing, lent, takes, gives, Rule, call-with, asked, unasked, Kind, own, shared, stays, Passed, Known, closed}
+use Rattle.frames.proofs.Walk.{of, sets, lands-in, enters, leaves, Sl, sl, Arg, val, shr, Holds, Toks, Owns, lfts, shares, denots, valss, values, passing, lent, takes, gives, Rule, call-with, asked, unasked, unneeded, calls-on, Kind, own, shared, stays, Passed, Known, closed}
 use Rattle.model.specs.declared.Vm.{Vm}
 use Rattle.model.specs.declared.Frame.{Frame}
 use denote.Plain.{uint-tells, bool-makes}
 use Rattle.frames.proofs.Frames.{R}
 use Rattle.machine.proofs.Rows.{VmRow, vmVal, vm-tells, frames-fit, vm-typed, vm-makes}
-use Rattle.machine.proofs.Picks.{calls-on, unneeded}
 use mathlib.Core.Bool.{_&&_}
 use Rattle.model.specs.Basics.{if_then_else_}
 use Rattle.model.specs.Values.{mostPlaces}

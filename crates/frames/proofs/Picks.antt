@@ -1,4 +1,4 @@
--- Calls of a walk that holds all its slices as one group: each call takes the slices that it is passed, and puts them back.
+-- Calls of a walk that holds all its slices as one group: each call takes the slices that it is passed, and puts them back. It says nothing of frames.
 --     chosen, left     the slices that a list of yes and no names, and the others
 --     picks, unpicks   a group in these two, and back
 --     calls-on         a call over some slices of a group
