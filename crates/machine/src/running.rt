@@ -159,7 +159,15 @@ fn stop(
 {
     let f = frame_of(g);
     let callers = g.callers;
-    trace(functions, main_places, other_places, f, callers, frames, backtrace);
+    trace(
+        functions,
+        main_places,
+        other_places,
+        f,
+        callers,
+        frames,
+        backtrace,
+    );
     let n = m.stack;
     recover(n, functions, stack, frames, copy);
     let answer = faulted(m, units, g, fault);

@@ -217,7 +217,7 @@ module _ {M : Type 1} (𝓤 : URA M) (H : Heap 𝓤) (A : Atoms 𝓤) (W : Given
         sets ! (of-opd ! (of ! refl)) (result-typed 𝓤 H A W r isr) $ leaves ! refl $ by ! (exits r (zs₁ .1 .1 .1 .1 .1 .1 .1 .1 .1 .0) (zs₁ .1 .1 .1 .1 .1 .1 .1 .1 .1 .1 .0) (zs₁ .1 .1 .1 .1 .1 .1 .1 .1 .1 .1 .1 .0) (zs₁ .1 .1 .1 .1 .1 .1 .1 .1 .1 .1 .1 .1 .0) (zs₁ .1 .1 .1 .1 .1 .1 .1 .1 .1 .1 .1 .1 .1 .0) isr (lens₁ .0) (lens₁ .1 .0) (lens₁ .1 .1 .0) (lens₁ .1 .1 .1 .0) (lens₁ .1 .1 .1 .1 .0) er)))
         (λ off. calls-on ! [] (slices stack cells frames copy backtrace) (call-not n isn) (λ zs. slices stack cells frames copy backtrace) refl (λ zs. refl) (λ zs. refl) fm known-not refl (λ r zs₁ er lens₁ isr. lands-in ! (result-typed 𝓤 H A W r isr) $
         sets ! (of-opd ! (of ! refl)) (result-typed 𝓤 H A W r isr) $ leaves ! refl $ by ! (exits r stack cells frames copy backtrace isr refl refl refl refl refl
-        (λ structs. subst (λ (x : RunResult). RunPost m (stores structs) lent₀ units x lent₀) (sym er) (en structs copy backtrace refl refl .refuses (not-zero n off) units)))))))
+        (λ structs. subst (λ (x : RunResult). RunPost m (stores structs) lent₀ units x lent₀) (sym er) (en structs copy backtrace refl refl .refuses (not-zero n off) units))))))))
       where
         fm : FmC 𝓤 H (W .laws) (𝓣 .C)
         fm = fmOf 𝓤 H (W .laws) 𝓣

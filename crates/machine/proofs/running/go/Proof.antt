@@ -1,6 +1,6 @@
 -- `go` meets its contract: a walk of its MIR, by hand. It begins, the loop runs, and it is finished or stopped.
 -- Assumes nothing.
-use Rattle.frames.proofs.Walk.{_≡_, refl, sym, subst, true, false, List, [], _∷_, some, ℕ, _-_, _*_, _<_, _≤_, _^_, length, getD, set, URA, w64, Val, vint, SProp, ent, id⊢, Memory, Routine, Heap, Tables, WpFn, Atoms, Lfts, Shares, Fun, givenOf, tables, tablesOf, FmC, fmOf}
+use Rattle.frames.proofs.Walk.{_≡_, refl, sym, subst, true, false, List, [], _∷_, ℕ, _-_, _*_, _<_, _≤_, _^_, length, getD, set, URA, w64, Val, vint, SProp, ent, id⊢, Memory, Routine, Heap, Tables, WpFn, Atoms, Lfts, Shares, Fun, givenOf, tables, tablesOf, FmC, fmOf}
 use Rattle.frames.proofs.Walk.{Given, ‵, ⋆, _$_, _∵_, !, qed, by, move, keep, suffices, frame, done, agg, stop, addr, of-opd, bin, Is, uint-makes, u8, u32, u64, usize, now, Room, owned, onEntry, tripleOf, Contract, Triple, cited, says, needs, walkOf, ends-at}
 use Rattle.frames.proofs.Walk.{of, ofs, behind, sets, lands-in, enters, leaves, Sl, sl, Arg, val, shr, mut, peek, Holds, Toks, Owns, lfts, shares, denots, valss, values, passing, lent, takes, gives, Rule, call-with, asked, unasked, calls-on, bytes-known, returns-if, Kind, own, shared, unique, stays, Passed, Known, closed}
 use Rattle.model.specs.declared.Vm.{Vm}
@@ -30,10 +30,10 @@ use Rattle.machine.proofs.Tests.{is-zero, not-zero}
 use Rattle.machine.proofs.Begins.{Begins}
 use Rattle.machine.proofs.Settles.{Came}
 use Rattle.machine.proofs.Slices.{copy-ready, current-ready, begins, under, came, units-ready, callers-ready, frame-ready, trace-ready, back-ready, ended, faulted}
-use Rattle.ends.proofs.fixed as fixed
-use Rattle.ends.proofs.fixed.Symbol as fixed-def
-use Rattle.ends.proofs.fixed.Symbol.{name as #fixed}
-use Rattle.ends.proofs.fixed.Met as fixed-thm
+use Rattle.ends.proofs.fixed as bounds
+use Rattle.ends.proofs.fixed.Symbol as bounds-def
+use Rattle.ends.proofs.fixed.Symbol.{name as #bounds}
+use Rattle.ends.proofs.fixed.Met as bounds-thm
 use Rattle.machine.proofs.running.start as start
 use Rattle.machine.proofs.running.start.Symbol as start-def
 use Rattle.machine.proofs.running.start.Symbol.{name as #start}
@@ -63,8 +63,8 @@ abbrev kinds : List (Kind 12)
 kinds = own VmRow vmVal vm-tells (λ x f. refl) ∷ own u64 (vint w64) (uint-tells w64) (λ x f. refl) ∷ shared 0 tt u64 ∷ shared 1 tt u64 ∷ shared 2 tt u8 ∷ shared 3 tt u8 ∷ shared 4 tt u32 ∷ shared 5 tt u8 ∷ shared 6 tt u32 ∷ unique 7 tt u64 ∷ unique 8 tt u64 ∷ unique 9 tt R ∷ unique 10 tt u64 ∷ unique 11 tt u32 ∷ []
 
 module _ {M : Type 1} (𝓤 : URA M) (H : Heap 𝓤) (A : Atoms 𝓤) (W : Given 𝓤 H A) (mem : Memory → SProp 𝓤) (run : Routine → Fun 𝓤) where
-  abbrev Fixed : Contract 𝓤
-  Fixed = tripleOf 𝓤 H A fixed.signature (fixed.spec 𝓤 H A mem run)
+  abbrev Bounds : Contract 𝓤
+  Bounds = tripleOf 𝓤 H A bounds.signature (bounds.spec 𝓤 H A mem run)
 
   abbrev Start : Contract 𝓤
   Start = tripleOf 𝓤 H A start.signature (start.spec 𝓤 H A mem run)
@@ -81,7 +81,7 @@ module _ {M : Type 1} (𝓤 : URA M) (H : Heap 𝓤) (A : Atoms 𝓤) (W : Given
   abbrev Stop : Contract 𝓤
   Stop = tripleOf 𝓤 H A stop.signature (stop.spec 𝓤 H A mem run)
 
-  module _ (𝓣 : Tables 𝓤 H) (known-fixed : Triple 𝓤 (𝓣 .C #fixed) Fixed) (known-start : Triple 𝓤 (𝓣 .C #start) Start) (known-taken : Triple 𝓤 (𝓣 .C #taken) Taken) (known-turns : Triple 𝓤 (𝓣 .C #turns) Turns) (known-finish : Triple 𝓤 (𝓣 .C #finish) Finish) (known-stop : Triple 𝓤 (𝓣 .C #stop) Stop)
+  module _ (𝓣 : Tables 𝓤 H) (known-bounds : Triple 𝓤 (𝓣 .C #bounds) Bounds) (known-start : Triple 𝓤 (𝓣 .C #start) Start) (known-taken : Triple 𝓤 (𝓣 .C #taken) Taken) (known-turns : Triple 𝓤 (𝓣 .C #turns) Turns) (known-finish : Triple 𝓤 (𝓣 .C #finish) Finish) (known-stop : Triple 𝓤 (𝓣 .C #stop) Stop)
       (κs : Lfts 12) (qs : Shares 12) (a : Passed kinds ResultRow κs) (is : Known kinds ResultRow κs a) where
     -- the parameters
     abbrev m : Vm
@@ -219,12 +219,12 @@ module _ {M : Type 1} (𝓤 : URA M) (H : Heap 𝓤) (A : Atoms 𝓤) (W : Given
         gives ! (xs stack′ cells′ frames′ copy′ backtrace′) (vm-makes 𝓤 H A W m _ (is .0), (uint-makes 𝓤 H A W w64 units _ (is .1 .0), tt)) (frame ! $ owned ! ResultRow (Is ResultRow) (result-makes 𝓤 H A W) r _ isr $ keep ! (1 ∷ 0 ∷ []) $ done !)
 
     -- the calls
-    abbrev to-fixed : List Arg
-    to-fixed = val VmRow m (vmVal m) ∷ val usize ((s7 .count)) (vint w64 ((s7 .count))) ∷ val usize ((s9 .count)) (vint w64 ((s9 .count))) ∷ []
+    abbrev to-bounds : List Arg
+    to-bounds = val VmRow m (vmVal m) ∷ val usize ((s7 .count)) (vint w64 ((s7 .count))) ∷ val usize ((s9 .count)) (vint w64 ((s9 .count))) ∷ []
 
-    call-fixed : Rule 𝓤 H A W to-fixed Fixed FixedRow fixedVal (λ k zs. FixedPost m (s7 .count) (s9 .count) k)
-    call-fixed = call-with 𝓤 H A W to-fixed Fixed FixedRow fixedVal (λ k zs. FixedPost m (s7 .count) (s9 .count) k) fixed-tells (λ ns. passing (lent to-fixed ns)) (λ ns. refl)
-        (λ ns. unasked W (lent to-fixed ns)) (λ ns w. id⊢ 𝓤 _) (vm-makes 𝓤 H A W m _ (is .0), (uint-makes 𝓤 H A W w64 ((s7 .count)) _ (refl, room7 .0), (uint-makes 𝓤 H A W w64 ((s9 .count)) _ (refl, room9 .0), tt))) tt
+    call-bounds : Rule 𝓤 H A W to-bounds Bounds FixedRow fixedVal (λ k zs. FixedPost m (s7 .count) (s9 .count) k)
+    call-bounds = call-with 𝓤 H A W to-bounds Bounds FixedRow fixedVal (λ k zs. FixedPost m (s7 .count) (s9 .count) k) fixed-tells (λ ns. passing (lent to-bounds ns)) (λ ns. refl)
+        (λ ns. unasked W (lent to-bounds ns)) (λ ns w. id⊢ 𝓤 _) (vm-makes 𝓤 H A W m _ (is .0), (uint-makes 𝓤 H A W w64 ((s7 .count)) _ (refl, room7 .0), (uint-makes 𝓤 H A W w64 ((s9 .count)) _ (refl, room9 .0), tt))) tt
 
     abbrev to-start : List Arg
     to-start = val VmRow m (vmVal m) ∷ val u64 units (vint w64 units) ∷ peek u64 s7 stack ∷ peek R s9 frames ∷ mut u64 s10 copy ∷ []
@@ -267,7 +267,7 @@ module _ {M : Type 1} (𝓤 : URA M) (H : Heap 𝓤) (A : Atoms 𝓤) (W : Given
         (vm-typed 𝓤 H A W m (is .0), ((tt, record { fits = (is .1 .0) .1 }), ((tt, (tt, (record { fits = room0 .0 }, tt))), ((tt, (tt, (record { fits = room1 .0 }, tt))), ((tt, (tt, (record { fits = room2 .0 }, tt))), ((tt, (tt, (record { fits = room3 .0 }, tt))), ((tt, (tt, (record { fits = room4 .0 }, tt))), ((tt, (tt, (record { fits = room5 .0 }, tt))), ((tt, (tt, (record { fits = room6 .0 }, tt))), ((tt, (tt, (record { fits = room7 .0 }, tt))), ((tt, (tt, (record { fits = room8 .0 }, tt))), ((tt, (tt, (record { fits = room9 .0 }, tt))), ((tt, (tt, (record { fits = room10 .0 }, tt))), ((tt, (tt, (record { fits = room11 .0 }, tt))), tt)))))))))))))) (λ ls.
         move ! (1 ∷ []) $ picks ! (false ∷ false ∷ false ∷ true ∷ []) (slices stack cells frames copy backtrace) (bytes-known ! tt s3 main [] (λ mb. unpicks ! (false ∷ false ∷ false ∷ true ∷ []) (slices stack cells frames copy backtrace) (picks ! (false ∷ false ∷ false ∷ false ∷ false ∷ true ∷ []) (slices stack cells frames copy backtrace) (bytes-known ! tt s5 other [] (λ ob. unpicks ! (false ∷ false ∷ false ∷ false ∷ false ∷ true ∷ []) (slices stack cells frames copy backtrace) (move ! (1 ∷ []) $
         sets ! (of-opd ! (of ! refl)) (tt, record { fits = room7 .0 }) $ sets ! (of-opd ! (of ! refl)) (tt, record { fits = room9 .0 }) $
-        calls-on ! [] (slices stack cells frames copy backtrace) (call-fixed) (λ zs. slices stack cells frames copy backtrace) refl (λ zs. refl) (λ zs. refl) fm known-fixed refl (λ k zs ek lens isk. lands-in ! (fixed-typed 𝓤 H A W k isk) $
+        calls-on ! [] (slices stack cells frames copy backtrace) (call-bounds) (λ zs. slices stack cells frames copy backtrace) refl (λ zs. refl) (λ zs. refl) fm known-bounds refl (λ k zs ek lens isk. lands-in ! (fixed-typed 𝓤 H A W k isk) $
         sets ! (addr ! (behind ! refl refl)) (tt, tt) $ sets ! (agg ! (ofs ! refl)) (tt, (tt, (record { fits = room7 .0 }, tt))) $ sets ! (addr ! (behind ! refl refl)) (tt, tt) $ sets ! (agg ! (ofs ! refl)) (tt, (tt, (record { fits = room9 .0 }, tt))) $ sets ! (addr ! (behind ! refl refl)) (tt, tt) $ sets ! (agg ! (ofs ! refl)) (tt, (tt, (record { fits = room10 .0 }, tt))) $
         calls-on ! (false ∷ false ∷ false ∷ false ∷ false ∷ false ∷ false ∷ true ∷ false ∷ true ∷ true ∷ []) (slices stack cells frames copy backtrace) (call-start (copyable .0, copyable .1, current)) (λ zs. slices stack cells frames (zs .1 .1 .1 .1 .0) backtrace) refl (λ zs. refl) (λ zs. refl) fm known-start refl (λ g zs₁ eg lens₁ isg. lands-in ! (going-typed 𝓤 H A W g isg) $
         calls-on ! [] (slices stack cells frames (zs₁ .1 .1 .1 .1 .0) backtrace) (call-taken) (λ zs. slices stack cells frames (zs₁ .1 .1 .1 .1 .0) backtrace) refl (λ zs. refl) (λ zs. refl) fm known-taken refl (λ n zs₂ en lens₂ isn. lands-in ! (tt, record { fits = isn .1 }) $
@@ -308,9 +308,9 @@ module _ {M : Type 1} (𝓤 : URA M) (H : Heap 𝓤) (A : Atoms 𝓤) (W : Given
 
         stops : {k : Fixed} {g : Going} {c : Course} (st cs : List ℕ) (fs : List Frame) (copy′ : List ℕ) → ((structs : List ℕ) → Came m (stores structs) lent₀ units k g c st cs fs) → copy′ ≡ written copy 0 (take (2 * m .stack) stack) → (c .fault ≡ 0 → ⊥)
             → (c .going .units ≤ units) × (c .going .callers < 2 ^ 32) × TraceFits functions mainPlaces otherPlaces (frameIn (c .going)) (c .going .callers) fs (length backtrace) × (2 * m .stack ≤ length copy′) × (2 * m .stack ≤ length st) × (0 < length fs)
-        stops st cs fs copy′ h copied some =
+        stops st cs fs copy′ h copied bad =
             let back = back-ready m units [] constants functions text main mainPlaces other otherPlaces stack cells frames copy backtrace (h []) copied in
-            (units-ready m units [] constants functions text main mainPlaces other otherPlaces stack cells frames copy backtrace (h []), callers-ready m units [] constants functions text main mainPlaces other otherPlaces stack cells frames copy backtrace (h []), trace-ready m units [] constants functions text main mainPlaces other otherPlaces stack cells frames copy backtrace (h []) some, back .0, back .1, omega (arith, frame-ready m units [] constants functions text main mainPlaces other otherPlaces stack cells frames copy backtrace (h [])))
+            (units-ready m units [] constants functions text main mainPlaces other otherPlaces stack cells frames copy backtrace (h []), callers-ready m units [] constants functions text main mainPlaces other otherPlaces stack cells frames copy backtrace (h []), trace-ready m units [] constants functions text main mainPlaces other otherPlaces stack cells frames copy backtrace (h []) bad, back .0, back .1, omega (arith, frame-ready m units [] constants functions text main mainPlaces other otherPlaces stack cells frames copy backtrace (h [])))
 
 pub go-spec : {M : Type 1} → stated.statement M
 unfolding code.routine tablesOf
@@ -319,7 +319,7 @@ go-spec 𝓤 H 𝓜 𝓖 𝓡 =
     closed kinds ResultRow 𝓤 H 𝓜 𝓖 𝓡 code.env #me code.function (code.unfolded 𝓤 H 𝓜 𝓡) (me.clauses 𝓤 H (𝓖 .A) (𝓜 .mem) (𝓡 .run))
     (λ κs qs a g is. needs 𝓤 ((structs : List ℕ) → Granted (a .0) (programLent structs (now (a .1 .1 .0)) (now (a .1 .1 .1 .0)) (now (a .1 .1 .1 .1 .0)) (now (a .1 .1 .1 .1 .1 .0)) (now (a .1 .1 .1 .1 .1 .1 .0)) (now (a .1 .1 .1 .1 .1 .1 .1 .0)) (now (a .1 .1 .1 .1 .1 .1 .1 .1 .0))) (runLent (now (a .1 .1 .1 .1 .1 .1 .1 .1 .1 .0)) (now (a .1 .1 .1 .1 .1 .1 .1 .1 .1 .1 .0)) (now (a .1 .1 .1 .1 .1 .1 .1 .1 .1 .1 .1 .0)) (now (a .1 .1 .1 .1 .1 .1 .1 .1 .1 .1 .1 .1 .0)) (now (a .1 .1 .1 .1 .1 .1 .1 .1 .1 .1 .1 .1 .1 .0)))) _
     (walk 𝓤 H (𝓖 .A) W (𝓜 .mem) (𝓡 .run) (tablesOf 𝓤 H 𝓜 (tables 𝓤 H 𝓜 𝓡 code.env))
-    (cited 𝓤 H (Fixed 𝓤 H (𝓖 .A) W (𝓜 .mem) (𝓡 .run)) 𝓜 𝓡 code.env #fixed fixed-def.routine code.calls-ends·fixed (fixed-thm.met 𝓤 H 𝓜 𝓖 𝓡))
+    (cited 𝓤 H (Bounds 𝓤 H (𝓖 .A) W (𝓜 .mem) (𝓡 .run)) 𝓜 𝓡 code.env #bounds bounds-def.routine code.calls-ends·fixed (bounds-thm.met 𝓤 H 𝓜 𝓖 𝓡))
     (cited 𝓤 H (Start 𝓤 H (𝓖 .A) W (𝓜 .mem) (𝓡 .run)) 𝓜 𝓡 code.env #start start-def.routine code.calls-machine·running·start (start-thm.met 𝓤 H 𝓜 𝓖 𝓡))
     (cited 𝓤 H (Taken 𝓤 H (𝓖 .A) W (𝓜 .mem) (𝓡 .run)) 𝓜 𝓡 code.env #taken taken-def.routine code.calls-machine·running·text-of (taken-thm.met 𝓤 H 𝓜 𝓖 𝓡))
     (cited 𝓤 H (Turns 𝓤 H (𝓖 .A) W (𝓜 .mem) (𝓡 .run)) 𝓜 𝓡 code.env #turns turns-def.routine code.calls-turns·turns (turns-thm.met 𝓤 H 𝓜 𝓖 𝓡))

@@ -178,7 +178,7 @@ module _ {M : Type 1} (𝓤 : URA M) (H : Heap 𝓤) (A : Atoms 𝓤) (W : Given
     abbrev Post : Val → SProp 𝓤
     Post = walkOf 𝓤 H A me.ended (stays kinds) (me.clauses 𝓤 H A mem run) .post (passing xs)
 
-    exits : (r : u8) → Is u8 r (vint w8 r ∷ []) → ((structs copy backtrace : List ℕ) → length copy ≡ copies → length backtrace ≡ entries → RunJudged m (programLent structs constants functions text main mainPlaces other otherPlaces) (runLent stack cells frames copy backtrace) r) → ent 𝓤 (⋆ 𝓤 H A (‵ (Holds slices) ∷ [])) (Post (vint w8 r))
+    exits : (r : ℕ) → Is u8 r (vint w8 r ∷ []) → ((structs copy backtrace : List ℕ) → length copy ≡ copies → length backtrace ≡ entries → RunJudged m (programLent structs constants functions text main mainPlaces other otherPlaces) (runLent stack cells frames copy backtrace) r) → ent 𝓤 (⋆ 𝓤 H A (‵ (Holds slices) ∷ [])) (Post (vint w8 r))
     exits r isr said =
         qed W (‵ (Holds slices) ∷ []) ∵ suffices ! _ (ends-at 𝓤 H A me.ended (stays kinds) (me.clauses 𝓤 H A mem run) W (passing xs) (vint w8 r) r (tt, (tt, (tt, (tt, (tt, (tt, (tt, (tt, (tt, (tt, (tt, (tt, (tt, tt))))))))))))) (tt, (tt, (tt, (tt, (tt, (tt, (tt, (tt, (tt, (tt, (tt, (tt, (tt, tt)))))))))))))) $ says ! said $
         gives ! xs (vm-makes 𝓤 H A W m _ (is .0), (uint-makes 𝓤 H A W w64 copies _ (is .1 .0), (uint-makes 𝓤 H A W w64 entries _ (is .1 .1 .0), tt))) (frame ! $ owned ! u8 (Is u8) (uint-makes 𝓤 H A W w8) r _ isr $ keep ! (1 ∷ 0 ∷ []) $ done !)
