@@ -79,7 +79,7 @@ part-more m l w n e h =
 -- ---- functions, number by number
 
 module _ (s s' : Stores) where
-  all-same : (n i : ℕ) → ((j : ℕ) → i ≤ j → j < i + n → functionIn s' j ≡ functionIn s j) → functionsFrom n i s' ≡ functionsFrom n i s
+  pub all-same : (n i : ℕ) → ((j : ℕ) → i ≤ j → j < i + n → functionIn s' j ≡ functionIn s j) → functionsFrom n i s' ≡ functionsFrom n i s
   unfolding functionsFrom
   all-same zero i h = refl
   all-same (suc n) i h = rw (h i (omega arith) (omega arith), all-same n (suc i) (λ j a b. h j (omega arith) (omega arith)))
@@ -198,7 +198,7 @@ unfolding constantsFrom
 constants-snoc zero i cs t = let z : i + 0 ≡ i = omega arith in rw z
 constants-snoc (suc n) i cs t = let z : i + suc n ≡ suc i + n = omega arith in ap (λ (q : List p.Constant). constantIn t (kindAt cs i) (payloadAt cs i) ∷ q) (rw z (constants-snoc n (suc i) cs t))
 
-constants-alike : (n i : ℕ) (cs ds t u : List ℕ) → ((j : ℕ) → j < i + n → constantIn u (kindAt ds j) (payloadAt ds j) ≡ constantIn t (kindAt cs j) (payloadAt cs j)) → constantsFrom n i ds u ≡ constantsFrom n i cs t
+pub constants-alike : (n i : ℕ) (cs ds t u : List ℕ) → ((j : ℕ) → j < i + n → constantIn u (kindAt ds j) (payloadAt ds j) ≡ constantIn t (kindAt cs j) (payloadAt cs j)) → constantsFrom n i ds u ≡ constantsFrom n i cs t
 unfolding constantsFrom
 constants-alike zero i cs ds t u h = refl
 constants-alike (suc n) i cs ds t u h = rw (h i (omega arith), constants-alike n (suc i) cs ds t u (λ j l. h j (omega arith)))
@@ -210,7 +210,7 @@ kinds-alike false true b2 b3 x y A B v w e h = refl
 kinds-alike false false b2 true x y A B v w e h = rw (h e)
 kinds-alike false false b2 false x y A B v w e h = apart false e refl
 
-constant-alike : (c : Counts) (t u : List ℕ) → ((v : ℕ) → start v + size v ≤ c .text → part u v ≡ part t v) → (k a : ℕ) → constantOk c k a ≡ true → constantIn u k a ≡ constantIn t k a
+pub constant-alike : (c : Counts) (t u : List ℕ) → ((v : ℕ) → start v + size v ≤ c .text → part u v ≡ part t v) → (k a : ℕ) → constantOk c k a ≡ true → constantIn u k a ≡ constantIn t k a
 unfolding constantOk constantIn
 constant-alike c t u same k a e = kinds-alike (eqb k 0) (eqb k 1) (eqb k 2) (leb k 3) (ltb a 2) (insideText c a) (scalar a) (boolean (not (eqb a 0))) (part u a) (part t a) e (λ y. same a (text-inside c a y))
 
@@ -218,7 +218,7 @@ constant-alike c t u same k a e = kinds-alike (eqb k 0) (eqb k 1) (eqb k 2) (leb
 unfoldable pub withOne : Program → p.Constant → Program
 withOne q x = record { constants = q .constants ++ (x ∷ []); structs = q .structs; functions = q .functions }
 
-structs-inside : (c : Counts) (ss t : List ℕ) → structsOk c ss t ≡ true → everyFrom (c .structs) 0 (λ j. insideText c (structWord ss j)) ≡ true
+pub structs-inside : (c : Counts) (ss t : List ℕ) → structsOk c ss t ≡ true → everyFrom (c .structs) 0 (λ j. insideText c (structWord ss j)) ≡ true
 unfolding structsOk
 structs-inside c ss t e =
     let a = leb (c .structs) (places 1 ss) in let b = everyFrom (c .structs) 0 (λ j. insideText c (structWord ss j)) in
