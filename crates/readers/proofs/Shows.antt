@@ -61,7 +61,7 @@ module _ (m : Vm) (i : ℕ) (s : List ℕ) {r : ℕ} (e : r ≡ places 2 s) wher
 
 -- ---- where a header is
 
-abbrev header : Value → Told
+abbrev pub header : Value → Told
 header x = ifList x t.Number (ifStruct x t.Number (t.Refused 5))
 
 module _ (m : Vm) (x : Value) (cells : List ℕ) {r : ℕ} (e : r ≡ places 2 cells) where
@@ -117,11 +117,11 @@ whole-at u H b (v.FunctionReference _ _) p f e = never e
 whole-at u H b (v.List q) p f e = let z : p ≡ q = cc in rw z (list-of u H b q f)
 whole-at u H b (v.StructInstance q) p f e = let z : p ≡ q = cc in rw z (struct-of u H b q f)
 
-record Stands (m : Vm) (cells : List ℕ) (p : ℕ) : Type 0 where
-  room : 2 * m .cells ≤ length cells
-  whole : Whole (heapOf (m .cells) cells) p (m .cells)
+pub record Stands (m : Vm) (cells : List ℕ) (p : ℕ) : Type 0 where
+  pub room : 2 * m .cells ≤ length cells
+  pub whole : Whole (heapOf (m .cells) cells) p (m .cells)
 
-stands : (m : Vm) (x : Value) (cells : List ℕ) (p : ℕ) → t.Number p ≡ blockAt m x cells → Stands m cells p
+pub stands : (m : Vm) (x : Value) (cells : List ℕ) (p : ℕ) → t.Number p ≡ blockAt m x cells → Stands m cells p
 unfolding blockAt placedIn
 stands m x cells p e =
     let a = leb (m .cells) (places 2 cells) in
