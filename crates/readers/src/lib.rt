@@ -13,7 +13,8 @@ use value::words;
 ghost use mathlib.Core.Path.{_≡_};
 ghost use Prim.Native.Nat.{_+_, _*_, _≤_};
 ghost use lib.ListN.{length};
-ghost use Rattle.model.specs.Readers.{lastResultOf, valueShown, stackValueOf, blockAt, blockHeaderOf, elementOf, textShown, textBytesOf};
+ghost use Rattle.model.specs.Readers.{lastResultOf, valueShown, stackValueOf, blockHeaderOf, elementOf, textBytesOf};
+ghost use Rattle.readers.specs.Links.{blockAt, textPut};
 
 // The last result.
 pub fn last_result(m: Vm) -> Shown
@@ -115,7 +116,7 @@ pub fn element(m: Vm, v: Value, i: usize, cells: &[u64]) -> Shown
 // The n bytes of text from o on, into out.
 fn put_text(m: Vm, o: u32, n: u32, text: &[u8], out: &mut [u8]) -> Told
     requires { ⌜ m .program .text ≤ length (now text) ⌝ }
-    ensures { λ r. ⌜ record { answer = r; out = now (out .exit) } ≡ textShown m (now (text .entry)) (now (out .entry)) o n ⌝ }
+    ensures { λ r. ⌜ record { answer = r; out = now (out .exit) } ≡ textPut m (now (text .entry)) (now (out .entry)) o n ⌝ }
 {
     let c = m.program;
     let from = o as usize;
