@@ -110,28 +110,7 @@ impl Op {
             | Op::CallCallable
             | Op::AccessStructField
             | Op::BuildList => 1,
-            Op::Negate
-            | Op::Factorial
-            | Op::Add
-            | Op::AddToDateTime
-            | Op::Subtract
-            | Op::SubFromDateTime
-            | Op::DiffDateTime
-            | Op::Multiply
-            | Op::Divide
-            | Op::Power
-            | Op::ConvertTo
-            | Op::LessThan
-            | Op::GreaterThan
-            | Op::LessOrEqual
-            | Op::GreatorOrEqual
-            | Op::Equal
-            | Op::NotEqual
-            | Op::LogicalAnd
-            | Op::LogicalOr
-            | Op::LogicalNeg
-            | Op::Return
-            | Op::GetLastResult => 0,
+            _ => 0,
         }
     }
 
@@ -189,49 +168,24 @@ impl Op {
         }
     }
 
-    /// The 26 opcodes that document 01 carries. The others are known and
-    /// not carried.
+    /// The 26 opcodes that document 01 carries: all but these, which are known
+    /// and not carried.
     pub fn is_carried(self) -> bool {
-        match self {
-            Op::LoadConstant
-            | Op::GetLocal
-            | Op::GetUpvalue
-            | Op::GetLastResult
-            | Op::Negate
-            | Op::Add
-            | Op::Subtract
-            | Op::Multiply
-            | Op::Divide
-            | Op::LessThan
-            | Op::GreaterThan
-            | Op::LessOrEqual
-            | Op::GreatorOrEqual
-            | Op::Equal
-            | Op::NotEqual
-            | Op::LogicalAnd
-            | Op::LogicalOr
-            | Op::LogicalNeg
-            | Op::JumpIfFalse
-            | Op::Jump
-            | Op::Call
-            | Op::CallCallable
-            | Op::BuildStructInstance
-            | Op::AccessStructField
-            | Op::BuildList
-            | Op::Return => true,
+        !matches!(
+            self,
             Op::ApplyPrefix
-            | Op::SetUnitConstant
-            | Op::Factorial
-            | Op::Power
-            | Op::ConvertTo
-            | Op::AddToDateTime
-            | Op::SubFromDateTime
-            | Op::DiffDateTime
-            | Op::FFICallFunction
-            | Op::FFICallProcedure
-            | Op::PrintString
-            | Op::JoinString => false,
-        }
+                | Op::SetUnitConstant
+                | Op::Factorial
+                | Op::Power
+                | Op::ConvertTo
+                | Op::AddToDateTime
+                | Op::SubFromDateTime
+                | Op::DiffDateTime
+                | Op::FFICallFunction
+                | Op::FFICallProcedure
+                | Op::PrintString
+                | Op::JoinString
+        )
     }
 }
 

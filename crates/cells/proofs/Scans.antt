@@ -125,7 +125,7 @@ placed-at t H X (v.List q) = list-cut H X q
 placed-at t H X (v.StructInstance q) = whole-cut H X q
 
 module _ (t : ℕ) (w : List ℕ) (used p : ℕ) (l : p ≤ used) (u : Value) where
-  placed-cut : placedBelow t (heapOf p w) p u ≡ placedBelow t (heapOf used w) p u
+  pub placed-cut : placedBelow t (heapOf p w) p u ≡ placedBelow t (heapOf used w) p u
   placed-cut = rw (heap-split used p w l) (rw (length-heap p w) at (placed-at t (heapOf p w) (cellsFrom (used - p) p w) u))
 
   depth-cut : Placed t (heapOf p w) p u → depthIn (heapOf p w) u ≡ depthIn (heapOf used w) u

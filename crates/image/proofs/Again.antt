@@ -1,12 +1,12 @@
 -- What was loaded is saved again as the same program: it is in good order, and stands for the program that was read.
 use mathlib.Core.Path.{_≡_, refl, sym, ap, subst, _∙_}
-use mathlib.Core.Bool.{Bool, true, false, not, _&&_}
+use mathlib.Core.Bool.{Bool, true, false, not}
 use mathlib.Core.List.{List, [], _∷_, _++_, append-assoc}
-use Prim.Native.Nat.{ℕ, zero, suc, _+_, _-_, _<_, _≤_, _^_}
+use Prim.Native.Nat.{ℕ, zero, suc, _+_, _<_, _≤_, _^_}
 use native.Mathlib.Omega.{arith}
-use lib.Dec.{eqb, leb}
+use lib.Dec.{leb}
 use lib.ListN.{length, take, length-append}
-use borrow.Author.Tests.{leb-true, le-leb, eq-eqb, eqb-true, ne-eqb, not-true}
+use borrow.Author.Tests.{leb-true, le-leb, eq-eqb, not-true}
 use Rattle.model.specs.Basics.{everyFrom}
 use Rattle.model.specs.Values.{places, kindAt, payloadAt, textAt}
 use Rattle.model.specs.Equality.{sameBytes}
@@ -18,6 +18,7 @@ use Rattle.model.specs.Loading.{constantText, constantWords, constantsLaid, str
 use Rattle.model.specs.declared.Counts.{Counts}
 use Rattle.program.proofs.Parts.{start-pack, size-pack}
 use Rattle.program.proofs.Bools.{and-both}
+use Rattle.program.proofs.Searching.{same-sym}
 use Rattle.image.proofs.Codecs.{by-test, both-true}
 use Rattle.image.proofs.Filling.{laid-length, structs-length}
 use Rattle.image.proofs.Placing.{others-length}
@@ -81,16 +82,6 @@ others-fine c (f ∷ l) fs i o j w e h s k m =
     (and-both _ _ (g .0) (r .0), ap (codeStart fs) (let z : suc i + suc (length l) ≡ suc (suc i) + length l = omega arith in z) ∙ r .1 ∙ (let z : j + length (f .code) + length (joined (λ f. f .code) l) ≡ j + length (f .code ++ joined (λ f. f .code) l) = omega arith in z))
 
 -- ---- names all different, whichever way they are compared
-
-pub same-sym : (a b : List ℕ) → sameBytes a b ≡ sameBytes b a
-unfolding sameBytes
-same-sym [] [] = refl
-same-sym [] (y ∷ b) = refl
-same-sym (x ∷ a) [] = refl
-same-sym (x ∷ a) (y ∷ b) = rw (same-sym a b) (ap (λ (z : Bool). z && sameBytes b a) (eqb-sym x y))
-  where
-    eqb-sym : (x y : ℕ) → eqb x y ≡ eqb y x
-    eqb-sym x y = by-test (eqb x y) (λ t. t ∙ sym (eq-eqb y x (sym (eqb-true x y t)))) (λ t. t ∙ sym (ne-eqb y x (λ e. let z : _≡_ {A = Bool} true false = sym (eq-eqb x y (sym e)) ∙ t in let k : _≡_ {A = ℕ} 0 1 = cc in omega arith)))
 
 -- no name of `seen` is t
 unfoldable NotIn : List ℕ → List (List ℕ) → Type 0

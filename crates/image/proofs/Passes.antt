@@ -15,6 +15,7 @@ use Rattle.model.specs.Loading.{constantText}
 use Rattle.number.specs.Links.{NumPost}
 use Rattle.number.specs.declared.Num.{Num}
 use Rattle.number.specs.declared.Num.the-variants as n
+use Rattle.program.proofs.Searching.{among-false}
 use Rattle.image.specs.Links.{Good, Bad, partOf, TextPost, anyText, Texts, SeenPost, constantAt, ItemPost, SectionAt, CheckPost}
 use Rattle.image.specs.declared.Text.{Text}
 use Rattle.image.specs.declared.Text.the-variants as t
@@ -108,15 +109,6 @@ module _ (s : List ℕ) (before at n : ℕ) (count : Good number s before at n) 
           }
 
 -- ---- a name among others
-
-among-false : (t : List ℕ) (l : List (List ℕ)) (x : List ℕ) → among t l ≡ false → sameBytes t x ≡ false → among t (l ++ (x ∷ [])) ≡ false
-unfolding among
-among-false t [] x a b = rw b
-among-false t (y ∷ l) x a b = or-both (sameBytes t y) (among t l) a (λ q. among-false t l x q b)
-  where
-    or-both : (c d : Bool) → (if c then true else d) ≡ false → {e : Bool} → (d ≡ false → e ≡ false) → (if c then true else e) ≡ false
-    or-both true d h f = h
-    or-both false d h f = f h
 
 among-true : (t : List ℕ) (l : List (List ℕ)) (x : List ℕ) (m : List (List ℕ)) → sameBytes t x ≡ true → among t ((l ++ (x ∷ [])) ++ m) ≡ true
 unfolding among

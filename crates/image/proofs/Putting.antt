@@ -79,9 +79,6 @@ module _ (l out₀ : List ℕ) (at₀ : ℕ) (out : List ℕ) (at : ℕ) (rest :
   pub putting-near : Near at₀ l → Near at rest
   putting-near h = near-back at₀ l (p .done) rest at (p .whole) (p .put .next) h
 
-  pub putting-kept : length out ≡ length out₀
-  putting-kept = p .put .kept
-
   pub putting-step : (x y : List ℕ) → rest ≡ x ++ y → (out′ : List ℕ) (at′ : ℕ) → Put x out at out′ at′ → Putting l out₀ at₀ out′ at′ y
   putting-step x y e out′ at′ q = record {
     done = p .done ++ x;

@@ -57,14 +57,6 @@ module _ {A B : Type 0} {dec : List ℕ → Step A} (k : A → List ℕ → Step
   unfolding andThen
   good-both h g = record { means = rw (h .means) (g .means); ahead = let x = h .ahead in let y = g .ahead in omega arith; within = g .within }
 
--- not both
-pub good-or-bad : {A : Type 0} (dec : List ℕ → Step A) (s : List ℕ) (at next : ℕ) (a : A) (o : ℕ) → Good dec s at next a → Bad dec s at o → ⊥
-good-or-bad dec s at next a o h g = never (sym (g .means) ∙ h .means)
-
--- the value is one
-pub good-same : {A : Type 0} {dec : List ℕ → Step A} {s : List ℕ} {at next : ℕ} {a b : A} {r : List ℕ} → Good dec s at next a → dec (drop at s) ≡ got b r → a ≡ b
-good-same h e = got-value (sym (h .means) ∙ e)
-
 -- ---- a number
 
 module _ (s : List ℕ) (at : ℕ) (r : Num) (p : NumPost s at r) where

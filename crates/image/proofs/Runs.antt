@@ -1,6 +1,6 @@
 -- The runs of a function's code.
 use mathlib.Core.Path.{_≡_, refl, sym, ap, subst, _∙_}
-use mathlib.Core.Bool.{Bool, not, _&&_}
+use mathlib.Core.Bool.{not, _&&_}
 use mathlib.Core.List.{List, [], _++_}
 use Prim.Native.Nat.{ℕ, zero, suc, _+_, _-_, _<_, _≤_}
 use native.Mathlib.Omega.{arith}
@@ -25,17 +25,8 @@ use Rattle.image.proofs.Passes.{counted-at}
 -- ---- one run
 
 module _ (s : List ℕ) (at left q : ℕ) (pre : at ≤ length s) (x : Num) (p : NumPost s at x) where
-  bytesTest : ℕ → Bool
-  bytesTest n = ltb 0 n && leb n left
-
-  placeTest : ℕ → Bool
-  placeTest y = not (eqb q y)
-
-  thenPlace : ℕ → List ℕ → Step i.Run
-  thenPlace n b = andThen (readRunPlace q b) (λ y u. got (run n y) u)
-
   here : Bad (readRunBytes left) s at at → RunPost s at left q (r.Broken at)
-  unfolding oneRun thenPlace
+  unfolding oneRun
   here h = record { is = bad-first (λ n b. andThen (readRunPlace q b) (λ y u. got (run n y) u)) h }
 
   pub run-none : x ≡ n.Broken → RunPost s at left q (r.Broken at)
@@ -45,9 +36,6 @@ module _ (s : List ℕ) (at left q : ℕ) (pre : at ≤ length s) (x : Num) (p :
   module _ (v mid m : ℕ) (e : x ≡ n.Number v mid) (w : (m ≡ v) × (m < 4294967296)) where
     g : Good number s at mid m
     g = counted-at s at x p v mid m e w
-
-    pub run-mid : mid ≤ length s
-    run-mid = g .within
 
     pub run-zero : m ≡ 0 → RunPost s at left q (r.Broken at)
     unfolding readRunBytes

@@ -2,7 +2,7 @@
 use mathlib.Core.Path.{_≡_, refl, sym, ap, _∙_}
 use mathlib.Core.Bool.{Bool, true, false, not, _&&_}
 use mathlib.Core.List.{List, [], _∷_, _++_}
-use Prim.Native.Nat.{ℕ, zero, suc, _+_, _-_, _*_, _<_, _≤_, _^_}
+use Prim.Native.Nat.{ℕ, zero, suc, _+_, _*_, _<_, _≤_, _^_}
 use native.Mathlib.Omega.{arith}
 use lib.Dec.{eqb, leb}
 use lib.ListN.{length, take, drop, getD, length-drop}
@@ -19,7 +19,8 @@ use Rattle.model.specs.declared.Counts.{Counts}
 use Rattle.image.specs.Fills.{lent}
 use Rattle.image.specs.Puts.{Known}
 use Rattle.image.proofs.Codecs.{by-test, both-true}
-use Rattle.image.proofs.Again.{same-sym, Clear}
+use Rattle.program.proofs.Searching.{same-sym}
+use Rattle.image.proofs.Again.{Clear}
 use Rattle.image.proofs.Orderly.{part-most, FunctionFine, parts, numbers, constant-at, struct-at, function-at, main-named, codes-in, ends-in}
 
 -- every number of a store is below b: what the type of a slice says

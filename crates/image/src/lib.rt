@@ -12,7 +12,7 @@ ghost use mathlib.Core.Path.{_≡_};
 ghost use Prim.Native.Nat.{_+_, _≤_, _<_};
 ghost use lib.ListN.{length};
 ghost use Rattle.model.specs.Images.{wordOf, readBody, readConstant, readConstants, readStructs, mainFirst};
-ghost use Rattle.model.specs.Loading.{constantText, LoadRes, loadOf, OutRes, saveOf};
+ghost use Rattle.model.specs.Loading.{constantText, loadOf, saveOf};
 ghost use Rattle.image.specs.Links.{partOf, TextPost, Texts, SeenPost, ItemPost, CheckPost, RunPost, RunsPost, HeadPost, SpanPost, OthersPost, FunctionsPost, JudgePost};
 ghost use Rattle.image.specs.Fills.{lent};
 

@@ -25,7 +25,3 @@ and-both a b e f = rw e f
 
 pub and-not : (a b : Bool) → a ≡ false → (a && b) ≡ false
 and-not a b e = rw e
-
-pub and-nor : (a b : Bool) → b ≡ false → (a && b) ≡ false
-and-nor true b e = e
-and-nor false b e = refl

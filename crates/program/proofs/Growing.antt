@@ -1,4 +1,4 @@
--- Text that is appended changes no name below it. Each of the other entries but add_struct_info keeps good order.
+-- Text that is appended changes no name below it. A constant more, a patch, a new function and the end of one keep good order.
 use mathlib.Core.Path.{_≡_, refl, sym, ap, _∙_}
 use mathlib.Core.Bool.{Bool, true, false, _&&_, _||_}
 use mathlib.Core.List.{List, _++_, append-assoc}
@@ -14,10 +14,10 @@ use Rattle.model.specs.declared.Counts.{Counts}
 use Rattle.model.specs.declared.Emitted.the-variants.{Done}
 use Rattle.model.specs.Basics.{if_then_else_, everyFrom}
 use Rattle.model.specs.Values.{places, textAt, kindAt, payloadAt, putWords}
-use Rattle.model.specs.Programs.{constantLimit, nameLimit}
+use Rattle.model.specs.Programs.{constantLimit}
 use Rattle.model.specs.Stores.{Stores, start, size, pack, part, structWord, nameWord, codeWord, codeEnd, structsFrom, codeHere, placesHere, withCode, withConstants, withFunctions, withText}
 use Rattle.model.specs.Orders.{countsOk, textOk, insideText, constantOk, constantsOk, allDifferent, structsOk, codeStart, functionOk, functionsOk, mainOk, mainTaken, otherTaken, insideCodes, programOk}
-use Rattle.model.specs.Emission.{counts, oneConstant, written, textRoom, withConstant, withTextConstant, constantAdded, constantOrder, addConstantOf, u16, sizeHere, patchOrder, patched, patchOf, endFunctionOf, oneFunction, functionOrder, begun, beginFunctionOf}
+use Rattle.model.specs.Emission.{counts, oneConstant, written, textRoom, withConstant, withTextConstant, constantAdded, constantOrder, addConstantOf, u16, sizeHere, patchOrder, patched, patchOf, endFunctionOf, oneFunction}
 use Rattle.program.proofs.Bools.{either-way, and-left, and-right, and-both}
 use Rattle.program.proofs.Parts.{room-1, room-2, start-pack, size-pack}
 use Rattle.program.proofs.Every.{pass-all, passed-at}
@@ -129,10 +129,10 @@ module _ (cs : List ℕ) (i a b : ℕ) (h : 2 * i + 2 ≤ length cs) where
     getD-set-other (set cs (2 * i) a) (2 * i + 1) (2 * j + 1) b 0 (λ (e : 2 * j + 1 ≡ 2 * i + 1). d (omega arith)) ∙ getD-set-other cs (2 * i) (2 * j + 1) a 0 (λ (e : 2 * j + 1 ≡ 2 * i). omega arith),
   )
 
-below-or-same : (j n : ℕ) → j < suc n → (j ≡ n → ⊥) → j < n
+pub below-or-same : (j n : ℕ) → j < suc n → (j ≡ n → ⊥) → j < n
 below-or-same j n h d = either-way (leb n j) (λ t. let l : n ≤ j = leb-true n j t in absurd (d (omega arith))) (λ f. leb-false n j f)
 
-counts-good : (c : Counts) → c .constants ≤ 65535 → c .structs ≤ 65536 → 1 ≤ c .functions → c .functions ≤ 65536 → c .text ≤ 0xFFFF_FFFF → (eqb (c .current) 0 || eqb (suc (c .current)) (c .functions)) ≡ true → countsOk c ≡ true
+pub counts-good : (c : Counts) → c .constants ≤ 65535 → c .structs ≤ 65536 → 1 ≤ c .functions → c .functions ≤ 65536 → c .text ≤ 0xFFFF_FFFF → (eqb (c .current) 0 || eqb (suc (c .current)) (c .functions)) ≡ true → countsOk c ≡ true
 unfolding countsOk
 counts-good c a b d e f g = rw (le-leb _ _ a, le-leb _ _ b, le-leb _ _ d, le-leb _ _ e, le-leb _ _ f) g
 
@@ -407,21 +407,3 @@ module _ (c : Counts) (s : Stores) (g : Good c s) (few : c .functions < 65536) (
         codes = codes-now (s .main) (s .other) (g .codes);
         places = codes-now (s .mainPlaces) (s .otherPlaces) (g .places);
       }
-
--- begin_function keeps good order
-pub begin-keeps : (c : Counts) (name : List ℕ) (s : Stores) → programOk c s ≡ true → Kept (beginFunctionOf c name s)
-unfolding beginFunctionOf begun textRoom
-begin-keeps c name s e =
-    kept-if (functionOrder c s) _ _ (λ _.
-    kept-if (leb nameLimit (c .functions)) _ _ (λ _. kept-refused 22 s) (λ few.
-    kept-if (leb (places 2 (s .functions)) (c .functions)) _ _ (λ _. kept-refused 21 s) (λ fits.
-    kept-if (leb (c .text + length name) (places 1 (s .text))) _ _ (λ t. record {
-      kept = λ d i q.
-          let z : oneFunction (length name) c ≡ d = cc in
-          let l : c .text + length name ≤ places 1 (s .text) = leb-true _ _ t in
-          let x = room-1 (s .text) in
-          let f : c .text + length name ≤ length (s .text) = omega arith in
-          let u : c .text + length name ≤ places 1 (written (s .text) (c .text) name) = rw (places-same 1 (written (s .text) (c .text) name) (s .text) (length-written (s .text) (c .text) name)) l in
-          rw (← z) (of-good _ _ (function-begun c s (good-of c s e) (leb-false _ _ few) (leb-false _ _ fits) (length name) (written (s .text) (c .text) name) u (part-kept (s .text) (c .text) name f)));
-    }) (λ _. kept-refused 21 s))))
-    (λ _. kept-refused 19 s)

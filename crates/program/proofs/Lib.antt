@@ -11,3 +11,4 @@ pub mod Adding
 pub mod Keeping
 pub mod Growing
 pub mod Reading
+pub mod Naming

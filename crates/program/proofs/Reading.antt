@@ -1,4 +1,4 @@
--- What the program then is: the old one with the bytes appended to the current function's code, or with the constant appended.
+-- What the program then is: the old one with the bytes appended to the current function's code or patched inside it, or with the constant appended.
 use mathlib.Core.Path.{_≡_, refl, sym, ap, _∙_}
 use mathlib.Core.Bool.{Bool, true, false, not, _&&_}
 use mathlib.Core.List.{List, [], _∷_, _++_, append-assoc}
@@ -6,7 +6,7 @@ use Prim.Native.Nat.{ℕ, zero, suc, _+_, _-_, _*_, _≤_, _<_, _^_}
 use native.Mathlib.Omega.{arith}
 use lib.Dec.{eqb, leb, ltb}
 use lib.ListN.{length, set, take, drop, replicate, length-replicate, length-drop}
-use lib.Seq.{take-append-add, take-add, drop-at, take-at, length-take-le}
+use lib.Seq.{take-append-add, take-add, drop-at, take-at, length-take-le, take-set-lt, drop-set-add}
 use borrow.Author.Tests.{eq-eqb, ne-eqb, eqb-true, eqb-false, ltb-true, ltb-false, leb-true, leb-false}
 use Rattle.model.specs.declared.Constant.{Constant}
 use Rattle.model.specs.declared.Constant.the-variants as k
@@ -18,10 +18,10 @@ use Rattle.model.specs.Programs as p
 use Rattle.model.specs.Stores.{Stores, start, size, pack, part, structWord, nameWord, codeWord, codeEnd, codeHere, placesHere, withCode, withFunctions, withMain, withOther, withConstants, withText, constantIn, constantsFrom, structsFrom, functionIn, functionsFrom, programIn}
 use Rattle.model.specs.Orders.{insideText, constantOk, structsOk, allDifferent, codeStart, functionsOk, programOk}
 use Rattle.model.specs.declared.Emitted.the-variants.{Done}
-use Rattle.model.specs.Emission.{Res, refuse, oneConstant, textRoom, withConstant, withTextConstant, constantAdded, constantOrder, addConstantOf, codeOrder, emitIn, emitOf, written, sizeHere, endHere, codeRoom, longer, appended}
+use Rattle.model.specs.Emission.{Res, refuse, oneConstant, textRoom, withConstant, withTextConstant, constantAdded, constantOrder, addConstantOf, codeOrder, emitIn, emitOf, written, sizeHere, endHere, codeRoom, longer, appended, u16, patchOrder, patched, patchOf}
 use Rattle.program.proofs.Bools.{apart, either-way, and-left, and-right}
 use Rattle.program.proofs.Parts.{room-1, room-2, start-pack, size-pack}
-use Rattle.program.proofs.Known.{Limited, limited, Known, function-known, constants-known, text-inside}
+use Rattle.program.proofs.Known.{Limited, limited, Known, function-known, constants-known, text-inside, code-in-other}
 use Rattle.program.proofs.Keeping.{Good, good-of, Longer, in-code, in-places, now-longer}
 use Rattle.program.proofs.Growing.{split, part-kept, part-new, words-here, words-other, names-same}
 
@@ -79,7 +79,7 @@ part-more m l w n e h =
 -- ---- functions, number by number
 
 module _ (s s' : Stores) where
-  all-same : (n i : ℕ) → ((j : ℕ) → i ≤ j → j < i + n → functionIn s' j ≡ functionIn s j) → functionsFrom n i s' ≡ functionsFrom n i s
+  pub all-same : (n i : ℕ) → ((j : ℕ) → i ≤ j → j < i + n → functionIn s' j ≡ functionIn s j) → functionsFrom n i s' ≡ functionsFrom n i s
   unfolding functionsFrom
   all-same zero i h = refl
   all-same (suc n) i h = rw (h i (omega arith) (omega arith), all-same n (suc i) (λ j a b. h j (omega arith) (omega arith)))
@@ -105,21 +105,26 @@ function-at s zero i j h = absurd (let y : ⊥ = omega arith in y)
 function-at s (suc n) i zero h = let z : i + 0 ≡ i = omega arith in rw z
 function-at s (suc n) i (suc j) h = let z : i + suc j ≡ suc i + j = omega arith in rw z (function-at s n (suc i) j (omega arith))
 
--- a function with code appended, and the program with that function
-abbrev pub longerBy : Function → List ℕ → List ℕ → Function
-longerBy f bytes ps = record { name = f .name; code = f .code ++ bytes; places = f .places ++ ps }
+-- the program with another function at i
+unfoldable pub changed : Program → ℕ → (Function → Function) → Program
+changed q i f = record { constants = q .constants; structs = q .structs; functions = set (q .functions) i (f (functionAt (q .functions) i)) }
 
-unfoldable pub withBytes : Program → ℕ → List ℕ → List ℕ → Program
-withBytes q i bytes ps = record { constants = q .constants; structs = q .structs; functions = set (q .functions) i (longerBy (functionAt (q .functions) i) bytes ps) }
+-- with code appended
+abbrev pub longerBy : List ℕ → List ℕ → Function → Function
+longerBy bytes ps f = record { name = f .name; code = f .code ++ bytes; places = f .places ++ ps }
 
-reads-by : (c : Counts) (s s' : Stores) (bytes ps : List ℕ) → c .current < c .functions → s' .constants ≡ s .constants → s' .structs ≡ s .structs → s' .text ≡ s .text
-    → functionIn s' (c .current) ≡ longerBy (functionIn s (c .current)) bytes ps → ((j : ℕ) → j < c .functions → (j ≡ c .current → ⊥) → functionIn s' j ≡ functionIn s j)
-    → programIn c s' ≡ withBytes (programIn c s) (c .current) bytes ps
-unfolding programIn withBytes
-reads-by c s s' bytes ps h ec es et here others =
+-- with code written anew from at on
+abbrev pub patchedBy : ℕ → List ℕ → Function → Function
+patchedBy at bytes f = record { name = f .name; code = written (f .code) at bytes; places = f .places }
+
+reads-by : (c : Counts) (s s' : Stores) (f : Function → Function) → c .current < c .functions → s' .constants ≡ s .constants → s' .structs ≡ s .structs → s' .text ≡ s .text
+    → functionIn s' (c .current) ≡ f (functionIn s (c .current)) → ((j : ℕ) → j < c .functions → (j ≡ c .current → ⊥) → functionIn s' j ≡ functionIn s j)
+    → programIn c s' ≡ changed (programIn c s) (c .current) f
+unfolding programIn changed
+reads-by c s s' f h ec es et here others =
     let z : c .current - 0 ≡ c .current = omega arith in
     let y : 0 + c .current ≡ c .current = omega arith in
-    let a : functionsFrom (c .functions) 0 s' ≡ set (functionsFrom (c .functions) 0 s) (c .current) (longerBy (functionIn s (c .current)) bytes ps) =
+    let a : functionsFrom (c .functions) 0 s' ≡ set (functionsFrom (c .functions) 0 s) (c .current) (f (functionIn s (c .current))) =
     rw (z, here) at (one-other s s' (c .functions) 0 (c .current) (omega arith) (omega arith) (λ j u v. others j (omega arith) v)) in
     let b : functionAt (functionsFrom (c .functions) 0 s) (c .current) ≡ functionIn s (c .current) = rw y at (function-at s (c .functions) 0 (c .current) h) in
     rw (a, b, ec, es, et)
@@ -164,21 +169,21 @@ module _ (c : Counts) (bytes : List ℕ) (place : ℕ) (s : Stores) (g : Good c 
   unfolding ps
   length-ps = length-replicate (length bytes) place
 
-  reads-main : c .current ≡ 0 → programIn c (withFunctions (longer c (length bytes) s) (withMain (written (s .main) (endHere c s) bytes) (written (s .mainPlaces) (endHere c s) ps) s)) ≡ withBytes (programIn c s) (c .current) bytes ps
+  reads-main : c .current ≡ 0 → programIn c (withFunctions (longer c (length bytes) s) (withMain (written (s .main) (endHere c s) bytes) (written (s .mainPlaces) (endHere c s) ps) s)) ≡ changed (programIn c s) (c .current) (longerBy bytes ps)
   unfolding functionIn codeHere placesHere
   reads-main z =
       let a : endHere c s + length bytes ≤ places 1 (s .main) = rw (eq-eqb (c .current) 0 z) at (in-code c s g (length bytes) short fits) in
       let b : endHere c s + length bytes ≤ places 1 (s .mainPlaces) = rw (eq-eqb (c .current) 0 z) at (in-places c s g (length bytes) short fits) in
-      reads-by c s _ bytes ps (lim .current) refl refl refl
+      reads-by c s _ (longerBy bytes ps) (lim .current) refl refl refl
       (rw (eq-eqb (c .current) 0 z, words .names (c .current), more-code (s .main) bytes refl a, more-code (s .mainPlaces) ps length-ps b))
       (λ j h d. rw (ne-eqb j 0 (λ (q : j ≡ 0). d (q ∙ sym z)), words .names j, words .others j d))
 
-  reads-other : (c .current ≡ 0 → ⊥) → programIn c (withFunctions (longer c (length bytes) s) (withOther (written (s .other) (endHere c s) bytes) (written (s .otherPlaces) (endHere c s) ps) s)) ≡ withBytes (programIn c s) (c .current) bytes ps
+  reads-other : (c .current ≡ 0 → ⊥) → programIn c (withFunctions (longer c (length bytes) s) (withOther (written (s .other) (endHere c s) bytes) (written (s .otherPlaces) (endHere c s) ps) s)) ≡ changed (programIn c s) (c .current) (longerBy bytes ps)
   unfolding functionIn codeHere placesHere
   reads-other z =
       let a : endHere c s + length bytes ≤ places 1 (s .other) = rw (ne-eqb (c .current) 0 z) at (in-code c s g (length bytes) short fits) in
       let b : endHere c s + length bytes ≤ places 1 (s .otherPlaces) = rw (ne-eqb (c .current) 0 z) at (in-places c s g (length bytes) short fits) in
-      reads-by c s _ bytes ps (lim .current) refl refl refl
+      reads-by c s _ (longerBy bytes ps) (lim .current) refl refl refl
       (rw (ne-eqb (c .current) 0 z, words .names (c .current), more-code (s .other) bytes refl a, more-code (s .otherPlaces) ps length-ps b))
       (λ j h d. either-way (eqb j 0)
       (λ t. rw (t, words .names j, words .others j d))
@@ -187,9 +192,67 @@ module _ (c : Counts) (bytes : List ℕ) (place : ℕ) (s : Stores) (g : Good c 
       rw (f, words .names j, words .others j d, same-code (s .other) bytes j h d one z refl a, same-code (s .otherPlaces) ps j h d one z length-ps b)))
 
   -- the program then has the bytes, each with the place, at the end of the current function's code
-  pub appended-reads : programIn c (appended c bytes place s .stores) ≡ withBytes (programIn c s) (c .current) bytes (replicate (length bytes) place)
+  pub appended-reads : programIn c (appended c bytes place s .stores) ≡ changed (programIn c s) (c .current) (longerBy bytes (replicate (length bytes) place))
   unfolding appended withCode codeHere placesHere ps
   appended-reads = either-way (eqb (c .current) 0) (λ t. rw t (reads-main (eqb-true (c .current) 0 t))) (λ f. rw f (reads-other (eqb-false (c .current) 0 f)))
+
+-- ---- code patched
+
+-- what is written inside a part is written in it
+written-part : (l m : List ℕ) (a z i : ℕ) → i + length l ≤ z → take z (drop a (written m (a + i) l)) ≡ written (take z (drop a m)) i l
+unfolding written
+written-part [] m a z i h = refl
+written-part (x ∷ l) m a z i h =
+    let e : suc (a + i) ≡ a + suc i = omega arith in
+    let one : take z (drop a (set m (a + i) x)) ≡ set (take z (drop a m)) i x = ap (take z) (drop-set-add a m i x) ∙ take-set-lt z (drop a m) i x (omega arith) in
+    rw (e, ← one) (written-part l (set m (a + i) x) a z (suc i) (omega arith))
+
+module _ (c : Counts) (at a : ℕ) (s : Stores) (g : Good c s) (within : at + 2 ≤ sizeHere c s) where
+  bounded : Limited c
+  bounded = limited c (g .counts)
+
+  abbrev here : ℕ
+  here = codeWord (s .functions) (c .current)
+
+  in-size : at + 2 ≤ size here
+  unfolding sizeHere
+  in-size = within
+
+  patched-part : (m : List ℕ) → part (written m (start here + at) (u16 a)) here ≡ written (part m here) at (u16 a)
+  unfolding part textAt u16
+  patched-part m = written-part (u16 a) m (start here) (size here) at in-size
+
+  in-other : (c .current ≡ 0 → ⊥) → start here + size here ≤ length (s .other)
+  unfolding codeEnd
+  in-other z = code-in-other c (s .functions) (s .main) (s .other) bounded (g .codes) z
+
+  other-part : (j : ℕ) → j < c .functions → (j ≡ c .current → ⊥) → 1 ≤ j → (c .current ≡ 0 → ⊥) → part (written (s .other) (start here + at) (u16 a)) (codeWord (s .functions) j) ≡ part (s .other) (codeWord (s .functions) j)
+  unfolding codeEnd u16
+  other-part j h d one z =
+      let n = bounded .newest z in
+      let b : j < c .current = lower j (c .current) (omega arith) d in
+      let q : codeEnd (s .functions) j ≤ codeStart (s .functions) (c .current) = ascending c (s .functions) (g .functions) j (c .current) one b (bounded .current) in
+      let w = function-known c (s .functions) (g .functions) (c .current) (bounded .current) .starts in
+      let x = in-size in let y = in-other z in
+      part-kept (s .other) (start here + at) (u16 a) (omega arith) (codeWord (s .functions) j) (omega arith)
+
+  patched-main : c .current ≡ 0 → programIn c (withMain (written (s .main) (start here + at) (u16 a)) (s .mainPlaces) s) ≡ changed (programIn c s) (c .current) (patchedBy at (u16 a))
+  unfolding functionIn
+  patched-main z =
+      reads-by c s _ (patchedBy at (u16 a)) (bounded .current) refl refl refl
+      (rw (eq-eqb (c .current) 0 z, patched-part (s .main)))
+      (λ j h d. rw (ne-eqb j 0 (λ (q : j ≡ 0). d (q ∙ sym z))))
+
+  patched-other : (c .current ≡ 0 → ⊥) → programIn c (withOther (written (s .other) (start here + at) (u16 a)) (s .otherPlaces) s) ≡ changed (programIn c s) (c .current) (patchedBy at (u16 a))
+  unfolding functionIn
+  patched-other z =
+      reads-by c s _ (patchedBy at (u16 a)) (bounded .current) refl refl refl
+      (rw (ne-eqb (c .current) 0 z, patched-part (s .other)))
+      (λ j h d. either-way (eqb j 0) (λ t. rw t) (λ f. rw (f, other-part j h d (positive j (eqb-false j 0 f)) z)))
+
+  patched-reads : programIn c (patched c at a s .stores) ≡ changed (programIn c s) (c .current) (patchedBy at (u16 a))
+  unfolding patched withCode codeHere placesHere
+  patched-reads = either-way (eqb (c .current) 0) (λ t. rw t (patched-main (eqb-true (c .current) 0 t))) (λ f. rw f (patched-other (eqb-false (c .current) 0 f)))
 
 -- ---- constants
 
@@ -198,7 +261,7 @@ unfolding constantsFrom
 constants-snoc zero i cs t = let z : i + 0 ≡ i = omega arith in rw z
 constants-snoc (suc n) i cs t = let z : i + suc n ≡ suc i + n = omega arith in ap (λ (q : List p.Constant). constantIn t (kindAt cs i) (payloadAt cs i) ∷ q) (rw z (constants-snoc n (suc i) cs t))
 
-constants-alike : (n i : ℕ) (cs ds t u : List ℕ) → ((j : ℕ) → j < i + n → constantIn u (kindAt ds j) (payloadAt ds j) ≡ constantIn t (kindAt cs j) (payloadAt cs j)) → constantsFrom n i ds u ≡ constantsFrom n i cs t
+pub constants-alike : (n i : ℕ) (cs ds t u : List ℕ) → ((j : ℕ) → j < i + n → constantIn u (kindAt ds j) (payloadAt ds j) ≡ constantIn t (kindAt cs j) (payloadAt cs j)) → constantsFrom n i ds u ≡ constantsFrom n i cs t
 unfolding constantsFrom
 constants-alike zero i cs ds t u h = refl
 constants-alike (suc n) i cs ds t u h = rw (h i (omega arith), constants-alike n (suc i) cs ds t u (λ j l. h j (omega arith)))
@@ -210,7 +273,7 @@ kinds-alike false true b2 b3 x y A B v w e h = refl
 kinds-alike false false b2 true x y A B v w e h = rw (h e)
 kinds-alike false false b2 false x y A B v w e h = apart false e refl
 
-constant-alike : (c : Counts) (t u : List ℕ) → ((v : ℕ) → start v + size v ≤ c .text → part u v ≡ part t v) → (k a : ℕ) → constantOk c k a ≡ true → constantIn u k a ≡ constantIn t k a
+pub constant-alike : (c : Counts) (t u : List ℕ) → ((v : ℕ) → start v + size v ≤ c .text → part u v ≡ part t v) → (k a : ℕ) → constantOk c k a ≡ true → constantIn u k a ≡ constantIn t k a
 unfolding constantOk constantIn
 constant-alike c t u same k a e = kinds-alike (eqb k 0) (eqb k 1) (eqb k 2) (leb k 3) (ltb a 2) (insideText c a) (scalar a) (boolean (not (eqb a 0))) (part u a) (part t a) e (λ y. same a (text-inside c a y))
 
@@ -218,7 +281,7 @@ constant-alike c t u same k a e = kinds-alike (eqb k 0) (eqb k 1) (eqb k 2) (leb
 unfoldable pub withOne : Program → p.Constant → Program
 withOne q x = record { constants = q .constants ++ (x ∷ []); structs = q .structs; functions = q .functions }
 
-structs-inside : (c : Counts) (ss t : List ℕ) → structsOk c ss t ≡ true → everyFrom (c .structs) 0 (λ j. insideText c (structWord ss j)) ≡ true
+pub structs-inside : (c : Counts) (ss t : List ℕ) → structsOk c ss t ≡ true → everyFrom (c .structs) 0 (λ j. insideText c (structWord ss j)) ≡ true
 unfolding structsOk
 structs-inside c ss t e =
     let a = leb (c .structs) (places 1 ss) in let b = everyFrom (c .structs) 0 (λ j. insideText c (structWord ss j)) in
@@ -298,14 +361,26 @@ appended-done : (c : Counts) (bytes : List ℕ) (place : ℕ) (s : Stores) {want
 unfolding appended
 appended-done c bytes place s {want} e = record { reads = λ d i q. let z : c ≡ d = cc in rw (← z) e }
 
-pub emit-reads : (c : Counts) (op : ℕ) (bytes : List ℕ) (place : ℕ) (s : Stores) → programOk c s ≡ true → Reads (withBytes (programIn c s) (c .current) bytes (replicate (length bytes) place)) (emitOf c op bytes place s)
+pub emit-reads : (c : Counts) (op : ℕ) (bytes : List ℕ) (place : ℕ) (s : Stores) → programOk c s ≡ true → Reads (changed (programIn c s) (c .current) (longerBy bytes (replicate (length bytes) place))) (emitOf c op bytes place s)
 unfolding emitOf emitIn
 emit-reads c op bytes place s e =
-    let want = withBytes (programIn c s) (c .current) bytes (replicate (length bytes) place) in
+    let want = changed (programIn c s) (c .current) (longerBy bytes (replicate (length bytes) place)) in
     reads-if want (codeOrder c s) _ _ (λ _.
     reads-if want (ltb codeLimit (sizeHere c s + length bytes)) _ _ (λ _. reads-refused want 22 s) (λ short.
     reads-if want (ltb (codeRoom c s) (endHere c s + length bytes)) _ _ (λ _. reads-refused want 21 s) (λ fits.
     reads-if want (leb 38 op) _ _ (λ _. reads-refused want 1 s) (λ _. appended-done c bytes place s (appended-reads c bytes place s (good-of c s e) (ltb-false _ _ short) (ltb-false _ _ fits))))))
+    (λ _. reads-refused want 19 s)
+
+patched-done : (c : Counts) (at a : ℕ) (s : Stores) {want : Program} → programIn c (patched c at a s .stores) ≡ want → Reads want (patched c at a s)
+unfolding patched
+patched-done c at a s e = record { reads = λ d i q. let z : c ≡ d = cc in rw (← z) e }
+
+pub patch-reads : (c : Counts) (at a : ℕ) (s : Stores) → programOk c s ≡ true → Reads (changed (programIn c s) (c .current) (patchedBy at (u16 a))) (patchOf c at a s)
+unfolding patchOf
+patch-reads c at a s e =
+    let want = changed (programIn c s) (c .current) (patchedBy at (u16 a)) in
+    reads-if want (patchOrder c s) _ _ (λ _.
+    reads-if want (ltb (sizeHere c s) (at + 2)) _ _ (λ _. reads-refused want 23 s) (λ f. patched-done c at a s (patched-reads c at a s (good-of c s e) (ltb-false _ _ f))))
     (λ _. reads-refused want 19 s)
 
 pub add-constant-reads : (c : Counts) (x : Constant) (lent : List ℕ) (s : Stores) → programOk c s ≡ true → Reads (withOne (programIn c s) (meant x lent)) (addConstantOf c x lent s)

@@ -6,7 +6,9 @@ use mathlib.Core.Option.{Option, none, some}
 use Prim.Native.Nat.{ℕ, zero, suc, _+_, _-_, _≤_, _<_}
 use native.Mathlib.Omega.{arith}
 use native.Mathlib.Numerals.{add-one}
+use lib.Dec.{eqb}
 use lib.ListN.{length}
+use borrow.Author.Tests.{eq-eqb, ne-eqb, eqb-true, eqb-false, not-true}
 use Rattle.model.specs.declared.Told.{Told}
 use Rattle.model.specs.declared.Told.the-variants as tl
 use Rattle.model.specs.Basics.{if_then_else_}
@@ -17,6 +19,7 @@ use Rattle.model.specs.Stores.{Stores, part, structWord, nameWord, structsFrom}
 use Rattle.model.specs.Orders.{allDifferent}
 use Rattle.model.specs.Emission.{namesFrom, toldName}
 use Rattle.program.specs.Links.{namesLent}
+use Rattle.program.proofs.Bools.{apart, either-way, and-left, and-right, and-both}
 
 -- ---- the newest first
 
@@ -108,12 +111,12 @@ if-some : (b : Bool) (i k : ℕ) (o : Option ℕ) (a : Bool) → (if b then some
 if-some true i k o a e h = refl
 if-some false i k o a e h = h e
 
-among-none : (i : ℕ) (n : List ℕ) (ns : List (List ℕ)) → firstFrom i n ns ≡ none → among n ns ≡ false
+pub among-none : (i : ℕ) (n : List ℕ) (ns : List (List ℕ)) → firstFrom i n ns ≡ none → among n ns ≡ false
 unfolding firstFrom among
 among-none i n [] e = refl
 among-none i n (x ∷ ns) e = if-none (sameBytes n x) i (firstFrom (suc i) n ns) (among n ns) e (λ f. among-none (suc i) n ns f)
 
-among-some : (i : ℕ) (n : List ℕ) (ns : List (List ℕ)) (k : ℕ) → firstFrom i n ns ≡ some k → among n ns ≡ true
+pub among-some : (i : ℕ) (n : List ℕ) (ns : List (List ℕ)) (k : ℕ) → firstFrom i n ns ≡ some k → among n ns ≡ true
 unfolding firstFrom among
 among-some i n [] k e = absurd (let z : _≡_ {A = ℕ} 0 1 = cc in let y : ⊥ = omega arith in y)
 among-some i n (x ∷ ns) k e = if-some (sameBytes n x) i k (firstFrom (suc i) n ns) (among n ns) e (λ f. among-some (suc i) n ns k f)
@@ -136,6 +139,36 @@ pub not-among : (i : ℕ) (n : List ℕ) (ns : List (List ℕ)) (r : Told) (k : 
 not-among i n ns r k e f = sym (among-none i n ns (told-none (firstFrom i n ns) r k e f))
 
 -- ---- all different
+
+-- whichever way names are compared
+pub same-sym : (a b : List ℕ) → sameBytes a b ≡ sameBytes b a
+unfolding sameBytes
+same-sym [] [] = refl
+same-sym [] (y ∷ b) = refl
+same-sym (x ∷ a) [] = refl
+same-sym (x ∷ a) (y ∷ b) = rw (same-sym a b) (ap (λ (z : Bool). z && sameBytes b a) (eqb-sym x y))
+  where
+    eqb-sym : (x y : ℕ) → eqb x y ≡ eqb y x
+    eqb-sym x y = either-way (eqb x y) (λ t. t ∙ sym (eq-eqb y x (sym (eqb-true x y t)))) (λ f. f ∙ sym (ne-eqb y x (λ e. eqb-false x y f (sym e))))
+
+pub among-false : (t : List ℕ) (l : List (List ℕ)) (x : List ℕ) → among t l ≡ false → sameBytes t x ≡ false → among t (l ++ (x ∷ [])) ≡ false
+unfolding among
+among-false t [] x a b = rw b
+among-false t (y ∷ l) x a b = or-both (sameBytes t y) (among t l) a (λ q. among-false t l x q b)
+  where
+    or-both : (c d : Bool) → (if c then true else d) ≡ false → {e : Bool} → (d ≡ false → e ≡ false) → (if c then true else e) ≡ false
+    or-both true d h f = h
+    or-both false d h f = f h
+
+-- one name more, that is none of them
+pub different-more : (ns : List (List ℕ)) (x : List ℕ) → allDifferent ns ≡ true → among x ns ≡ false → allDifferent (ns ++ (x ∷ [])) ≡ true
+unfolding allDifferent among
+different-more [] x d a = refl
+different-more (n ∷ ns) x d a = either-way (sameBytes x n) (λ t. apart true refl (rw t at a))
+    (λ f.
+    let q : among n ns ≡ false = not-true (among n ns) (and-left (not (among n ns)) (allDifferent ns) d) in
+    and-both (not (among n (ns ++ (x ∷ [])))) (allDifferent (ns ++ (x ∷ []))) (ap not (among-false n ns x q (same-sym n x ∙ f)))
+    (different-more ns x (and-right (not (among n ns)) (allDifferent ns) d) (rw f at a)))
 
 pub record Different (n : ℕ) (ss t : List ℕ) (i : ℕ) : Type 0 where
   pub means : allDifferent (structsFrom n 0 ss t) ≡ allDifferent (structsFrom (n - i) i ss t)
