@@ -290,3 +290,77 @@ module _ (w : World) (n : ℕ) (good : SaneWorld w) (s : State) (vs' : List Valu
       (λ z z' d. found-alike _ _ d (λ y y' g. stacks (over g b))) (wrong c))
   exec-alike o.BuildList i j = build 0 i list
   exec-alike o.Return i j = popping-alike stack (λ x x' r r' c b. return-alike (s .callers) refl c b)
+
+-- ---- a step
+
+abbrev beside : State → List Value → List Cell → Last → State
+beside s vs H l = record { stack = vs; frame = s .frame; callers = s .callers; heap = H; last = l; units = s .units }
+
+record Beside (w : World) (n : ℕ) (s : State) (vs' : List Value) (H' : List Cell) (l' : Last) : Type 0 where
+  left : heapOk (length (w .text)) (s .heap) ≡ true
+  right : heapOk (length (w .text)) H' ≡ true
+  stack : Boths (w .text) (s .heap) H' (s .stack) vs'
+  last : BothLast (w .text) (s .heap) H' (s .last) l'
+  free : SameFree (w .cellRoom) n (s .heap) H'
+
+module _ (w : World) (n : ℕ) (good : SaneWorld w) (vs' : List Value) (H' : List Cell) (l' : Last) where
+  abbrev C : State → Type 0
+  C s = Beside w n s vs' H' l'
+
+  abbrev Rs : State → (World → State → Outcome) → Type 0
+  Rs s k = AlikeOutcome w n (k w s) (k (roomed n w) (beside s vs' H' l'))
+
+  fault-beside : (s : State) → C s → (i : Fault) → Rs s (λ _ q. faulted i q)
+  fault-beside s c i = fault w n good s vs' H' l' (c .left) (c .right) (c .stack) (c .last) (c .free) i i refl
+
+  -- another position and other units
+  moved : (s : State) → C s → (i u : ℕ) → C (at i (withUnits u s))
+  moved s c i u = record { left = c .left; right = c .right; stack = c .stack; last = c .last; free = c .free }
+
+  operands-alike : (s : State) → C s → (p : Op) (k : ℕ) → Rs s (λ x q. operandsThen x p k q)
+  unfolding operandsThen codeOf
+  operands-alike s c p k =
+      if-each (AlikeOutcome w n) (leb (position s + 2 * k) (length (codeOf w s)))
+      (λ h. exec-alike w n good (at (position s + 2 * k) s) vs' H' l' (c .left) (c .right) (c .stack) (c .last) (c .free) p _ _)
+      (λ h. fault-beside s c f.CodeEnds)
+
+  decoded-alike : (s : State) → C s → (x : Decoded) (k : ℕ) → Rs s (λ y q. decodedThen y x k q)
+  unfolding decodedThen
+  decoded-alike s c (d.Carried p) k = operands-alike s c p k
+  decoded-alike s c d.NotCarried k = fault-beside s c f.NotCarried
+  decoded-alike s c d.Unknown k = fault-beside s c f.UnknownOpcode
+
+  step-beside : (s : State) → C s → Rs s stepOf
+  unfolding stepOf fetched codeOf
+  step-beside s c =
+      if-each (AlikeOutcome w n) (eqb (s .units) 0) (λ h. fault-beside s c f.UnitsSpent)
+      (λ h. decoded-alike (at (suc (position s)) (withUnits (s .units - 1) s)) (moved s c _ _) _ _)
+
+  step-parts : (s : State) → C s → (q : Frame) (cs : List Frame) (u : ℕ) → q ≡ s .frame → cs ≡ s .callers → u ≡ s .units
+      → AlikeOutcome w n (stepOf w s) (stepOf (roomed n w) (record { stack = vs'; frame = q; callers = cs; heap = H'; last = l'; units = u }))
+  step-parts s c q cs u x y z = rw (x, y, z) (step-beside s c)
+
+module _ {t : List ℕ} {H H' : List Cell} where
+  pub boths-of : {xs xs' : List Value} → AlikeValues t H H' xs xs' → AllPlaced (length t) H xs → AllPlaced (length t) H' xs' → Boths t H H' xs xs'
+  unfolding AllPlaced
+  boths-of a.none p q = empty
+  boths-of (a.more h hs) p q = over (record { alike = h; left = p .0; right = q .0 }) (boths-of hs (p .1) (q .1))
+
+  pub both-last : {l l' : Last} → AlikeLast t H H' l l' → LastPlaced (length t) H l → LastPlaced (length t) H' l' → BothLast t H H' l l'
+  unfolding LastPlaced
+  both-last a.nothing p q = nothing
+  both-last (a.is h) p q = is (record { alike = h; left = p; right = q })
+
+-- two machines in good order that mean the same take the same step
+pub step-alike : (w : World) (n : ℕ) → SaneWorld w → (s s' : State) → Sane w s → Sane (roomed n w) s' → AlikeState w n s s' → AlikeOutcome w n (stepOf w s) (stepOf (roomed n w) s')
+step-alike w n good s s' h h' a =
+    let m = a .machine in
+    step-parts w n good (s' .stack) (s' .heap) (s' .last) s
+    (record {
+      left = h .heap;
+      right = h' .heap;
+      stack = boths-of (m .stack) (h .placed) (h' .placed);
+      last = both-last (m .last) (h .last) (h' .last);
+      free = m .free;
+    })
+    (s' .frame) (s' .callers) (s' .units) (m .frame) (m .callers) (a .units)
