@@ -1,3 +1,4 @@
 pub mod Values
 pub mod Builds
 pub mod Steps
+pub mod Runs
