@@ -21,7 +21,7 @@ use Rattle.alike.proofs.Values.{Both, Boths, every-left, every-right, l
 
 -- cells behind H and H' that take as much room and change no meaning; a list or struct stands where they begin
 pub record BothGrow (t : List ℕ) (n n' : ℕ) (H H' : List Cell) (k : ℕ) (K K' : List Cell) : Type 0 where
-  pub old : {x x' : Value} → Both t H H' x x' → AlikeValue t K K' x x'
+  pub old : (x x' : Value) → Both t H H' x x' → AlikeValue t K K' x x'
   pub list : k ≡ 0 → AlikeValue t K K' (v.List (length H)) (v.List (length H'))
   pub struct : AlikeValue t K K' (v.StructInstance (length H)) (v.StructInstance (length H'))
   pub free : SameFree n n' K K'
@@ -48,7 +48,7 @@ module _ (t : List ℕ) (n n' : ℕ) (H H' : List Cell) (e : heapOk (length t) H
       let left = every-left t H H' b in
       let right = every-right t H H' b in
       record {
-        old = λ {x} {x'} c. meaning-kept t H _ e x (c .left) ∙ c .alike ∙ sym (meaning-kept t H' _ e' x' (c .right));
+        old = λ x x' c. meaning-kept t H _ e x (c .left) ∙ c .alike ∙ sym (meaning-kept t H' _ e' x' (c .right));
         list = λ z. new-list t n H k us _ e left q z ∙ ap list trees ∙ sym (new-list t n' H' k us' _ e' right q' z);
         struct = new-struct t n H k us _ e left q ∙ ap (struct k) trees ∙ sym (new-struct t n' H' k us' _ e' right q');
         free = let l = length-alike t H H' b in let y = length-new H k us in let z = length-new H' k us' in omega arith;

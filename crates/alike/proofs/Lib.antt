@@ -2,3 +2,5 @@ pub mod Values
 pub mod Builds
 pub mod Steps
 pub mod Runs
+pub mod Texts
+pub mod Calls

@@ -14,14 +14,15 @@ use Rattle.model.specs.Heap.{Cell, heapOk}
 use Rattle.model.specs.Steps.{World, State, Outcome, went, returned, faulted, codeOf, stepOf}
 use Rattle.model.specs.Runs.{Machine, begin, Mark, mark, Ended, ended, stopped, over, next, turn, runFor, endOf, answered, recovered, settle, runOf}
 use Rattle.cells.proofs.Meaning.{meaning-kept}
-use Rattle.rules.specs.Sane.{AllPlaced, SaneWorld, Sane, Kept}
+use Rattle.rules.specs.Sane.{SaneWorld, Sane, Kept}
 use Rattle.rules.specs.Paths.{Grows, Adds, StoppedBy}
 use Rattle.rules.proofs.Adds.{step-adds}
 use Rattle.rules.proofs.Ends.{end-of}
 use Rattle.rules.proofs.Paths.{run-path, marked, mark-grows}
 use Rattle.rules.proofs.Keeps.{step-keeps}
-use Rattle.alike.specs.Alike.{AlikeValues, none, more, AlikeLast, nothing, is, roomed, SameFree, AlikeMachine, AlikeState, AlikeOutcome, goes, returns, faults}
+use Rattle.alike.specs.Alike.{AlikeValue, AlikeLast, nothing, is, roomed, SameFree, AlikeMachine, AlikeState, AlikeOutcome, goes, returns, faults}
 use Rattle.alike.specs.Answers.{meantIn, meant, AlikeRan}
+use Rattle.alike.proofs.Values.{Both, boths-of, values-on}
 use Rattle.alike.proofs.Steps.{step-alike}
 
 -- ---- the ends of two runs
@@ -46,13 +47,9 @@ record Running (w : World) (n : ℕ) (l l' : Last) (k k' : Mark) (s s' : State) 
   answers : Answers s s' l l'
   marks : AlikeMark w n k k'
 
--- cells behind both heaps
-module _ {t : List ℕ} {H H' K K' : List Cell} (e : heapOk (length t) H ≡ true) (e' : heapOk (length t) H' ≡ true) (g : Grows H K) (g' : Grows H' K') where
-  all-grow : {xs xs' : List Value} → AllPlaced (length t) H xs → AllPlaced (length t) H' xs' → AlikeValues t H H' xs xs' → AlikeValues t K K' xs xs'
-  unfolding AllPlaced
-  all-grow p p' none = none
-  all-grow p p' (more {x = x} {x' = x'} h hs) =
-      more {x = x} {x' = x'} (rw (g .is, g' .is) (meaning-kept t H (g .more) e x (p .0) ∙ h ∙ sym (meaning-kept t H' (g' .more) e' x' (p' .0)))) (all-grow (p .1) (p' .1) hs)
+-- cells behind both heaps change no meaning
+grown-alike : {t : List ℕ} {H H' K K' : List Cell} → heapOk (length t) H ≡ true → heapOk (length t) H' ≡ true → Grows H K → Grows H' K' → (x x' : Value) → Both t H H' x x' → AlikeValue t K K' x x'
+grown-alike {t} {H} {H'} e e' g g' x x' b = rw (g .is, g' .is) (meaning-kept t H (g .more) e x (b .left) ∙ b .alike ∙ sym (meaning-kept t H' (g' .more) e' x' (b .right)))
 
 -- the cells of the start are at the front of those that a fault leaves
 stopped-grows : (w : World) (m : Machine) (u : ℕ) {i : Fault} {s : State} {k : Mark} → endOf w (begin m u) ≡ stopped i s k → Grows (m .heap) (k .heap)
@@ -129,7 +126,7 @@ module _ (w : World) (n : ℕ) (good : SaneWorld w) where
     settled-alike (stops i b k) q q' = record {
       answer = rw (i, b .units, b .machine .frame, b .machine .callers);
       machine = record {
-        stack = all-grow (h .heap) (h' .heap) (stopped-grows w m u q) (stopped-grows (roomed n w) m' u q') (h .placed) (h' .placed) (a .stack);
+        stack = values-on (grown-alike (h .heap) (h' .heap) (stopped-grows w m u q) (stopped-grows (roomed n w) m' u q')) (boths-of (a .stack) (h .placed) (h' .placed));
         last = k .last;
         frame = refl;
         callers = refl;

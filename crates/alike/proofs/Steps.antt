@@ -37,31 +37,8 @@ use Rattle.rules.proofs.Does.{Makes, list, struct}
 use Rattle.rules.proofs.Placed.{grows-placed, all-at}
 use Rattle.alike.specs.Alike.{AlikeValue, AlikeValues, AlikeLast, roomed, SameFree, AlikeState, AlikeOutcome, goes, returns, faults}
 use Rattle.alike.specs.Alike as a
-use Rattle.alike.proofs.Values.{Both, Boths, empty, over, Kinds, scalars, booleans, strings, references, lists, structs, BothFound, got, bad, found-if, kinds, same-alike, length-alike, at-alike, drop-alike, take-alike, turned-alike, field-alike}
+use Rattle.alike.proofs.Values.{Both, Boths, empty, over, BothLast, nothing, is, boths-of, last-of, values-on, last-on, Kinds, scalars, booleans, strings, references, lists, structs, BothFound, got, bad, found-if, kinds, same-alike, length-alike, at-alike, drop-alike, take-alike, turned-alike, field-alike}
 use Rattle.alike.proofs.Builds.{BothGrow, BothBuilt, made, refused, build-alike}
-
-pub data BothLast (t : List ℕ) (H H' : List Cell) : Last → Last → Type 0 where
-  nothing : BothLast t H H' Nothing Nothing
-  is : {x x' : Value} → Both t H H' x x' → BothLast t H H' (Is x) (Is x')
-
-module _ (t : List ℕ) (H H' : List Cell) where
-  all-alike : {xs xs' : List Value} → Boths t H H' xs xs' → AlikeValues t H H' xs xs'
-  all-alike empty = a.none
-  all-alike (over b bs) = a.more (b .alike) (all-alike bs)
-
-  last-alike : {l l' : Last} → BothLast t H H' l l' → AlikeLast t H H' l l'
-  last-alike nothing = a.nothing
-  last-alike (is b) = a.is (b .alike)
-
--- the same in the heaps after a build
-module _ {t : List ℕ} {n n' : ℕ} {H H' : List Cell} {k : ℕ} {K K' : List Cell} (g : BothGrow t n n' H H' k K K') where
-  all-grown : {xs xs' : List Value} → Boths t H H' xs xs' → AlikeValues t K K' xs xs'
-  all-grown empty = a.none
-  all-grown (over b bs) = a.more (g .old b) (all-grown bs)
-
-  last-grown : {l l' : Last} → BothLast t H H' l l' → AlikeLast t K K' l l'
-  last-grown nothing = a.nothing
-  last-grown (is b) = a.is (g .old b)
 
 made-alike : {t : List ℕ} {n n' : ℕ} {H H' K K' : List Cell} {c : ℕ → Value} {elements : ℕ → List Value → List Value} {k : ℕ} → Makes c elements k → BothGrow t n n' H H' k K K' → AlikeValue t K K' (c (length H)) (c (length H'))
 made-alike list g = g .list refl
@@ -90,7 +67,7 @@ module _ (w : World) (n : ℕ) (good : SaneWorld w) (s : State) (vs' : List Valu
   -- other stacks, other frames, other units
   states : (q : Frame) (cs : List Frame) (u : ℕ) {r r' : List Value} → Bs r r' → AlikeState w n (withStack r (withFrames q cs (withUnits u s))) (withStack r' (withFrames q cs (withUnits u other)))
   states q cs u b = record {
-    machine = record { stack = all-alike _ _ _ b; last = last-alike _ _ _ last; frame = refl; callers = refl; free = free };
+    machine = record { stack = values-on (λ x x' c. c .alike) b; last = last-on (λ x x' c. c .alike) last; frame = refl; callers = refl; free = free };
     units = refl;
   }
 
@@ -208,7 +185,7 @@ module _ (w : World) (n : ℕ) (good : SaneWorld w) (s : State) (vs' : List Valu
   return-alike : (cs : List Frame) {x x' : Value} {r r' : List Value} → s .callers ≡ cs → B x x' → Bs r r' → R (returnTo cs x r s) (returnTo cs x' r' other)
   unfolding returnTo cut
   return-alike [] q b bs = returns (b .alike) (record {
-    machine = record { stack = all-alike _ _ _ bs; last = a.is (b .alike); frame = refl; callers = refl; free = free };
+    machine = record { stack = values-on (λ x x' c. c .alike) bs; last = a.is (b .alike); frame = refl; callers = refl; free = free };
     units = refl;
   })
   return-alike (c ∷ cs) {r = r} q b bs = rw (← length-alike _ _ _ bs) (goes (states c cs (s .units) (over b (drop-alike _ _ _ (length r - s .frame .base) bs))))
@@ -247,8 +224,8 @@ module _ (w : World) (n : ℕ) (good : SaneWorld w) (s : State) (vs' : List Valu
       let q = withStack r (withHeap K s) in
       let q' = withStack r' (withHeap K' other) in
       let after : (x x' : List Value) → AlikeValues (w .text) K K' x x' → AlikeState w n (withStack x q) (withStack x' q') =
-      (λ x x' h. record { machine = record { stack = h; last = last-grown g last; frame = refl; callers = refl; free = g .free }; units = refl }) in
-      pushing-alike q q' _ _ (length-alike _ _ _ b) (after r r' (all-grown g b)) (goes (after _ _ (a.more (made-alike m g) (all-grown g b))))
+      (λ x x' h. record { machine = record { stack = h; last = last-on (g .old) last; frame = refl; callers = refl; free = g .free }; units = refl }) in
+      pushing-alike q q' _ _ (length-alike _ _ _ b) (after r r' (values-on (g .old) b)) (goes (after _ _ (a.more (made-alike m g) (values-on (g .old) b))))
 
   build : {c : ℕ → Value} {elements : ℕ → List Value → List Value} (k i : ℕ) → Makes c elements k → R (buildStep w c elements k i s) (buildStep (roomed n w) c elements k i other)
   unfolding buildStep
@@ -340,17 +317,6 @@ module _ (w : World) (n : ℕ) (good : SaneWorld w) (vs' : List Value) (H' : Lis
       → AlikeOutcome w n (stepOf w s) (stepOf (roomed n w) (record { stack = vs'; frame = q; callers = cs; heap = H'; last = l'; units = u }))
   step-parts s c q cs u x y z = rw (x, y, z) (step-beside s c)
 
-module _ {t : List ℕ} {H H' : List Cell} where
-  pub boths-of : {xs xs' : List Value} → AlikeValues t H H' xs xs' → AllPlaced (length t) H xs → AllPlaced (length t) H' xs' → Boths t H H' xs xs'
-  unfolding AllPlaced
-  boths-of a.none p q = empty
-  boths-of (a.more h hs) p q = over (record { alike = h; left = p .0; right = q .0 }) (boths-of hs (p .1) (q .1))
-
-  pub both-last : {l l' : Last} → AlikeLast t H H' l l' → LastPlaced (length t) H l → LastPlaced (length t) H' l' → BothLast t H H' l l'
-  unfolding LastPlaced
-  both-last a.nothing p q = nothing
-  both-last (a.is h) p q = is (record { alike = h; left = p; right = q })
-
 -- two machines in good order that mean the same take the same step
 pub step-alike : (w : World) (n : ℕ) → SaneWorld w → (s s' : State) → Sane w s → Sane (roomed n w) s' → AlikeState w n s s' → AlikeOutcome w n (stepOf w s) (stepOf (roomed n w) s')
 step-alike w n good s s' h h' a =
@@ -360,7 +326,7 @@ step-alike w n good s s' h h' a =
       left = h .heap;
       right = h' .heap;
       stack = boths-of (m .stack) (h .placed) (h' .placed);
-      last = both-last (m .last) (h .last) (h' .last);
+      last = last-of (m .last) (h .last) (h' .last);
       free = m .free;
     })
     (s' .frame) (s' .callers) (s' .units) (m .frame) (m .callers) (a .units)

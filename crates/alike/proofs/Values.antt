@@ -10,6 +10,8 @@ use lib.ListN.{length, getD, take, drop}
 use lib.Ieee.{Float}
 use Rattle.model.specs.declared.Value.{Value}
 use Rattle.model.specs.declared.Value.the-variants as v
+use Rattle.model.specs.declared.Last.{Last}
+use Rattle.model.specs.declared.Last.the-variants.{Nothing, Is}
 use Rattle.model.specs.declared.Fault.{Fault}
 use Rattle.model.specs.declared.Found.{Found}
 use Rattle.model.specs.declared.Found.the-variants as g
@@ -18,10 +20,12 @@ use Rattle.model.specs.Values.{textAt}
 use Rattle.model.specs.Heap.{Cell, itemIn, headIn, items, elementsIn, fieldOf, depthIn, deepest, heapOk}
 use Rattle.model.specs.Trees.{Tree, scalar, boolean, string, reference, list, struct, Trees, none, more, treesOf, treeOf, meaning}
 use Rattle.model.specs.Equality.{sameOf}
-use Rattle.cells.proofs.Order.{Every, nil, cons, every-map, Whole, Placed, list-of, struct-of, placed-more, Good, Inner, inner, good-of}
-use Rattle.cells.proofs.Meaning.{equal-is-trees, meaning-step}
+use Rattle.cells.proofs.Order.{Every, nil, cons, every-map, Whole, Placed, list-of, struct-of, Good, good-of}
+use Rattle.cells.proofs.Meaning.{equal-is-trees, lower, meaning-step}
+use Rattle.rules.specs.Sane.{AllPlaced, LastPlaced}
 use Rattle.rules.proofs.Placed.{field-placed}
-use Rattle.alike.specs.Alike.{AlikeValue}
+use Rattle.alike.specs.Alike.{AlikeValue, AlikeValues, AlikeLast}
+use Rattle.alike.specs.Alike as a
 
 -- the kind of a tree shows the kind of the value that means it
 data Means (t : List ℕ) (H : List Cell) : Value → Tree → Type 0 where
@@ -80,8 +84,7 @@ module _ (t : List ℕ) (H : List Cell) (g : Good (length t) H) where
   block-depth : (d p : ℕ) → Whole H p (length H) → headIn H p .depth ≤ d → ((x : Value) → Placed (length t) H (length H) x → depthIn H x < d → Deep x)
       → headIn H p .depth ≡ suc (treesDepth (treesOf (λ x. meaning t H x) (elementsIn H p)))
   block-depth d p w l on =
-      let b = g p (w .headed) in
-      b .deep ∙ ap suc (deepest-trees (every-map (λ x i. on x (placed-more (length t) H p (length H) (let z = w .ends in omega arith) x (i .placed)) (let z = i .lower in omega arith)) (inner (length t) H p b)))
+      g p (w .headed) .deep ∙ ap suc (deepest-trees (every-map (λ x i. on x (i .0) (let z = i .1 in omega arith)) (lower t H g p w)))
 
   module _ (d : ℕ) (on : (y : Value) → Placed (length t) H (length H) y → depthIn H y < d → Deep y) where
     kind-depth : (x : Value) → Placed (length t) H (length H) x → depthIn H x ≤ d → depthIn H x ≡ treeDepth (treeOf (λ u. meaning t H u) t H x)
@@ -113,6 +116,31 @@ pub record Both (t : List ℕ) (H H' : List Cell) (x x' : Value) : Type 0 where
 pub data Boths (t : List ℕ) (H H' : List Cell) : List Value → List Value → Type 0 where
   empty : Boths t H H' [] []
   over : {x x' : Value} {xs xs' : List Value} → Both t H H' x x' → Boths t H H' xs xs' → Boths t H H' (x ∷ xs) (x' ∷ xs')
+
+pub data BothLast (t : List ℕ) (H H' : List Cell) : Last → Last → Type 0 where
+  nothing : BothLast t H H' Nothing Nothing
+  is : {x x' : Value} → Both t H H' x x' → BothLast t H H' (Is x) (Is x')
+
+module _ {t : List ℕ} {H H' : List Cell} where
+  pub boths-of : {xs xs' : List Value} → AlikeValues t H H' xs xs' → AllPlaced (length t) H xs → AllPlaced (length t) H' xs' → Boths t H H' xs xs'
+  unfolding AllPlaced
+  boths-of a.none p q = empty
+  boths-of (a.more h hs) p q = over (record { alike = h; left = p .0; right = q .0 }) (boths-of hs (p .1) (q .1))
+
+  pub last-of : {l l' : Last} → AlikeLast t H H' l l' → LastPlaced (length t) H l → LastPlaced (length t) H' l' → BothLast t H H' l l'
+  unfolding LastPlaced
+  last-of a.nothing p q = nothing
+  last-of (a.is h) p q = is (record { alike = h; left = p; right = q })
+
+  -- what keeps values alike keeps a stack and a last result alike: over another text u, in other heaps
+  module _ {u : List ℕ} {K K' : List Cell} (on : (x x' : Value) → Both t H H' x x' → AlikeValue u K K' x x') where
+    pub values-on : {xs xs' : List Value} → Boths t H H' xs xs' → AlikeValues u K K' xs xs'
+    values-on empty = a.none
+    values-on (over b bs) = a.more (on _ _ b) (values-on bs)
+
+    pub last-on : {l l' : Last} → BothLast t H H' l l' → AlikeLast u K K' l l'
+    last-on nothing = a.nothing
+    last-on (is b) = a.is (on _ _ b)
 
 -- a constant, a slot, the last result or a field
 pub data BothFound (t : List ℕ) (H H' : List Cell) : Found → Found → Type 0 where
