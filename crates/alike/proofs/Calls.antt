@@ -1,23 +1,20 @@
 -- Runs one after another: whatever runs come, machines that mean the same answer the same.
-use mathlib.Core.Path.{_≡_, refl, sym, ap, subst, _∙_}
+use mathlib.Core.Path.{_≡_, refl, sym, _∙_}
 use mathlib.Core.Bool.{true}
 use mathlib.Core.List.{List, [], _∷_}
 use Prim.Native.Nat.{ℕ, _+_, _≤_}
 use native.Mathlib.Omega.{arith}
 use lib.ListN.{length, length-append}
 use Rattle.model.specs.declared.Value.{Value}
-use Rattle.model.specs.declared.Last.{Last}
 use Rattle.model.specs.declared.Frame.{Frame}
 use Rattle.model.specs.Heap.{Cell, heapOk}
-use Rattle.model.specs.Trees.{meaning}
 use Rattle.model.specs.Steps.{World}
-use Rattle.model.specs.Runs.{Machine, begin, Entry, fault, recovered, runOf}
+use Rattle.model.specs.Runs.{Machine, begin, Entry, recovered, runOf}
 use Rattle.rules.specs.Sane.{AllPlaced, LastPlaced, SaneWorld, FrameFits, CallersFit, Sane}
 use Rattle.rules.specs.Demand.{Call, Recovered}
-use Rattle.rules.proofs.Runs.{other-units, ran-sane}
-use Rattle.alike.specs.Alike.{AlikeValue, AlikeValues, AlikeLast, nothing, is, roomed, AlikeMachine}
-use Rattle.alike.specs.Alike as a
-use Rattle.alike.specs.Answers.{meantOf, Begins, Orderly, none, next, AsFree, AnswersAs, SetUp}
+use Rattle.rules.proofs.Runs.{ran-sane}
+use Rattle.alike.specs.Alike.{AlikeValue, is, roomed, AlikeMachine}
+use Rattle.alike.specs.Answers.{meantOf, Begins, none, next, AsFree, AnswersAs, SetUp}
 use Rattle.alike.specs.Answers as r
 use Rattle.alike.proofs.Values.{Both, boths-of, last-of, values-on, last-on, length-alike}
 use Rattle.alike.proofs.Runs.{roomed-good, run-alike}

@@ -1,17 +1,16 @@
 -- A run of two machines that mean the same: the same answer by meaning, and machines that mean the same again, after a fault too.
-use mathlib.Core.Path.{_≡_, refl, sym, ap, _∙_}
+use mathlib.Core.Path.{_≡_, refl, sym, _∙_}
 use mathlib.Core.Bool.{Bool, true, false}
-use mathlib.Core.List.{List, []}
-use Prim.Native.Nat.{ℕ, zero, suc, _-_}
+use mathlib.Core.List.{List}
+use Prim.Native.Nat.{ℕ, zero, suc}
 use lib.ListN.{length}
 use Rattle.model.specs.declared.Value.{Value}
 use Rattle.model.specs.declared.Last.{Last}
-use Rattle.model.specs.declared.Last.the-variants.{Nothing, Is}
+use Rattle.model.specs.declared.Last.the-variants.{Nothing}
 use Rattle.model.specs.declared.Fault.{Fault}
-use Rattle.model.specs.declared.Fault.the-variants as f
 use Rattle.model.specs.Values.{faultNumber}
 use Rattle.model.specs.Heap.{Cell, heapOk}
-use Rattle.model.specs.Steps.{World, State, Outcome, went, returned, faulted, codeOf, stepOf}
+use Rattle.model.specs.Steps.{World, State, Outcome, codeOf}
 use Rattle.model.specs.Runs.{Machine, begin, Mark, mark, Ended, ended, stopped, over, next, turn, runFor, endOf, answered, recovered, settle, runOf}
 use Rattle.cells.proofs.Meaning.{meaning-kept}
 use Rattle.rules.specs.Sane.{SaneWorld, Sane, Kept}

@@ -3,11 +3,11 @@ use mathlib.Core.Path.{_≡_, refl, sym, _∙_}
 use mathlib.Core.Bool.{Bool, true, false}
 use mathlib.Core.List.{List, [], _∷_}
 use mathlib.Core.Option.{Option, none, some}
-use Prim.Native.Nat.{ℕ, suc, _+_, _-_, _*_, _<_}
+use Prim.Native.Nat.{ℕ, suc, _+_, _-_, _*_}
 use native.Mathlib.Omega.{arith}
 use borrow.Author.Tests.{ltb-true}
 use lib.Dec.{ltb, leb, eqb}
-use lib.ListN.{length, getD, drop}
+use lib.ListN.{length, getD}
 use lib.Ieee.{Float}
 use Rattle.model.specs.declared.Op.{Op}
 use Rattle.model.specs.declared.Op.the-variants as o
@@ -16,7 +16,6 @@ use Rattle.model.specs.declared.Decoded.the-variants as d
 use Rattle.model.specs.declared.Value.{Value}
 use Rattle.model.specs.declared.Value.the-variants as v
 use Rattle.model.specs.declared.Last.{Last}
-use Rattle.model.specs.declared.Last.the-variants.{Nothing, Is}
 use Rattle.model.specs.declared.Fault.{Fault}
 use Rattle.model.specs.declared.Fault.the-variants as f
 use Rattle.model.specs.declared.Found.{Found}
@@ -24,18 +23,18 @@ use Rattle.model.specs.declared.Frame.{Frame}
 use Rattle.model.specs.Basics.{if_then_else_}
 use Rattle.model.specs.Values.{faultNumber, textAt, ifScalar, ifBoolean, ifReference, ifStruct, popping, poppingScalar, poppingBoolean}
 use Rattle.model.specs.Scalars.{zeroDivisor}
-use Rattle.model.specs.Heap.{Cell, Built, elementsIn, buildOf, listElements, structFields, fieldOf, placedBelow, blocksFrom, heapOk}
-use Rattle.model.specs.Equality.{Same, same, sameOf}
-use Rattle.model.specs.Trees.{treesOf, treeOf, meaningTo, meaning}
-use Rattle.model.specs.Programs.{functionNamed, wordAt}
-use Rattle.model.specs.Steps.{World, State, Outcome, went, returned, faulted, withStack, withHeap, withUnits, withFrames, at, position, codeOf, pushing, onFound, constantOf, slotOf, lastOf, loadStep, slotStep, lastStep, negateStep, arithmeticStep, orderingStep, onSame, equalStep, logicStep, notStep, jumpStep, jumpIfFalseStep, enter, callStep, enterNamed, callCallableStep, onBuilt, buildStep, structStep, fieldStep, cut, returnTo, returnStep, execOf, operandsThen, decodedThen, fetched, stepOf}
+use Rattle.model.specs.Heap.{Cell, Built, listElements, structFields, fieldOf, placedBelow, blocksFrom, heapOk}
+use Rattle.model.specs.Equality.{Same, same}
+use Rattle.model.specs.Trees.{treeOf, meaningTo, meaning}
+use Rattle.model.specs.Programs.{functionNamed}
+use Rattle.model.specs.Steps.{World, State, Outcome, went, faulted, withStack, withHeap, withUnits, withFrames, at, position, codeOf, pushing, onFound, constantOf, slotOf, lastOf, loadStep, slotStep, lastStep, negateStep, arithmeticStep, orderingStep, onSame, equalStep, logicStep, notStep, jumpStep, jumpIfFalseStep, enter, callStep, enterNamed, callCallableStep, onBuilt, buildStep, structStep, fieldStep, cut, returnTo, returnStep, execOf, operandsThen, decodedThen, fetched, stepOf}
 use Rattle.cells.proofs.Order.{Placed}
 use Rattle.cells.proofs.Meaning.{meaning-kept}
-use Rattle.rules.specs.Sane.{AllPlaced, LastPlaced, SaneWorld, Sane}
+use Rattle.rules.specs.Sane.{SaneWorld, Sane}
 use Rattle.rules.proofs.Combinators.{if-each}
 use Rattle.rules.proofs.Does.{Makes, list, struct}
 use Rattle.rules.proofs.Placed.{grows-placed, all-at}
-use Rattle.alike.specs.Alike.{AlikeValue, AlikeValues, AlikeLast, roomed, SameFree, AlikeState, AlikeOutcome, goes, returns, faults}
+use Rattle.alike.specs.Alike.{AlikeValue, AlikeValues, roomed, SameFree, AlikeState, AlikeOutcome, goes, returns, faults}
 use Rattle.alike.specs.Alike as a
 use Rattle.alike.proofs.Values.{Both, Boths, empty, over, BothLast, nothing, is, boths-of, last-of, values-on, last-on, Kinds, scalars, booleans, strings, references, lists, structs, BothFound, got, bad, found-if, kinds, same-alike, length-alike, at-alike, drop-alike, take-alike, turned-alike, field-alike}
 use Rattle.alike.proofs.Builds.{BothGrow, BothBuilt, made, refused, build-alike}
