@@ -9,12 +9,13 @@ use Rattle.model.specs.declared.Value.{Value}
 use Rattle.model.specs.declared.Frame.{Frame}
 use Rattle.model.specs.Heap.{Cell, heapOk}
 use Rattle.model.specs.Steps.{World}
-use Rattle.model.specs.Runs.{Machine, begin, Entry, recovered, runOf}
+use Rattle.model.specs.Runs.{Machine, begin, Entry, fault, runOf}
 use Rattle.rules.specs.Sane.{AllPlaced, LastPlaced, SaneWorld, FrameFits, CallersFit, Sane}
-use Rattle.rules.specs.Demand.{Call, Recovered}
+use Rattle.rules.specs.Demand.{Call}
 use Rattle.rules.proofs.Runs.{ran-sane}
-use Rattle.alike.specs.Alike.{AlikeValue, is, roomed, AlikeMachine}
-use Rattle.alike.specs.Answers.{meantOf, Begins, none, next, AsFree, AnswersAs, SetUp}
+use Rattle.rules.proofs.Demands.{run-recovered}
+use Rattle.alike.specs.Alike.{AlikeValue, roomed, AlikeMachine}
+use Rattle.alike.specs.Answers.{meantOf, Begins, none, next, AsFree, AnswersAs, SetUp, Recovers}
 use Rattle.alike.specs.Answers as r
 use Rattle.alike.proofs.Values.{Both, boths-of, last-of, values-on, last-on, length-alike}
 use Rattle.alike.proofs.Runs.{roomed-good, run-alike}
@@ -75,8 +76,8 @@ calls-alike w m n m' h s (c ∷ cs) cs' (next b g k rest) (r.next j e free) =
     let z = calls-alike x (runOf x m u .machine) j (runOf (roomed j x) m' u .machine) left (record { sane = right; alike = run .machine }) cs _ rest (as-free (x .cellRoom) j e (run .machine .free) free) in
     (next b (roomed-good j g) k' (z .0), rw (run .answer, z .1))
 
--- after a run that faulted, whatever runs come, the machine answers as one that was set up to mean what the fault leaves: the starting stack,
--- one frame at the end of main, the last result of the last completed root Return or the former one; and as many cells free
-pub fault-alike : (w : World) (m : Machine) (u : ℕ) → SaneWorld w → Sane w (begin m u) → {i spent : ℕ} {trace : List Entry} (r : Recovered w m u i spent trace)
-    → (n : ℕ) (m' : Machine) → SetUp w (recovered w m (r .kept)) n m' → AnswersAs (w .text) (runOf w m u .machine) m'
-fault-alike w m u good h r n m' s = calls-alike w (runOf w m u .machine) n m' (ran-sane w good m u h 0) (rw (r .leaves) s)
+-- the demand: after a run that faulted, the next runs answer as a machine set up in that state with the same free cells would
+pub fault-alike : (w : World) (m : Machine) (u : ℕ) → SaneWorld w → Sane w (begin m u) → {i spent : ℕ} {trace : List Entry} → runOf w m u .reply ≡ fault i spent trace → Recovers w m u i spent trace
+fault-alike w m u good h q =
+    let r = run-recovered w m u _ _ _ q in
+    record { left = r; later = λ n m' s. calls-alike w (runOf w m u .machine) n m' (ran-sane w good m u h 0) (rw (r .leaves) s) }

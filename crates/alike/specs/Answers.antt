@@ -6,10 +6,10 @@ use lib.ListN.{length}
 use Rattle.model.specs.Heap.{Cell}
 use Rattle.model.specs.Trees.{Tree, meaning}
 use Rattle.model.specs.Steps.{World}
-use Rattle.model.specs.Runs.{Machine, begin, Entry, Reply, Ran, runOf}
+use Rattle.model.specs.Runs.{Machine, begin, Entry, recovered, Reply, Ran, runOf}
 use Rattle.model.specs.Runs as r
 use Rattle.rules.specs.Sane.{SaneWorld, Sane}
-use Rattle.rules.specs.Demand.{Call}
+use Rattle.rules.specs.Demand.{Call, Recovered}
 use Rattle.alike.specs.Alike.{roomed, AlikeMachine}
 
 -- a reply that has the value's tree in place of the value
@@ -63,3 +63,9 @@ AnswersAs t m m' = (cs cs' : List Call) → Orderly t m cs → AsFree (length (m
 pub record SetUp (w : World) (m : Machine) (n : ℕ) (m' : Machine) : Type 0 where
   pub sane : Sane (roomed n w) (begin m' 0)
   pub alike : AlikeMachine w n m m'
+
+-- a run of m with u units that answers fault i: what it leaves; and whatever runs come then, they answer as on any machine that was set up to mean
+-- what the fault leaves (the starting stack, one frame at the end of main, the kept last result), with as many cells free
+pub record Recovers (w : World) (m : Machine) (u i spent : ℕ) (trace : List Entry) : Type 0 where
+  pub left : Recovered w m u i spent trace
+  pub later : (n : ℕ) (m' : Machine) → SetUp w (recovered w m (left .kept)) n m' → AnswersAs (w .text) (runOf w m u .machine) m'
