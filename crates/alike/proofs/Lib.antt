@@ -4,3 +4,4 @@ pub mod Steps
 pub mod Runs
 pub mod Texts
 pub mod Calls
+pub mod Example
