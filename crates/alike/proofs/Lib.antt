@@ -5,3 +5,4 @@ pub mod Runs
 pub mod Texts
 pub mod Calls
 pub mod Example
+pub mod Lent
