@@ -8,7 +8,7 @@ use Rattle.model.specs.Values.{places}
 use Rattle.model.specs.Steps.{World}
 use Rattle.model.specs.Runs.{begin, runOf}
 use Rattle.model.specs.Stores.{Stores, worldIn}
-use Rattle.model.specs.Machines.{Lent, machineIn, worldOf, runOrder, tooShort, ran, runAnswer, RunPost}
+use Rattle.model.specs.Machines.{Lent, machineIn, worldOf, runOrder, tooShort, runAnswer, RunPost}
 use Rattle.rules.specs.Sane.{Sane}
 use Rattle.rules.specs.Ordered.{CodeBytes}
 use Rattle.rules.proofs.Ordered.{order-world, order-sane}
