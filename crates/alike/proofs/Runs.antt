@@ -105,7 +105,7 @@ module _ (w : World) (n : ℕ) (good : SaneWorld w) where
   -- ---- two runs of u units
 
   -- machines do not have units
-  pub started : {m m' : Machine} (u : ℕ) → AlikeMachine w n m m' → AlikeState w n (begin m u) (begin m' u)
+  started : {m m' : Machine} (u : ℕ) → AlikeMachine w n m m' → AlikeState w n (begin m u) (begin m' u)
   started u a = record { machine = a; units = refl }
 
   module _ (m m' : Machine) (u : ℕ) (h : Sane w (begin m u)) (h' : Sane (roomed n w) (begin m' u)) (a : AlikeMachine w n m m') where
