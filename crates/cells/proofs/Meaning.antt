@@ -37,7 +37,7 @@ unfolding elementsIn
 length-elements H p = length-items (headIn H p .count) (suc p) H
 
 -- the elements of the block at p are placed in the whole heap
-within : (t : ℕ) (H : List Cell) → Good t H → (p : ℕ) → Whole H p (length H) → Every (Placed t H (length H)) (elementsIn H p)
+pub within : (t : ℕ) (H : List Cell) → Good t H → (p : ℕ) → Whole H p (length H) → Every (Placed t H (length H)) (elementsIn H p)
 within t H g p w = every-map (λ u i. placed-more t H p (length H) (let z = w .ends in omega arith) u (i .placed)) (inner t H p (g p (w .headed)))
 
 module _ (t : List ℕ) (H : List Cell) (g : Good (length t) H) (r : Value → Value → Same) (m : Value → Tree)
@@ -127,7 +127,7 @@ equal-is-trees t H e a b fa fb = same-to t H (good-of (length t) H e) 64 a b fa 
 
 -- ---- cells added above
 
-trees-agree : (r r' : Value → Tree) {us : List Value} → Every (λ u. r u ≡ r' u) us → treesOf r us ≡ treesOf r' us
+pub trees-agree : (r r' : Value → Tree) {us : List Value} → Every (λ u. r u ≡ r' u) us → treesOf r us ≡ treesOf r' us
 unfolding treesOf
 trees-agree r r' nil = refl
 trees-agree r r' (cons e es) = rw (e, trees-agree r r' es)
@@ -163,7 +163,7 @@ module _ (t : List ℕ) (H : List Cell) (g : Good (length t) H) where
   abbrev Lower : Value → Value → Type 0
   Lower u x = Placed (length t) H (length H) x × (depthIn H x < depthIn H u)
 
-  lower : (p : ℕ) → Whole H p (length H) → Every (λ x. Placed (length t) H (length H) x × (depthIn H x < headIn H p .depth)) (elementsIn H p)
+  pub lower : (p : ℕ) → Whole H p (length H) → Every (λ x. Placed (length t) H (length H) x × (depthIn H x < headIn H p .depth)) (elementsIn H p)
   lower p w = every-map (λ x i. (placed-more (length t) H p (length H) (let z = w .ends in omega arith) x (i .placed), i .lower)) (inner (length t) H p (g p (w .headed)))
 
   tree-fuel : (r r' : Value → Tree) (u : Value) → Placed (length t) H (length H) u → ((x : Value) → Lower u x → r x ≡ r' x) → treeOf r t H u ≡ treeOf r' t H u

@@ -1,0 +1,1 @@
+// Laws of machines that mean the same: no code.
