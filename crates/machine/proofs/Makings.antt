@@ -3,7 +3,7 @@
 --     made-loaded, not-loaded, broken-loaded     loading
 --     place-broken .. without-place              loading without a place for a frame
 --     none-new, made-new, not-new                a new program
---     place-there, frame-laid, frame-not         the frame
+--     load-starts .. frame-not                   the frame
 -- Assumes nothing.
 use mathlib.Core.Path.{_≡_, refl, sym, ap, subst, _∙_}
 use mathlib.Core.Bool.{Bool, true, false, _&&_, true≢false}
@@ -207,18 +207,34 @@ not-laid (l.Done c) s' s (r ∷ rs) d = absurd (true≢false d)
 not-laid (l.Broken i) s' s rs d = refl
 not-laid (l.Refused n) s' s rs d = refl
 
-module _ (w : Loaded) (s' s : Stores) (rs : List Frame) {r : Started} {y : Stores} (m : Makes (startWith w s' s) (length rs) r y) where
-  answers : isDone (startWith w s' s rs .answer) ≡ isDone r
-  answers = ap isDone (sym (m .answer rs refl))
+-- a machine's making whose frames w says, with the answer r and the stores y
+pub record Starts (w : StartRes) (rs : List Frame) (r : Started) (y : Stores) : Type 0 where
+  pub answer : r ≡ w .answer
+  pub stores : y ≡ w .stores
+  pub laid : isDone (w .answer) ≡ true → (0 < length rs) × (set rs 0 (root 0) ≡ w .frames)
+  pub kept : isDone (w .answer) ≡ false → rs ≡ w .frames
 
-  all-of : {fs : List Frame} → fs ≡ startWith w s' s rs .frames → record { answer = r; stores = y; frames = fs } ≡ startWith w s' s rs
-  all-of f = rw (m .answer rs refl, m .stores rs refl, f)
+pub load-starts : (image : List ℕ) (x : Stores) (rs : List Frame) {r : Started} {y : Stores} → Makes (loadMachineOf image x) (length rs) r y → Starts (loadMachineOf image x rs) rs r y
+unfolding loadMachineOf
+load-starts image x rs m = record { answer = m .answer rs refl; stores = m .stores rs refl; laid = laid-by _ _ x rs; kept = not-laid _ _ x rs }
 
-  pub place-there : isDone r ≡ true → 0 < length rs
-  place-there d = laid-by w s' s rs (answers ∙ d) .0
+pub new-starts : (x : Stores) (rs : List Frame) {r : Started} {y : Stores} → Makes (newMachineOf x) (length rs) r y → Starts (newMachineOf x rs) rs r y
+unfolding newMachineOf
+new-starts x rs m = record { answer = m .answer rs refl; stores = m .stores rs refl; laid = laid-by _ _ x rs; kept = not-laid _ _ x rs }
 
-  pub frame-laid : isDone r ≡ true → {fs : List Frame} → fs ≡ set rs 0 (root 0) → record { answer = r; stores = y; frames = fs } ≡ startWith w s' s rs
-  frame-laid d f = all-of (f ∙ laid-by w s' s rs (answers ∙ d) .1)
+module _ {w : StartRes} {rs : List Frame} {r : Started} {y : Stores} where
+  all-of : Starts w rs r y → {fs : List Frame} → fs ≡ w .frames → record { answer = r; stores = y; frames = fs } ≡ w
+  all-of m f = rw (m .answer, m .stores, f)
 
-  pub frame-not : isDone r ≡ false → record { answer = r; stores = y; frames = rs } ≡ startWith w s' s rs
-  frame-not d = all-of (not-laid w s' s rs (answers ∙ d))
+  pub place-there : isDone r ≡ true → Starts w rs r y → 0 < length rs
+  place-there d m = m .laid (ap isDone (sym (m .answer)) ∙ d) .0
+
+  pub frame-laid : isDone r ≡ true → {fs : List Frame} → fs ≡ set rs 0 (root 0) → Starts w rs r y → record { answer = r; stores = y; frames = fs } ≡ w
+  frame-laid d f m = all-of m (f ∙ m .laid (ap isDone (sym (m .answer)) ∙ d) .1)
+
+  pub frame-not : isDone r ≡ false → Starts w rs r y → record { answer = r; stores = y; frames = rs } ≡ w
+  frame-not d m = all-of m (m .kept (ap isDone (sym (m .answer)) ∙ d))
+
+-- no stores at all
+abbrev pub no-stores : Stores
+no-stores = record { constants = []; structs = []; functions = []; text = []; main = []; mainPlaces = []; other = []; otherPlaces = [] }
