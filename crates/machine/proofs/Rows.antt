@@ -181,9 +181,6 @@ module _ {M : Type 1} (𝓤 : URA M) (H : Heap 𝓤) (A : Atoms 𝓤) (W : Given
   pub course-typed : (x : Course) → IsCourse x → T (hasTy C′.mir (courseVal x)) × WT (courseVal x)
   course-typed x is = LL.lawful C.the-type C′.the-laws 𝓤 H A W .typed x _ is .0
 
-  pub course-makes : Makes 𝓤 H A CourseRow (Is CourseRow)
-  course-makes = LL.makes C.the-type C′.the-plain 𝓤 H A
-
   pub started-typed : (x : Started) → IsStarted x → T (hasTy B′.mir (startedVal x)) × WT (startedVal x)
   started-typed x is = EL.lawful B.the-type B′.the-laws 𝓤 H A W tt .typed x _ is .0
 
