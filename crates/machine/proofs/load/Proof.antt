@@ -157,11 +157,11 @@ module _ {M : Type 1} (𝓤 : URA M) (H : Heap 𝓤) (A : Atoms 𝓤) (W : Given
 
     -- the calls
     abbrev to-made : List Arg
-    to-made = shr u8 s0 image ∷ mut u64 s1 constants ∷ mut u64 s2 structs ∷ mut u64 s3 functions ∷ mut u8 s4 text ∷ mut u8 s5 main ∷ mut u32 s6 mainPlaces ∷ mut u8 s7 other ∷ mut u32 s8 otherPlaces ∷ val usize ((s9 .count)) (vint w64 ((s9 .count))) ∷ []
+    to-made = shr u8 s0 image ∷ mut u64 s1 constants ∷ mut u64 s2 structs ∷ mut u64 s3 functions ∷ mut u8 s4 text ∷ mut u8 s5 main ∷ mut u32 s6 mainPlaces ∷ mut u8 s7 other ∷ mut u32 s8 otherPlaces ∷ val usize (s9 .count) (vint w64 (s9 .count)) ∷ []
 
     call-made : Rule 𝓤 H A W to-made Made StartedRow startedVal (λ r zs. Makes (loadMachineOf image (stored constants structs functions text main mainPlaces other otherPlaces)) (s9 .count) r (stored (zs .1 .0) (zs .1 .1 .0) (zs .1 .1 .1 .0) (zs .1 .1 .1 .1 .0) (zs .1 .1 .1 .1 .1 .0) (zs .1 .1 .1 .1 .1 .1 .0) (zs .1 .1 .1 .1 .1 .1 .1 .0) (zs .1 .1 .1 .1 .1 .1 .1 .1 .0)))
     call-made = call-with 𝓤 H A W to-made Made StartedRow startedVal (λ r zs. Makes (loadMachineOf image (stored constants structs functions text main mainPlaces other otherPlaces)) (s9 .count) r (stored (zs .1 .0) (zs .1 .1 .0) (zs .1 .1 .1 .0) (zs .1 .1 .1 .1 .0) (zs .1 .1 .1 .1 .1 .0) (zs .1 .1 .1 .1 .1 .1 .0) (zs .1 .1 .1 .1 .1 .1 .1 .0) (zs .1 .1 .1 .1 .1 .1 .1 .1 .0))) started-tells (λ ns. passing (lent to-made ns)) (λ ns. refl)
-        (λ ns. unasked W (lent to-made ns)) (λ ns w. id⊢ 𝓤 _) (uint-makes 𝓤 H A W w64 ((s9 .count)) _ (refl, room9 .0), tt) ((refl, room0), ((refl, room1), ((refl, room2), ((refl, room3), ((refl, room4), ((refl, room5), ((refl, room6), ((refl, room7), ((refl, room8), tt)))))))))
+        (λ ns. unasked W (lent to-made ns)) (λ ns w. id⊢ 𝓤 _) (uint-makes 𝓤 H A W w64 (s9 .count) _ (refl, room9 .0), tt) ((refl, room0), ((refl, room1), ((refl, room2), ((refl, room3), ((refl, room4), ((refl, room5), ((refl, room6), ((refl, room7), ((refl, room8), tt)))))))))
 
     abbrev to-done : Started → List Arg
     to-done r = val StartedRow r (startedVal r) ∷ []

@@ -95,11 +95,11 @@ module _ {M : Type 1} (𝓤 : URA M) (H : Heap 𝓤) (A : Atoms 𝓤) (W : Given
 
     -- the calls
     abbrev to-made : List Arg
-    to-made = mut u64 s0 functions ∷ mut u8 s1 text ∷ val usize ((s2 .count)) (vint w64 ((s2 .count))) ∷ []
+    to-made = mut u64 s0 functions ∷ mut u8 s1 text ∷ val usize (s2 .count) (vint w64 (s2 .count)) ∷ []
 
     call-made : Rule 𝓤 H A W to-made Made StartedRow startedVal (λ r zs. ((rest : Stores) → Makes (newMachineOf (namesLent rest functions text)) (s2 .count) r (namesLent rest (zs .0) (zs .1 .0))))
     call-made = call-with 𝓤 H A W to-made Made StartedRow startedVal (λ r zs. ((rest : Stores) → Makes (newMachineOf (namesLent rest functions text)) (s2 .count) r (namesLent rest (zs .0) (zs .1 .0)))) started-tells (λ ns. passing (lent to-made ns)) (λ ns. refl)
-        (λ ns. unasked W (lent to-made ns)) (λ ns w. id⊢ 𝓤 _) (uint-makes 𝓤 H A W w64 ((s2 .count)) _ (refl, room2 .0), tt) ((refl, room0), ((refl, room1), tt))
+        (λ ns. unasked W (lent to-made ns)) (λ ns w. id⊢ 𝓤 _) (uint-makes 𝓤 H A W w64 (s2 .count) _ (refl, room2 .0), tt) ((refl, room0), ((refl, room1), tt))
 
     abbrev to-done : Started → List Arg
     to-done r = val StartedRow r (startedVal r) ∷ []
