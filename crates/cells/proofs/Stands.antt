@@ -76,3 +76,13 @@ exact-first (suc n) m i w e =
 
 pub exact-cut : (used p : ℕ) (w : List ℕ) → p ≤ used → exactCells used 0 w ≡ true → exactCells p 0 w ≡ true
 exact-cut used p w h e = let z : p + (used - p) ≡ used = omega arith in exact-first p (used - p) 0 w (rw z e)
+
+exact-from : (n i : ℕ) (w : List ℕ) → exactCells n i w ≡ true → (j : ℕ) → j < n → exactCell (kindAt w (i + j)) (payloadAt w (i + j)) ≡ true
+unfolding exactCells
+exact-from zero i w e j h = absurd (let z : ⊥ = omega arith in z)
+exact-from (suc n) i w e zero h = let z : i + 0 ≡ i = omega arith in rw z (and-left (exactCell (kindAt w i) (payloadAt w i)) (exactCells n (suc i) w) e)
+exact-from (suc n) i w e (suc j) h = let z : i + suc j ≡ suc i + j = omega arith in rw z (exact-from n (suc i) w (and-right (exactCell (kindAt w i) (payloadAt w i)) (exactCells n (suc i) w) e) j (omega arith))
+
+-- each cell of an exact store is exact
+pub exact-at : (used : ℕ) (w : List ℕ) → exactCells used 0 w ≡ true → (i : ℕ) → i < used → exactCell (kindAt w i) (payloadAt w i) ≡ true
+exact-at used w e i h = let z : 0 + i ≡ i = omega arith in rw z at (exact-from used 0 w e i h)

@@ -2,38 +2,43 @@
 use mathlib.Core.Path.{_≡_, refl, ap}
 use mathlib.Core.Bool.{Bool, true, false, _&&_}
 use mathlib.Core.List.{List, [], _∷_}
-use Prim.Native.Nat.{ℕ, _≤_}
+use mathlib.Core.Option.{some}
+use Prim.Native.Nat.{ℕ, suc, _+_, _≤_, _<_}
 use native.Mathlib.Omega.{arith}
 use borrow.Author.Tests.{ltb-true}
-use lib.Dec.{ltb}
+use lib.Dec.{ltb, leb}
 use Rattle.model.specs.declared.Vm.{Vm}
 use Rattle.model.specs.declared.Value.{Value}
+use Rattle.model.specs.declared.Value.the-variants as v
 use Rattle.model.specs.declared.Frame.{Frame}
 use Rattle.model.specs.declared.Emitted.{Emitted}
 use Rattle.model.specs.declared.Emitted.the-variants as e
 use Rattle.model.specs.declared.Loaded.{Loaded}
 use Rattle.model.specs.declared.Loaded.the-variants as ld
-use Rattle.model.specs.declared.Shown.the-variants as w
-use Rattle.model.specs.declared.Told.the-variants as t
 use Rattle.model.specs.Basics.{if_then_else_}
-use Rattle.model.specs.Values.{places, mostPlaces, kindAt, payloadAt, valueAt, exactValue}
-use Rattle.model.specs.Runs.{backtraceOf}
+use Rattle.model.specs.Values.{ifList, ifStruct, places, mostPlaces}
+use Rattle.model.specs.Heap.{heapOf, headIn, placedBelow}
 use Rattle.model.specs.Stores.{Stores, functionsFrom}
 use Rattle.model.specs.Orders.{insideCodes, frameStoreOk}
 use Rattle.model.specs.Emission.{Res}
 use Rattle.model.specs.Loading.{listOrder}
-use Rattle.model.specs.Machines.{Lent, innermost, callersIn, traceOrder, putTrace, backtraceIn, startWith, fresh, loadMachineOf, newMachineOf}
-use Rattle.model.specs.Readers.{stackValueOf, reads, blockHeaderOf, elementOf}
+use Rattle.model.specs.Machines.{Lent, traceOrder, backtraceIn, startWith, fresh, loadMachineOf, newMachineOf}
+use Rattle.model.specs.Readers.{stackValueOf, reads, headerAt, blockHeaderOf, elementShown, elementOf}
 use Rattle.value.proofs.Coding.{and-right}
+use Rattle.cells.proofs.Order.{Whole, Placed, list-of, struct-of}
 use Rattle.rules.proofs.Frames.{some-frame}
 use Rattle.demands.specs.Host.{Held, Ask, new, load, addOp, addOp1, addOp2, addOp3, patch, addConstant, addStruct, beginFunction, endFunction, currentOffset, functionIdx, save, disassemble, backtrace, lastResult, stackValue, blockHeader, element, textBytes, Answer, put, shown, headed, Done, counted, withFrames, emits, starts, looks, done}
 use Rattle.demands.specs.Agree.{Alike, LentAlike, Agree}
-use Rattle.demands.proofs.Fronts.{places-alike, kind-alike, payload-alike, value-alike, heap-alike, frames-alike, innermost-alike, callers-alike}
+use Rattle.demands.proofs.Fronts.{places-alike, value-alike, shown-alike, heap-to, heap-alike, frames-alike, innermost-alike, callers-alike}
 
 -- what two calls answer and leave agrees
 pub record DoneAlike (a b : Done) : Type 0 where
   pub answer : a .answer ≡ b .answer
   pub agree : Agree (a .held) (b .held)
+
+if-same : {A : Type 0} (b : Bool) (z : A) {x y : A} → (b ≡ true → x ≡ y) → (if b then x else z) ≡ (if b then y else z)
+if-same true z h = h refl
+if-same false z h = refl
 
 module _ (m : Vm) (s : Stores) {l l' : Lent} (k : LentAlike m l l') where
   abbrev here : Lent → Held
@@ -86,40 +91,53 @@ module _ (m : Vm) (s : Stores) {l l' : Lent} (k : LentAlike m l l') where
   unfolding traceOrder
   trace-order-alike = rw (frames-alike (k .frames) (functionsFrom (m .program .functions) 0 s) mostPlaces)
 
-  trace-by : (out : List ℕ) (b : Bool) → traceOrder m s (l .frames) ≡ b
-      → (if b then (if ltb (places 2 out) (m .frames) then record { answer = t.Refused 17; out = out } else putTrace (backtraceOf (functionsFrom (m .program .functions) 0 s) (innermost (m .frames) (l .frames) ∷ callersIn (m .frames) (l .frames))) out) else record { answer = t.Refused 19; out = out })
-      ≡ (if b then (if ltb (places 2 out) (m .frames) then record { answer = t.Refused 17; out = out } else putTrace (backtraceOf (functionsFrom (m .program .functions) 0 s) (innermost (m .frames) (l' .frames) ∷ callersIn (m .frames) (l' .frames))) out) else record { answer = t.Refused 19; out = out })
+  has-frame : traceOrder m s (l .frames) ≡ true → 1 ≤ m .frames
   unfolding traceOrder
-  trace-by out true e =
+  has-frame e =
       let x = listOrder (m .program) s && insideCodes (m .program) (s .functions) (s .mainPlaces) (s .otherPlaces) in
       let fs = functionsFrom (m .program .functions) 0 s in
-      let n : 1 ≤ m .frames = some-frame fs mostPlaces (m .frames) (l .frames) (and-right x (frameStoreOk fs mostPlaces (m .frames) (l .frames)) e) in
-      rw (innermost-alike (k .frames) n, callers-alike (k .frames))
-  trace-by out false e = refl
+      some-frame fs mostPlaces (m .frames) (l .frames) (and-right x (frameStoreOk fs mostPlaces (m .frames) (l .frames)) e)
 
   trace-alike : (out : List ℕ) → backtraceIn m s (l .frames) out ≡ backtraceIn m s (l' .frames) out
   unfolding backtraceIn
-  trace-alike out = rw (← trace-order-alike) (trace-by out (traceOrder m s (l .frames)) refl)
-
-  slot-by : (i : ℕ) (b : Bool) → ltb i (m .stack) ≡ b
-      → (if b then (if exactValue (kindAt (l .stack) i) (payloadAt (l .stack) i) then w.Value (valueAt (l .stack) i) else w.Refused 19) else w.Refused 6)
-      ≡ (if b then (if exactValue (kindAt (l' .stack) i) (payloadAt (l' .stack) i) then w.Value (valueAt (l' .stack) i) else w.Refused 19) else w.Refused 6)
-  slot-by i true e =
-      let h = ltb-true i (m .stack) e in
-      rw (kind-alike (m .stack) (k .stack) i h, payload-alike (m .stack) (k .stack) i h, value-alike (m .stack) (k .stack) i h)
-  slot-by i false e = refl
+  trace-alike out = rw (← trace-order-alike) (if-same (traceOrder m s (l .frames)) _ (λ e. rw (innermost-alike (k .frames) (has-frame e), callers-alike (k .frames))))
 
   value-shown : (i : ℕ) → stackValueOf m i (l .stack) ≡ stackValueOf m i (l' .stack)
   unfolding stackValueOf
-  value-shown i = rw (places-alike (l .stack) (l' .stack) (k .stack .room) 2, slot-by i (ltb i (m .stack)) refl)
+  value-shown i =
+      rw (places-alike (l .stack) (l' .stack) (k .stack .room) 2) (if-same (leb (m .stack) (places 2 (l' .stack))) _ (λ _.
+      if-same (ltb i (m .stack)) _ (λ e. shown-alike (m .stack) (k .stack) i (ltb-true i (m .stack) e))))
 
   header-shown : (x : Value) → blockHeaderOf m x (l .cells) ≡ blockHeaderOf m x (l' .cells)
   unfolding blockHeaderOf reads
   header-shown x = rw (places-alike (l .cells) (l' .cells) (k .cells .room) 2, heap-alike (m .cells) (k .cells))
 
+  -- the elements of what is placed are below the count of cells
+  element-at : (p i : ℕ) → Whole (heapOf (m .cells) (l' .cells)) p (m .cells) → elementShown m i (l .cells) (some p) ≡ elementShown m i (l' .cells) (some p)
+  unfolding elementShown
+  element-at p i w =
+      let n = headIn (heapOf (m .cells) (l' .cells)) p .count in
+      rw (heap-alike (m .cells) (k .cells)) (if-same (ltb i n) _ (λ e.
+      let x : i < n = ltb-true i n e in
+      let y = w .ends in
+      let h : suc p + i < m .cells = omega arith in
+      rw (heap-to (m .cells) (k .cells) p (omega arith), value-alike (m .cells) (k .cells) (suc p + i) h, shown-alike (m .cells) (k .cells) (suc p + i) h)))
+
+  element-by : (x : Value) (i : ℕ) → Placed (m .program .text) (heapOf (m .cells) (l' .cells)) (m .cells) x → elementShown m i (l .cells) (headerAt x) ≡ elementShown m i (l' .cells) (headerAt x)
+  unfolding elementShown headerAt ifList ifStruct
+  element-by (v.Scalar x) i e = refl
+  element-by (v.Boolean x) i e = refl
+  element-by (v.String o n) i e = refl
+  element-by (v.FunctionReference o n) i e = refl
+  element-by (v.List p) i e = element-at p i (list-of _ _ _ p e)
+  element-by (v.StructInstance p) i e = element-at p i (struct-of _ _ _ p e)
+
   element-shown : (x : Value) (i : ℕ) → elementOf m x i (l .cells) ≡ elementOf m x i (l' .cells)
   unfolding elementOf reads
-  element-shown x i = rw (places-alike (l .cells) (l' .cells) (k .cells .room) 2, heap-alike (m .cells) (k .cells))
+  element-shown x i =
+      let a = leb (m .cells) (places 2 (l' .cells)) in
+      let b = placedBelow (m .program .text) (heapOf (m .cells) (l' .cells)) (m .cells) x in
+      rw (places-alike (l .cells) (l' .cells) (k .cells .room) 2, heap-alike (m .cells) (k .cells)) (if-same (a && b) _ (λ e. element-by x i (and-right a b e)))
 
   pub ask-alike : (q : Ask) → DoneAlike (done q (here l)) (done q (here l'))
   unfolding done newMachineOf loadMachineOf

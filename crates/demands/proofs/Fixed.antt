@@ -1,8 +1,8 @@
 -- A machine in good order fixes its counts, and the words and frames below them.
-use mathlib.Core.Path.{_≡_, refl, sym, ap, subst, _∙_}
-use mathlib.Core.Bool.{Bool, true, false}
+use mathlib.Core.Path.{_≡_, sym, ap, subst, _∙_}
+use mathlib.Core.Bool.{true, false}
 use mathlib.Core.List.{List, [], _∷_, _++_, reverse, reverse-reverse}
-use Prim.Native.Nat.{ℕ, zero, suc, _+_, _-_, _*_, _/_, _%_, _≤_, _<_, min}
+use Prim.Native.Nat.{ℕ, suc, _+_, _-_, _*_, _/_, _%_, _≤_, _<_, min}
 use native.Mathlib.Omega.{arith}
 use borrow.Author.Tests.{leb-true, eqb-true, eqb-false}
 use lib.Dec.{leb, eqb}
@@ -18,24 +18,22 @@ use Rattle.model.specs.Runs.{Machine, root}
 use Rattle.model.specs.Stores.{Stores, functionsFrom, worldIn}
 use Rattle.model.specs.Orders.{framesOk, frameStoreOk}
 use Rattle.model.specs.Machines.{Lent, innermost, callersIn, machineIn, worldOf, runOrder}
-use Rattle.value.proofs.Coding.{and-left, and-right, exact-kind, exact-payload, exact-cell-kind, exact-cell-payload}
+use Rattle.value.proofs.Coding.{and-left, exact-kind, exact-payload, exact-cell-kind, exact-cell-payload}
 use Rattle.value.proofs.Stores.{length-vals, vals-slot, getD-cells}
-use Rattle.cells.proofs.Stands.{length-heap}
+use Rattle.cells.proofs.Stands.{length-heap, exact-at}
+use Rattle.program.proofs.Bools.{either-way}
+use Rattle.image.proofs.Loads.{two-words}
 use Rattle.rules.specs.Ordered.{Exact}
 use Rattle.rules.proofs.Ordered.{order-of, order-sane, order-exact}
 use Rattle.demands.specs.Agree.{Alike, Rooms, LentAlike}
 
 -- ---- words
 
-by-test : {P : Type 0} (b : Bool) → (b ≡ true → P) → (b ≡ false → P) → P
-by-test true p q = p refl
-by-test false p q = q refl
-
 module _ (c : ℕ) (a b : List ℕ) (fits : 2 * c ≤ length a) (room : length a ≡ length b) where
   module _ (ks : (i : ℕ) → i < c → kindAt a i ≡ kindAt b i) (ps : (i : ℕ) → i < c → payloadAt a i ≡ payloadAt b i) where
     word-same : (i : ℕ) → i < 2 * c → getD a i 0 ≡ getD b i 0
     unfolding kindAt payloadAt
-    word-same i h = by-test (eqb (i % 2) 0)
+    word-same i h = either-way (eqb (i % 2) 0)
         (λ e. let z : i ≡ 2 * (i / 2) = omega (arith, eqb-true (i % 2) 0 e) in subst (λ (j : ℕ). getD a j 0 ≡ getD b j 0) (sym z) (ks (i / 2) (omega arith)))
         (λ e. let n : i % 2 ≡ 0 → ⊥ = eqb-false (i % 2) 0 e in let z : i ≡ 2 * (i / 2) + 1 = odd i n in subst (λ (j : ℕ). getD a j 0 ≡ getD b j 0) (sym z) (ps (i / 2) (omega arith)))
       where
@@ -69,16 +67,8 @@ module _ (c : ℕ) (a b : List ℕ) (fits : 2 * c ≤ length a) (room : length a
   cells-fix p q e =
       let d : Cell = item (v.Boolean false) in
       let same : (i : ℕ) → i < c → cellAt a i ≡ cellAt b i = (λ i h. let z : 0 + i ≡ i = omega arith in rw z at (sym (getD-cells c 0 a i d h) ∙ ap (λ (l : List Cell). getD l i d) e ∙ getD-cells c 0 b i d h)) in
-      words-alike (λ i h. kinds i (first a p i h) (first b q i h) (same i h)) (λ i h. payloads i (first a p i h) (first b q i h) (same i h))
+      words-alike (λ i h. kinds i (exact-at c a p i h) (exact-at c b q i h) (same i h)) (λ i h. payloads i (exact-at c a p i h) (exact-at c b q i h) (same i h))
     where
-      exact-at : (n i : ℕ) (w : List ℕ) → exactCells n i w ≡ true → (j : ℕ) → j < n → exactCell (kindAt w (i + j)) (payloadAt w (i + j)) ≡ true
-      exact-at zero i w e j h = absurd (let z : ⊥ = omega arith in z)
-      exact-at (suc n) i w e zero h = let z : i + 0 ≡ i = omega arith in rw z (and-left (exactCell (kindAt w i) (payloadAt w i)) (exactCells n (suc i) w) e)
-      exact-at (suc n) i w e (suc j) h = let z : i + suc j ≡ suc i + j = omega arith in rw z (exact-at n (suc i) w (and-right (exactCell (kindAt w i) (payloadAt w i)) (exactCells n (suc i) w) e) j (omega arith))
-
-      first : (w : List ℕ) → exactCells c 0 w ≡ true → (j : ℕ) → j < c → exactCell (kindAt w j) (payloadAt w j) ≡ true
-      first w e j h = let z : 0 + j ≡ j = omega arith in rw z at (exact-at c 0 w e j h)
-
       kinds : (i : ℕ) → exactCell (kindAt a i) (payloadAt a i) ≡ true → exactCell (kindAt b i) (payloadAt b i) ≡ true → cellAt a i ≡ cellAt b i → kindAt a i ≡ kindAt b i
       kinds i p q e = exact-cell-kind (kindAt a i) (payloadAt a i) p ∙ ap cellKind e ∙ sym (exact-cell-kind (kindAt b i) (payloadAt b i) q)
 
@@ -104,10 +94,6 @@ pub record Standing (m : Vm) (l : Lent) : Type 0 where
   pub frames : m .frames ≤ length (l .frames)
   pub exact : Exact m l
 
-half : (n : ℕ) (s : List ℕ) → n ≤ places 2 s → 2 * n ≤ length s
-unfolding places
-half n s h = omega arith
-
 pub standing : (m : Vm) (s : Stores) (l : Lent) → runOrder m s l ≡ true → Standing m l
 unfolding worldOf worldIn machineIn frameStoreOk
 standing m s l e =
@@ -116,8 +102,8 @@ standing m s l e =
     let y = framesOk (functionsFrom (m .program .functions) 0 s) (places 2 (l .stack)) (take (m .frames) (l .frames)) in
     let z : m .frames ≤ min (length (l .frames)) mostPlaces = leb-true _ _ (and-left x y (order-of m s l e .frames)) in
     record {
-      stack = half (m .stack) (l .stack) (rw (length-vals (m .stack) (l .stack)) at (h .stack));
-      cells = half (m .cells) (l .cells) (rw (length-heap (m .cells) (l .cells)) at (h .cells));
+      stack = two-words (m .stack) (l .stack) (rw (length-vals (m .stack) (l .stack)) at (h .stack));
+      cells = two-words (m .cells) (l .cells) (rw (length-heap (m .cells) (l .cells)) at (h .cells));
       frames = omega arith;
       exact = order-exact m s l e;
     }

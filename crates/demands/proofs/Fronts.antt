@@ -14,6 +14,7 @@ use Rattle.model.specs.Programs.{Function}
 use Rattle.model.specs.Runs.{root}
 use Rattle.model.specs.Orders.{cellsOk, stackOk, frameStoreOk}
 use Rattle.model.specs.Machines.{frameRoom, innermost, callersIn}
+use Rattle.model.specs.Readers.{valueShown}
 use Rattle.demands.specs.Agree.{Alike}
 
 pub alike-at : {A : Type 0} {n : ℕ} {a b : List A} → Alike n a b → (j : ℕ) (d : A) → j < n → getD a j d ≡ getD b j d
@@ -46,6 +47,10 @@ module _ (c : ℕ) {a b : List ℕ} (k : Alike (2 * c) a b) where
   unfolding valueAt
   value-alike i h = rw (kind-alike i h, payload-alike i h)
 
+  pub shown-alike : (i : ℕ) → i < c → valueShown a i ≡ valueShown b i
+  unfolding valueShown
+  shown-alike i h = rw (kind-alike i h, payload-alike i h, value-alike i h)
+
   cell-alike : (i : ℕ) → i < c → cellAt a i ≡ cellAt b i
   unfolding cellAt
   cell-alike i h = rw (kind-alike i h, payload-alike i h)
@@ -63,9 +68,12 @@ module _ (c : ℕ) {a b : List ℕ} (k : Alike (2 * c) a b) where
   cells-to zero i h = refl
   cells-to (suc n) i h = rw (cell-alike i (omega arith), cells-to n (suc i) (omega arith))
 
-  pub heap-alike : heapOf c a ≡ heapOf c b
+  pub heap-to : (n : ℕ) → n ≤ c → heapOf n a ≡ heapOf n b
   unfolding heapOf
-  heap-alike = cells-to c 0 (omega arith)
+  heap-to n h = cells-to n 0 (omega arith)
+
+  pub heap-alike : heapOf c a ≡ heapOf c b
+  heap-alike = heap-to c (omega arith)
 
   exact-to : (n i : ℕ) → i + n ≤ c → exactCells n i a ≡ exactCells n i b
   unfolding exactCells

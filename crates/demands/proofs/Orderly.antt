@@ -26,7 +26,8 @@ use Rattle.model.specs.Machines.{tooShort, startWith, asLoaded, fresh, newMachi
 use Rattle.rules.proofs.Ordered.{fresh-order}
 use Rattle.rules.proofs.Programs.{program-runs}
 use Rattle.program.proofs.Keeping.{Kept, emit-keeps}
-use Rattle.program.proofs.Growing.{constant-keeps, patch-keeps, begin-keeps, end-keeps}
+use Rattle.program.proofs.Growing.{constant-keeps, patch-keeps, end-keeps}
+use Rattle.program.proofs.Naming.{struct-keeps, new-keeps, begin-keeps}
 use Rattle.demands.specs.Host.{Held, Ask, new, load, addOp, addOp1, addOp2, addOp3, patch, addConstant, addStruct, beginFunction, endFunction, currentOffset, functionIdx, save, disassemble, backtrace, lastResult, stackValue, blockHeader, element, textBytes, Call, run, ask, Answer, started, Done, withFrames, emits, starts, looks, done, RanBy, vmAfter, After, Chain, none, more}
 use Rattle.image.proofs.Trip.{image-only, loaded-stands}
 use Rattle.demands.specs.Refusals.{Check, firstOf, checks, refusedEmitted, refusedBy}
@@ -35,7 +36,7 @@ use Rattle.demands.proofs.OneRun.{Seen, went, stayed, seen}
 use Rattle.demands.proofs.Went.{Went}
 use Rattle.demands.proofs.Went as w
 use Rattle.demands.proofs.Wider.{order-wider}
-use Rattle.demands.proofs.Emitted.{struct-keeps, new-keeps, Grows, grows-same, emit-grows, patch-grows, constant-grows, struct-grows, begin-grows}
+use Rattle.demands.proofs.Emitted.{Grows, grows-same, emit-grows, patch-grows, constant-grows, struct-grows, begin-grows}
 use Rattle.demands.proofs.Refusing.{Says, ask-says, refuses}
 
 -- ---- what is loaded

@@ -3,9 +3,9 @@ use mathlib.Core.Path.{_≡_, refl, sym, ap, _∙_}
 use mathlib.Core.Bool.{Bool, true, false, not, _&&_, _||_}
 use mathlib.Core.List.{List, [], _∷_}
 use mathlib.Core.Option.{Option, none, some}
-use Prim.Native.Nat.{ℕ, _+_, _/_, _≤_, min}
+use Prim.Native.Nat.{ℕ, suc, _+_, _/_, _≤_, min}
 use native.Mathlib.Omega.{arith}
-use lib.Dec.{ltb, leb}
+use lib.Dec.{leb}
 use lib.ListN.{length, drop, length-drop}
 use lib.Seq.{length-take-le}
 use borrow.Author.Tests.{leb-true}
@@ -23,11 +23,9 @@ use Rattle.model.specs.declared.Loaded.the-variants as ld
 use Rattle.model.specs.declared.Told.{Told}
 use Rattle.model.specs.declared.Shown.{Shown}
 use Rattle.model.specs.declared.Headed.{Headed}
-use Rattle.model.specs.declared.Found.{Found}
-use Rattle.model.specs.declared.RunResult.the-variants as r
 use Rattle.model.specs.Basics.{if_then_else_}
-use Rattle.model.specs.Values.{places, textAt, faultNumber}
-use Rattle.model.specs.Heap.{Cell, heapOf, headIn, fieldOf}
+use Rattle.model.specs.Values.{ifString, ifReference, places, kindAt, payloadAt, exactValue, textAt}
+use Rattle.model.specs.Heap.{Cell}
 use Rattle.model.specs.Programs.{Function, nameLimit, withinLimits}
 use Rattle.model.specs.Images.{Judged, fine, broken, judge}
 use Rattle.model.specs.Listings.{Listed, text, unlisted}
@@ -37,11 +35,11 @@ use Rattle.model.specs.Orders.{textOk}
 use Rattle.model.specs.Emission.{Res, refuse, textRoom, newOf, u16, appended, emitIn, emitOf, addOpOf, addOp1Of, addOp2Of, addOp3Of, currentOffsetOf, patched, patchOf, withConstant, withTextConstant, constantAdded, addConstantOf, structAdded, structFound, addStructOf, begun, beginFunctionOf, endFunctionOf, toldName, functionIdxOf}
 use Rattle.model.specs.Loading.{roomFor, LoadRes, loadJudged, loadOf, OutRes, putOut, saveOf, putListing, listOf}
 use Rattle.model.specs.Machines.{runOrder, tooShort, ran, refused, runAnswer, putTrace, backtraceIn, startWith, asLoaded, loadMachineOf, newMachineOf}
-use Rattle.model.specs.Readers.{lastShown, lastResultOf, stackValueOf, headerAt, headerShown, blockHeaderOf, foundShown, elementShown, elementOf, textShown, readsText, textBytesOf}
+use Rattle.model.specs.Readers.{lastShown, lastResultOf, valueShown, stackValueOf, headerAt, headerShown, blockHeaderOf, elementShown, elementOf, textShown, readsText, textBytesOf}
 use Rattle.value.proofs.Coding.{and-left, and-right}
 use Rattle.demands.specs.Host.{Held, Ask, new, load, addOp, addOp1, addOp2, addOp3, patch, addConstant, addStruct, beginFunction, endFunction, currentOffset, functionIdx, save, disassemble, backtrace, lastResult, stackValue, blockHeader, element, textBytes, Call, run, ask, Answer, told, put, shown, headed, Done, withFrames, emits, starts, looks, done, RanBy, After}
 use Rattle.demands.proofs.OneRun.{Seen, went, stayed, seen}
-use Rattle.demands.specs.Refusals.{Check, must, mustNot, firstOf, isNone, isEmpty, codeChecks, hasText, loadChecks, newName, fitsOut, listChecks, noLast, hasElement, textChecks, askChecks, checks, refusedRun, refusedBy, OutKept, Demand1}
+use Rattle.demands.specs.Refusals.{Check, must, mustNot, firstOf, isNone, isEmpty, codeChecks, hasText, loadChecks, newName, fitsOut, listChecks, noLast, exactAt, elementChecks, textChecks, askChecks, checks, refusedRun, refusedBy, OutKept, Demand1}
 
 -- what a refusal n leaves
 record Refusal (h : Held) (n : ℕ) (d : Done) : Type 0 where
@@ -203,11 +201,14 @@ module _ (h : Held) where
   header-says H none = says-first (looked _ refl tt)
   header-says H (some p) = says-more (saw _ refl)
 
-  element-says : (i : ℕ) (x : Option ℕ) → Says h (mustNot (isNone x) 5 ∷ must (hasElement h i x) 6 ∷ []) (shows (elementShown (heapOf (h .vm .cells) (h .lent .cells)) i x))
-  unfolding elementShown fieldOf foundShown faultNumber
+  value-says : (s : List ℕ) (i : ℕ) → Says h (must (exactAt s i) 19 ∷ []) (shows (valueShown s i))
+  unfolding exactAt valueShown
+  value-says s i = pass-if shows h (exactValue (kindAt s i) (payloadAt s i)) (looked _ refl tt) (saw _ refl)
+
+  element-says : (i : ℕ) (x : Option ℕ) → Says h (elementChecks h i x) (shows (elementShown (h .vm) i (h .lent .cells) x))
+  unfolding elementChecks elementShown
   element-says i none = says-first (looked _ refl tt)
-  element-says i (some p) =
-      says-more (pass-if (λ (x : Found). shows (foundShown x)) h (ltb i (headIn (heapOf (h .vm .cells) (h .lent .cells)) p .count)) (looked _ refl tt) (saw _ refl))
+  element-says i (some p) = pass-if shows h _ (looked _ refl tt) (pass-if shows h _ (looked _ refl tt) (value-says (h .lent .cells) (suc p + i)))
 
   text-length : (o n : ℕ) → leb (o + n) (h .vm .program .text) ≡ true → textOk (h .vm .program) (h .stores .text) ≡ true → length (textAt (h .stores .text) o n) ≡ n
   unfolding textOk places textAt
@@ -219,8 +220,8 @@ module _ (h : Held) where
   bytes-says : (out : List ℕ) (o n : ℕ) → leb (o + n) (h .vm .program .text) ≡ true → textOk (h .vm .program) (h .stores .text) ≡ true → Says h (must (fitsOut out n) 17 ∷ []) (puts out (putOut (textAt (h .stores .text) o n) out))
   bytes-says out o n e q = rw (text-length o n e q) at (out-says out (textAt (h .stores .text) o n))
 
-  text-says : (out : List ℕ) (x : Value) → textOk (h .vm .program) (h .stores .text) ≡ true → readsText (h .vm) x ≡ true → Says h (textChecks out x) (puts out (textShown (h .vm) (h .stores .text) out x))
-  unfolding textShown readsText
+  text-says : (out : List ℕ) (x : Value) → textOk (h .vm .program) (h .stores .text) ≡ true → readsText (h .vm) x ≡ true → Says h (textChecks out x) (puts out (textShown (h .stores .text) out x))
+  unfolding textShown readsText ifString ifReference
   text-says out (v.Scalar x) q e = says-first (looked _ refl refl)
   text-says out (v.Boolean x) q e = says-first (looked _ refl refl)
   text-says out (v.String o n) q e = bytes-says out o n e q
@@ -250,7 +251,7 @@ module _ (h : Held) where
   ask-says (disassemble out) = pass-if (puts out) h _ (looked _ refl refl) (listing-says out _)
   ask-says (backtrace out) = pass-if (puts out) h _ (looked _ refl refl) (stop-if (puts out) h _ (looked _ refl refl) (trace-says out _ _))
   ask-says lastResult = last-says (h .vm .last)
-  ask-says (stackValue i) = pass-if shows h _ (looked _ refl tt) (pass-if shows h _ (looked _ refl tt) (pass-if shows h _ (looked _ refl tt) (saw _ refl)))
+  ask-says (stackValue i) = pass-if shows h _ (looked _ refl tt) (pass-if shows h _ (looked _ refl tt) (value-says (h .lent .stack) i))
   ask-says (blockHeader x) = pass-if heads h _ (looked _ refl tt) (header-says _ _)
   ask-says (element x i) = pass-if shows h _ (looked _ refl tt) (element-says i (headerAt x))
   ask-says (textBytes x out) =

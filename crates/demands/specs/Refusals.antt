@@ -3,7 +3,7 @@ use mathlib.Core.Path.{_≡_}
 use mathlib.Core.Bool.{Bool, true, false, not, _&&_, _||_}
 use mathlib.Core.List.{List, [], _∷_}
 use mathlib.Core.Option.{Option, none, some}
-use Prim.Native.Nat.{ℕ, _+_}
+use Prim.Native.Nat.{ℕ, suc, _+_}
 use lib.Dec.{ltb, leb}
 use lib.ListN.{length}
 use Rattle.model.specs.declared.Constant.{Constant}
@@ -23,8 +23,8 @@ use Rattle.model.specs.declared.Shown.the-variants as w
 use Rattle.model.specs.declared.Headed.{Headed}
 use Rattle.model.specs.declared.Headed.the-variants as hd
 use Rattle.model.specs.Basics.{if_then_else_}
-use Rattle.model.specs.Values.{places, kindAt, payloadAt, exactValue}
-use Rattle.model.specs.Heap.{heapOf, headIn}
+use Rattle.model.specs.Values.{places, kindAt, payloadAt, valueAt, exactValue}
+use Rattle.model.specs.Heap.{heapOf, headIn, placedBelow}
 use Rattle.model.specs.Programs.{newestFrom, firstFrom, codeLimit, constantLimit, nameLimit, withinLimits}
 use Rattle.model.specs.Images.{imageOf, Judged, fine, broken, judge}
 use Rattle.model.specs.Listings.{Listed, text, unlisted, listingOf}
@@ -102,10 +102,18 @@ abbrev pub noLast : Last → Bool
 noLast Nothing = true
 noLast (Is x) = false
 
--- a list or struct with its header at p has an element i
-abbrev pub hasElement : Held → ℕ → Option ℕ → Bool
-hasElement h i none = false
-hasElement h i (some p) = ltb i (headIn (heapOf (h .vm .cells) (h .lent .cells)) p .count)
+-- place i of a store holds exactly a value's words
+unfoldable pub exactAt : List ℕ → ℕ → Bool
+exactAt s i = exactValue (kindAt s i) (payloadAt s i)
+
+-- element i is there, placed below its list's or struct's header at p; other values have no elements
+unfoldable pub elementChecks : Held → ℕ → Option ℕ → List Check
+elementChecks h i none = always 5 ∷ []
+elementChecks h i (some p) =
+    must (ltb i (headIn (heapOf (h .vm .cells) (h .lent .cells)) p .count)) 6
+    ∷ must (placedBelow (h .vm .program .text) (heapOf p (h .lent .cells)) p (valueAt (h .lent .cells) (suc p + i))) 19
+    ∷ must (exactAt (h .lent .cells) (suc p + i)) 19
+    ∷ []
 
 -- the text of a string or a function reference fits; other values have none
 abbrev pub textChecks : List ℕ → Value → List Check
@@ -170,7 +178,7 @@ askChecks lastResult h = mustNot (noLast (h .vm .last)) 7 ∷ []
 askChecks (stackValue i) h =
     must (leb (h .vm .stack) (places 2 (h .lent .stack))) 19
     ∷ must (ltb i (h .vm .stack)) 6
-    ∷ must (exactValue (kindAt (h .lent .stack) i) (payloadAt (h .lent .stack) i)) 19
+    ∷ must (exactAt (h .lent .stack) i) 19
     ∷ []
 askChecks (blockHeader x) h =
     must (reads (h .vm) x (h .lent .cells)) 19
@@ -178,9 +186,7 @@ askChecks (blockHeader x) h =
     ∷ []
 askChecks (element x i) h =
     must (reads (h .vm) x (h .lent .cells)) 19
-    ∷ mustNot (isNone (headerAt x)) 5
-    ∷ must (hasElement h i (headerAt x)) 6
-    ∷ []
+    ∷ elementChecks h i (headerAt x)
 askChecks (textBytes x out) h =
     must (textOk (h .vm .program) (h .stores .text) && readsText (h .vm) x) 19
     ∷ textChecks out x

@@ -18,3 +18,5 @@ pub mod Scans
 pub mod Orders
 pub mod Traces
 pub mod Meaning
+-- a machine's frames in a slice
+pub mod Callers

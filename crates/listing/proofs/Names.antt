@@ -1,16 +1,17 @@
 -- An opcode's name with spaces up to 13, letter by letter.
-use mathlib.Core.Path.{_≡_, refl}
+use mathlib.Core.Path.{_≡_}
 use mathlib.Core.Bool.{true, false, _||_}
-use mathlib.Core.List.{List, [], _∷_, _++_}
-use Prim.Native.Nat.{ℕ, zero, suc, _+_, _-_, _≤_, _<_}
+use mathlib.Core.List.{List}
+use Prim.Native.Nat.{ℕ, _+_, _-_, _≤_, _<_}
 use native.Mathlib.Omega.{arith}
 use lib.Dec.{ltb, leb, leb→le}
-use lib.ListN.{length, getD, replicate, length-append, length-replicate, getD-replicate}
+use lib.ListN.{length, getD, length-append, length-replicate}
 use borrow.Author.Tests.{lt-ltb, le-ltb}
 use Rattle.model.specs.Basics.{ascii}
 use Rattle.model.specs.Opcodes.{opcodes, opcodeAt}
 use Rattle.model.specs.Listings.{paddedTo}
 use Rattle.opcode.proofs.Arms.{within}
+use Rattle.opcode.proofs.Names.{row-at}
 use Rattle.program.proofs.Bools.{apart}
 use Rattle.texts.proofs.Digits.{by-lt}
 
@@ -18,15 +19,10 @@ padded-length : (w : ℕ) (t : List ℕ) → length (paddedTo w t) ≡ length t 
 unfolding paddedTo
 padded-length w t = simp (length-append, length-replicate)
 
-spaces : (t : List ℕ) (k d i : ℕ) → i < length t + k → getD (t ++ replicate k 32) i d ≡ getD t i 32
-spaces [] k d i h = getD-replicate k i 32 d (omega arith)
-spaces (x ∷ t) k d zero h = refl
-spaces (x ∷ t) k d (suc i) h = spaces t k d i (omega arith)
-
 -- the letter at i, or a space
 pub letter : (w : ℕ) (t : List ℕ) (d i : ℕ) → i < length (paddedTo w t) → getD (paddedTo w t) i d ≡ getD t i 32
 unfolding paddedTo
-letter w t d i h = let e = padded-length w t in spaces t (w - length t) d i (omega arith)
+letter w t d i h = let e = padded-length w t in row-at t (w - length t) d i (omega arith)
 
 module _ (t : List ℕ) (n : ℕ) (e : n ≡ length t) (i : ℕ) where
   pub goes-on : (ltb i 13 || ltb i n) ≡ true → i < length (paddedTo 13 t)

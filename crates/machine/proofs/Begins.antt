@@ -28,7 +28,7 @@ use Rattle.steps.specs.Links.{answerIn, markIn}
 use Rattle.turns.specs.Links.{Under}
 use Rattle.ends.specs.Links.{Begun}
 use Rattle.machine.specs.Links.{Granted}
-use Rattle.machine.proofs.Callers.{innermost-is, callers-are}
+use Rattle.frames.proofs.Callers.{innermost-is, callers-are}
 use Rattle.machine.proofs.Granted.{lengths-of}
 use Rattle.machine.proofs.Lends.{FixedIn, text-taken, lent-is, coded-is}
 

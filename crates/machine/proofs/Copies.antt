@@ -1,31 +1,27 @@
 -- Words copied to the front of a store, and back.
---     front-is                               what is written at the front of a store, and the rest of it
 --     restored-at                            words that were copied, and copied back, are as they were
 --     same-kind, same-payload, same-vals     the values of a stack are those of its words
 -- Assumes nothing.
 use mathlib.Core.Path.{_≡_, refl, _∙_}
-use mathlib.Core.List.{List, _++_}
+use mathlib.Core.List.{List}
 use Prim.Native.Nat.{ℕ, zero, suc, _+_, _*_, _≤_, _<_}
 use native.Mathlib.Omega.{arith}
 use lib.ListN.{length, getD, take, drop, List·getD-append}
-use lib.Seq.{sets-eq, length-take-le, take-at, getD-take}
+use lib.Seq.{length-take-le, take-at, getD-take}
 use Rattle.model.specs.Basics.{written}
 use Rattle.model.specs.Values.{kindAt, payloadAt, valueAt, vals}
-
-pub front-is : (to vs : List ℕ) → length vs ≤ length to → written to 0 vs ≡ vs ++ drop (length vs) to
-unfolding written
-front-is to vs h = let z : 0 + length vs ≤ length to = omega arith in let e : 0 + length vs ≡ length vs = omega arith in rw e at (sets-eq vs to 0 z)
+use Rattle.image.proofs.Held.{written-front}
 
 module _ (n : ℕ) (from to : List ℕ) (f : n ≤ length from) (t : n ≤ length to) where
   fits : length (take n from) ≤ length to
   fits = omega (arith, length-take-le n from f)
 
   taken-back : take n (written to 0 (take n from)) ≡ take n from
-  taken-back = rw (front-is to (take n from) fits) (take-at (take n from) (drop (length (take n from)) to) n (length-take-le n from f))
+  taken-back = rw (written-front to (take n from) fits) (take-at (take n from) (drop (length (take n from)) to) n (length-take-le n from f))
 
   written-at : (i : ℕ) → i < n → getD (written to 0 (take n from)) i 0 ≡ getD from i 0
   written-at i h =
-      rw (front-is to (take n from) fits)
+      rw (written-front to (take n from) fits)
       (List·getD-append (take n from) (drop (length (take n from)) to) 0 i (omega (arith, length-take-le n from f)) ∙ getD-take n from i 0 h)
 
 pub restored-at : (n : ℕ) (from copy to : List ℕ) → n ≤ length from → n ≤ length copy → n ≤ length to

@@ -3,8 +3,7 @@ pub mod Tests
 pub mod Rows
 -- a run as an entry: refused or granted
 pub mod Granted
--- its frames and its copied stack
-pub mod Callers
+-- its copied stack
 pub mod Copies
 -- its start, its backtrace, its end
 pub mod Lends

@@ -41,7 +41,7 @@ use Rattle.turns.specs.declared.Course.{Course}
 use Rattle.turns.specs.Links.{Ends, over, stop, TurnsPost}
 use Rattle.ends.specs.Links.{vmEnded, resultBy, endedWith, vmFaulted, faultedWith}
 use Rattle.machine.specs.Links.{runLent, Granted}
-use Rattle.machine.proofs.Callers.{innermost-is, callers-are, callers-kept, length-callers}
+use Rattle.frames.proofs.Callers.{innermost-is, callers-are, callers-kept, length-callers}
 use Rattle.machine.proofs.Copies.{restored-at, same-kind, same-payload, same-vals}
 use Rattle.machine.proofs.Granted.{Lengths, lengths-of}
 use Rattle.machine.proofs.Begins.{Begins, begins-end}

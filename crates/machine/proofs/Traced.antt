@@ -27,7 +27,7 @@ use Rattle.cells.proofs.Order.{by-less}
 use Rattle.rules.proofs.Programs.{Parts, length-functions, function-at, part-size, code-size}
 use Rattle.frames.specs.Links.{noFrame, callersOf, placesOf, placeAt, traceWords, Readable}
 use Rattle.frames.proofs.Meaning.{AllKnown, trace-is-good, trace-is}
-use Rattle.machine.proofs.Copies.{front-is}
+use Rattle.image.proofs.Held.{written-front}
 use Rattle.machine.proofs.Granted.{functions-there}
 
 -- ---- frames whose places lie inside their codes
@@ -121,4 +121,4 @@ entries-of [] rest = refl
 entries-of (e ∷ es) rest = ap (λ (t : List Entry). e ∷ t) (entries-behind (length es) 0 (e .function) (e .place) (entryWords es ++ rest) ∙ entries-of es rest)
 
 pub entries-told : (es : List Entry) (b : List ℕ) → 2 * length es ≤ length b → entriesIn (length es) 0 (written b 0 (entryWords es)) ≡ es
-entries-told es b h = rw (front-is b (entryWords es) (omega (arith, length-entries es))) (entries-of es (drop (length (entryWords es)) b))
+entries-told es b h = rw (written-front b (entryWords es) (omega (arith, length-entries es))) (entries-of es (drop (length (entryWords es)) b))

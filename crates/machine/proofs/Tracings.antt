@@ -36,7 +36,7 @@ use Rattle.frames.proofs.Meaning.{AllKnown, frames-are-good, known-callers, tra
 use Rattle.ends.specs.Links.{programLent}
 use Rattle.machine.specs.Links.{traceProgram, framesIn, traceRefusal, Traceable, traceInto}
 use Rattle.machine.proofs.Granted.{functions-there}
-use Rattle.machine.proofs.Callers.{innermost-is, callers-are, length-callers}
+use Rattle.frames.proofs.Callers.{innermost-is, callers-are, length-callers}
 use Rattle.machine.proofs.Traced.{traced-first, traced-at, readable, trace-told, length-trace}
 
 -- ---- 19, 17, or neither

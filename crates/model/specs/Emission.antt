@@ -83,11 +83,7 @@ appended c bytes place s =
     (withCode c (written (codeHere c s) (endHere c s) bytes) (written (placesHere c s) (endHere c s) (replicate (length bytes) place)) s))
 
 unfoldable pub codeOrder : Counts → Stores → Bool
-codeOrder c s =
-    countsOk c
-    && functionsOk c (s .functions)
-    && insideCodes c (s .functions) (s .main) (s .other)
-    && insideCodes c (s .functions) (s .mainPlaces) (s .otherPlaces)
+codeOrder c s = countsOk c && functionsOk c (s .functions) && insideCodes c (s .functions) (s .main) (s .other) && insideCodes c (s .functions) (s .mainPlaces) (s .otherPlaces)
 
 -- opcode 38 or more is refused 1
 unfoldable pub emitIn : Counts → ℕ → List ℕ → ℕ → Stores → Res
@@ -121,14 +117,10 @@ unfoldable pub patchOrder : Counts → Stores → Bool
 patchOrder c s = countsOk c && functionsOk c (s .functions) && insideCodes c (s .functions) (s .main) (s .other)
 
 unfoldable pub patched : Counts → ℕ → ℕ → Stores → Res
-patched c at a s =
-    done c 0 (withCode c (written (codeHere c s) (start (codeWord (s .functions) (c .current)) + at) (u16 a)) (placesHere c s) s)
+patched c at a s = done c 0 (withCode c (written (codeHere c s) (start (codeWord (s .functions) (c .current)) + at) (u16 a)) (placesHere c s) s)
 
 unfoldable pub patchOf : Counts → ℕ → ℕ → Stores → Res
-patchOf c at a s =
-    if patchOrder c s then
-    (if ltb (sizeHere c s) (at + 2) then refuse 23 s else patched c at a s)
-    else refuse 19 s
+patchOf c at a s = if patchOrder c s then (if ltb (sizeHere c s) (at + 2) then refuse 23 s else patched c at a s) else refuse 19 s
 
 -- ---- [emission.constant] add_constant; a text is copied into the text store
 
@@ -178,10 +170,7 @@ unfoldable pub structOrder : Counts → Stores → Bool
 structOrder c s = countsOk c && textOk c (s .text) && structsOk c (s .structs) (s .text)
 
 unfoldable pub addStructOf : Counts → List ℕ → Stores → Res
-addStructOf c lent s =
-    if structOrder c s
-    then structFound c lent s (firstFrom 0 lent (structsFrom (c .structs) 0 (s .structs) (s .text)))
-    else refuse 19 s
+addStructOf c lent s = if structOrder c s then structFound c lent s (firstFrom 0 lent (structsFrom (c .structs) 0 (s .structs) (s .text))) else refuse 19 s
 
 -- ---- [emission.function] begin_function, end_function, get_function_idx
 

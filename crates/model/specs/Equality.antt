@@ -36,9 +36,7 @@ sameElements r (a ∷ as′) (b ∷ bs) = andNext (r a b) (sameElements r as′ 
 
 -- lists agree when counts and elements do; structs also need the same struct number
 unfoldable pub sameBlocks : (Value → Value → Same) → List Cell → ℕ → ℕ → Same
-sameBlocks r H p q =
-    if eqb (headIn H p .count) (headIn H q .count) && eqb (headIn H p .number) (headIn H q .number)
-    then sameElements r (elementsIn H p) (elementsIn H q) else said false
+sameBlocks r H p q = if eqb (headIn H p .count) (headIn H q .count) && eqb (headIn H p .number) (headIn H q .number) then sameElements r (elementsIn H p) (elementsIn H q) else said false
 
 -- one pair, where elements are compared by r: binary64 equality on scalars, bytes on strings and names, false across kinds
 unfoldable pub samePair : (Value → Value → Same) → List ℕ → List Cell → Value → Value → Same

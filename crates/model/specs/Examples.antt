@@ -19,8 +19,9 @@ use Rattle.model.specs.Images.{imageOf, Judged, fine, broken, judge}
 use Rattle.model.specs.Listings.{Listed, text, unlisted, listingOf}
 use Rattle.model.specs.Steps.{World}
 use Rattle.model.specs.Runs.{Machine, Entry, entry, Traced, trace, untraced, backtraceOf, root, Reply, value, continue, fault, Ran, runOf}
-use Rattle.model.specs.Loading.{loadedWorld}
-use Rattle.model.specs.Reports.{runnerText, listerText}
+use Rattle.model.specs.Stores.{worldIn}
+use Rattle.model.specs.Loading.{laid, countsFor}
+use Rattle.model.specs.Reports.{emptyStores, runnerText, listerText}
 use Rattle.model.specs.Basics as basics
 use Rattle.model.specs.Opcodes as opcodes
 use Rattle.model.specs.Numbers as numbers
@@ -121,10 +122,10 @@ p8 = program n42 n1
     (coded mainName (0x00 ∷ 0x00 ∷ 0x00 ∷ 0x00 ∷ 0x01 ∷ 0x00 ∷ 0x1C ∷ 0x01 ∷ 0x00 ∷ 0x00 ∷ 0x00 ∷ 0x25 ∷ [])
     ∷ coded (ascii "f") (0x08 ∷ 0x25 ∷ []) ∷ [])
 
--- ---- running them in the runner's rooms, on a machine as it is loaded
+-- ---- running them in the runner's stores, on a machine as it is loaded
 
 unfoldable pub world : Program → World
-world p = loadedWorld p 1024 256 2048
+world p = worldIn (countsFor p) (laid p emptyStores) 1024 256 2048
 
 unfoldable pub loaded : Machine
 loaded = record { stack = []; frame = root 0; callers = []; heap = []; last = Nothing }
@@ -186,5 +187,5 @@ examples =
 
 -- P1 to P9, together: the rules give what document 01 says
 pub examples-hold : map (λ e. e .gives) examples ≡ map (λ e. e .says) examples
-unfolding from coded program alone p1 p1-flat p1-image p1-listing p3 p4 p5 p6 p7 p8 world loaded shown run again scalarOf examples basics.ascii basics.everyFrom opcodes.opcodes opcodes.opcodeAt numbers.andThen numbers.item numbers.checked numbers.groupsOf numbers.digits numbers.more numbers.groups numbers.number values.ifScalar values.ifBoolean values.ifString values.ifReference values.ifList values.ifStruct values.faultNumber values.popOf values.popping values.poppingScalar values.poppingBoolean values.places values.valueOf values.kindAt values.payloadAt values.valueAt values.putWords values.putValue values.vals values.valuesFrom values.exactValue values.textAt scalars.arithOf scalars.zeroDivisor scalars.orderOf scalars.scalarsOf scalars.booleansOf heap.headerOf heap.cellOf heap.cellAt heap.putCell heap.cellsFrom heap.heapOf heap.cellIn heap.itemIn heap.headIn heap.items heap.elementsIn heap.fieldOf heap.depthIn heap.deepest heap.listElements heap.structFields heap.blockOf heap.buildOf heap.wholeBelow heap.placedBelow heap.elementBelow heap.elementsBelow heap.blockOk heap.blocksFrom heap.heapOk heap.exactCell heap.exactCells equality.sameBytes equality.andNext equality.sameElements equality.sameBlocks equality.samePair equality.sameTo equality.sameOf programs.mainName programs.functionAt programs.orElse programs.newestFrom programs.functionNamed programs.firstFrom programs.among programs.codesWithin programs.withinLimits programs.wordAt programs.behind images.joined images.counted images.bytesOf images.textImage images.constantImage images.joinRun images.runsOf images.runImage images.functionImage images.imageOf images.series images.takes images.readText images.wordOf images.readFlag images.readKind images.readBody images.readConstant images.readConstants images.readName images.readStructs images.readRunBytes images.readRunPlace images.readRuns images.mainFirst images.readFunction images.readFunctions images.readEnd images.parse images.judgedStep images.judge listings.decimalFor listings.decimal listings.digitsOrMore listings.paddedTo listings.operandsFrom listings.lineOf listings.headerLine listings.inFront listings.knownThen listings.opcodeThen listings.lineThen listings.linesFor listings.andListed listings.listingFrom listings.listingOf steps.codeOf steps.pushing steps.onFound steps.constantOf steps.slotOf steps.lastOf steps.loadStep steps.slotStep steps.lastStep steps.negateStep steps.arithmeticStep steps.orderingStep steps.onSame steps.equalStep steps.logicStep steps.notStep steps.jumpStep steps.jumpIfFalseStep steps.enter steps.callStep steps.enterNamed steps.callCallableStep steps.onBuilt steps.buildStep steps.structStep steps.fieldStep steps.cut steps.returnTo steps.returnStep steps.execOf steps.operandsThen steps.decodedThen steps.fetched steps.stepOf runs.over runs.next runs.turn runs.runFor runs.endOf runs.traceOf runs.traceable runs.backtraceOf runs.recovered runs.answered runs.settle runs.runOf stores.codeHere stores.placesHere stores.withCode stores.start stores.size stores.pack stores.part stores.structWord stores.nameWord stores.codeWord stores.codeEnd stores.constantIn stores.constantsFrom stores.structsFrom stores.functionIn stores.functionsFrom stores.programIn stores.worldIn orders.countsOk orders.textOk orders.insideText orders.constantOk orders.constantsOk orders.allDifferent orders.structsOk orders.codeStart orders.functionOk orders.functionsOk orders.mainOk orders.mainTaken orders.otherTaken orders.insideCodes orders.programOk orders.cellsOk orders.stackOk orders.lastOk orders.frameOk orders.callerOk orders.framesFrom orders.framesOk orders.frameStoreOk machines.frameRoom machines.innermost machines.callersIn machines.machineIn machines.worldOf machines.runOrder machines.tooShort machines.runAnswer machines.copyAfter machines.entryWords machines.traceOfReply machines.traceAfter machines.entriesIn machines.answerIn machines.traceOrder machines.putTrace machines.backtraceIn machines.fresh machines.startWith machines.loadMachineOf machines.asLoaded machines.newMachineOf reports.hexDigit reports.hexFor reports.booleanText reports.valueText reports.entryLines reports.spentLines reports.replyLines reports.refusedLine reports.reportOf reports.emptyStores reports.emptyLent reports.startedText reports.started reports.runnerText reports.listedText reports.loadedText reports.listerText basics.written loading.constantText loading.constantWords loading.constantsLaid loading.structsLaid loading.othersLaid loading.functionsLaid loading.constantTexts loading.structTexts loading.textsOf loading.mainOf loading.othersOf loading.laid loading.countsFor loading.roomFor loading.loadJudged loading.loadOf loading.loadedWorld loading.putOut loading.saveOf loading.putListing loading.listOf Ieee.ofBits Ieee.ofFields Ieee.odd Ieee.add Ieee.sum Ieee.round Ieee.units Ieee.size Ieee.span Ieee.climb Ieee.div Ieee.eq Ieee.toBits trailingZeros
+unfolding from coded program alone p1 p1-flat p1-image p1-listing p3 p4 p5 p6 p7 p8 world loaded shown run again scalarOf examples basics.ascii basics.everyFrom opcodes.opcodes opcodes.opcodeAt numbers.andThen numbers.item numbers.checked numbers.groupsOf numbers.digits numbers.more numbers.groups numbers.number values.ifScalar values.ifBoolean values.ifString values.ifReference values.ifList values.ifStruct values.faultNumber values.popOf values.popping values.poppingScalar values.poppingBoolean values.places values.valueOf values.kindAt values.payloadAt values.valueAt values.putWords values.putValue values.vals values.valuesFrom values.exactValue values.textAt scalars.arithOf scalars.zeroDivisor scalars.orderOf scalars.scalarsOf scalars.booleansOf heap.headerOf heap.cellOf heap.cellAt heap.putCell heap.cellsFrom heap.heapOf heap.cellIn heap.itemIn heap.headIn heap.items heap.elementsIn heap.fieldOf heap.depthIn heap.deepest heap.listElements heap.structFields heap.blockOf heap.buildOf heap.wholeBelow heap.placedBelow heap.elementBelow heap.elementsBelow heap.blockOk heap.blocksFrom heap.heapOk heap.exactCell heap.exactCells equality.sameBytes equality.andNext equality.sameElements equality.sameBlocks equality.samePair equality.sameTo equality.sameOf programs.mainName programs.functionAt programs.orElse programs.newestFrom programs.functionNamed programs.firstFrom programs.among programs.codesWithin programs.withinLimits programs.wordAt programs.behind images.joined images.counted images.bytesOf images.textImage images.constantImage images.joinRun images.runsOf images.runImage images.functionImage images.imageOf images.series images.takes images.readText images.wordOf images.readFlag images.readKind images.readBody images.readConstant images.readConstants images.readName images.readStructs images.readRunBytes images.readRunPlace images.readRuns images.mainFirst images.readFunction images.readFunctions images.readEnd images.parse images.judgedStep images.judge listings.decimalFor listings.decimal listings.digitsOrMore listings.paddedTo listings.operandsFrom listings.lineOf listings.headerLine listings.inFront listings.knownThen listings.opcodeThen listings.lineThen listings.linesFor listings.andListed listings.listingFrom listings.listingOf steps.codeOf steps.pushing steps.onFound steps.constantOf steps.slotOf steps.lastOf steps.loadStep steps.slotStep steps.lastStep steps.negateStep steps.arithmeticStep steps.orderingStep steps.onSame steps.equalStep steps.logicStep steps.notStep steps.jumpStep steps.jumpIfFalseStep steps.enter steps.callStep steps.enterNamed steps.callCallableStep steps.onBuilt steps.buildStep steps.structStep steps.fieldStep steps.cut steps.returnTo steps.returnStep steps.execOf steps.operandsThen steps.decodedThen steps.fetched steps.stepOf runs.over runs.next runs.turn runs.runFor runs.endOf runs.traceOf runs.traceable runs.backtraceOf runs.recovered runs.answered runs.settle runs.runOf stores.codeHere stores.placesHere stores.withCode stores.start stores.size stores.pack stores.part stores.structWord stores.nameWord stores.codeWord stores.codeEnd stores.constantIn stores.constantsFrom stores.structsFrom stores.functionIn stores.functionsFrom stores.programIn stores.worldIn orders.countsOk orders.textOk orders.insideText orders.constantOk orders.constantsOk orders.allDifferent orders.structsOk orders.codeStart orders.functionOk orders.functionsOk orders.mainOk orders.mainTaken orders.otherTaken orders.insideCodes orders.programOk orders.cellsOk orders.stackOk orders.lastOk orders.frameOk orders.callerOk orders.framesFrom orders.framesOk orders.frameStoreOk machines.frameRoom machines.innermost machines.callersIn machines.machineIn machines.worldOf machines.runOrder machines.tooShort machines.runAnswer machines.copyAfter machines.entryWords machines.traceOfReply machines.traceAfter machines.entriesIn machines.answerIn machines.traceOrder machines.putTrace machines.backtraceIn machines.fresh machines.startWith machines.loadMachineOf machines.asLoaded machines.newMachineOf reports.hexDigit reports.hexFor reports.booleanText reports.valueText reports.entryLines reports.spentLines reports.replyLines reports.refusedLine reports.reportOf reports.emptyStores reports.emptyLent reports.startedText reports.started reports.runnerText reports.listedText reports.loadedText reports.listerText basics.written loading.constantText loading.constantWords loading.constantsLaid loading.structsLaid loading.othersLaid loading.functionsLaid loading.constantTexts loading.structTexts loading.textsOf loading.mainOf loading.othersOf loading.laid loading.countsFor loading.roomFor loading.loadJudged loading.loadOf loading.putOut loading.saveOf loading.putListing loading.listOf Ieee.ofBits Ieee.ofFields Ieee.odd Ieee.add Ieee.sum Ieee.round Ieee.units Ieee.size Ieee.span Ieee.climb Ieee.div Ieee.eq Ieee.toBits trailingZeros
 examples-hold = refl

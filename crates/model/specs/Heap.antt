@@ -151,11 +151,7 @@ elementsBelow t H b (suc n) i = elementBelow t H b (cellIn H i) && elementsBelow
 
 -- the block at p: whole, its elements placed below it, its depth right and at most 64
 unfoldable pub blockOk : ℕ → List Cell → ℕ → Bool
-blockOk t H p =
-    wholeBelow H p (length H)
-    && elementsBelow t H p (headIn H p .count) (suc p)
-    && eqb (headIn H p .depth) (suc (deepest H (elementsIn H p)))
-    && leb (headIn H p .depth) 64
+blockOk t H p = wholeBelow H p (length H) && elementsBelow t H p (headIn H p .count) (suc p) && eqb (headIn H p .depth) (suc (deepest H (elementsIn H p))) && leb (headIn H p .depth) 64
 
 -- blocks one behind the other from p to the heap's end; f blocks at most
 unfoldable pub blocksFrom : ℕ → ℕ → List Cell → ℕ → Bool

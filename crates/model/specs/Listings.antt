@@ -36,8 +36,7 @@ operandsFrom (suc (suc n)) code i = decimal (wordAt code i) ++ (32 ∷ operandsF
 
 -- two spaces, the offset in four digits or more, a space, the name padded to 13, a space, the operands
 unfoldable pub lineOf : List ℕ → ℕ → Opcode → List ℕ
-lineOf code i c =
-    ascii "  " ++ digitsOrMore 4 i ++ (32 ∷ paddedTo 13 (c .name)) ++ (32 ∷ operandsFrom (c .listed) code (suc i)) ++ ascii "\n"
+lineOf code i c = ascii "  " ++ digitsOrMore 4 i ++ (32 ∷ paddedTo 13 (c .name)) ++ (32 ∷ operandsFrom (c .listed) code (suc i)) ++ ascii "\n"
 
 unfoldable pub headerLine : ℕ → List ℕ → List ℕ
 headerLine i name = ascii ".CODE " ++ decimal i ++ ascii " (" ++ name ++ ascii ")\n"

@@ -1,6 +1,6 @@
 -- [loading] Loading an image, saving a program, and writing its listing: what comes back, and what the stores then hold.
 use mathlib.Core.Bool.{Bool, true, false, _&&_}
-use mathlib.Core.List.{List, [], _∷_, _++_, map}
+use mathlib.Core.List.{List, [], _∷_, _++_}
 use Prim.Native.Nat.{ℕ, zero, suc, _+_, _*_}
 use lib.Dec.{ltb, leb}
 use lib.ListN.{length, drop}
@@ -10,11 +10,10 @@ use Rattle.model.specs.declared.Loaded.the-variants as l
 use Rattle.model.specs.declared.Told.{Told}
 use Rattle.model.specs.declared.Told.the-variants as t
 use Rattle.model.specs.Basics.{if_then_else_}
-use Rattle.model.specs.Values.{places, bit, valuesFrom}
+use Rattle.model.specs.Values.{places, bit}
 use Rattle.model.specs.Programs.{Constant, scalar, boolean, string, reference, Function, Program, functionAt, withinLimits}
 use Rattle.model.specs.Images.{joined, imageOf, Judged, fine, broken, judge}
 use Rattle.model.specs.Listings.{Listed, text, unlisted, listingOf}
-use Rattle.model.specs.Steps.{World}
 use Rattle.model.specs.Stores.{Stores, pack, programIn}
 use Rattle.model.specs.Orders.{countsOk, textOk, functionsOk, mainOk, insideCodes, programOk}
 use Rattle.model.specs.Emission.{written, counts}
@@ -110,18 +109,6 @@ loadJudged (fine p) s =
 unfoldable pub loadOf : List ℕ → Stores → LoadRes
 loadOf image s = loadJudged (judge image) s
 
--- the world of a program as it is loaded, in stores with these rooms
-unfoldable pub loadedWorld : Program → ℕ → ℕ → ℕ → World
-loadedWorld p stackRoom frameRoom cellRoom = record {
-  constants = valuesFrom (length (p .constants)) 0 (constantsLaid 0 (p .constants));
-  text = textsOf p;
-  structs = length (p .structs);
-  functions = p .functions;
-  stackRoom = stackRoom;
-  frameRoom = frameRoom;
-  cellRoom = cellRoom;
-}
-
 -- ---- [saving] and [listing] into a lent store: 19, the listing's 1 or 3, then 17; a refusal writes nothing
 
 pub record OutRes : Type 0 where
@@ -129,9 +116,7 @@ pub record OutRes : Type 0 where
   pub out : List ℕ
 
 unfoldable pub putOut : List ℕ → List ℕ → OutRes
-putOut bytes out =
-    if leb (length bytes) (places 1 out) then record { answer = t.Number (length bytes); out = written out 0 bytes }
-    else record { answer = t.Refused 17; out = out }
+putOut bytes out = if leb (length bytes) (places 1 out) then record { answer = t.Number (length bytes); out = written out 0 bytes } else record { answer = t.Refused 17; out = out }
 
 unfoldable pub saveOf : Counts → Stores → List ℕ → OutRes
 saveOf c s out = if programOk c s then putOut (imageOf (programIn c s)) out else record { answer = t.Refused 19; out = out }
@@ -142,12 +127,7 @@ putListing (unlisted n) out = record { answer = t.Refused n; out = out }
 
 -- the listing is lent functions, text and code
 unfoldable pub listOrder : Counts → Stores → Bool
-listOrder c s =
-    countsOk c
-    && textOk c (s .text)
-    && functionsOk c (s .functions)
-    && mainOk (s .functions) (s .text)
-    && insideCodes c (s .functions) (s .main) (s .other)
+listOrder c s = countsOk c && textOk c (s .text) && functionsOk c (s .functions) && mainOk (s .functions) (s .text) && insideCodes c (s .functions) (s .main) (s .other)
 
 unfoldable pub listOf : Counts → Stores → List ℕ → OutRes
 listOf c s out = if listOrder c s then putListing (listingOf (programIn c s)) out else record { answer = t.Refused 19; out = out }

@@ -88,10 +88,7 @@ pub data RunAnswer : Type 0 where
   refused : ℕ → RunAnswer
 
 unfoldable pub runAnswer : Vm → Stores → Lent → ℕ → RunAnswer
-runAnswer m s l u =
-    if runOrder m s l then
-    (if tooShort l then refused 17 else ran (m .program) (runOf (worldOf m s l) (machineIn m l) u))
-    else refused 19
+runAnswer m s l u = if runOrder m s l then (if tooShort l then refused 17 else ran (m .program) (runOf (worldOf m s l) (machineIn m l) u)) else refused 19
 
 -- the starting stack at the front of the copy store, and nothing past it
 unfoldable pub copyAfter : Vm → Lent → RunAnswer → List ℕ

@@ -38,10 +38,7 @@ insideText c w = leb (start w + size w) (c .text)
 
 -- constants of the four kinds
 unfoldable pub constantOk : Counts → ℕ → ℕ → Bool
-constantOk c k a =
-    if eqb k 0 then true else
-    (if eqb k 1 then ltb a 2 else
-    (if leb k 3 then insideText c a else false))
+constantOk c k a = if eqb k 0 then true else (if eqb k 1 then ltb a 2 else (if leb k 3 then insideText c a else false))
 
 unfoldable pub constantsOk : Counts → List ℕ → Bool
 constantsOk c cs = leb (c .constants) (places 2 cs) && everyFrom (c .constants) 0 (λ i. constantOk c (kindAt cs i) (payloadAt cs i))
@@ -51,10 +48,7 @@ allDifferent [] = true
 allDifferent (n ∷ ns) = not (among n ns) && allDifferent ns
 
 unfoldable pub structsOk : Counts → List ℕ → List ℕ → Bool
-structsOk c ss t =
-    leb (c .structs) (places 1 ss)
-    && everyFrom (c .structs) 0 (λ i. insideText c (structWord ss i))
-    && allDifferent (structsFrom (c .structs) 0 ss t)
+structsOk c ss t = leb (c .structs) (places 1 ss) && everyFrom (c .structs) 0 (λ i. insideText c (structWord ss i)) && allDifferent (structsFrom (c .structs) 0 ss t)
 
 -- where the code of function i starts: the others' codes stand one behind the other
 unfoldable pub codeStart : List ℕ → ℕ → ℕ
@@ -63,11 +57,7 @@ codeStart fs (suc zero) = 0
 codeStart fs (suc (suc i)) = codeEnd fs (suc i)
 
 unfoldable pub functionOk : Counts → List ℕ → ℕ → Bool
-functionOk c fs i =
-    insideText c (nameWord fs i)
-    && eqb (start (codeWord fs i)) (codeStart fs i)
-    && leb (size (codeWord fs i)) codeLimit
-    && leb (codeEnd fs i) mostPlaces
+functionOk c fs i = insideText c (nameWord fs i) && eqb (start (codeWord fs i)) (codeStart fs i) && leb (size (codeWord fs i)) codeLimit && leb (codeEnd fs i) mostPlaces
 
 unfoldable pub functionsOk : Counts → List ℕ → Bool
 functionsOk c fs = leb (c .functions) (places 2 fs) && everyFrom (c .functions) 0 (functionOk c fs)
@@ -104,9 +94,7 @@ unfoldable pub cellsOk : ℕ → ℕ → List ℕ → Bool
 cellsOk t n cells = leb n (places 2 cells) && exactCells n 0 cells && heapOk t (heapOf n cells)
 
 unfoldable pub stackOk : ℕ → List Cell → ℕ → List ℕ → Bool
-stackOk t H n stack =
-    leb n (places 2 stack)
-    && everyFrom n 0 (λ i. exactValue (kindAt stack i) (payloadAt stack i) && placedBelow t H (length H) (valueAt stack i))
+stackOk t H n stack = leb n (places 2 stack) && everyFrom n 0 (λ i. exactValue (kindAt stack i) (payloadAt stack i) && placedBelow t H (length H) (valueAt stack i))
 
 unfoldable pub lastOk : ℕ → List Cell → Last → Bool
 lastOk t H Nothing = true

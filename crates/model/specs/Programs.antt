@@ -74,11 +74,7 @@ codesWithin [] = true
 codesWithin (f ∷ fs) = leb (length (f .code)) codeLimit && codesWithin fs
 
 unfoldable pub withinLimits : Program → Bool
-withinLimits p =
-    leb (length (p .constants)) constantLimit
-    && leb (length (p .structs)) nameLimit
-    && leb (length (p .functions)) nameLimit
-    && codesWithin (p .functions)
+withinLimits p = leb (length (p .constants)) constantLimit && leb (length (p .structs)) nameLimit && leb (length (p .functions)) nameLimit && codesWithin (p .functions)
 
 -- ---- [code] words and instructions
 

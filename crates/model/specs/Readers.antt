@@ -34,10 +34,7 @@ valueShown s i = if exactValue (kindAt s i) (payloadAt s i) then w.Value (valueA
 
 -- the value at i, from the bottom of the stack; 6: no such place
 unfoldable pub stackValueOf : Vm → ℕ → List ℕ → Shown
-stackValueOf m i stack =
-    if leb (m .stack) (places 2 stack) then
-    (if ltb i (m .stack) then valueShown stack i else w.Refused 6)
-    else w.Refused 19
+stackValueOf m i stack = if leb (m .stack) (places 2 stack) then (if ltb i (m .stack) then valueShown stack i else w.Refused 6) else w.Refused 19
 
 -- the taken cells are within their store, and x is placed in them
 unfoldable pub reads : Vm → Value → List ℕ → Bool
@@ -72,11 +69,7 @@ readsText m x = ifString x (λ o n. leb (o + n) (m .program .text)) (ifReference
 
 -- the bytes of a string or a function reference, into a lent store: 17 where it is too short; 5: it is neither
 unfoldable pub textShown : List ℕ → List ℕ → Value → OutRes
-textShown text out x =
-    ifString x (λ o n. putOut (textAt text o n) out)
-    (ifReference x (λ o n. putOut (textAt text o n) out) (record { answer = t.Refused 5; out = out }))
+textShown text out x = ifString x (λ o n. putOut (textAt text o n) out) (ifReference x (λ o n. putOut (textAt text o n) out) (record { answer = t.Refused 5; out = out }))
 
 unfoldable pub textBytesOf : Vm → Value → List ℕ → List ℕ → OutRes
-textBytesOf m x text out =
-    if textOk (m .program) text && readsText m x then textShown text out x
-    else record { answer = t.Refused 19; out = out }
+textBytesOf m x text out = if textOk (m .program) text && readsText m x then textShown text out x else record { answer = t.Refused 19; out = out }

@@ -118,8 +118,7 @@ answered (Is v) spent = value v spent
 
 unfoldable pub settle : World → Machine → ℕ → Ended → Ran
 settle w m u (ended a s) = record { reply = answered a (u - s .units); machine = machineOf s }
-settle w m u (stopped n s k) =
-    record { reply = fault (faultNumber n) (u - s .units) (traceOf (w .functions) (s .frame ∷ s .callers)); machine = recovered w m k }
+settle w m u (stopped n s k) = record { reply = fault (faultNumber n) (u - s .units) (traceOf (w .functions) (s .frame ∷ s .callers)); machine = recovered w m k }
 
 -- a run of m with u units
 unfoldable pub runOf : World → Machine → ℕ → Ran

@@ -134,8 +134,7 @@ orderingStep c s =
 
 -- the verdict becomes a value by t; too few units spend all
 unfoldable pub onSame : (Bool → Bool) → List Value → State → Same → Outcome
-onSame t r s (same b k) =
-    if leb k (s .units) then went (withStack (v.Boolean (t b) ∷ r) (withUnits (s .units - k) s)) else faulted f.UnitsSpent (withUnits 0 s)
+onSame t r s (same b k) = if leb k (s .units) then went (withStack (v.Boolean (t b) ∷ r) (withUnits (s .units - k) s)) else faulted f.UnitsSpent (withUnits 0 s)
 
 unfoldable pub equalStep : (Bool → Bool) → World → State → Outcome
 equalStep t w s =
@@ -158,8 +157,7 @@ unfoldable pub jumpStep : ℕ → State → Outcome
 jumpStep a s = went (at (position s + a) s)
 
 unfoldable pub jumpIfFalseStep : ℕ → State → Outcome
-jumpIfFalseStep a s =
-    poppingBoolean (s .stack) (λ n. faulted n s) (λ x r. went (withStack r (if x then s else at (position s + a) s)))
+jumpIfFalseStep a s = poppingBoolean (s .stack) (λ n. faulted n s) (λ x r. went (withStack r (if x then s else at (position s + a) s)))
 
 -- ---- [call] the base is the stack length less the count
 
@@ -256,5 +254,4 @@ unfoldable pub fetched : World → Opcode → State → Outcome
 fetched w c s = decodedThen w (c .what) (c .read) (at (suc (position s)) (withUnits (s .units - 1) s))
 
 unfoldable pub stepOf : World → State → Outcome
-stepOf w s =
-    if eqb (s .units) 0 then faulted f.UnitsSpent s else fetched w (opcodeAt (getD (codeOf w s) (position s) 0)) s
+stepOf w s = if eqb (s .units) 0 then faulted f.UnitsSpent s else fetched w (opcodeAt (getD (codeOf w s) (position s) 0)) s

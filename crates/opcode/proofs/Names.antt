@@ -54,7 +54,8 @@ row-length n t =
     let l : length n ≤ 19 = short n t in
     simp (length-append, length-replicate) (omega arith)
 
-row-at : (n : List ℕ) (k d i : ℕ) → i < length n + k → getD (n ++ replicate k 32) i d ≡ getD n i 32
+-- a name and spaces behind it
+pub row-at : (n : List ℕ) (k d i : ℕ) → i < length n + k → getD (n ++ replicate k 32) i d ≡ getD n i 32
 row-at [] k d i h = getD-replicate k i 32 d (omega arith)
 row-at (x ∷ n) k d zero h = refl
 row-at (x ∷ n) k d (suc i) h = row-at n k d i (omega arith)

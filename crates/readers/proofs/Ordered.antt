@@ -3,7 +3,7 @@ use mathlib.Core.Path.{_≡_, _∙_}
 use mathlib.Core.Bool.{Bool, true, false, _&&_}
 use mathlib.Core.List.{List}
 use mathlib.Core.Option.{some}
-use Prim.Native.Nat.{ℕ, zero, suc, _+_, _<_}
+use Prim.Native.Nat.{ℕ, suc, _+_, _<_}
 use native.Mathlib.Omega.{arith}
 use lib.Dec.{eqb, leb}
 use lib.ListN.{length}
@@ -23,15 +23,9 @@ use Rattle.readers.specs.Links.{blockAt}
 use Rattle.program.proofs.Bools.{and-left, and-right}
 use Rattle.program.proofs.Every.{passed-at}
 use Rattle.cells.proofs.Order.{Element, good-of}
-use Rattle.cells.proofs.Stands.{kind-is, item-is}
+use Rattle.cells.proofs.Stands.{kind-is, item-is, exact-at}
 use Rattle.cells.proofs.Scans.{placed-cut}
 use Rattle.readers.proofs.Shows.{Stands, stands}
-
-exact-at : (n i : ℕ) (s : List ℕ) → exactCells n i s ≡ true → (j : ℕ) → j < n → exactCell (kindAt s (i + j)) (payloadAt s (i + j)) ≡ true
-unfolding exactCells
-exact-at zero i s e j h = absurd (let z : ⊥ = omega arith in z)
-exact-at (suc n) i s e zero h = let z : i + 0 ≡ i = omega arith in rw z (and-left _ (exactCells n (suc i) s) e)
-exact-at (suc n) i s e (suc j) h = let z : i + suc j ≡ suc i + j = omega arith in rw z (exact-at n (suc i) s (and-right (exactCell (kindAt s i) (payloadAt s i)) _ e) j (omega arith))
 
 -- the value at a place of the stack
 pub stack-told : (m : Vm) (H : List Cell) (i : ℕ) (s : List ℕ) → stackOk (m .program .text) H (m .stack) s ≡ true → i < m .stack → stackValueOf m i s ≡ w.Value (valueAt s i)
@@ -73,10 +67,9 @@ module _ (m : Vm) (x : Value) (cells : List ℕ) (e : cellsOk (m .program .text)
         let one : Element text H p (suc p + i) = good .element i l in
         let ends = here .whole .ends in
         let below : suc p + i < m .cells = omega arith in
-        let z : 0 + (suc p + i) ≡ suc p + i = omega arith in
         let is : itemIn H (suc p + i) ≡ valueAt cells (suc p + i) = item-is cells (m .cells) (suc p + i) below (one .plain) in
         let k : eqb (kindAt cells (suc p + i)) 6 ≡ false = kind-is cells (m .cells) (suc p + i) below ∙ one .plain in
-        let c : exactCell (kindAt cells (suc p + i)) (payloadAt cells (suc p + i)) ≡ true = rw z at (exact-at (m .cells) 0 cells (and-right room exact (and-left (room && exact) (heapOk text H) e)) (suc p + i) below) in
+        let c : exactCell (kindAt cells (suc p + i)) (payloadAt cells (suc p + i)) ≡ true = exact-at (m .cells) cells (and-right room exact (and-left (room && exact) (heapOk text H) e)) (suc p + i) below in
         let words : exactValue (kindAt cells (suc p + i)) (payloadAt cells (suc p + i)) ≡ true = rw k at c in
         let b : placedBelow text (heapOf p cells) p (valueAt cells (suc p + i)) ≡ true = placed-cut text cells (m .cells) p (omega arith) (valueAt cells (suc p + i)) ∙ (rw is at (one .placed)) in
         rw (in-cells placed, at, lt-ltb _ _ l, b, words, is)

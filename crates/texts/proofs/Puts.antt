@@ -5,8 +5,9 @@ use Prim.Native.Nat.{ℕ, suc, _+_, _≤_, _<_}
 use native.Mathlib.Omega.{arith}
 use native.Mathlib.Numerals.{add-one}
 use lib.ListN.{length, getD, set, take, length-append}
-use lib.Seq.{length-sets, set-out, take-suc, take-all}
+use lib.Seq.{set-out, take-suc, take-all}
 use Rattle.model.specs.Emission.{written}
+use Rattle.program.proofs.Writing.{length-written}
 use Rattle.texts.specs.Links.{Put}
 
 -- a and then b is a ++ b
@@ -14,10 +15,6 @@ pub written-both : (s : List ℕ) (i : ℕ) (a b : List ℕ) → written (writte
 unfolding written
 written-both s i [] b = let z : i + 0 ≡ i = omega arith in rw z
 written-both s i (x ∷ a) b = let z : i + suc (length a) ≡ suc i + length a = omega arith in rw z (written-both (set s i x) (suc i) a b)
-
-length-written : (s : List ℕ) (i : ℕ) (l : List ℕ) → length (written s i l) ≡ length s
-unfolding written
-length-written s i l = length-sets s i l
 
 module _ {k : ℕ} {a s : List ℕ} {i : ℕ} {s' : List ℕ} {j : ℕ} (p : Put k a s i s' j) where
   pub kept : length s' ≡ length s

@@ -3,13 +3,12 @@
 use mathlib.Core.Path.{_≡_, refl, sym, ap, subst, _∙_}
 use mathlib.Core.Bool.{Bool, true, false, not}
 use mathlib.Core.List.{List, [], _∷_}
-use Prim.Native.Nat.{ℕ, zero, suc, _+_, _≤_, _<_}
+use Prim.Native.Nat.{ℕ, suc, _+_, _≤_, _<_}
 use native.Mathlib.Numerals.{add-one}
 use native.Mathlib.Omega.{arith}
 use lib.Dec.{T}
 use lib.ListN.{length, take, getD, set, length-take, length-set}
 use borrow.Author.Tests.{eq-eqb, ne-eqb}
-use lib.Seq.{getD-set-same, getD-set-other}
 use Rattle.model.specs.declared.Fault.{Fault}
 use Rattle.model.specs.declared.Frame.{Frame}
 use Rattle.model.specs.Values.{payloadAt}
@@ -21,6 +20,7 @@ use Rattle.rules.specs.Sane.{Sane}
 use Rattle.rules.specs.Paths.{endFrom}
 use Rattle.frames.specs.Links.{noFrame, callersOf}
 use Rattle.frames.proofs.Orders.{is-true, is-false}
+use Rattle.frames.proofs.Callers.{length-callers, callers-more, callers-first}
 use Rattle.arms.specs.declared.Fixed.{Fixed}
 use Rattle.arms.specs.declared.Going.{Going}
 use Rattle.arms.specs.Links.{stateOf, frameIn, entered}
@@ -50,27 +50,6 @@ coded-as {w} {cs} {k} {g} {constants = constants} {functions} {text} {s} {x} e r
 -- the text that is taken
 pub taken-count : (n : ℕ) (text : List ℕ) → n ≤ length text → n ≡ length (take n text)
 taken-count n text h = let z = length-take n text in omega arith
-
--- ---- the callers in the lent frames
-
-callers-count : (n : ℕ) (frames : List Frame) → length (callersOf n frames) ≡ n
-unfolding callersOf
-callers-count zero frames = refl
-callers-count (suc n) frames = ap suc (callers-count n frames)
-
--- a frame is written behind them
-callers-stay : (n i : ℕ) (frames : List Frame) (f : Frame) → n ≤ i → callersOf n (set frames i f) ≡ callersOf n frames
-unfolding callersOf
-callers-stay zero i frames f h = refl
-callers-stay (suc n) i frames f h = rw (getD-set-other frames i n f noFrame (λ e. let z : ⊥ = omega (arith, h, e) in absurd z), callers-stay n i frames f (omega arith))
-
-callers-more : (n : ℕ) (frames : List Frame) (f : Frame) → n < length frames → callersOf (suc n) (set frames n f) ≡ f ∷ callersOf n frames
-unfolding callersOf
-callers-more n frames f h = rw (getD-set-same frames n f noFrame h, callers-stay n n frames f (omega arith))
-
-callers-first : (n : ℕ) (frames : List Frame) → callersOf (suc n) frames ≡ getD frames n noFrame ∷ callersOf n frames
-unfolding callersOf
-callers-first n frames = refl
 
 -- ---- what the run comes to
 
@@ -134,7 +113,7 @@ module _ (k : Fixed) (n : ℕ) (constants functions text main other : List ℕ) 
     pub ready : Ready w (callersOf (g .callers) frames) k g (codeIn functions main other (g .function)) constants functions (take n text) s x
     ready = record {
       lent = at .lent;
-      callers = callers-count (g .callers) frames;
+      callers = length-callers (g .callers) frames;
       coded = at .coded (g .function) (subst (λ (j : ℕ). g .function < j) (at .lent .suits .functions) (at .sane .frame .known));
       fits = at .fits;
       sane = at .sane;
@@ -166,7 +145,7 @@ module _ (k : Fixed) (n : ℕ) (constants functions text main other : List ℕ) 
           callers = ap (λ (j : ℕ). callersOf j (set frames (m .callers) (frameIn m))) (add-one (m .callers)) ∙ callers-more (m .callers) frames (frameIn m) (let a = p .fits .stack .callers in let b = at .room in omega arith) ∙ ap (λ (j : ℕ). frameIn m ∷ callersOf j frames) (p .callers)
 
           more : m .callers + 1 < k .frames
-          more = let a = p .sane .1 .frames in let b = callers-count (g .callers) frames in let c = at .lent .suits .frameRoom in let d = p .callers in omega arith
+          more = let a = p .sane .1 .frames in let b = length-callers (g .callers) frames in let c = at .lent .suits .frameRoom in let d = p .callers in omega arith
 
       resumes : {m : Going} (j : ℕ) → m .callers ≡ j + 1 → ExecPost w (callersOf (g .callers) frames) k g s x (Back m) s' x' → Gone w g s x frames (inFrame m j (getD frames j noFrame)) s' x' frames
       unfolding answerIn
@@ -279,7 +258,7 @@ module _ (k : Fixed) (n : ℕ) (constants functions text main other : List ℕ) 
         some-back {m} said =
             let p = said w _ (ready (ways w at .under)) in
             let l = some-caller w (callersOf (c .going .callers) frames) (stateOf m s' x' (callersOf (c .going .callers) frames)) (p .sane .1) in
-            let a = callers-count (c .going .callers) frames in let b = p .callers in omega arith
+            let a = length-callers (c .going .callers) frames in let b = p .callers in omega arith
 
         pub call-less : {m : Going} {i b : ℕ} {r : Course} → Said (c .going) s x (Call m i b) s' x' → r ≡ goesOn (inFrame m (m .callers + 1) (entered i b)) → T (c .on) → weight r < weight c
         call-less said is on = let l = said w _ (ready (ways w at .under)) .sane .0 in let a = ap weight is in let b = weight-on c on in omega arith

@@ -1,18 +1,20 @@
 -- Frames as a slice has them, the root first, and as a machine has them: the innermost, then its callers.
 --     innermost-is      the innermost of a machine's frames stands behind its callers
 --     callers-are       the callers, nearest first, are those that the run counts
---     callers-kept      a frame written behind the callers does not change them
 --     length-callers    so many callers
+--     callers-kept      a frame written behind the callers does not change them
+--     callers-more      and is then the nearest of one more
+--     callers-first     the nearest of them, and the others
 -- Assumes nothing.
 use mathlib.Core.Path.{_≡_, refl, ap, _∙_}
 use mathlib.Core.List.{List, [], _∷_, reverse, reverse-append}
-use Prim.Native.Nat.{ℕ, zero, suc, _-_, _≤_}
+use Prim.Native.Nat.{ℕ, zero, suc, _-_, _≤_, _<_}
 use native.Mathlib.Omega.{arith}
 use lib.ListN.{length, getD, set, take}
-use lib.Seq.{take-suc, getD-set-other}
+use lib.Seq.{take-suc, getD-set-same, getD-set-other}
 use Rattle.model.specs.declared.Frame.{Frame}
 use Rattle.model.specs.Machines.{innermost, callersIn}
 use Rattle.frames.specs.Links.{noFrame, callersOf}
 
 pub innermost-is : (n : ℕ) {k : ℕ} (frames : List Frame) → n - 1 ≡ k → innermost n frames ≡ getD frames k noFrame
 unfolding innermost
@@ -28,12 +30,20 @@ pub callers-are : (n : ℕ) {k : ℕ} (frames : List Frame) → n - 1 ≡ k → 
 unfolding callersIn
 callers-are n {k} frames e h = rw e (taken k frames h)
 
+pub length-callers : (n : ℕ) (frames : List Frame) → length (callersOf n frames) ≡ n
+unfolding callersOf
+length-callers zero frames = refl
+length-callers (suc n) frames = ap suc (length-callers n frames)
+
 pub callers-kept : (n i : ℕ) (frames : List Frame) (f : Frame) → n ≤ i → callersOf n (set frames i f) ≡ callersOf n frames
 unfolding callersOf
 callers-kept zero i frames f h = refl
 callers-kept (suc n) i frames f h = rw (getD-set-other frames i n f noFrame (λ e. omega arith), callers-kept n i frames f (omega arith))
 
-pub length-callers : (n : ℕ) (frames : List Frame) → length (callersOf n frames) ≡ n
+pub callers-more : (n : ℕ) (frames : List Frame) (f : Frame) → n < length frames → callersOf (suc n) (set frames n f) ≡ f ∷ callersOf n frames
 unfolding callersOf
-length-callers zero frames = refl
-length-callers (suc n) frames = ap suc (length-callers n frames)
+callers-more n frames f h = rw (getD-set-same frames n f noFrame h, callers-kept n n frames f (omega arith))
+
+pub callers-first : (n : ℕ) (frames : List Frame) → callersOf (suc n) frames ≡ getD frames n noFrame ∷ callersOf n frames
+unfolding callersOf
+callers-first n frames = refl
