@@ -2,7 +2,6 @@
 --     elements-known   each element of the first slice of a group is what its type says
 --     bytes-known      of bytes: each is below 256
 -- Assumes `Given`.
-use mathlib.Core.Path.{_≡_}
 use Prim.Native.Nat.{ℕ, zero, suc, _<_, _≤_}
 use native.Mathlib.Omega.{arith}
 use mathlib.Core.List.{List, [], _∷_}

@@ -16,3 +16,5 @@ pub mod Slices
 pub mod Refusals
 -- the backtrace as an entry
 pub mod Tracings
+-- making a machine
+pub mod Makings

@@ -15,6 +15,7 @@ use denote.Enum.Laws as EL
 use Rattle.model.specs.declared.Vm.{Vm}
 use Rattle.model.specs.declared.Told.{Told}
 use Rattle.model.specs.declared.RunResult.{RunResult}
+use Rattle.model.specs.declared.Started.{Started}
 use Rattle.arms.specs.declared.Fixed.{Fixed}
 use Rattle.arms.specs.declared.Going.{Going}
 use Rattle.turns.specs.declared.Course.{Course}
@@ -22,6 +23,8 @@ use Rattle.model.proofs.Vm as VM
 use Rattle.model.proofs.Vm.Laws as VM′
 use Rattle.model.proofs.Told as O
 use Rattle.model.proofs.Told.Laws as O′
+use Rattle.model.proofs.Started as B
+use Rattle.model.proofs.Started.Laws as B′
 use Rattle.model.proofs.RunResult as Q
 use Rattle.model.proofs.RunResult.Laws as Q′
 use Rattle.arms.proofs.Fixed as F
@@ -64,6 +67,20 @@ IsTold r = Is ToldRow r (toldVal r ∷ [])
 
 pub told-tells : Tells ToldRow (Is ToldRow) (λ r. toldVal r ∷ [])
 told-tells = O′.lowers .val-is
+
+-- ---- what making a machine answers
+
+abbrev pub StartedRow : RattleType
+StartedRow = B.the-row
+
+abbrev pub startedVal : Started → Val
+startedVal = B′.lowered
+
+abbrev pub IsStarted : Started → Type 0
+IsStarted x = Is StartedRow x (startedVal x ∷ [])
+
+pub started-tells : Tells StartedRow (Is StartedRow) (λ x. startedVal x ∷ [])
+started-tells = B′.lowers .val-is
 
 -- ---- what a run answers
 
@@ -164,5 +181,8 @@ module _ {M : Type 1} (𝓤 : URA M) (H : Heap 𝓤) (A : Atoms 𝓤) (W : Given
   pub course-typed : (x : Course) → IsCourse x → T (hasTy C′.mir (courseVal x)) × WT (courseVal x)
   course-typed x is = LL.lawful C.the-type C′.the-laws 𝓤 H A W .typed x _ is .0
 
-  pub course-makes : Makes 𝓤 H A CourseRow (Is CourseRow)
-  course-makes = LL.makes C.the-type C′.the-plain 𝓤 H A
+  pub started-typed : (x : Started) → IsStarted x → T (hasTy B′.mir (startedVal x)) × WT (startedVal x)
+  started-typed x is = EL.lawful B.the-type B′.the-laws 𝓤 H A W tt .typed x _ is .0
+
+  pub started-makes : Makes 𝓤 H A StartedRow (Is StartedRow)
+  started-makes = EL.makes B.the-type B′.the-plain 𝓤 H A

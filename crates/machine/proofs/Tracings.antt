@@ -21,11 +21,11 @@ use Rattle.model.specs.declared.Told.the-variants as t
 use Rattle.model.specs.Basics.{if_then_else_, everyFrom, written}
 use Rattle.model.specs.Values.{places, mostPlaces}
 use Rattle.model.specs.Programs.{Function, functionAt, constantLimit, nameLimit}
-use Rattle.model.specs.Runs.{Traced, trace, untraced, traceable, traceOf, backtraceOf, Entry}
+use Rattle.model.specs.Runs.{traceable, traceOf, backtraceOf}
 use Rattle.model.specs.Stores.{Stores, size, codeWord, functionIn, functionsFrom}
 use Rattle.model.specs.Orders.{countsOk, textOk, insideText, constantsOk, functionOk, functionsOk, mainOk, otherTaken, insideCodes, framesOk, frameStoreOk}
 use Rattle.model.specs.Loading.{OutRes, listOrder}
-use Rattle.model.specs.Machines.{frameRoom, innermost, callersIn, entryWords, traceOrder, putTrace, backtraceIn}
+use Rattle.model.specs.Machines.{entryWords, traceOrder, putTrace, backtraceIn}
 use Rattle.value.proofs.Coding.{and-left, and-right}
 use Rattle.rules.proofs.Tests.{every-of}
 use Rattle.rules.proofs.Programs.{Parts, length-functions, code-size}
@@ -37,7 +37,7 @@ use Rattle.ends.specs.Links.{programLent}
 use Rattle.machine.specs.Links.{traceProgram, framesIn, traceRefusal, Traceable, traceInto}
 use Rattle.machine.proofs.Granted.{functions-there}
 use Rattle.machine.proofs.Callers.{innermost-is, callers-are, length-callers}
-use Rattle.machine.proofs.Traced.{Inside, traced-first, traced-at, readable, trace-told, length-trace}
+use Rattle.machine.proofs.Traced.{traced-first, traced-at, readable, trace-told, length-trace}
 
 -- ---- 19, 17, or neither
 

@@ -2,7 +2,7 @@
 use mathlib.Core.Path.{_≡_}
 use mathlib.Core.Bool.{Bool, true, false, _&&_}
 use mathlib.Core.List.{List, _∷_}
-use Prim.Native.Nat.{ℕ, _-_, _*_, _≤_, _<_}
+use Prim.Native.Nat.{ℕ, _-_, _≤_}
 use lib.Dec.{ltb}
 use lib.ListN.{length, getD}
 use Rattle.model.specs.declared.Counts.{Counts}
@@ -10,12 +10,14 @@ use Rattle.model.specs.declared.Vm.{Vm}
 use Rattle.model.specs.declared.Frame.{Frame}
 use Rattle.model.specs.declared.RunResult.the-variants as r
 use Rattle.model.specs.declared.Told.the-variants as t
+use Rattle.model.specs.declared.Started.{Started}
+use Rattle.model.specs.declared.Started.the-variants as st
 use Rattle.model.specs.Basics.{if_then_else_}
 use Rattle.model.specs.Values.{places}
 use Rattle.model.specs.Stores.{Stores}
 use Rattle.model.specs.Orders.{insideCodes}
 use Rattle.model.specs.Loading.{OutRes, listOrder}
-use Rattle.model.specs.Machines.{Lent, runOrder, tooShort, RunPost}
+use Rattle.model.specs.Machines.{Lent, runOrder, tooShort, RunPost, StartRes}
 use Rattle.frames.specs.Links.{noFrame, callersOf, traceWords, written, traceGood, TraceFits}
 
 -- what a run is lent besides the program's stores
@@ -62,3 +64,15 @@ traceInto words main other n frames out =
     if traceGood words (framesIn n frames)
     then record { answer = t.Number n; out = written out 0 (traceWords words main other (framesIn n frames)) }
     else record { answer = t.Refused 16; out = out }
+
+-- ---- making a machine
+
+unfoldable pub isDone : Started → Bool
+isDone (st.Done m) = true
+isDone (st.Broken i) = false
+isDone (st.Refused n) = false
+
+-- what making a machine answers beside a frame store of n places, and the other stores as they then are
+pub record Makes (w : List Frame → StartRes) (n : ℕ) (r : Started) (s : Stores) : Type 0 where
+  pub answer : (rs : List Frame) → length rs ≡ n → r ≡ w rs .answer
+  pub stores : (rs : List Frame) → length rs ≡ n → s ≡ w rs .stores

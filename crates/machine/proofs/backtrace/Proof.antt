@@ -154,18 +154,18 @@ module _ {M : Type 1} (𝓤 : URA M) (H : Heap 𝓤) (A : Atoms 𝓤) (W : Given
         (λ ns. unasked W (lent to-judge ns)) (λ ns w. id⊢ 𝓤 _) (vm-makes 𝓤 H A W m _ (is .0), tt) ((refl, room0), ((refl, room1), ((refl, room2), ((refl, room3), ((refl, room4), ((refl, room5), ((refl, room6), tt)))))))
 
     abbrev to-why : Bool → List Arg
-    to-why b = val Boolean b (vbool b) ∷ val usize ((m .frames)) (vint w64 ((m .frames))) ∷ val usize ((s7 .count)) (vint w64 ((s7 .count))) ∷ []
+    to-why b = val Boolean b (vbool b) ∷ val usize (m .frames) (vint w64 (m .frames)) ∷ val usize (s7 .count) (vint w64 (s7 .count)) ∷ []
 
     call-why : (b : Bool) → Is Boolean b (vbool b ∷ []) → Rule 𝓤 H A W (to-why b) Why u8 (vint w8) (λ w zs. ((os : List ℕ) → length os ≡ s7 .count → w ≡ traceRefusal b (m .frames) os))
     call-why b isb = call-with 𝓤 H A W (to-why b) Why u8 (vint w8) (λ w zs. ((os : List ℕ) → length os ≡ s7 .count → w ≡ traceRefusal b (m .frames) os)) (uint-tells w8) (λ ns. passing (lent (to-why b) ns)) (λ ns. refl)
-        (λ ns. unasked W (lent (to-why b) ns)) (λ ns w. id⊢ 𝓤 _) (bool-makes 𝓤 H A W b _ isb, (uint-makes 𝓤 H A W w64 ((m .frames)) _ (refl, frames-fit m (is .0)), (uint-makes 𝓤 H A W w64 ((s7 .count)) _ (refl, room7 .0), tt))) tt
+        (λ ns. unasked W (lent (to-why b) ns)) (λ ns w. id⊢ 𝓤 _) (bool-makes 𝓤 H A W b _ isb, (uint-makes 𝓤 H A W w64 (m .frames) _ (refl, frames-fit m (is .0)), (uint-makes 𝓤 H A W w64 (s7 .count) _ (refl, room7 .0), tt))) tt
 
     abbrev to-put : List Arg
-    to-put = val usize ((m .frames)) (vint w64 ((m .frames))) ∷ shr u64 s0 functions ∷ shr u32 s3 mainPlaces ∷ shr u32 s5 otherPlaces ∷ shr R s6 frames ∷ mut u32 s7 out ∷ []
+    to-put = val usize (m .frames) (vint w64 (m .frames)) ∷ shr u64 s0 functions ∷ shr u32 s3 mainPlaces ∷ shr u32 s5 otherPlaces ∷ shr R s6 frames ∷ mut u32 s7 out ∷ []
 
     call-put : Traceable functions mainPlaces otherPlaces (m .frames) frames (length out) → Rule 𝓤 H A W to-put Put ToldRow toldVal (λ r zs. record { answer = r; out = zs .1 .1 .1 .1 .1 .0 } ≡ traceInto functions mainPlaces otherPlaces (m .frames) frames out)
     call-put can = call-with 𝓤 H A W to-put Put ToldRow toldVal (λ r zs. record { answer = r; out = zs .1 .1 .1 .1 .1 .0 } ≡ traceInto functions mainPlaces otherPlaces (m .frames) frames out) told-tells (λ ns. passing (lent to-put ns)) (λ ns. refl)
-        (λ ns. asked W (lent to-put ns) can) (λ ns w. id⊢ 𝓤 _) (uint-makes 𝓤 H A W w64 ((m .frames)) _ (refl, frames-fit m (is .0)), tt) ((refl, room0), ((refl, room3), ((refl, room5), ((refl, room6), ((refl, room7), tt)))))
+        (λ ns. asked W (lent to-put ns) can) (λ ns w. id⊢ 𝓤 _) (uint-makes 𝓤 H A W w64 (m .frames) _ (refl, frames-fit m (is .0)), tt) ((refl, room0), ((refl, room3), ((refl, room5), ((refl, room6), ((refl, room7), tt)))))
 
     abbrev to-not : ℕ → List Arg
     to-not w = val u8 w (vint w8 w) ∷ []

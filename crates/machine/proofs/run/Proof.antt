@@ -185,11 +185,11 @@ module _ {M : Type 1} (𝓤 : URA M) (H : Heap 𝓤) (A : Atoms 𝓤) (W : Given
 
     -- the calls
     abbrev to-why : List Arg
-    to-why = val VmRow m (vmVal m) ∷ val usize ((s10 .count)) (vint w64 ((s10 .count))) ∷ val usize ((s11 .count)) (vint w64 ((s11 .count))) ∷ shr u64 s0 constants ∷ shr u64 s1 functions ∷ shr u8 s2 text ∷ shr u8 s3 main ∷ shr u32 s4 mainPlaces ∷ shr u8 s5 other ∷ shr u32 s6 otherPlaces ∷ peek u64 s7 stack ∷ peek u64 s8 cells ∷ peek R s9 frames ∷ []
+    to-why = val VmRow m (vmVal m) ∷ val usize (s10 .count) (vint w64 (s10 .count)) ∷ val usize (s11 .count) (vint w64 (s11 .count)) ∷ shr u64 s0 constants ∷ shr u64 s1 functions ∷ shr u8 s2 text ∷ shr u8 s3 main ∷ shr u32 s4 mainPlaces ∷ shr u8 s5 other ∷ shr u32 s6 otherPlaces ∷ peek u64 s7 stack ∷ peek u64 s8 cells ∷ peek R s9 frames ∷ []
 
     call-why : Rule 𝓤 H A W to-why Why u8 (vint w8) (λ n zs. ((structs cs bs : List ℕ) → length cs ≡ s10 .count → length bs ≡ s11 .count → RunJudged m (stores structs) (runLent stack cells frames cs bs) n))
     call-why = call-with 𝓤 H A W to-why Why u8 (vint w8) (λ n zs. ((structs cs bs : List ℕ) → length cs ≡ s10 .count → length bs ≡ s11 .count → RunJudged m (stores structs) (runLent stack cells frames cs bs) n)) (uint-tells w8) (λ ns. passing (lent to-why ns)) (λ ns. refl)
-        (λ ns. unasked W (lent to-why ns)) (λ ns w. id⊢ 𝓤 _) (vm-makes 𝓤 H A W m _ (is .0), (uint-makes 𝓤 H A W w64 ((s10 .count)) _ (refl, room10 .0), (uint-makes 𝓤 H A W w64 ((s11 .count)) _ (refl, room11 .0), tt))) ((refl, room0), ((refl, room1), ((refl, room2), ((refl, room3), ((refl, room4), ((refl, room5), ((refl, room6), ((refl, room7), ((refl, room8), ((refl, room9), tt))))))))))
+        (λ ns. unasked W (lent to-why ns)) (λ ns w. id⊢ 𝓤 _) (vm-makes 𝓤 H A W m _ (is .0), (uint-makes 𝓤 H A W w64 (s10 .count) _ (refl, room10 .0), (uint-makes 𝓤 H A W w64 (s11 .count) _ (refl, room11 .0), tt))) ((refl, room0), ((refl, room1), ((refl, room2), ((refl, room3), ((refl, room4), ((refl, room5), ((refl, room6), ((refl, room7), ((refl, room8), ((refl, room9), tt))))))))))
 
     abbrev to-go : List Arg
     to-go = val VmRow m (vmVal m) ∷ val u64 units (vint w64 units) ∷ shr u64 s0 constants ∷ shr u64 s1 functions ∷ shr u8 s2 text ∷ shr u8 s3 main ∷ shr u32 s4 mainPlaces ∷ shr u8 s5 other ∷ shr u32 s6 otherPlaces ∷ mut u64 s7 stack ∷ mut u64 s8 cells ∷ mut R s9 frames ∷ mut u64 s10 copy ∷ mut u32 s11 backtrace ∷ []

@@ -220,11 +220,11 @@ module _ {M : Type 1} (𝓤 : URA M) (H : Heap 𝓤) (A : Atoms 𝓤) (W : Given
 
     -- the calls
     abbrev to-bounds : List Arg
-    to-bounds = val VmRow m (vmVal m) ∷ val usize ((s7 .count)) (vint w64 ((s7 .count))) ∷ val usize ((s9 .count)) (vint w64 ((s9 .count))) ∷ []
+    to-bounds = val VmRow m (vmVal m) ∷ val usize (s7 .count) (vint w64 (s7 .count)) ∷ val usize (s9 .count) (vint w64 (s9 .count)) ∷ []
 
     call-bounds : Rule 𝓤 H A W to-bounds Bounds FixedRow fixedVal (λ k zs. FixedPost m (s7 .count) (s9 .count) k)
     call-bounds = call-with 𝓤 H A W to-bounds Bounds FixedRow fixedVal (λ k zs. FixedPost m (s7 .count) (s9 .count) k) fixed-tells (λ ns. passing (lent to-bounds ns)) (λ ns. refl)
-        (λ ns. unasked W (lent to-bounds ns)) (λ ns w. id⊢ 𝓤 _) (vm-makes 𝓤 H A W m _ (is .0), (uint-makes 𝓤 H A W w64 ((s7 .count)) _ (refl, room7 .0), (uint-makes 𝓤 H A W w64 ((s9 .count)) _ (refl, room9 .0), tt))) tt
+        (λ ns. unasked W (lent to-bounds ns)) (λ ns w. id⊢ 𝓤 _) (vm-makes 𝓤 H A W m _ (is .0), (uint-makes 𝓤 H A W w64 (s7 .count) _ (refl, room7 .0), (uint-makes 𝓤 H A W w64 (s9 .count) _ (refl, room9 .0), tt))) tt
 
     abbrev to-start : List Arg
     to-start = val VmRow m (vmVal m) ∷ val u64 units (vint w64 units) ∷ peek u64 s7 stack ∷ peek R s9 frames ∷ mut u64 s10 copy ∷ []

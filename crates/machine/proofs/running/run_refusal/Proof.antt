@@ -199,25 +199,25 @@ module _ {M : Type 1} (𝓤 : URA M) (H : Heap 𝓤) (A : Atoms 𝓤) (W : Given
         (λ ns. unasked W (lent (to-count b) ns)) (λ ns w. id⊢ 𝓤 _) (bool-makes 𝓤 H A W b _ isb, (vm-makes 𝓤 H A W m _ (is .0), tt)) tt
 
     abbrev to-slots : List Arg
-    to-slots = val usize ((s7 .count)) (vint w64 ((s7 .count))) ∷ val usize 2 (vint w64 2) ∷ []
+    to-slots = val usize (s7 .count) (vint w64 (s7 .count)) ∷ val usize 2 (vint w64 2) ∷ []
 
     call-slots : Rule 𝓤 H A W to-slots Slots usize (vint w64) (λ p zs. ((os : List ℕ) → length os ≡ s7 .count → p ≡ places 2 os))
     call-slots = call-with 𝓤 H A W to-slots Slots usize (vint w64) (λ p zs. ((os : List ℕ) → length os ≡ s7 .count → p ≡ places 2 os)) (uint-tells w64) (λ ns. passing (lent to-slots ns)) (λ ns. refl)
-        (λ ns. asked W (lent to-slots ns) (omega arith)) (λ ns w. id⊢ 𝓤 _) (uint-makes 𝓤 H A W w64 ((s7 .count)) _ (refl, room7 .0), (uint-makes 𝓤 H A W w64 2 _ (refl, omega arith), tt)) tt
+        (λ ns. asked W (lent to-slots ns) (omega arith)) (λ ns w. id⊢ 𝓤 _) (uint-makes 𝓤 H A W w64 (s7 .count) _ (refl, room7 .0), (uint-makes 𝓤 H A W w64 2 _ (refl, omega arith), tt)) tt
 
     abbrev to-good : ℕ → ℕ → List Arg
-    to-good k p = shr u64 s1 functions ∷ val usize k (vint w64 k) ∷ val usize p (vint w64 p) ∷ val usize ((m .frames)) (vint w64 ((m .frames))) ∷ shr R s9 frames ∷ []
+    to-good k p = shr u64 s1 functions ∷ val usize k (vint w64 k) ∷ val usize p (vint w64 p) ∷ val usize (m .frames) (vint w64 (m .frames)) ∷ shr R s9 frames ∷ []
 
     call-good : (k : ℕ) (p : ℕ) → k < 2 ^ 64 → p < 2 ^ 64 → 2 * k ≤ length functions → Rule 𝓤 H A W (to-good k p) Good Boolean vbool (λ f zs. f ≡ framesGood functions k p (m .frames) frames)
     call-good k p fits fitp there = call-with 𝓤 H A W (to-good k p) Good Boolean vbool (λ f zs. f ≡ framesGood functions k p (m .frames) frames) bool-tells (λ ns. passing (lent (to-good k p) ns)) (λ ns. refl)
-        (λ ns. asked W (lent (to-good k p) ns) there) (λ ns w. id⊢ 𝓤 _) (uint-makes 𝓤 H A W w64 k _ (refl, fits), (uint-makes 𝓤 H A W w64 p _ (refl, fitp), (uint-makes 𝓤 H A W w64 ((m .frames)) _ (refl, frames-fit m (is .0)), tt))) ((refl, room1), ((refl, room9), tt))
+        (λ ns. asked W (lent (to-good k p) ns) there) (λ ns w. id⊢ 𝓤 _) (uint-makes 𝓤 H A W w64 k _ (refl, fits), (uint-makes 𝓤 H A W w64 p _ (refl, fitp), (uint-makes 𝓤 H A W w64 (m .frames) _ (refl, frames-fit m (is .0)), tt))) ((refl, room1), ((refl, room9), tt))
 
     abbrev to-short : List Arg
-    to-short = val usize ((s7 .count)) (vint w64 ((s7 .count))) ∷ val usize ((s9 .count)) (vint w64 ((s9 .count))) ∷ val usize copies (vint w64 copies) ∷ val usize entries (vint w64 entries) ∷ []
+    to-short = val usize (s7 .count) (vint w64 (s7 .count)) ∷ val usize (s9 .count) (vint w64 (s9 .count)) ∷ val usize copies (vint w64 copies) ∷ val usize entries (vint w64 entries) ∷ []
 
     call-short : Rule 𝓤 H A W to-short Short Boolean vbool (λ s zs. ShortPost (s7 .count) (s9 .count) copies entries s)
     call-short = call-with 𝓤 H A W to-short Short Boolean vbool (λ s zs. ShortPost (s7 .count) (s9 .count) copies entries s) bool-tells (λ ns. passing (lent to-short ns)) (λ ns. refl)
-        (λ ns. unasked W (lent to-short ns)) (λ ns w. id⊢ 𝓤 _) (uint-makes 𝓤 H A W w64 ((s7 .count)) _ (refl, room7 .0), (uint-makes 𝓤 H A W w64 ((s9 .count)) _ (refl, room9 .0), (uint-makes 𝓤 H A W w64 copies _ (is .1 .0), (uint-makes 𝓤 H A W w64 entries _ (is .1 .1 .0), tt)))) tt
+        (λ ns. unasked W (lent to-short ns)) (λ ns w. id⊢ 𝓤 _) (uint-makes 𝓤 H A W w64 (s7 .count) _ (refl, room7 .0), (uint-makes 𝓤 H A W w64 (s9 .count) _ (refl, room9 .0), (uint-makes 𝓤 H A W w64 copies _ (is .1 .0), (uint-makes 𝓤 H A W w64 entries _ (is .1 .1 .0), tt)))) tt
 
     abbrev to-why : Bool → Bool → Bool → List Arg
     to-why b f s = val Boolean b (vbool b) ∷ val Boolean f (vbool f) ∷ val Boolean s (vbool s) ∷ []

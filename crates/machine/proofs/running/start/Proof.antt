@@ -99,18 +99,18 @@ module _ {M : Type 1} (𝓤 : URA M) (H : Heap 𝓤) (A : Atoms 𝓤) (W : Given
 
     -- the calls
     abbrev to-fill : List Arg
-    to-fill = val usize ((m .stack)) (vint w64 ((m .stack))) ∷ shr u64 s0 stack ∷ mut u64 s2 copy ∷ []
+    to-fill = val usize (m .stack) (vint w64 (m .stack)) ∷ shr u64 s0 stack ∷ mut u64 s2 copy ∷ []
 
     call-fill : (2 * m .stack ≤ length stack) × (2 * m .stack ≤ length copy) → Rule 𝓤 H A W to-fill Fill Nothing (λ _. vunit) (λ r zs. zs .1 .1 .0 ≡ written copy 0 (take (2 * m .stack) stack))
     call-fill can = call-with 𝓤 H A W to-fill Fill Nothing (λ _. vunit) (λ r zs. zs .1 .1 .0 ≡ written copy 0 (take (2 * m .stack) stack)) (λ r vs was. was) (λ ns. passing (lent to-fill ns)) (λ ns. refl)
-        (λ ns. asked W (lent to-fill ns) can) (λ ns w. id⊢ 𝓤 _) (uint-makes 𝓤 H A W w64 ((m .stack)) _ (refl, stack-fits m (is .0)), tt) ((refl, room0), ((refl, room2), tt))
+        (λ ns. asked W (lent to-fill ns) can) (λ ns w. id⊢ 𝓤 _) (uint-makes 𝓤 H A W w64 (m .stack) _ (refl, stack-fits m (is .0)), tt) ((refl, room0), ((refl, room2), tt))
 
     abbrev to-at : List Arg
-    to-at = val usize ((m .frames)) (vint w64 ((m .frames))) ∷ []
+    to-at = val usize (m .frames) (vint w64 (m .frames)) ∷ []
 
     call-at : Rule 𝓤 H A W to-at At usize (vint w64) (λ k zs. k ≡ m .frames - 1)
     call-at = call-with 𝓤 H A W to-at At usize (vint w64) (λ k zs. k ≡ m .frames - 1) (uint-tells w64) (λ ns. passing (lent to-at ns)) (λ ns. refl)
-        (λ ns. unasked W (lent to-at ns)) (λ ns w. id⊢ 𝓤 _) (uint-makes 𝓤 H A W w64 ((m .frames)) _ (refl, frames-fit m (is .0)), tt) tt
+        (λ ns. unasked W (lent to-at ns)) (λ ns w. id⊢ 𝓤 _) (uint-makes 𝓤 H A W w64 (m .frames) _ (refl, frames-fit m (is .0)), tt) tt
 
     abbrev to-begin : Frame → List Arg
     to-begin f = val VmRow m (vmVal m) ∷ val R f (fval f) ∷ val u64 units (vint w64 units) ∷ []

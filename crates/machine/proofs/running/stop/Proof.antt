@@ -156,18 +156,18 @@ module _ {M : Type 1} (𝓤 : URA M) (H : Heap 𝓤) (A : Atoms 𝓤) (W : Given
         (λ ns. unasked W (lent to-current ns)) (λ ns w. id⊢ 𝓤 _) (going-makes 𝓤 H A W g _ (is .1 .1 .0), tt) tt
 
     abbrev to-trace : Frame → List Arg
-    to-trace f = shr u64 s0 functions ∷ shr u32 s1 mainPlaces ∷ shr u32 s2 otherPlaces ∷ val R f (fval f) ∷ val usize ((g .callers)) (vint w64 ((g .callers))) ∷ peek R s4 frames ∷ mut u32 s6 backtrace ∷ []
+    to-trace f = shr u64 s0 functions ∷ shr u32 s1 mainPlaces ∷ shr u32 s2 otherPlaces ∷ val R f (fval f) ∷ val usize (g .callers) (vint w64 (g .callers)) ∷ peek R s4 frames ∷ mut u32 s6 backtrace ∷ []
 
     call-trace : (f : Frame) → Is R f (fval f ∷ []) → TraceFits functions mainPlaces otherPlaces f (g .callers) frames (length backtrace) → Rule 𝓤 H A W (to-trace f) Trace Nothing (λ _. vunit) (λ r zs. zs .1 .1 .1 .1 .1 .1 .0 ≡ written backtrace 0 (traceWords functions mainPlaces otherPlaces (f ∷ callersOf (g .callers) frames)))
     call-trace f isf can = call-with 𝓤 H A W (to-trace f) Trace Nothing (λ _. vunit) (λ r zs. zs .1 .1 .1 .1 .1 .1 .0 ≡ written backtrace 0 (traceWords functions mainPlaces otherPlaces (f ∷ callersOf (g .callers) frames))) (λ r vs was. was) (λ ns. passing (lent (to-trace f) ns)) (λ ns. refl)
-        (λ ns. asked W (lent (to-trace f) ns) can) (λ ns w. id⊢ 𝓤 _) (frame-makes 𝓤 H A W f _ isf, (uint-makes 𝓤 H A W w64 ((g .callers)) _ (refl, callers-fit g (is .1 .1 .0)), tt)) ((refl, room0), ((refl, room1), ((refl, room2), ((refl, room4), ((refl, room6), tt)))))
+        (λ ns. asked W (lent (to-trace f) ns) can) (λ ns w. id⊢ 𝓤 _) (frame-makes 𝓤 H A W f _ isf, (uint-makes 𝓤 H A W w64 (g .callers) _ (refl, callers-fit g (is .1 .1 .0)), tt)) ((refl, room0), ((refl, room1), ((refl, room2), ((refl, room4), ((refl, room6), tt)))))
 
     abbrev to-back : List Arg
-    to-back = val usize ((m .stack)) (vint w64 ((m .stack))) ∷ shr u64 s0 functions ∷ mut u64 s3 stack ∷ mut R s4 frames ∷ shr u64 s5 copy ∷ []
+    to-back = val usize (m .stack) (vint w64 (m .stack)) ∷ shr u64 s0 functions ∷ mut u64 s3 stack ∷ mut R s4 frames ∷ shr u64 s5 copy ∷ []
 
     call-back : (2 * m .stack ≤ length copy) × (2 * m .stack ≤ length stack) × (0 < length frames) → Rule 𝓤 H A W to-back Back Nothing (λ _. vunit) (λ r zs. (zs .1 .1 .0 ≡ written stack 0 (take (2 * m .stack) copy)) × (zs .1 .1 .1 .0 ≡ set frames 0 (root (size (codeWord functions 0)))))
     call-back can = call-with 𝓤 H A W to-back Back Nothing (λ _. vunit) (λ r zs. (zs .1 .1 .0 ≡ written stack 0 (take (2 * m .stack) copy)) × (zs .1 .1 .1 .0 ≡ set frames 0 (root (size (codeWord functions 0))))) (λ r vs was. was) (λ ns. passing (lent to-back ns)) (λ ns. refl)
-        (λ ns. asked W (lent to-back ns) can) (λ ns w. id⊢ 𝓤 _) (uint-makes 𝓤 H A W w64 ((m .stack)) _ (refl, stack-fits m (is .0)), tt) ((refl, room0), ((refl, room3), ((refl, room4), ((refl, room5), tt))))
+        (λ ns. asked W (lent to-back ns) can) (λ ns w. id⊢ 𝓤 _) (uint-makes 𝓤 H A W w64 (m .stack) _ (refl, stack-fits m (is .0)), tt) ((refl, room0), ((refl, room3), ((refl, room4), ((refl, room5), tt))))
 
     abbrev to-answer : List Arg
     to-answer = val VmRow m (vmVal m) ∷ val u64 units (vint w64 units) ∷ val GoingRow g (goingVal g) ∷ val u8 fault (vint w8 fault) ∷ []

@@ -1,8 +1,8 @@
 -- `put_trace` meets its contract: a walk of its MIR, by hand. The innermost frame is read, all frames are judged, and their backtrace is written, or 16 comes back.
 -- Assumes nothing.
-use Rattle.frames.proofs.Walk.{_≡_, refl, sym, ap, _∙_, subst, Bool, true, false, List, [], _∷_, Option, none, some, ℕ, _-_, _<_, _≤_, _^_, length, getD, URA, w64, Val, vunit, vbool, vint, SProp, ent, id⊢, Memory, Routine, Heap, Tables, WpFn, Atoms, Lfts, Shares, Fun, givenOf, tables, tablesOf, FmC, fmOf}
+use Rattle.frames.proofs.Walk.{_≡_, refl, Bool, true, false, List, [], _∷_, some, ℕ, _-_, _<_, _≤_, _^_, length, getD, URA, w64, Val, vunit, vbool, vint, SProp, ent, id⊢, Memory, Routine, Heap, Tables, WpFn, Atoms, Lfts, Shares, Fun, givenOf, tables, tablesOf, FmC, fmOf}
 use Rattle.frames.proofs.Walk.{Given, ‵, ⋆, _$_, _∵_, !, qed, by, keep, suffices, frame, done, agg, addr, of-opd, Is, Boolean, bool-tells, Nothing, uint-makes, u8, u32, u64, usize, now, Room, owned, onEntry, tripleOf, Contract, Triple, cited, says, needs, walkOf, ends-at}
-use Rattle.frames.proofs.Walk.{of, ofs, behind, sets, lands-in, enters, leaves, Sl, sl, sval, Arg, val, shr, mut, Holds, Toks, Owns, lfts, shares, denots, valss, values, passing, lent, takes, gives, Rule, call-with, asked, unasked, calls-on, returns-if, Kind, number, shared, unique, stays, Passed, Known, closed}
+use Rattle.frames.proofs.Walk.{of, ofs, behind, sets, lands-in, enters, leaves, Sl, sl, Arg, val, shr, mut, Holds, Toks, Owns, lfts, shares, denots, valss, values, passing, lent, takes, gives, Rule, call-with, asked, unasked, calls-on, returns-if, Kind, number, shared, unique, stays, Passed, Known, closed}
 use mir.Syntax.{w8}
 use denote.Plain.{uint-tells}
 use native.Mathlib.Omega.{arith}
@@ -10,7 +10,7 @@ use Rattle.model.specs.declared.Frame.{Frame}
 use Rattle.model.specs.declared.Told.{Told}
 use Rattle.model.specs.declared.Told.the-variants as t
 use Rattle.frames.specs.Links.{noFrame, callersOf, traceWords, written, traceGood, TraceFits}
-use Rattle.machine.specs.Links.{framesIn, Traceable, traceInto}
+use Rattle.machine.specs.Links.{Traceable, traceInto}
 use Rattle.frames.proofs.Orders.{is-true, is-false}
 use Rattle.frames.proofs.Frames.{R, fval, frame-typed, frame-makes}
 use Rattle.frames.proofs.FrameCalls.{Read, call-read}

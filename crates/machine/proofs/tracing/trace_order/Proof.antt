@@ -166,11 +166,11 @@ module _ {M : Type 1} (𝓤 : URA M) (H : Heap 𝓤) (A : Atoms 𝓤) (W : Given
         (λ ns. unasked W (lent to-most ns)) (λ ns w. id⊢ 𝓤 _) tt tt
 
     abbrev to-good : ℕ → ℕ → List Arg
-    to-good k p = shr u64 s0 functions ∷ val usize k (vint w64 k) ∷ val usize p (vint w64 p) ∷ val usize ((m .frames)) (vint w64 ((m .frames))) ∷ shr R s6 frames ∷ []
+    to-good k p = shr u64 s0 functions ∷ val usize k (vint w64 k) ∷ val usize p (vint w64 p) ∷ val usize (m .frames) (vint w64 (m .frames)) ∷ shr R s6 frames ∷ []
 
     call-good : (k : ℕ) (p : ℕ) → k < 2 ^ 64 → p < 2 ^ 64 → 2 * k ≤ length functions → Rule 𝓤 H A W (to-good k p) Good Boolean vbool (λ b zs. b ≡ framesGood functions k p (m .frames) frames)
     call-good k p fits fitp there = call-with 𝓤 H A W (to-good k p) Good Boolean vbool (λ b zs. b ≡ framesGood functions k p (m .frames) frames) bool-tells (λ ns. passing (lent (to-good k p) ns)) (λ ns. refl)
-        (λ ns. asked W (lent (to-good k p) ns) there) (λ ns w. id⊢ 𝓤 _) (uint-makes 𝓤 H A W w64 k _ (refl, fits), (uint-makes 𝓤 H A W w64 p _ (refl, fitp), (uint-makes 𝓤 H A W w64 ((m .frames)) _ (refl, frames-fit m (is .0)), tt))) ((refl, room0), ((refl, room6), tt))
+        (λ ns. asked W (lent (to-good k p) ns) there) (λ ns w. id⊢ 𝓤 _) (uint-makes 𝓤 H A W w64 k _ (refl, fits), (uint-makes 𝓤 H A W w64 p _ (refl, fitp), (uint-makes 𝓤 H A W w64 (m .frames) _ (refl, frames-fit m (is .0)), tt))) ((refl, room0), ((refl, room6), tt))
 
     abbrev to-both : Bool → Bool → List Arg
     to-both b f = val Boolean b (vbool b) ∷ val Boolean f (vbool f) ∷ []
