@@ -7,7 +7,10 @@ use borrow.Author.Tests.{le-leb, lt-leb}
 use lib.Dec.{leb}
 use lib.ListN.{length, set}
 use Rattle.model.specs.declared.Value.{Value}
+use Rattle.model.specs.declared.Counts.{Counts}
 use Rattle.model.specs.declared.Vm.{Vm}
+use Rattle.model.specs.declared.Emitted.{Emitted}
+use Rattle.model.specs.declared.Emitted.the-variants as e
 use Rattle.model.specs.declared.Told.{Told}
 use Rattle.model.specs.declared.Told.the-variants as t
 use Rattle.model.specs.declared.Started.{Started}
@@ -16,7 +19,7 @@ use Rattle.model.specs.declared.RunResult.{RunResult}
 use Rattle.model.specs.declared.RunResult.the-variants as r
 use Rattle.model.specs.Basics.{written}
 use Rattle.model.specs.Values.{kind, payload}
-use Rattle.coding.specs.Coding.{vmWords, recordOk, slicesRefusal, outRefusal, Coded, runCoded, startedCoded, toldCoded}
+use Rattle.coding.specs.Coding.{countWords, vmWords, recordOk, slicesRefusal, outRefusal, Coded, runCoded, startedCoded, emittedCoded, toldCoded}
 
 -- ---- refusals
 
@@ -74,6 +77,15 @@ module _ (w a : List ℕ) where
     pub started-refused : {n : ℕ} → x ≡ st.Refused n → record { number = n; vm = w; answer = a } ≡ startedCoded x w a
     unfolding startedCoded
     started-refused e = rw e
+
+  module _ {x : Emitted} where
+    pub emitted-done : {w' a' : List ℕ} {c : Counts} {n : ℕ} → x ≡ e.Done c n → w' ≡ written w 0 (countWords c) → a' ≡ set a 0 n → record { number = 0; vm = w'; answer = a' } ≡ emittedCoded x w a
+    unfolding emittedCoded written
+    emitted-done e ew ea = rw (e, ew, ea)
+
+    pub emitted-refused : {n : ℕ} → x ≡ e.Refused n → record { number = n; vm = w; answer = a } ≡ emittedCoded x w a
+    unfolding emittedCoded
+    emitted-refused e = rw e
 
   module _ {x : Told} where
     pub told-number : {a' : List ℕ} {n : ℕ} → x ≡ t.Number n → a' ≡ set a 0 n → record { number = 0; vm = w; answer = a' } ≡ toldCoded x w a

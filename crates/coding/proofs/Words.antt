@@ -10,10 +10,11 @@ use lib.Seq.{set-out, length-sets}
 use Rattle.model.specs.declared.Value.{Value}
 use Rattle.model.specs.declared.Last.{Last}
 use Rattle.model.specs.declared.Last.the-variants.{Nothing, Is}
+use Rattle.model.specs.declared.Counts.{Counts}
 use Rattle.model.specs.declared.Vm.{Vm}
 use Rattle.model.specs.Basics.{written}
 use Rattle.model.specs.Values.{valueOf, kind, payload, exactValue}
-use Rattle.coding.specs.Coding.{lastOf, lastKind, lastPayload, vmIn, vmWords, lastExact, recordOk}
+use Rattle.coding.specs.Coding.{lastOf, lastKind, lastPayload, vmIn, countWords, vmWords, lastExact, recordOk}
 
 -- ---- words
 
@@ -84,3 +85,8 @@ module _ (m : Vm) (s : List ℕ) {k a : ℕ} {s1 s2 s3 s4 s5 s6 s7 s8 s9 s10 : L
   pub vm-put-length : length s10 ≡ length s
   unfolding written
   vm-put-length = rw vm-put (length-sets s 0 (vmWords m))
+
+module _ (c : Counts) (s : List ℕ) {s1 s2 s3 s4 s5 : List ℕ} (e1 : s1 ≡ set s 0 (c .constants)) (e2 : s2 ≡ set s1 1 (c .structs)) (e3 : s3 ≡ set s2 2 (c .functions)) (e4 : s4 ≡ set s3 3 (c .text)) (e5 : s5 ≡ set s4 4 (c .current)) where
+  pub counts-put : s5 ≡ written s 0 (countWords c)
+  unfolding written countWords
+  counts-put = rw (e5, e4, e3, e2, e1)

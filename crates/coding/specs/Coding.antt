@@ -6,12 +6,15 @@ use mathlib.Core.List.{List, [], _∷_}
 use Prim.Native.Nat.{ℕ}
 use lib.Dec.{eqb, leb}
 use lib.ListN.{length, getD}
+use Rattle.model.specs.declared.Counts.{Counts}
 use Rattle.model.specs.declared.Vm.{Vm}
 use Rattle.model.specs.declared.Last.{Last}
 use Rattle.model.specs.declared.Last.the-variants.{Nothing, Is}
 use Rattle.model.specs.declared.Frame.{Frame}
 use Rattle.model.specs.declared.Told.{Told}
 use Rattle.model.specs.declared.Told.the-variants as t
+use Rattle.model.specs.declared.Emitted.{Emitted}
+use Rattle.model.specs.declared.Emitted.the-variants as e
 use Rattle.model.specs.declared.Started.{Started}
 use Rattle.model.specs.declared.Started.the-variants as st
 use Rattle.model.specs.declared.RunResult.{RunResult}
@@ -19,6 +22,7 @@ use Rattle.model.specs.declared.RunResult.the-variants as r
 use Rattle.model.specs.Basics.{if_then_else_, written}
 use Rattle.model.specs.Values.{valueOf, kind, payload, exactValue}
 use Rattle.model.specs.Stores.{Stores}
+use Rattle.model.specs.Emission.{Res}
 use Rattle.model.specs.Loading.{OutRes}
 use Rattle.model.specs.Machines.{Lent, RunPost, StartRes}
 
@@ -44,6 +48,9 @@ vmIn w = record {
   cells = getD w 7 0;
   last = lastOf (getD w 8 0) (getD w 9 0);
 }
+
+unfoldable pub countWords : Counts → List ℕ
+countWords c = c .constants ∷ c .structs ∷ c .functions ∷ c .text ∷ c .current ∷ []
 
 unfoldable pub vmWords : Vm → List ℕ
 vmWords m =
@@ -88,6 +95,11 @@ startedCoded (st.Done m) w a = record { number = 0; vm = written w 0 (vmWords m)
 startedCoded (st.Broken i) w a = record { number = 20; vm = w; answer = written a 0 (i ∷ []) }
 startedCoded (st.Refused n) w a = record { number = n; vm = w; answer = a }
 
+-- the counts to the record, and the number that was told
+unfoldable pub emittedCoded : Emitted → List ℕ → List ℕ → Coded
+emittedCoded (e.Done c n) w a = record { number = 0; vm = written w 0 (countWords c); answer = written a 0 (n ∷ []) }
+emittedCoded (e.Refused n) w a = record { number = n; vm = w; answer = a }
+
 unfoldable pub toldCoded : Told → List ℕ → List ℕ → Coded
 toldCoded (t.Number n) w a = record { number = 0; vm = w; answer = written a 0 (n ∷ []) }
 toldCoded (t.Refused n) w a = record { number = n; vm = w; answer = a }
@@ -123,3 +135,14 @@ outThrough w a out rule =
     if eqb (slicesRefusal w 1 a) 0
     then record { coded = toldCoded (rule (vmIn w) .answer) w a; out = rule (vmIn w) .out }
     else record { coded = record { number = slicesRefusal w 1 a; vm = w; answer = a }; out = out }
+
+-- emission: an entry over the record's counts and the program's stores
+pub record EmitThrough : Type 0 where
+  pub coded : Coded
+  pub stores : Stores
+
+unfoldable pub emitThrough : List ℕ → List ℕ → Stores → (Counts → Res) → EmitThrough
+emitThrough w a s rule =
+    if eqb (slicesRefusal w 1 a) 0
+    then record { coded = emittedCoded (rule (vmIn w .program) .answer) w a; stores = rule (vmIn w .program) .stores }
+    else record { coded = record { number = slicesRefusal w 1 a; vm = w; answer = a }; stores = s }

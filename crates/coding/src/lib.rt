@@ -1,5 +1,6 @@
 // A machine's record and the entries' answers as words in lent slices: what crosses to a host in C.
 use model::Counts;
+use model::Emitted;
 use model::Last;
 use model::RunResult;
 use model::Started;
@@ -14,7 +15,7 @@ ghost use mathlib.Core.List.{List, [], _∷_};
 ghost use Prim.Native.Nat.{ℕ};
 ghost use lib.ListN.{getD, set};
 ghost use Rattle.model.specs.Basics.{written};
-ghost use Rattle.coding.specs.Coding.{lastOf, lastKind, lastPayload, vmIn, vmWords, lastExact, recordOk, slicesRefusal, outRefusal, runCoded, startedCoded, toldCoded};
+ghost use Rattle.coding.specs.Coding.{lastOf, lastKind, lastPayload, vmIn, countWords, vmWords, lastExact, recordOk, slicesRefusal, outRefusal, runCoded, startedCoded, emittedCoded, toldCoded};
 
 // Word i, 0 past the end.
 fn word(s: &[u64], i: usize) -> u64
@@ -199,6 +200,31 @@ pub fn tell_started(result: Started, vm: &mut [u64], answer: &mut [u64]) -> u32
             20
         }
         Started::Refused(n) => n as u32,
+    }
+}
+
+// The counts to their words of the record.
+fn put_counts(c: Counts, vm: &mut [u64])
+    ensures { λ _. ⌜ now (vm .exit) ≡ written (now (vm .entry)) 0 (countWords c) ⌝ }
+{
+    put(vm, 0, c.constants as u64);
+    put(vm, 1, c.structs as u64);
+    put(vm, 2, c.functions as u64);
+    put(vm, 3, c.text as u64);
+    put(vm, 4, c.current as u64);
+}
+
+// What an emission entry answers.
+pub fn tell_emitted(result: Emitted, vm: &mut [u64], answer: &mut [u64]) -> u32
+    ensures { λ r. ⌜ record { number = r; vm = now (vm .exit); answer = now (answer .exit) } ≡ emittedCoded result (now (vm .entry)) (now (answer .entry)) ⌝ }
+{
+    match result {
+        Emitted::Done(c, n) => {
+            put_counts(c, vm);
+            put(answer, 0, n as u64);
+            0
+        }
+        Emitted::Refused(n) => n as u32,
     }
 }
 
