@@ -1,5 +1,5 @@
 -- The entries' answers in words, and the refusals of the slices that hold them.
-use mathlib.Core.Path.{_≡_, refl}
+use mathlib.Core.Path.{_≡_}
 use mathlib.Core.Bool.{Bool, true, false, _&&_}
 use mathlib.Core.List.{List, [], _∷_}
 use Prim.Native.Nat.{ℕ, _≤_, _<_}
@@ -19,7 +19,7 @@ use Rattle.model.specs.declared.RunResult.{RunResult}
 use Rattle.model.specs.declared.RunResult.the-variants as r
 use Rattle.model.specs.Basics.{written}
 use Rattle.model.specs.Values.{kind, payload}
-use Rattle.coding.specs.Coding.{countWords, vmWords, recordOk, slicesRefusal, outRefusal, Coded, runCoded, startedCoded, emittedCoded, toldCoded}
+use Rattle.coding.specs.Coding.{countWords, vmWords, recordOk, slicesRefusal, outRefusal, runCoded, startedCoded, emittedCoded, toldCoded}
 
 -- ---- refusals
 

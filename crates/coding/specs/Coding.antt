@@ -136,6 +136,10 @@ outThrough w a out rule =
     then record { coded = toldCoded (rule (vmIn w) .answer) w a; out = rule (vmIn w) .out }
     else record { coded = record { number = slicesRefusal w 1 a; vm = w; answer = a }; out = out }
 
+-- an entry that changes no store but the record and the answer: c is what it does where its slices are long enough
+unfoldable pub through : List ℕ → List ℕ → Coded → Coded
+through w a c = if eqb (slicesRefusal w 1 a) 0 then c else record { number = slicesRefusal w 1 a; vm = w; answer = a }
+
 -- emission: an entry over the record's counts and the program's stores
 pub record EmitThrough : Type 0 where
   pub coded : Coded

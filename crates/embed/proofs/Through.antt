@@ -3,16 +3,19 @@ use mathlib.Core.Path.{_≡_, refl, sym, ap, subst, _∙_}
 use mathlib.Core.List.{List}
 use Prim.Native.Nat.{ℕ}
 use borrow.Author.Tests.{eq-eqb, ne-eqb}
+use Rattle.model.specs.declared.Counts.{Counts}
 use Rattle.model.specs.declared.Vm.{Vm}
 use Rattle.model.specs.declared.Frame.{Frame}
 use Rattle.model.specs.declared.Told.{Told}
+use Rattle.model.specs.declared.Emitted.{Emitted}
 use Rattle.model.specs.declared.Started.{Started}
 use Rattle.model.specs.declared.RunResult.{RunResult}
 use Rattle.model.specs.declared.RunResult.the-variants as v
 use Rattle.model.specs.Stores.{Stores}
+use Rattle.model.specs.Emission.{Res}
 use Rattle.model.specs.Loading.{OutRes}
 use Rattle.model.specs.Machines.{Lent, RunPost, StartRes}
-use Rattle.coding.specs.Coding.{vmIn, slicesRefusal, outRefusal, Coded, runCoded, startedCoded, toldCoded, RunThrough, StartThrough, startThrough, OutThrough, outThrough}
+use Rattle.coding.specs.Coding.{vmIn, slicesRefusal, outRefusal, Coded, runCoded, startedCoded, emittedCoded, toldCoded, RunThrough, startThrough, outThrough, through, emitThrough}
 use Rattle.coding.proofs.Answers.{told-refused}
 
 -- ---- a run
@@ -55,3 +58,27 @@ module _ (w a out : List ℕ) (rule : Vm → OutRes) (n : ℕ) (e : n ≡ slices
   pub out-refused : (n ≡ 0 → ⊥) → record { coded = record { number = n; vm = w; answer = a }; out = out } ≡ outThrough w a out rule
   unfolding outThrough
   out-refused z = rw (ne-eqb (slicesRefusal w 1 a) 0 (λ y. z (e ∙ y)), e)
+
+-- ---- emission, and what changes no store but the record and the answer
+
+module _ (w a : List ℕ) (n : ℕ) (e : n ≡ slicesRefusal w 1 a) where
+  module _ (s : Stores) (rule : Counts → Res) where
+    pub emit-through : n ≡ 0 → {m : Vm} → m ≡ vmIn w → {x : Emitted} {s' : Stores} → record { answer = x; stores = s' } ≡ rule (m .program) → {c : Coded} → c ≡ emittedCoded x w a → record { coded = c; stores = s' } ≡ emitThrough w a s rule
+    unfolding emitThrough
+    emit-through z em er ec = rw (← em, ← er, ec, eq-eqb (slicesRefusal w 1 a) 0 (sym e ∙ z))
+
+    pub emit-refused : (n ≡ 0 → ⊥) → record { coded = record { number = n; vm = w; answer = a }; stores = s } ≡ emitThrough w a s rule
+    unfolding emitThrough
+    emit-refused z = rw (ne-eqb (slicesRefusal w 1 a) 0 (λ y. z (e ∙ y)), e)
+
+  pub emitted-through : n ≡ 0 → {m : Vm} → m ≡ vmIn w → (rule : Counts → Emitted) → {x : Emitted} → x ≡ rule (m .program) → {c : Coded} → c ≡ emittedCoded x w a → c ≡ through w a (emittedCoded (rule (vmIn w .program)) w a)
+  unfolding through
+  emitted-through z em rule er ec = rw (ec, er, em, eq-eqb (slicesRefusal w 1 a) 0 (sym e ∙ z))
+
+  pub told-through : n ≡ 0 → {m : Vm} → m ≡ vmIn w → (rule : Counts → Told) → {x : Told} → x ≡ rule (m .program) → {c : Coded} → c ≡ toldCoded x w a → c ≡ through w a (toldCoded (rule (vmIn w .program)) w a)
+  unfolding through
+  told-through z em rule er ec = rw (ec, er, em, eq-eqb (slicesRefusal w 1 a) 0 (sym e ∙ z))
+
+  pub not-through : (n ≡ 0 → ⊥) → (c : Coded) → record { number = n; vm = w; answer = a } ≡ through w a c
+  unfolding through
+  not-through z c = rw (ne-eqb (slicesRefusal w 1 a) 0 (λ y. z (e ∙ y)), e)

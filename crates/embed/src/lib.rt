@@ -1,4 +1,6 @@
 // The machine's entries for a host in C: numbers and slices alone. `include/chaffwheel.h` declares them, docs/EMBEDDING.md shows their use.
+pub mod emission; // emission.rt: a program is written
+
 use coding::out_refusal;
 use coding::slices_refusal;
 use coding::tell;
