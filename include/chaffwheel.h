@@ -6,13 +6,19 @@
  *
  * Each function returns 0, or the number of its refusal. A refusal changes no store; only 20 writes its offset to answer[0].
  *
- *    7  no last result            16  a frame's place lies outside its code    17  a lent result or copy store is too short
+ *    1  opcode 38 or more          3  the code ends inside an instruction      14  no function of that name
+ *   16  a frame's place lies outside its code                                 17  a lent result or copy store is too short
  *   19  records not in good order 20  an image breaks a rule                   21  a store would be exceeded
- *   22  a limit would be exceeded
+ *   22  a limit would be exceeded 23  a patch not wholly inside the current function's code
+ *
+ * All but chaffwheel_new and chaffwheel_load look at their slices first: 19 where vm has fewer than 10 words, or its last result is not exactly
+ * the words of a value or of none; 17 where answer is too short. Then come the refusals that stand at each function, in order. The library
+ * judges what it is lent, in time linear in what is taken.
  */
 #ifndef CHAFFWHEEL_H
 #define CHAFFWHEEL_H
 
+#include <stdbool.h>
 #include <stddef.h>
 #include <stdint.h>
 
@@ -91,8 +97,7 @@ uint32_t chaffwheel_load(
  * to the front of copy, after a fault the backtrace to the front of trace (two words to an entry, function and place, the innermost frame
  * first), the machine as it then is to vm, and the answer. After a fault vm is a machine that can go on: the stack of the start, one frame at
  * the end of main, and the last result of the last root Return that was completed. THE LAST RESULT IS NOT PUT BACK: docs/EMBEDDING.md.
- * Refused 19: vm has fewer than 10 words, or its last result is not exactly the words of a value or of none. 17: answer has fewer than 4 words.
- * Then 19: the stores are not in good order. 17: copy has fewer places than stack, or trace than frames. Nothing has run then. */
+ * answer has 4 words. Refused 19: not in good order. 17: copy has fewer places than stack, or trace than frames. Nothing has run then. */
 uint32_t chaffwheel_run(
     uint64_t units,
     uint64_t *vm, size_t vm_len,
@@ -111,8 +116,7 @@ uint32_t chaffwheel_run(
     uint64_t *answer, size_t answer_len);
 
 /* The backtrace of the machine's frames, as a fault's; answer[0] is how many entries it has.
- * Refused 19: vm as in a run. 17: answer has no word. Then 19: the stores are not in good order. 17: out has fewer places than there are
- * frames. 16: the place of a frame lies outside its code. */
+ * Refused 19. 17: out has fewer places than there are frames. 16: the place of a frame lies outside its code. */
 uint32_t chaffwheel_backtrace(
     const uint64_t *vm, size_t vm_len,
     const uint64_t *functions, size_t functions_len,
@@ -123,6 +127,141 @@ uint32_t chaffwheel_backtrace(
     const uint32_t *other_places, size_t other_places_len,
     const chaffwheel_frame *frames, size_t frames_len,
     uint32_t *out, size_t out_len,
+    uint64_t *answer, size_t answer_len);
+
+/* The image of the program, to the front of out; answer[0] is its length. Refused 19, 17. */
+uint32_t chaffwheel_save(
+    const uint64_t *vm, size_t vm_len,
+    const uint64_t *constants, size_t constants_len,
+    const uint64_t *structs, size_t structs_len,
+    const uint64_t *functions, size_t functions_len,
+    const uint8_t *text, size_t text_len,
+    const uint8_t *main_code, size_t main_len,
+    const uint32_t *main_places, size_t main_places_len,
+    const uint8_t *other_code, size_t other_len,
+    const uint32_t *other_places, size_t other_places_len,
+    uint8_t *out, size_t out_len,
+    uint64_t *answer, size_t answer_len);
+
+/* The listing of the program, to the front of out; answer[0] is its length. Refused 19, then 1 or 3 as met first, 17. */
+uint32_t chaffwheel_disassemble(
+    const uint64_t *vm, size_t vm_len,
+    const uint64_t *functions, size_t functions_len,
+    const uint8_t *text, size_t text_len,
+    const uint8_t *main_code, size_t main_len,
+    const uint8_t *other_code, size_t other_len,
+    uint8_t *out, size_t out_len,
+    uint64_t *answer, size_t answer_len);
+
+/* ---- emission: a program is written, to the end of the current function. vm takes the new counts. A name or text is copied. */
+
+/* Appends an opcode and its operands, each byte with the place. Refused 19, 22, 21, 1. */
+uint32_t chaffwheel_add_op(
+    uint64_t *vm, size_t vm_len,
+    uint8_t op, uint32_t place,
+    uint64_t *functions, size_t functions_len,
+    uint8_t *main_code, size_t main_len,
+    uint32_t *main_places, size_t main_places_len,
+    uint8_t *other_code, size_t other_len,
+    uint32_t *other_places, size_t other_places_len,
+    uint64_t *answer, size_t answer_len);
+uint32_t chaffwheel_add_op1(
+    uint64_t *vm, size_t vm_len,
+    uint8_t op, uint16_t a, uint32_t place,
+    uint64_t *functions, size_t functions_len,
+    uint8_t *main_code, size_t main_len,
+    uint32_t *main_places, size_t main_places_len,
+    uint8_t *other_code, size_t other_len,
+    uint32_t *other_places, size_t other_places_len,
+    uint64_t *answer, size_t answer_len);
+uint32_t chaffwheel_add_op2(
+    uint64_t *vm, size_t vm_len,
+    uint8_t op, uint16_t a, uint16_t b, uint32_t place,
+    uint64_t *functions, size_t functions_len,
+    uint8_t *main_code, size_t main_len,
+    uint32_t *main_places, size_t main_places_len,
+    uint8_t *other_code, size_t other_len,
+    uint32_t *other_places, size_t other_places_len,
+    uint64_t *answer, size_t answer_len);
+uint32_t chaffwheel_add_op3(
+    uint64_t *vm, size_t vm_len,
+    uint8_t op, uint16_t a, uint16_t b, uint16_t d, uint32_t place,
+    uint64_t *functions, size_t functions_len,
+    uint8_t *main_code, size_t main_len,
+    uint32_t *main_places, size_t main_places_len,
+    uint8_t *other_code, size_t other_len,
+    uint32_t *other_places, size_t other_places_len,
+    uint64_t *answer, size_t answer_len);
+
+/* answer[0] is the length of the current function's code. Refused 19. */
+uint32_t chaffwheel_current_offset(
+    const uint64_t *vm, size_t vm_len,
+    const uint64_t *functions, size_t functions_len,
+    uint64_t *answer, size_t answer_len);
+
+/* Overwrites two bytes of the current function's code, low byte first. Refused 19, 23. */
+uint32_t chaffwheel_patch_u16_value_at(
+    uint64_t *vm, size_t vm_len,
+    uint16_t offset, uint16_t arg,
+    const uint64_t *functions, size_t functions_len,
+    uint8_t *main_code, size_t main_len,
+    uint8_t *other_code, size_t other_len,
+    uint64_t *answer, size_t answer_len);
+
+/* Append a constant: a scalar's 64 bits (kept as they are), a boolean, a string, a function reference. answer[0] is its number.
+ * Refused 19, 22, 21. */
+uint32_t chaffwheel_add_scalar(
+    uint64_t *vm, size_t vm_len,
+    uint64_t bits,
+    uint64_t *constants, size_t constants_len,
+    uint8_t *text, size_t text_len,
+    uint64_t *answer, size_t answer_len);
+uint32_t chaffwheel_add_boolean(
+    uint64_t *vm, size_t vm_len,
+    bool value,
+    uint64_t *constants, size_t constants_len,
+    uint8_t *text, size_t text_len,
+    uint64_t *answer, size_t answer_len);
+uint32_t chaffwheel_add_string(
+    uint64_t *vm, size_t vm_len,
+    const uint8_t *bytes, size_t bytes_len,
+    uint64_t *constants, size_t constants_len,
+    uint8_t *text, size_t text_len,
+    uint64_t *answer, size_t answer_len);
+uint32_t chaffwheel_add_reference(
+    uint64_t *vm, size_t vm_len,
+    const uint8_t *name, size_t name_len,
+    uint64_t *constants, size_t constants_len,
+    uint8_t *text, size_t text_len,
+    uint64_t *answer, size_t answer_len);
+
+/* answer[0] is the number of a struct name, which is added where it is not known. Refused 19, 22, 21. */
+uint32_t chaffwheel_add_struct_info(
+    uint64_t *vm, size_t vm_len,
+    const uint8_t *name, size_t name_len,
+    uint64_t *structs, size_t structs_len,
+    uint8_t *text, size_t text_len,
+    uint64_t *answer, size_t answer_len);
+
+/* Begins a function without code, which is then current. Refused 19, 22, 21. */
+uint32_t chaffwheel_begin_function(
+    uint64_t *vm, size_t vm_len,
+    const uint8_t *name, size_t name_len,
+    uint64_t *functions, size_t functions_len,
+    uint8_t *text, size_t text_len,
+    uint64_t *answer, size_t answer_len);
+
+/* Makes main current. Refused 19. */
+uint32_t chaffwheel_end_function(
+    uint64_t *vm, size_t vm_len,
+    uint64_t *answer, size_t answer_len);
+
+/* answer[0] is the newest function of a name. Refused 19, 14. */
+uint32_t chaffwheel_get_function_idx(
+    const uint64_t *vm, size_t vm_len,
+    const uint8_t *name, size_t name_len,
+    const uint64_t *functions, size_t functions_len,
+    const uint8_t *text, size_t text_len,
     uint64_t *answer, size_t answer_len);
 
 #endif

@@ -29,14 +29,11 @@ static double last_result(const struct machine *m)
     return x;
 }
 
-/* Runs the rule on a machine that is newly loaded: it has no last result, so the broker brings the one to start from, as constant 0. */
-static struct journal whole_rule(struct machine *m, uint8_t *image, size_t len, double before, uint64_t units)
+/* Runs the machine as it stands; `before` is the last result that the rule is given. */
+static struct journal run(struct machine *m, double before, uint64_t units)
 {
     struct journal j = { .before = before, .after = before };
-    bring(image, 0, before);
-    j.refused = machine_load(m, image, len);
-    if (!j.refused)
-        j.refused = machine_run(m, units);
+    j.refused = machine_run(m, units);
     if (j.refused)
         return j; /* nothing ran, no store changed */
     j.outcome = m->answer[CHAFFWHEEL_OUTCOME], j.spent = m->answer[CHAFFWHEEL_SPENT];
@@ -47,6 +44,33 @@ static struct journal whole_rule(struct machine *m, uint8_t *image, size_t len, 
         j.fault = m->answer[CHAFFWHEEL_KIND], j.place = m->trace[2 * entries - 1];
     }
     return j;
+}
+
+/* The whole rule, on a machine that is newly loaded: it has no last result, so the broker brings the one to start from, as constant 0. */
+static struct journal whole_rule(struct machine *m, uint8_t *image, size_t len, double before, uint64_t units)
+{
+    struct journal j = { .before = before, .after = before };
+    bring(image, 0, before);
+    j.refused = machine_load(m, image, len);
+    return j.refused ? j : run(m, before, units);
+}
+
+/* The rest of the rule, mended, on the machine that faulted: it is emitted at the end of main, where the machine stands. */
+static struct journal rest_of_rule(struct machine *m, double before, uint64_t units)
+{
+    struct journal j = { .before = before, .after = before };
+    double two = 2;
+    uint64_t bits;
+    memcpy(&bits, &two, sizeof bits);
+    j.refused = machine_scalar(m, bits);
+    uint16_t homes = (uint16_t)m->answer[0];
+    if (!j.refused)
+        j.refused = machine_op1(m, 0, 1, 15); /* LoadConstant one */
+    if (!j.refused)
+        j.refused = machine_op1(m, 0, homes, 16);
+    if (!j.refused)
+        j.refused = machine_op(m, 11, 17); /* Divide */
+    return j.refused ? j : run(m, before, units);
 }
 
 /* Has the reading counted? A root Return that was completed is never undone. If the last result is another one than before, the run has counted;
@@ -90,6 +114,9 @@ int main(int argc, char **argv)
     struct journal first = whole_rule(&m, image, len, 41, 1000000);
     show("the rule as it was written, from 41", &first);
 
+    struct journal rest = rest_of_rule(&m, first.after, 1000000);
+    show("the rest, mended, on the same machine: right, this run has nothing to count", &rest);
+
     bring(image, 2, 2); /* the mended rule: homes is 2 */
     struct journal once = whole_rule(&m, image, len, first.before, 1000000);
     show("mended, the whole rule from the last result BEFORE the fault: right", &once);
@@ -101,5 +128,5 @@ int main(int argc, char **argv)
     show("the mended rule with 5 units: it stops before its Return", &again);
 
     machine_free(&m);
-    return first.after == 42 && once.after == 42 && twice.after == 43 && !counted(&again, 14) ? 0 : 1;
+    return first.after == 42 && rest.after == 42 && once.after == 42 && twice.after == 43 && !counted(&again, 14) ? 0 : 1;
 }

@@ -7,6 +7,8 @@ use coding::tell;
 use coding::tell_run;
 use coding::tell_started;
 use coding::vm_of;
+use image::save;
+use listing::disassemble;
 use machine::backtrace;
 use machine::load;
 use machine::new;
@@ -15,10 +17,13 @@ use model::Frame;
 ghost use mathlib.Core.Path.{_≡_};
 ghost use mathlib.Core.List.{List};
 ghost use Prim.Native.Nat.{ℕ};
+ghost use Rattle.model.specs.declared.Vm.{Vm};
 ghost use Rattle.model.specs.Stores.{Stores};
+ghost use Rattle.model.specs.Loading.{saveOf, listOf};
 ghost use Rattle.model.specs.Machines.{backtraceIn, loadMachineOf, newMachineOf};
 ghost use Rattle.program.specs.Links.{namesLent};
 ghost use Rattle.image.specs.Fills.{lent};
+ghost use Rattle.listing.specs.Links.{lent as listed};
 ghost use Rattle.ends.specs.Links.{programLent};
 ghost use Rattle.machine.specs.Links.{runLent};
 ghost use Rattle.coding.specs.Coding.{RunThrough, startThrough, outThrough};
@@ -157,6 +162,69 @@ pub extern "C" fn chaffwheel_backtrace(
             frames,
             out,
         );
+        let n = tell(told, answer);
+        return n;
+    }
+    why
+}
+
+// The image of the program.
+#[no_mangle]
+pub extern "C" fn chaffwheel_save(
+    vm: &[u64],
+    constants: &[u64],
+    structs: &[u64],
+    functions: &[u64],
+    text: &[u8],
+    main: &[u8],
+    main_places: &[u32],
+    other: &[u8],
+    other_places: &[u32],
+    out: &mut [u8],
+    answer: &mut [u64],
+) -> u32
+    ensures { λ r. ⌜ record { coded = record { number = r; vm = now (vm .entry); answer = now (answer .exit) }; out = now (out .exit) } ≡ outThrough (now (vm .entry)) (now (answer .entry)) (now (out .entry)) (λ (m : Vm). saveOf (m .program) (lent (now (constants .entry)) (now (structs .entry)) (now (functions .entry)) (now (text .entry)) (now (main .entry)) (now («main_places» .entry)) (now (other .entry)) (now («other_places» .entry))) (now (out .entry))) ⌝ }
+{
+    let why = slices_refusal(vm, 1, answer);
+    if why == 0 {
+        let m = vm_of(vm);
+        let c = m.program;
+        let told = save(
+            c,
+            constants,
+            structs,
+            functions,
+            text,
+            main,
+            main_places,
+            other,
+            other_places,
+            out,
+        );
+        let n = tell(told, answer);
+        return n;
+    }
+    why
+}
+
+// The listing of the program.
+#[no_mangle]
+pub extern "C" fn chaffwheel_disassemble<'a>(
+    vm: &[u64],
+    functions: &[u64],
+    text: &[u8],
+    main: &'a [u8],
+    other: &'a [u8],
+    out: &mut [u8],
+    answer: &mut [u64],
+) -> u32
+    ensures { λ r. ⌜ ((rest : Stores) → record { coded = record { number = r; vm = now (vm .entry); answer = now (answer .exit) }; out = now (out .exit) } ≡ outThrough (now (vm .entry)) (now (answer .entry)) (now (out .entry)) (λ (m : Vm). listOf (m .program) (listed rest (now (functions .entry)) (now (text .entry)) (now (main .entry)) (now (other .entry))) (now (out .entry)))) ⌝ }
+{
+    let why = slices_refusal(vm, 1, answer);
+    if why == 0 {
+        let m = vm_of(vm);
+        let c = m.program;
+        let told = disassemble(c, functions, text, main, other, out);
         let n = tell(told, answer);
         return n;
     }
