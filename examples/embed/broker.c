@@ -94,7 +94,7 @@ static void show(const char *what, const struct journal *j)
         printf("    fault %" PRIu64 ", spent %" PRIu64 ", main at line %" PRIu32 "\n", j->fault, j->spent, j->place);
     else
         printf("    %s, spent %" PRIu64 "\n", j->outcome == CHAFFWHEEL_VALUE ? "value" : "continue", j->spent);
-    printf("    last result before %g, after %g: the reading has%s counted\n", j->before, j->after, counted(j, 14) ? "" : " not");
+    printf("    last result before %g, after %g: this run has%s counted\n", j->before, j->after, counted(j, 14) ? "" : " not");
 }
 
 int main(int argc, char **argv)
