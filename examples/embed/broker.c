@@ -75,6 +75,7 @@ static struct journal rest_of_rule(struct machine *m, double before, uint64_t un
 
 /* Has the reading counted? A root Return that was completed is never undone. If the last result is another one than before, the run has counted;
  * if it is the same, the place of main's frame decides: the Returns that stand before it were completed. This rule's is on line `counts`.
+ * A run of this rule that answers a value has come to its end: it has no jump, so it has passed that line.
  * (Of fault 13 the place is that of the last instruction that was completed.) */
 static int counted(const struct journal *j, uint32_t counts)
 {
