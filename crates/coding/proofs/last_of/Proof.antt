@@ -1,0 +1,17 @@
+-- `coding::last_of` meets its contract.
+use borrow.Author.Needs.{needs}
+use Rattle.coding.proofs.Words.{last-none, last-some}
+use Rattle.coding.proofs.last_of.Statement.{statement}
+use Rattle.coding.proofs.last_of.Tie as tie
+
+returns : tie.Need-returns
+returns c = last-none _ _ (c .if1 .taken)
+
+value-of-requires : tie.Need-value-of-requires
+value-of-requires c κs = search needs
+
+returns-2 : tie.Need-returns-2
+returns-2 c = last-some _ _ (c .before .if1 .left) (c .value-of .ensures)
+
+pub last-of-spec : {M : Type 1} → statement M
+last-of-spec = tie.close (tie.spec returns value-of-requires returns-2)

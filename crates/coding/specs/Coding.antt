@@ -1,0 +1,152 @@
+-- What crosses to a host in C: a machine's record and the entries' answers, as words in slices that the host lends.
+-- Enums do not cross: a value is its kind and its payload, as in the stores; an entry returns 0, or the number of its refusal.
+use mathlib.Core.Path.{_≡_}
+use mathlib.Core.Bool.{Bool, _&&_}
+use mathlib.Core.List.{List, [], _∷_}
+use Prim.Native.Nat.{ℕ}
+use lib.Dec.{eqb, leb}
+use lib.ListN.{length, getD}
+use Rattle.model.specs.declared.Counts.{Counts}
+use Rattle.model.specs.declared.Vm.{Vm}
+use Rattle.model.specs.declared.Last.{Last}
+use Rattle.model.specs.declared.Last.the-variants.{Nothing, Is}
+use Rattle.model.specs.declared.Frame.{Frame}
+use Rattle.model.specs.declared.Told.{Told}
+use Rattle.model.specs.declared.Told.the-variants as t
+use Rattle.model.specs.declared.Emitted.{Emitted}
+use Rattle.model.specs.declared.Emitted.the-variants as e
+use Rattle.model.specs.declared.Started.{Started}
+use Rattle.model.specs.declared.Started.the-variants as st
+use Rattle.model.specs.declared.RunResult.{RunResult}
+use Rattle.model.specs.declared.RunResult.the-variants as r
+use Rattle.model.specs.Basics.{if_then_else_, written}
+use Rattle.model.specs.Values.{valueOf, kind, payload, exactValue}
+use Rattle.model.specs.Stores.{Stores}
+use Rattle.model.specs.Emission.{Res}
+use Rattle.model.specs.Loading.{OutRes}
+use Rattle.model.specs.Machines.{Lent, RunPost, StartRes}
+
+-- ---- a machine's record in ten words: constants, structs, functions, text, current, stack, frames, cells, and the last result's kind and payload.
+-- Kind 7, payload 0: no last result
+
+unfoldable pub lastOf : ℕ → ℕ → Last
+lastOf k a = if eqb k 7 then Nothing else Is (valueOf k a)
+
+unfoldable pub lastKind : Last → ℕ
+lastKind Nothing = 7
+lastKind (Is v) = kind v
+
+unfoldable pub lastPayload : Last → ℕ
+lastPayload Nothing = 0
+lastPayload (Is v) = payload v
+
+unfoldable pub vmIn : List ℕ → Vm
+vmIn w = record {
+  program = record { constants = getD w 0 0; structs = getD w 1 0; functions = getD w 2 0; text = getD w 3 0; current = getD w 4 0 };
+  stack = getD w 5 0;
+  frames = getD w 6 0;
+  cells = getD w 7 0;
+  last = lastOf (getD w 8 0) (getD w 9 0);
+}
+
+unfoldable pub countWords : Counts → List ℕ
+countWords c = c .constants ∷ c .structs ∷ c .functions ∷ c .text ∷ c .current ∷ []
+
+unfoldable pub vmWords : Vm → List ℕ
+vmWords m =
+    m .program .constants ∷ m .program .structs ∷ m .program .functions ∷ m .program .text ∷ m .program .current
+    ∷ m .stack ∷ m .frames ∷ m .cells ∷ lastKind (m .last) ∷ lastPayload (m .last) ∷ []
+
+-- the words of a last result are exactly those of a value, or of none
+unfoldable pub lastExact : ℕ → ℕ → Bool
+lastExact k a = if eqb k 7 then eqb a 0 else exactValue k a
+
+unfoldable pub recordOk : List ℕ → Bool
+recordOk w = leb 10 (length w) && lastExact (getD w 8 0) (getD w 9 0)
+
+-- ---- refusals of the slices themselves, before the entry's own
+
+-- 19: no machine's record; 17: fewer than n words for the answer; or 0
+unfoldable pub slicesRefusal : List ℕ → ℕ → List ℕ → ℕ
+slicesRefusal w n a = if recordOk w then (if leb n (length a) then 0 else 17) else 19
+
+-- where the record is only written
+unfoldable pub outRefusal : List ℕ → ℕ → List ℕ → ℕ
+outRefusal w n a = if leb 10 (length w) && leb n (length a) then 0 else 17
+
+-- ---- answers
+
+-- the number that comes back, and then the record and the answer
+pub record Coded : Type 0 where
+  pub number : ℕ
+  pub vm : List ℕ
+  pub answer : List ℕ
+
+-- 1 value, 2 "continue", 3 fault; the units; the value's kind and payload, or the fault's number and the length of its backtrace
+unfoldable pub runCoded : RunResult → List ℕ → List ℕ → Coded
+runCoded (r.Value m v n) w a = record { number = 0; vm = written w 0 (vmWords m); answer = written a 0 (1 ∷ n ∷ kind v ∷ payload v ∷ []) }
+runCoded (r.Continue m n) w a = record { number = 0; vm = written w 0 (vmWords m); answer = written a 0 (2 ∷ n ∷ 0 ∷ 0 ∷ []) }
+runCoded (r.Fault m k n j) w a = record { number = 0; vm = written w 0 (vmWords m); answer = written a 0 (3 ∷ n ∷ k ∷ j ∷ []) }
+runCoded (r.Refused n) w a = record { number = n; vm = w; answer = a }
+
+-- of refusal 20 the answer is the offset
+unfoldable pub startedCoded : Started → List ℕ → List ℕ → Coded
+startedCoded (st.Done m) w a = record { number = 0; vm = written w 0 (vmWords m); answer = a }
+startedCoded (st.Broken i) w a = record { number = 20; vm = w; answer = written a 0 (i ∷ []) }
+startedCoded (st.Refused n) w a = record { number = n; vm = w; answer = a }
+
+-- the counts to the record, and the number that was told
+unfoldable pub emittedCoded : Emitted → List ℕ → List ℕ → Coded
+emittedCoded (e.Done c n) w a = record { number = 0; vm = written w 0 (countWords c); answer = written a 0 (n ∷ []) }
+emittedCoded (e.Refused n) w a = record { number = n; vm = w; answer = a }
+
+unfoldable pub toldCoded : Told → List ℕ → List ℕ → Coded
+toldCoded (t.Number n) w a = record { number = 0; vm = w; answer = written a 0 (n ∷ []) }
+toldCoded (t.Refused n) w a = record { number = n; vm = w; answer = a }
+
+-- ---- the entries
+
+-- a run: refused by its slices, or the run of the record's machine, with its result in words
+pub record RunThrough (w a : List ℕ) (s : List ℕ → Stores) (l : Lent) (u : ℕ) (c : Coded) (l' : Lent) : Type 0 where
+  pub result : RunResult
+  pub coded : c ≡ runCoded result w a
+  pub runs : slicesRefusal w 4 a ≡ 0 → (structs : List ℕ) → RunPost (vmIn w) (s structs) l u result l'
+  pub refuses : (slicesRefusal w 4 a ≡ 0 → ⊥) → (result ≡ r.Refused (slicesRefusal w 4 a)) × (l' ≡ l)
+
+-- making a machine
+pub record StartThrough : Type 0 where
+  pub coded : Coded
+  pub stores : Stores
+  pub frames : List Frame
+
+unfoldable pub startThrough : List ℕ → List ℕ → Stores → List Frame → StartRes → StartThrough
+startThrough w a s fs r =
+    if eqb (outRefusal w 1 a) 0
+    then record { coded = startedCoded (r .answer) w a; stores = r .stores; frames = r .frames }
+    else record { coded = record { number = outRefusal w 1 a; vm = w; answer = a }; stores = s; frames = fs }
+
+-- an entry that tells a number, with what it writes
+pub record OutThrough : Type 0 where
+  pub coded : Coded
+  pub out : List ℕ
+
+unfoldable pub outThrough : List ℕ → List ℕ → List ℕ → (Vm → OutRes) → OutThrough
+outThrough w a out rule =
+    if eqb (slicesRefusal w 1 a) 0
+    then record { coded = toldCoded (rule (vmIn w) .answer) w a; out = rule (vmIn w) .out }
+    else record { coded = record { number = slicesRefusal w 1 a; vm = w; answer = a }; out = out }
+
+-- an entry that changes no store but the record and the answer: c is what it does where its slices are long enough
+unfoldable pub through : List ℕ → List ℕ → Coded → Coded
+through w a c = if eqb (slicesRefusal w 1 a) 0 then c else record { number = slicesRefusal w 1 a; vm = w; answer = a }
+
+-- emission: an entry over the record's counts and the program's stores
+pub record EmitThrough : Type 0 where
+  pub coded : Coded
+  pub stores : Stores
+
+unfoldable pub emitThrough : List ℕ → List ℕ → Stores → (Counts → Res) → EmitThrough
+emitThrough w a s rule =
+    if eqb (slicesRefusal w 1 a) 0
+    then record { coded = emittedCoded (rule (vmIn w .program) .answer) w a; stores = rule (vmIn w .program) .stores }
+    else record { coded = record { number = slicesRefusal w 1 a; vm = w; answer = a }; stores = s }

@@ -1,0 +1,242 @@
+// A machine's record and the entries' answers as words in lent slices: what crosses to a host in C.
+use model::Counts;
+use model::Emitted;
+use model::Last;
+use model::RunResult;
+use model::Started;
+use model::Told;
+use model::Vm;
+use value::words::exact_value;
+use value::words::kind_of;
+use value::words::payload_of;
+use value::words::value_of;
+ghost use mathlib.Core.Path.{_≡_};
+ghost use mathlib.Core.List.{List, [], _∷_};
+ghost use Prim.Native.Nat.{ℕ};
+ghost use lib.ListN.{getD, set};
+ghost use Rattle.model.specs.Basics.{written};
+ghost use Rattle.coding.specs.Coding.{lastOf, lastKind, lastPayload, vmIn, countWords, vmWords, lastExact, recordOk, slicesRefusal, outRefusal, runCoded, startedCoded, emittedCoded, toldCoded};
+
+// Word i, 0 past the end.
+fn word(s: &[u64], i: usize) -> u64
+    ensures { λ r. ⌜ r ≡ getD (now (s .entry)) i 0 ⌝ }
+{
+    if i < s.len() {
+        return s[i];
+    }
+    0
+}
+
+// x for word i; past the end nothing is written.
+fn put(s: &mut [u64], i: usize, x: u64)
+    ensures { λ _. ⌜ now (s .exit) ≡ set (now (s .entry)) i x ⌝ }
+{
+    if i < s.len() {
+        s[i] = x;
+    }
+}
+
+// ---- a machine's record
+
+// The last result of a kind and a payload.
+fn last_of(kind: u64, payload: u64) -> Last
+    ensures { λ r. ⌜ r ≡ lastOf kind payload ⌝ }
+{
+    if kind == 7 {
+        return Last::Nothing;
+    }
+    Last::Is(value_of(kind, payload))
+}
+
+fn last_kind(last: Last) -> u64
+    ensures { λ r. ⌜ r ≡ lastKind last ⌝ }
+{
+    match last {
+        Last::Nothing => 7,
+        Last::Is(v) => kind_of(v),
+    }
+}
+
+fn last_payload(last: Last) -> u64
+    ensures { λ r. ⌜ r ≡ lastPayload last ⌝ }
+{
+    match last {
+        Last::Nothing => 0,
+        Last::Is(v) => payload_of(v),
+    }
+}
+
+// The machine of a record.
+pub fn vm_of(vm: &[u64]) -> Vm
+    ensures { λ r. ⌜ r ≡ vmIn (now (vm .entry)) ⌝ }
+{
+    let program = Counts {
+        constants: word(vm, 0) as usize,
+        structs: word(vm, 1) as usize,
+        functions: word(vm, 2) as usize,
+        text: word(vm, 3) as usize,
+        current: word(vm, 4) as usize,
+    };
+    let last = last_of(word(vm, 8), word(vm, 9));
+    Vm {
+        program,
+        stack: word(vm, 5) as usize,
+        frames: word(vm, 6) as usize,
+        cells: word(vm, 7) as usize,
+        last,
+    }
+}
+
+// The record of a machine.
+fn put_vm(m: Vm, vm: &mut [u64])
+    ensures { λ _. ⌜ now (vm .exit) ≡ written (now (vm .entry)) 0 (vmWords m) ⌝ }
+{
+    let c = m.program;
+    let last = m.last;
+    let kind = last_kind(last);
+    let payload = last_payload(last);
+    put(vm, 0, c.constants as u64);
+    put(vm, 1, c.structs as u64);
+    put(vm, 2, c.functions as u64);
+    put(vm, 3, c.text as u64);
+    put(vm, 4, c.current as u64);
+    put(vm, 5, m.stack as u64);
+    put(vm, 6, m.frames as u64);
+    put(vm, 7, m.cells as u64);
+    put(vm, 8, kind);
+    put(vm, 9, payload);
+}
+
+// Whether the words of a last result are exact.
+fn last_exact(kind: u64, payload: u64) -> bool
+    ensures { λ r. ⌜ r ≡ lastExact kind payload ⌝ }
+{
+    if kind == 7 {
+        return payload == 0;
+    }
+    exact_value(kind, payload)
+}
+
+// Whether the words are a machine's record.
+fn record_ok(vm: &[u64]) -> bool
+    ensures { λ r. ⌜ r ≡ recordOk (now (vm .entry)) ⌝ }
+{
+    (10 <= vm.len()) & last_exact(word(vm, 8), word(vm, 9))
+}
+
+// ---- refusals of the slices themselves
+
+// 19: no machine's record; 17: fewer than n words for the answer; or 0.
+pub fn slices_refusal(vm: &[u64], n: usize, answer: &[u64]) -> u32
+    ensures { λ r. ⌜ r ≡ slicesRefusal (now (vm .entry)) n (now (answer .entry)) ⌝ }
+{
+    if record_ok(vm) {
+        if n <= answer.len() {
+            return 0;
+        }
+        return 17;
+    }
+    19
+}
+
+// The same where the record is only written.
+pub fn out_refusal(vm: &[u64], n: usize, answer: &[u64]) -> u32
+    ensures { λ r. ⌜ r ≡ outRefusal (now (vm .entry)) n (now (answer .entry)) ⌝ }
+{
+    if (10 <= vm.len()) & (n <= answer.len()) {
+        return 0;
+    }
+    17
+}
+
+// ---- answers
+
+fn put_four(answer: &mut [u64], a: u64, b: u64, c: u64, d: u64)
+    ensures { λ _. ⌜ now (answer .exit) ≡ written (now (answer .entry)) 0 (a ∷ b ∷ c ∷ d ∷ []) ⌝ }
+{
+    put(answer, 0, a);
+    put(answer, 1, b);
+    put(answer, 2, c);
+    put(answer, 3, d);
+}
+
+// What a run answers.
+pub fn tell_run(result: RunResult, vm: &mut [u64], answer: &mut [u64]) -> u32
+    ensures { λ r. ⌜ record { number = r; vm = now (vm .exit); answer = now (answer .exit) } ≡ runCoded result (now (vm .entry)) (now (answer .entry)) ⌝ }
+{
+    match result {
+        RunResult::Value(m, v, n) => {
+            let kind = kind_of(v);
+            let payload = payload_of(v);
+            put_vm(m, vm);
+            put_four(answer, 1, n, kind, payload);
+            0
+        }
+        RunResult::Continue(m, n) => {
+            put_vm(m, vm);
+            put_four(answer, 2, n, 0, 0);
+            0
+        }
+        RunResult::Fault(m, k, n, j) => {
+            put_vm(m, vm);
+            put_four(answer, 3, n, k as u64, j as u64);
+            0
+        }
+        RunResult::Refused(n) => n as u32,
+    }
+}
+
+// What making a machine answers.
+pub fn tell_started(result: Started, vm: &mut [u64], answer: &mut [u64]) -> u32
+    ensures { λ r. ⌜ record { number = r; vm = now (vm .exit); answer = now (answer .exit) } ≡ startedCoded result (now (vm .entry)) (now (answer .entry)) ⌝ }
+{
+    match result {
+        Started::Done(m) => {
+            put_vm(m, vm);
+            0
+        }
+        Started::Broken(i) => {
+            put(answer, 0, i as u64);
+            20
+        }
+        Started::Refused(n) => n as u32,
+    }
+}
+
+// The counts to their words of the record.
+fn put_counts(c: Counts, vm: &mut [u64])
+    ensures { λ _. ⌜ now (vm .exit) ≡ written (now (vm .entry)) 0 (countWords c) ⌝ }
+{
+    put(vm, 0, c.constants as u64);
+    put(vm, 1, c.structs as u64);
+    put(vm, 2, c.functions as u64);
+    put(vm, 3, c.text as u64);
+    put(vm, 4, c.current as u64);
+}
+
+// What an emission entry answers.
+pub fn tell_emitted(result: Emitted, vm: &mut [u64], answer: &mut [u64]) -> u32
+    ensures { λ r. ⌜ record { number = r; vm = now (vm .exit); answer = now (answer .exit) } ≡ emittedCoded result (now (vm .entry)) (now (answer .entry)) ⌝ }
+{
+    match result {
+        Emitted::Done(c, n) => {
+            put_counts(c, vm);
+            put(answer, 0, n as u64);
+            0
+        }
+        Emitted::Refused(n) => n as u32,
+    }
+}
+
+// What an entry that tells a number answers; vm is any record.
+pub fn tell(result: Told, answer: &mut [u64]) -> u32
+    ensures { λ r. ⌜ ((w : List ℕ) → record { number = r; vm = w; answer = now (answer .exit) } ≡ toldCoded result w (now (answer .entry))) ⌝ }
+{
+    match result {
+        Told::Number(n) => {
+            put(answer, 0, n as u64);
+            0
+        }
+        Told::Refused(n) => n as u32,
+    }
+}

@@ -1,0 +1,217 @@
+-- `chaffwheel_backtrace` meets its contract: a walk of its MIR, by hand. Its slices are judged, then the backtrace is written.
+-- Assumes nothing.
+use Rattle.frames.proofs.Walk.{_≡_, refl, true, false, List, [], _∷_, ℕ, length, URA, w32, w64, Val, vint, SProp, ent, id⊢, Memory, Routine, Heap, Tables, WpFn, Atoms, Lfts, Shares, Fun, givenOf, tables, tablesOf, FmC, fmOf}
+use Rattle.frames.proofs.Walk.{Given, ‵, ⋆, _$_, _∵_, !, qed, by, keep, suffices, frame, done, agg, addr, of-opd, bin, Is, uint-makes, u8, u32, u64, usize, now, Room, owned, onEntry, tripleOf, Contract, Triple, cited, says, walkOf, ends-at}
+use Rattle.frames.proofs.Walk.{of, ofs, behind, sets, lands-in, enters, leaves, Sl, sl, Arg, val, shr, mut, peek, Holds, Toks, Owns, lfts, shares, denots, valss, values, passing, lent, takes, gives, Rule, call-with, unasked, unneeded, calls-on, returns-if, Kind, number, shared, unique, stays, Passed, Known, closed}
+use Rattle.model.specs.declared.Vm.{Vm}
+use Rattle.model.specs.declared.Frame.{Frame}
+use Rattle.model.specs.declared.Told.{Told}
+use denote.Plain.{uint-tells}
+use native.Mathlib.Omega.{arith}
+use Rattle.frames.proofs.Frames.{R, tells}
+use Rattle.machine.proofs.Rows.{VmRow, vmVal, IsVm, vm-tells, vm-typed, vm-makes, ToldRow, toldVal, IsTold, told-tells, told-typed, told-makes}
+use Rattle.model.specs.Machines.{backtraceIn}
+use Rattle.ends.specs.Links.{programLent}
+use Rattle.machine.proofs.Tests.{is-zero, not-zero}
+use Rattle.coding.specs.Coding.{vmIn, slicesRefusal, toldCoded, outThrough}
+use Rattle.embed.proofs.Through.{out-through, out-refused}
+use Rattle.coding.proofs.slices_refusal as why
+use Rattle.coding.proofs.slices_refusal.Symbol as why-def
+use Rattle.coding.proofs.slices_refusal.Symbol.{name as #why}
+use Rattle.coding.proofs.slices_refusal.Met as why-thm
+use Rattle.coding.proofs.vm_of as rec
+use Rattle.coding.proofs.vm_of.Symbol as rec-def
+use Rattle.coding.proofs.vm_of.Symbol.{name as #rec}
+use Rattle.coding.proofs.vm_of.Met as rec-thm
+use Rattle.machine.proofs.backtrace as entry
+use Rattle.machine.proofs.backtrace.Symbol as entry-def
+use Rattle.machine.proofs.backtrace.Symbol.{name as #entry}
+use Rattle.machine.proofs.backtrace.Met as entry-thm
+use Rattle.coding.proofs.tell as tells
+use Rattle.coding.proofs.tell.Symbol as tells-def
+use Rattle.coding.proofs.tell.Symbol.{name as #tells}
+use Rattle.coding.proofs.tell.Met as tells-thm
+use Rattle.embed.proofs.chaffwheel_backtrace.Key.{name as #me}
+use Rattle.embed.proofs.chaffwheel_backtrace as me
+use Rattle.embed.proofs.chaffwheel_backtrace.Statement as stated
+use Rattle.embed.proofs.chaffwheel_backtrace.Code as code
+
+abbrev kinds : List (Kind 10)
+kinds = shared 0 tt u64 ∷ shared 1 tt u64 ∷ shared 2 tt u8 ∷ shared 3 tt u8 ∷ shared 4 tt u32 ∷ shared 5 tt u8 ∷ shared 6 tt u32 ∷ shared 7 tt R ∷ unique 8 tt u32 ∷ unique 9 tt u64 ∷ []
+
+module _ {M : Type 1} (𝓤 : URA M) (H : Heap 𝓤) (A : Atoms 𝓤) (W : Given 𝓤 H A) (mem : Memory → SProp 𝓤) (run : Routine → Fun 𝓤) where
+  abbrev Why : Contract 𝓤
+  Why = tripleOf 𝓤 H A why.signature (why.spec 𝓤 H A mem run)
+
+  abbrev Rec : Contract 𝓤
+  Rec = tripleOf 𝓤 H A rec.signature (rec.spec 𝓤 H A mem run)
+
+  abbrev Entry : Contract 𝓤
+  Entry = tripleOf 𝓤 H A entry.signature (entry.spec 𝓤 H A mem run)
+
+  abbrev Tells : Contract 𝓤
+  Tells = tripleOf 𝓤 H A tells.signature (tells.spec 𝓤 H A mem run)
+
+  module _ (𝓣 : Tables 𝓤 H) (known-why : Triple 𝓤 (𝓣 .C #why) Why) (known-rec : Triple 𝓤 (𝓣 .C #rec) Rec) (known-entry : Triple 𝓤 (𝓣 .C #entry) Entry) (known-tells : Triple 𝓤 (𝓣 .C #tells) Tells)
+      (κs : Lfts 10) (qs : Shares 10) (a : Passed kinds u32 κs) (is : Known kinds u32 κs a) where
+    -- the parameters
+    abbrev s0 : Sl
+    s0 = sl (κs .0) (qs .0) (a .0)
+
+    abbrev s1 : Sl
+    s1 = sl (κs .1 .0) (qs .1 .0) (a .1 .0)
+
+    abbrev s2 : Sl
+    s2 = sl (κs .1 .1 .0) (qs .1 .1 .0) (a .1 .1 .0)
+
+    abbrev s3 : Sl
+    s3 = sl (κs .1 .1 .1 .0) (qs .1 .1 .1 .0) (a .1 .1 .1 .0)
+
+    abbrev s4 : Sl
+    s4 = sl (κs .1 .1 .1 .1 .0) (qs .1 .1 .1 .1 .0) (a .1 .1 .1 .1 .0)
+
+    abbrev s5 : Sl
+    s5 = sl (κs .1 .1 .1 .1 .1 .0) (qs .1 .1 .1 .1 .1 .0) (a .1 .1 .1 .1 .1 .0)
+
+    abbrev s6 : Sl
+    s6 = sl (κs .1 .1 .1 .1 .1 .1 .0) (qs .1 .1 .1 .1 .1 .1 .0) (a .1 .1 .1 .1 .1 .1 .0)
+
+    abbrev s7 : Sl
+    s7 = sl (κs .1 .1 .1 .1 .1 .1 .1 .0) (qs .1 .1 .1 .1 .1 .1 .1 .0) (a .1 .1 .1 .1 .1 .1 .1 .0)
+
+    abbrev s8 : Sl
+    s8 = sl (κs .1 .1 .1 .1 .1 .1 .1 .1 .0) (qs .1 .1 .1 .1 .1 .1 .1 .1 .0) (a .1 .1 .1 .1 .1 .1 .1 .1 .0)
+
+    abbrev s9 : Sl
+    s9 = sl (κs .1 .1 .1 .1 .1 .1 .1 .1 .1 .0) (qs .1 .1 .1 .1 .1 .1 .1 .1 .1 .0) (a .1 .1 .1 .1 .1 .1 .1 .1 .1 .0)
+
+    abbrev vm : List ℕ
+    vm = now (a .0)
+
+    abbrev functions : List ℕ
+    functions = now (a .1 .0)
+
+    abbrev text : List ℕ
+    text = now (a .1 .1 .0)
+
+    abbrev main : List ℕ
+    main = now (a .1 .1 .1 .0)
+
+    abbrev mainPlaces : List ℕ
+    mainPlaces = now (a .1 .1 .1 .1 .0)
+
+    abbrev other : List ℕ
+    other = now (a .1 .1 .1 .1 .1 .0)
+
+    abbrev otherPlaces : List ℕ
+    otherPlaces = now (a .1 .1 .1 .1 .1 .1 .0)
+
+    abbrev frames : List Frame
+    frames = now (a .1 .1 .1 .1 .1 .1 .1 .0)
+
+    abbrev out : List ℕ
+    out = now (a .1 .1 .1 .1 .1 .1 .1 .1 .0)
+
+    abbrev answer : List ℕ
+    answer = now (a .1 .1 .1 .1 .1 .1 .1 .1 .1 .0)
+
+    abbrev room0 : Room u64 (s0 .count)
+    room0 = is .0 .0 .1
+
+    abbrev room1 : Room u64 (s1 .count)
+    room1 = is .1 .0 .0 .1
+
+    abbrev room2 : Room u8 (s2 .count)
+    room2 = is .1 .1 .0 .0 .1
+
+    abbrev room3 : Room u8 (s3 .count)
+    room3 = is .1 .1 .1 .0 .0 .1
+
+    abbrev room4 : Room u32 (s4 .count)
+    room4 = is .1 .1 .1 .1 .0 .0 .1
+
+    abbrev room5 : Room u8 (s5 .count)
+    room5 = is .1 .1 .1 .1 .1 .0 .0 .1
+
+    abbrev room6 : Room u32 (s6 .count)
+    room6 = is .1 .1 .1 .1 .1 .1 .0 .0 .1
+
+    abbrev room7 : Room R (s7 .count)
+    room7 = is .1 .1 .1 .1 .1 .1 .1 .0 .0 .1
+
+    abbrev room8 : Room u32 (s8 .count)
+    room8 = is .1 .1 .1 .1 .1 .1 .1 .1 .0 .0 .1
+
+    abbrev room9 : Room u64 (s9 .count)
+    room9 = is .1 .1 .1 .1 .1 .1 .1 .1 .1 .0 .0 .1
+
+    abbrev slices : List ℕ → List ℕ → List Arg
+    slices out′ answer′ = shr u64 s0 vm ∷ shr u64 s1 functions ∷ shr u8 s2 text ∷ shr u8 s3 main ∷ shr u32 s4 mainPlaces ∷ shr u8 s5 other ∷ shr u32 s6 otherPlaces ∷ shr R s7 frames ∷ mut u32 s8 out′ ∷ mut u64 s9 answer′ ∷ []
+
+    abbrev xs : List ℕ → List ℕ → List Arg
+    xs out′ answer′ = slices out′ answer′
+
+    abbrev Post : Val → SProp 𝓤
+    Post = walkOf 𝓤 H A me.ended (stays kinds) (me.clauses 𝓤 H A mem run) .post (passing (xs out answer))
+
+    exits : (r : ℕ) (out′ : List ℕ) (answer′ : List ℕ) → Is u32 r (vint w32 r ∷ []) → length out′ ≡ s8 .count → length answer′ ≡ s9 .count → ((structs constants : List ℕ) → record { coded = record { number = r; vm = vm; answer = answer′ }; out = out′ } ≡ outThrough vm answer out (λ (m : Vm). backtraceIn m (programLent structs constants functions text main mainPlaces other otherPlaces) frames out)) → ent 𝓤 (⋆ 𝓤 H A (‵ (Holds (slices out′ answer′)) ∷ [])) (Post (vint w32 r))
+    exits r out′ answer′ isr len-out len-answer said =
+        qed W (‵ (Holds (slices out′ answer′)) ∷ []) ∵ suffices ! _ (ends-at 𝓤 H A me.ended (stays kinds) (me.clauses 𝓤 H A mem run) W (passing (xs out answer)) (vint w32 r) r (tt, (tt, (tt, (tt, (tt, (tt, (tt, (tt, (out′, (answer′, tt)))))))))) (tt, (tt, (tt, (tt, (tt, (tt, (tt, (tt, (len-out, (len-answer, tt))))))))))) $ says ! said $
+        gives ! (xs out′ answer′) tt (frame ! $ owned ! u32 (Is u32) (uint-makes 𝓤 H A W w32) r _ isr $ keep ! (1 ∷ 0 ∷ []) $ done !)
+
+    -- the calls
+    abbrev to-why : List Arg
+    to-why = shr u64 s0 vm ∷ val usize 1 (vint w64 1) ∷ peek u64 s9 answer ∷ []
+
+    call-why : Rule 𝓤 H A W to-why Why u32 (vint w32) (λ n zs. n ≡ slicesRefusal vm 1 answer)
+    call-why = call-with 𝓤 H A W to-why Why u32 (vint w32) (λ n zs. n ≡ slicesRefusal vm 1 answer) (uint-tells w32) (λ ns. passing (lent to-why ns)) (λ ns. refl)
+        (λ ns. unasked W (lent to-why ns)) (λ ns w. id⊢ 𝓤 _) (uint-makes 𝓤 H A W w64 1 _ (refl, omega arith), tt) ((refl, room0), ((refl, room9), tt))
+
+    abbrev to-rec : List Arg
+    to-rec = shr u64 s0 vm ∷ []
+
+    call-rec : Rule 𝓤 H A W to-rec Rec VmRow vmVal (λ m zs. m ≡ vmIn vm)
+    call-rec = call-with 𝓤 H A W to-rec Rec VmRow vmVal (λ m zs. m ≡ vmIn vm) vm-tells (λ ns. passing (lent to-rec ns)) (λ ns. refl)
+        (λ ns. unasked W (lent to-rec ns)) (λ ns w. id⊢ 𝓤 _) tt ((refl, room0), tt)
+
+    abbrev to-entry : Vm → List Arg
+    to-entry m = val VmRow m (vmVal m) ∷ shr u64 s1 functions ∷ shr u8 s2 text ∷ shr u8 s3 main ∷ shr u32 s4 mainPlaces ∷ shr u8 s5 other ∷ shr u32 s6 otherPlaces ∷ shr R s7 frames ∷ mut u32 s8 out ∷ []
+
+    call-entry : (m : Vm) → IsVm m → Rule 𝓤 H A W (to-entry m) Entry ToldRow toldVal (λ x zs. ((structs constants : List ℕ) → record { answer = x; out = (zs .1 .1 .1 .1 .1 .1 .1 .1 .0) } ≡ backtraceIn m (programLent structs constants functions text main mainPlaces other otherPlaces) frames out))
+    call-entry m ism = call-with 𝓤 H A W (to-entry m) Entry ToldRow toldVal (λ x zs. ((structs constants : List ℕ) → record { answer = x; out = (zs .1 .1 .1 .1 .1 .1 .1 .1 .0) } ≡ backtraceIn m (programLent structs constants functions text main mainPlaces other otherPlaces) frames out)) told-tells (λ ns. passing (lent (to-entry m) ns)) (λ ns. refl)
+        (λ ns. unasked W (lent (to-entry m) ns)) (λ ns w. id⊢ 𝓤 _) (vm-makes 𝓤 H A W m _ ism, tt) ((refl, room1), ((refl, room2), ((refl, room3), ((refl, room4), ((refl, room5), ((refl, room6), ((refl, room7), ((refl, room8), tt))))))))
+
+    abbrev to-tells : Told → List Arg
+    to-tells x = val ToldRow x (toldVal x) ∷ mut u64 s9 answer ∷ []
+
+    call-tells : (x : Told) → IsTold x → Rule 𝓤 H A W (to-tells x) Tells u32 (vint w32) (λ n zs. ((w : List ℕ) → record { number = n; vm = w; answer = (zs .1 .0) } ≡ toldCoded x w answer))
+    call-tells x isx = call-with 𝓤 H A W (to-tells x) Tells u32 (vint w32) (λ n zs. ((w : List ℕ) → record { number = n; vm = w; answer = (zs .1 .0) } ≡ toldCoded x w answer)) (uint-tells w32) (λ ns. passing (lent (to-tells x) ns)) (λ ns. refl)
+        (λ ns. unasked W (lent (to-tells x) ns)) (λ ns w. id⊢ 𝓤 _) (told-makes 𝓤 H A W x _ isx, tt) ((refl, room9), tt)
+
+    walk : ent 𝓤 (onEntry 𝓤 H A me.signature (lfts (xs out answer)) (shares (xs out answer)) (denots (xs out answer)) (valss (xs out answer))) (WpFn 𝓤 H (𝓣 .C) (𝓣 .Λ) code.function (values (xs out answer)) Post)
+    walk =
+        qed W (‵ (Toks (xs out answer)) ∷ ‵ (Owns (xs out answer)) ∷ []) ∵ takes ! (xs out answer) (enters ! (𝓣 .C) (𝓣 .Λ) code.function (values (xs out answer)) Post
+        ((tt, (tt, (record { fits = room0 .0 }, tt))), ((tt, (tt, (record { fits = room1 .0 }, tt))), ((tt, (tt, (record { fits = room2 .0 }, tt))), ((tt, (tt, (record { fits = room3 .0 }, tt))), ((tt, (tt, (record { fits = room4 .0 }, tt))), ((tt, (tt, (record { fits = room5 .0 }, tt))), ((tt, (tt, (record { fits = room6 .0 }, tt))), ((tt, (tt, (record { fits = room7 .0 }, tt))), ((tt, (tt, (record { fits = room8 .0 }, tt))), ((tt, (tt, (record { fits = room9 .0 }, tt))), tt)))))))))) (λ ls.
+        sets ! (addr ! (behind ! refl refl)) (tt, tt) $ sets ! (agg ! (ofs ! refl)) (tt, (tt, (record { fits = room9 .0 }, tt))) $
+        calls-on ! (true ∷ false ∷ false ∷ false ∷ false ∷ false ∷ false ∷ false ∷ false ∷ true ∷ []) (slices out answer) (call-why) (λ zs. slices out answer) refl (λ zs. refl) (λ zs. refl) fm known-why refl (λ n zs ew lens isn. lands-in ! (tt, record { fits = isn .1 }) $
+        sets ! (bin ! (of ! refl) (of ! refl) tt) (tt, tt) $ returns-if ! 𝓣 (of ! refl)
+        (λ on. calls-on ! (true ∷ []) (slices out answer) (call-rec) (λ zs. slices out answer) refl (λ zs. refl) (λ zs. refl) fm known-rec refl (λ m zs₁ em lens₁ ism. lands-in ! (vm-typed 𝓤 H A W m ism) $
+        sets ! (addr ! (behind ! refl refl)) (tt, tt) $ sets ! (agg ! (ofs ! refl)) (tt, (tt, (record { fits = room8 .0 }, tt))) $ calls-on ! (false ∷ true ∷ true ∷ true ∷ true ∷ true ∷ true ∷ true ∷ true ∷ []) (slices out answer) (call-entry m ism) (λ zs. slices (zs .1 .1 .1 .1 .1 .1 .1 .1 .0) answer) refl (λ zs. refl) (λ zs. refl) fm known-entry refl (λ x zs₂ ex lens₂ isx. lands-in ! (told-typed 𝓤 H A W x isx) $
+        sets ! (addr ! (behind ! refl refl)) (tt, tt) $ sets ! (agg ! (ofs ! refl)) (tt, (tt, (record { fits = room9 .0 }, tt))) $ calls-on ! (false ∷ false ∷ false ∷ false ∷ false ∷ false ∷ false ∷ false ∷ false ∷ true ∷ []) (slices (zs₂ .1 .1 .1 .1 .1 .1 .1 .1 .0) answer) (call-tells x isx) (λ zs. slices (zs₂ .1 .1 .1 .1 .1 .1 .1 .1 .0) (zs .1 .0)) refl (λ zs. refl) (λ zs. refl) fm known-tells refl (λ k zs₃ ek lens₃ isk. lands-in ! (tt, record { fits = isk .1 }) $
+        sets ! (of-opd ! (of ! refl)) (tt, record { fits = isk .1 }) $ leaves ! refl $ by ! (exits k (zs₂ .1 .1 .1 .1 .1 .1 .1 .1 .0) (zs₃ .1 .0) isk (lens₂ .0) (lens₃ .0) (λ structs constants. out-through vm answer out (λ (m : Vm). backtraceIn m (programLent structs constants functions text main mainPlaces other otherPlaces) frames out) n ew (is-zero n on) m em x (zs₂ .1 .1 .1 .1 .1 .1 .1 .1 .0) (ex structs constants) (record { number = k; vm = vm; answer = (zs₃ .1 .0) }) (ek vm)))))))
+        (λ off. sets ! (of-opd ! (of ! refl)) (tt, record { fits = isn .1 }) $ leaves ! refl $ by ! (exits n out answer isn refl refl (λ structs constants. out-refused vm answer out (λ (m : Vm). backtraceIn m (programLent structs constants functions text main mainPlaces other otherPlaces) frames out) n ew (not-zero n off)))))))
+      where
+        fm : FmC 𝓤 H (W .laws) (𝓣 .C)
+        fm = fmOf 𝓤 H (W .laws) 𝓣
+
+pub chaffwheel-backtrace-spec : {M : Type 1} → stated.statement M
+unfolding code.routine tablesOf
+chaffwheel-backtrace-spec 𝓤 H 𝓜 𝓖 𝓡 =
+    let W : Given 𝓤 H (𝓖 .A) = givenOf 𝓤 H 𝓜 𝓖 in
+    closed kinds u32 𝓤 H 𝓜 𝓖 𝓡 code.env #me code.function (code.unfolded 𝓤 H 𝓜 𝓡) (me.clauses 𝓤 H (𝓖 .A) (𝓜 .mem) (𝓡 .run))
+    (λ κs qs a g is. unneeded 𝓤 _
+    (walk 𝓤 H (𝓖 .A) W (𝓜 .mem) (𝓡 .run) (tablesOf 𝓤 H 𝓜 (tables 𝓤 H 𝓜 𝓡 code.env))
+    (cited 𝓤 H (Why 𝓤 H (𝓖 .A) W (𝓜 .mem) (𝓡 .run)) 𝓜 𝓡 code.env #why why-def.routine code.calls-coding·slices-refusal (why-thm.met 𝓤 H 𝓜 𝓖 𝓡))
+    (cited 𝓤 H (Rec 𝓤 H (𝓖 .A) W (𝓜 .mem) (𝓡 .run)) 𝓜 𝓡 code.env #rec rec-def.routine code.calls-coding·vm-of (rec-thm.met 𝓤 H 𝓜 𝓖 𝓡))
+    (cited 𝓤 H (Entry 𝓤 H (𝓖 .A) W (𝓜 .mem) (𝓡 .run)) 𝓜 𝓡 code.env #entry entry-def.routine code.calls-machine·backtrace (entry-thm.met 𝓤 H 𝓜 𝓖 𝓡))
+    (cited 𝓤 H (Tells 𝓤 H (𝓖 .A) W (𝓜 .mem) (𝓡 .run)) 𝓜 𝓡 code.env #tells tells-def.routine code.calls-coding·tell (tells-thm.met 𝓤 H 𝓜 𝓖 𝓡)) κs qs a is))

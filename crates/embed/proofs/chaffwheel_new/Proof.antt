@@ -1,0 +1,156 @@
+-- `chaffwheel_new` meets its contract: a walk of its MIR, by hand. Its slices are judged, then the machine is made.
+-- Assumes nothing.
+use Rattle.frames.proofs.Walk.{_≡_, refl, true, false, List, [], _∷_, ℕ, length, URA, w32, w64, Val, vint, SProp, ent, id⊢, Memory, Routine, Heap, Tables, WpFn, Atoms, Lfts, Shares, Fun, givenOf, tables, tablesOf, FmC, fmOf}
+use Rattle.frames.proofs.Walk.{Given, ‵, ⋆, _$_, _∵_, !, qed, by, keep, suffices, frame, done, agg, addr, of-opd, bin, Is, uint-makes, u8, u32, u64, usize, now, Room, owned, onEntry, tripleOf, Contract, Triple, cited, says, walkOf, ends-at}
+use Rattle.frames.proofs.Walk.{of, ofs, behind, sets, lands-in, enters, leaves, Sl, sl, Arg, val, mut, peek, Holds, Toks, Owns, lfts, shares, denots, valss, values, passing, lent, takes, gives, Rule, call-with, unasked, unneeded, calls-on, returns-if, Kind, number, unique, stays, Passed, Known, closed}
+use Rattle.model.specs.declared.Frame.{Frame}
+use Rattle.model.specs.declared.Started.{Started}
+use denote.Plain.{uint-tells}
+use native.Mathlib.Omega.{arith}
+use Rattle.frames.proofs.Frames.{R, tells}
+use Rattle.machine.proofs.Rows.{StartedRow, startedVal, IsStarted, started-tells, started-typed, started-makes}
+use Rattle.model.specs.Stores.{Stores}
+use Rattle.model.specs.Machines.{newMachineOf}
+use Rattle.program.specs.Links.{namesLent}
+use Rattle.machine.proofs.Tests.{is-zero, not-zero}
+use Rattle.coding.specs.Coding.{outRefusal, startedCoded, startThrough}
+use Rattle.embed.proofs.Through.{start-through, start-refused}
+use Rattle.coding.proofs.out_refusal as why
+use Rattle.coding.proofs.out_refusal.Symbol as why-def
+use Rattle.coding.proofs.out_refusal.Symbol.{name as #why}
+use Rattle.coding.proofs.out_refusal.Met as why-thm
+use Rattle.machine.proofs.new as entry
+use Rattle.machine.proofs.new.Symbol as entry-def
+use Rattle.machine.proofs.new.Symbol.{name as #entry}
+use Rattle.machine.proofs.new.Met as entry-thm
+use Rattle.coding.proofs.tell_started as tells
+use Rattle.coding.proofs.tell_started.Symbol as tells-def
+use Rattle.coding.proofs.tell_started.Symbol.{name as #tells}
+use Rattle.coding.proofs.tell_started.Met as tells-thm
+use Rattle.embed.proofs.chaffwheel_new.Key.{name as #me}
+use Rattle.embed.proofs.chaffwheel_new as me
+use Rattle.embed.proofs.chaffwheel_new.Statement as stated
+use Rattle.embed.proofs.chaffwheel_new.Code as code
+
+abbrev kinds : List (Kind 5)
+kinds = unique 0 tt u64 ∷ unique 1 tt u64 ∷ unique 2 tt u8 ∷ unique 3 tt R ∷ unique 4 tt u64 ∷ []
+
+module _ {M : Type 1} (𝓤 : URA M) (H : Heap 𝓤) (A : Atoms 𝓤) (W : Given 𝓤 H A) (mem : Memory → SProp 𝓤) (run : Routine → Fun 𝓤) where
+  abbrev Why : Contract 𝓤
+  Why = tripleOf 𝓤 H A why.signature (why.spec 𝓤 H A mem run)
+
+  abbrev Entry : Contract 𝓤
+  Entry = tripleOf 𝓤 H A entry.signature (entry.spec 𝓤 H A mem run)
+
+  abbrev Tells : Contract 𝓤
+  Tells = tripleOf 𝓤 H A tells.signature (tells.spec 𝓤 H A mem run)
+
+  module _ (𝓣 : Tables 𝓤 H) (known-why : Triple 𝓤 (𝓣 .C #why) Why) (known-entry : Triple 𝓤 (𝓣 .C #entry) Entry) (known-tells : Triple 𝓤 (𝓣 .C #tells) Tells)
+      (κs : Lfts 5) (qs : Shares 5) (a : Passed kinds u32 κs) (is : Known kinds u32 κs a) where
+    -- the parameters
+    abbrev s0 : Sl
+    s0 = sl (κs .0) (qs .0) (a .0)
+
+    abbrev s1 : Sl
+    s1 = sl (κs .1 .0) (qs .1 .0) (a .1 .0)
+
+    abbrev s2 : Sl
+    s2 = sl (κs .1 .1 .0) (qs .1 .1 .0) (a .1 .1 .0)
+
+    abbrev s3 : Sl
+    s3 = sl (κs .1 .1 .1 .0) (qs .1 .1 .1 .0) (a .1 .1 .1 .0)
+
+    abbrev s4 : Sl
+    s4 = sl (κs .1 .1 .1 .1 .0) (qs .1 .1 .1 .1 .0) (a .1 .1 .1 .1 .0)
+
+    abbrev vm : List ℕ
+    vm = now (a .0)
+
+    abbrev functions : List ℕ
+    functions = now (a .1 .0)
+
+    abbrev text : List ℕ
+    text = now (a .1 .1 .0)
+
+    abbrev frames : List Frame
+    frames = now (a .1 .1 .1 .0)
+
+    abbrev answer : List ℕ
+    answer = now (a .1 .1 .1 .1 .0)
+
+    abbrev room0 : Room u64 (s0 .count)
+    room0 = is .0 .0 .1
+
+    abbrev room1 : Room u64 (s1 .count)
+    room1 = is .1 .0 .0 .1
+
+    abbrev room2 : Room u8 (s2 .count)
+    room2 = is .1 .1 .0 .0 .1
+
+    abbrev room3 : Room R (s3 .count)
+    room3 = is .1 .1 .1 .0 .0 .1
+
+    abbrev room4 : Room u64 (s4 .count)
+    room4 = is .1 .1 .1 .1 .0 .0 .1
+
+    abbrev slices : List ℕ → List ℕ → List ℕ → List Frame → List ℕ → List Arg
+    slices vm′ functions′ text′ frames′ answer′ = mut u64 s0 vm′ ∷ mut u64 s1 functions′ ∷ mut u8 s2 text′ ∷ mut R s3 frames′ ∷ mut u64 s4 answer′ ∷ []
+
+    abbrev xs : List ℕ → List ℕ → List ℕ → List Frame → List ℕ → List Arg
+    xs vm′ functions′ text′ frames′ answer′ = slices vm′ functions′ text′ frames′ answer′
+
+    abbrev Post : Val → SProp 𝓤
+    Post = walkOf 𝓤 H A me.ended (stays kinds) (me.clauses 𝓤 H A mem run) .post (passing (xs vm functions text frames answer))
+
+    exits : (r : ℕ) (vm′ : List ℕ) (functions′ : List ℕ) (text′ : List ℕ) (frames′ : List Frame) (answer′ : List ℕ) → Is u32 r (vint w32 r ∷ []) → length vm′ ≡ s0 .count → length functions′ ≡ s1 .count → length text′ ≡ s2 .count → length frames′ ≡ s3 .count → length answer′ ≡ s4 .count → ((rest : Stores) → record { coded = record { number = r; vm = vm′; answer = answer′ }; stores = (namesLent rest functions′ text′); frames = frames′ } ≡ startThrough vm answer (namesLent rest functions text) frames (newMachineOf (namesLent rest functions text) frames)) → ent 𝓤 (⋆ 𝓤 H A (‵ (Holds (slices vm′ functions′ text′ frames′ answer′)) ∷ [])) (Post (vint w32 r))
+    exits r vm′ functions′ text′ frames′ answer′ isr len-vm len-functions len-text len-frames len-answer said =
+        qed W (‵ (Holds (slices vm′ functions′ text′ frames′ answer′)) ∷ []) ∵ suffices ! _ (ends-at 𝓤 H A me.ended (stays kinds) (me.clauses 𝓤 H A mem run) W (passing (xs vm functions text frames answer)) (vint w32 r) r (vm′, (functions′, (text′, (frames′, (answer′, tt))))) (len-vm, (len-functions, (len-text, (len-frames, (len-answer, tt)))))) $ says ! said $
+        gives ! (xs vm′ functions′ text′ frames′ answer′) tt (frame ! $ owned ! u32 (Is u32) (uint-makes 𝓤 H A W w32) r _ isr $ keep ! (1 ∷ 0 ∷ []) $ done !)
+
+    -- the calls
+    abbrev to-why : List Arg
+    to-why = peek u64 s0 vm ∷ val usize 1 (vint w64 1) ∷ peek u64 s4 answer ∷ []
+
+    call-why : Rule 𝓤 H A W to-why Why u32 (vint w32) (λ n zs. n ≡ outRefusal vm 1 answer)
+    call-why = call-with 𝓤 H A W to-why Why u32 (vint w32) (λ n zs. n ≡ outRefusal vm 1 answer) (uint-tells w32) (λ ns. passing (lent to-why ns)) (λ ns. refl)
+        (λ ns. unasked W (lent to-why ns)) (λ ns w. id⊢ 𝓤 _) (uint-makes 𝓤 H A W w64 1 _ (refl, omega arith), tt) ((refl, room0), ((refl, room4), tt))
+
+    abbrev to-entry : List Arg
+    to-entry = mut u64 s1 functions ∷ mut u8 s2 text ∷ mut R s3 frames ∷ []
+
+    call-entry : Rule 𝓤 H A W to-entry Entry StartedRow startedVal (λ x zs. ((rest : Stores) → record { answer = x; stores = (namesLent rest (zs .0) (zs .1 .0)); frames = (zs .1 .1 .0) } ≡ newMachineOf (namesLent rest functions text) frames))
+    call-entry = call-with 𝓤 H A W to-entry Entry StartedRow startedVal (λ x zs. ((rest : Stores) → record { answer = x; stores = (namesLent rest (zs .0) (zs .1 .0)); frames = (zs .1 .1 .0) } ≡ newMachineOf (namesLent rest functions text) frames)) started-tells (λ ns. passing (lent to-entry ns)) (λ ns. refl)
+        (λ ns. unasked W (lent to-entry ns)) (λ ns w. id⊢ 𝓤 _) tt ((refl, room1), ((refl, room2), ((refl, room3), tt)))
+
+    abbrev to-tells : Started → List Arg
+    to-tells x = val StartedRow x (startedVal x) ∷ mut u64 s0 vm ∷ mut u64 s4 answer ∷ []
+
+    call-tells : (x : Started) → IsStarted x → Rule 𝓤 H A W (to-tells x) Tells u32 (vint w32) (λ n zs. record { number = n; vm = (zs .1 .0); answer = (zs .1 .1 .0) } ≡ startedCoded x vm answer)
+    call-tells x isx = call-with 𝓤 H A W (to-tells x) Tells u32 (vint w32) (λ n zs. record { number = n; vm = (zs .1 .0); answer = (zs .1 .1 .0) } ≡ startedCoded x vm answer) (uint-tells w32) (λ ns. passing (lent (to-tells x) ns)) (λ ns. refl)
+        (λ ns. unasked W (lent (to-tells x) ns)) (λ ns w. id⊢ 𝓤 _) (started-makes 𝓤 H A W x _ isx, tt) ((refl, room0), ((refl, room4), tt))
+
+    walk : ent 𝓤 (onEntry 𝓤 H A me.signature (lfts (xs vm functions text frames answer)) (shares (xs vm functions text frames answer)) (denots (xs vm functions text frames answer)) (valss (xs vm functions text frames answer))) (WpFn 𝓤 H (𝓣 .C) (𝓣 .Λ) code.function (values (xs vm functions text frames answer)) Post)
+    walk =
+        qed W (‵ (Toks (xs vm functions text frames answer)) ∷ ‵ (Owns (xs vm functions text frames answer)) ∷ []) ∵ takes ! (xs vm functions text frames answer) (enters ! (𝓣 .C) (𝓣 .Λ) code.function (values (xs vm functions text frames answer)) Post
+        ((tt, (tt, (record { fits = room0 .0 }, tt))), ((tt, (tt, (record { fits = room1 .0 }, tt))), ((tt, (tt, (record { fits = room2 .0 }, tt))), ((tt, (tt, (record { fits = room3 .0 }, tt))), ((tt, (tt, (record { fits = room4 .0 }, tt))), tt))))) (λ ls.
+        sets ! (addr ! (behind ! refl refl)) (tt, tt) $ sets ! (agg ! (ofs ! refl)) (tt, (tt, (record { fits = room0 .0 }, tt))) $ sets ! (addr ! (behind ! refl refl)) (tt, tt) $ sets ! (agg ! (ofs ! refl)) (tt, (tt, (record { fits = room4 .0 }, tt))) $
+        calls-on ! (true ∷ false ∷ false ∷ false ∷ true ∷ []) (slices vm functions text frames answer) (call-why) (λ zs. slices vm functions text frames answer) refl (λ zs. refl) (λ zs. refl) fm known-why refl (λ n zs ew lens isn. lands-in ! (tt, record { fits = isn .1 }) $
+        sets ! (bin ! (of ! refl) (of ! refl) tt) (tt, tt) $ returns-if ! 𝓣 (of ! refl)
+        (λ on. sets ! (addr ! (behind ! refl refl)) (tt, tt) $ sets ! (agg ! (ofs ! refl)) (tt, (tt, (record { fits = room1 .0 }, tt))) $ sets ! (addr ! (behind ! refl refl)) (tt, tt) $ sets ! (agg ! (ofs ! refl)) (tt, (tt, (record { fits = room2 .0 }, tt))) $ sets ! (addr ! (behind ! refl refl)) (tt, tt) $ sets ! (agg ! (ofs ! refl)) (tt, (tt, (record { fits = room3 .0 }, tt))) $ calls-on ! (false ∷ true ∷ true ∷ true ∷ []) (slices vm functions text frames answer) (call-entry) (λ zs. slices vm (zs .0) (zs .1 .0) (zs .1 .1 .0) answer) refl (λ zs. refl) (λ zs. refl) fm known-entry refl (λ x zs₂ ex lens₂ isx. lands-in ! (started-typed 𝓤 H A W x isx) $
+        sets ! (addr ! (behind ! refl refl)) (tt, tt) $ sets ! (agg ! (ofs ! refl)) (tt, (tt, (record { fits = room0 .0 }, tt))) $ sets ! (addr ! (behind ! refl refl)) (tt, tt) $ sets ! (agg ! (ofs ! refl)) (tt, (tt, (record { fits = room4 .0 }, tt))) $ calls-on ! (true ∷ false ∷ false ∷ false ∷ true ∷ []) (slices vm (zs₂ .0) (zs₂ .1 .0) (zs₂ .1 .1 .0) answer) (call-tells x isx) (λ zs. slices (zs .1 .0) (zs₂ .0) (zs₂ .1 .0) (zs₂ .1 .1 .0) (zs .1 .1 .0)) refl (λ zs. refl) (λ zs. refl) fm known-tells refl (λ k zs₃ ek lens₃ isk. lands-in ! (tt, record { fits = isk .1 }) $
+        sets ! (of-opd ! (of ! refl)) (tt, record { fits = isk .1 }) $ leaves ! refl $ by ! (exits k (zs₃ .1 .0) (zs₂ .0) (zs₂ .1 .0) (zs₂ .1 .1 .0) (zs₃ .1 .1 .0) isk (lens₃ .0) (lens₂ .0) (lens₂ .1 .0) (lens₂ .1 .1 .0) (lens₃ .1 .0) (λ rest. start-through vm answer (namesLent rest functions text) frames (newMachineOf (namesLent rest functions text) frames) n ew (is-zero n on) x (namesLent rest (zs₂ .0) (zs₂ .1 .0)) (zs₂ .1 .1 .0) (ex rest) (record { number = k; vm = (zs₃ .1 .0); answer = (zs₃ .1 .1 .0) }) ek)))))
+        (λ off. sets ! (of-opd ! (of ! refl)) (tt, record { fits = isn .1 }) $ leaves ! refl $ by ! (exits n vm functions text frames answer isn refl refl refl refl refl (λ rest. start-refused vm answer (namesLent rest functions text) frames (newMachineOf (namesLent rest functions text) frames) n ew (not-zero n off)))))))
+      where
+        fm : FmC 𝓤 H (W .laws) (𝓣 .C)
+        fm = fmOf 𝓤 H (W .laws) 𝓣
+
+pub chaffwheel-new-spec : {M : Type 1} → stated.statement M
+unfolding code.routine tablesOf
+chaffwheel-new-spec 𝓤 H 𝓜 𝓖 𝓡 =
+    let W : Given 𝓤 H (𝓖 .A) = givenOf 𝓤 H 𝓜 𝓖 in
+    closed kinds u32 𝓤 H 𝓜 𝓖 𝓡 code.env #me code.function (code.unfolded 𝓤 H 𝓜 𝓡) (me.clauses 𝓤 H (𝓖 .A) (𝓜 .mem) (𝓡 .run))
+    (λ κs qs a g is. unneeded 𝓤 _
+    (walk 𝓤 H (𝓖 .A) W (𝓜 .mem) (𝓡 .run) (tablesOf 𝓤 H 𝓜 (tables 𝓤 H 𝓜 𝓡 code.env))
+    (cited 𝓤 H (Why 𝓤 H (𝓖 .A) W (𝓜 .mem) (𝓡 .run)) 𝓜 𝓡 code.env #why why-def.routine code.calls-coding·out-refusal (why-thm.met 𝓤 H 𝓜 𝓖 𝓡))
+    (cited 𝓤 H (Entry 𝓤 H (𝓖 .A) W (𝓜 .mem) (𝓡 .run)) 𝓜 𝓡 code.env #entry entry-def.routine code.calls-machine·new (entry-thm.met 𝓤 H 𝓜 𝓖 𝓡))
+    (cited 𝓤 H (Tells 𝓤 H (𝓖 .A) W (𝓜 .mem) (𝓡 .run)) 𝓜 𝓡 code.env #tells tells-def.routine code.calls-coding·tell-started (tells-thm.met 𝓤 H 𝓜 𝓖 𝓡)) κs qs a is))

@@ -1,0 +1,62 @@
+-- `emission::chaffwheel_add_scalar` meets its contract.
+use borrow.Author.Needs.{needs}
+use Rattle.embed.proofs.Through.{emit-refused, emit-through}
+use Rattle.embed.proofs.emission.chaffwheel_add_scalar.Statement.{statement}
+use Rattle.embed.proofs.emission.chaffwheel_add_scalar.Tie as tie
+
+slices-refusal-requires : tie.Need-slices-refusal-requires
+slices-refusal-requires c κs = search needs
+
+vm-of-requires : tie.Need-vm-of-requires
+vm-of-requires c κs = search needs
+
+slice-aggregate-add-constant : tie.Need-slice-aggregate-add-constant
+slice-aggregate-add-constant c = search needs
+
+add-constant-requires : tie.Need-add-constant-requires
+add-constant-requires c κs = search needs
+
+tell-emitted-requires : tie.Need-tell-emitted-requires
+tell-emitted-requires c κs = search needs
+
+same-length : tie.Need-same-length
+same-length c = search needs
+
+same-length-2 : tie.Need-same-length-2
+same-length-2 c = search needs
+
+same-length-3 : tie.Need-same-length-3
+same-length-3 c = search needs
+
+same-length-4 : tie.Need-same-length-4
+same-length-4 c = search needs
+
+returns : tie.Need-returns
+returns c = λ rest. emit-through _ _ _ (c .before .before .before .before .before .before .before .before .before .before .before .before .before .before .before .before .before .before .before .slices-refusal .ensures) _ _ (c .before .before .before .before .before .before .before .before .before .before .before .before .before .before .before .before .before .before .if1 .taken) (c .before .before .before .before .before .before .before .before .before .before .before .before .before .before .before .before .vm-of .ensures) (c .before .before .before .before .before .before .before .before .before .before .before .add-constant .ensures rest .means) (c .before .before .before .before .tell-emitted .ensures)
+
+same-length-5 : tie.Need-same-length-5
+same-length-5 c = search needs
+
+same-length-6 : tie.Need-same-length-6
+same-length-6 c = search needs
+
+returns-2 : tie.Need-returns-2
+returns-2 c = λ rest. emit-refused _ _ _ (c .before .slices-refusal .ensures) _ _ (c .if1 .left)
+
+pub chaffwheel-add-scalar-spec : {M : Type 1} → statement M
+chaffwheel-add-scalar-spec =
+    tie.close
+    (tie.spec
+    slices-refusal-requires
+    vm-of-requires
+    slice-aggregate-add-constant
+    add-constant-requires
+    tell-emitted-requires
+    same-length
+    same-length-2
+    same-length-3
+    same-length-4
+    returns
+    same-length-5
+    same-length-6
+    returns-2)

@@ -1,0 +1,391 @@
+// Emission for a host in C: a program is written into the stores that the host lends. Where a number is told it stands in answer[0].
+use coding::slices_refusal;
+use coding::tell;
+use coding::tell_emitted;
+use coding::vm_of;
+use model::Constant;
+use program::code::add_op;
+use program::code::add_op1;
+use program::code::add_op2;
+use program::code::add_op3;
+use program::code::current_offset;
+use program::code::patch_u16_value_at;
+use program::constants::add_constant;
+use program::functions::begin_function;
+use program::functions::end_function;
+use program::functions::get_function_idx;
+use program::structs::add_struct_info;
+ghost use mathlib.Core.Path.{_≡_};
+ghost use mathlib.Core.List.{[]};
+ghost use Rattle.model.specs.declared.Counts.{Counts};
+ghost use Rattle.model.specs.declared.Constant.the-variants as k;
+ghost use Rattle.model.specs.Stores.{Stores};
+ghost use Rattle.model.specs.Emission.{addOpOf, addOp1Of, addOp2Of, addOp3Of, patchOf, currentOffsetOf, addConstantOf, addStructOf, beginFunctionOf, endFunctionOf, functionIdxOf};
+ghost use Rattle.program.specs.Links.{codeLent, bytesLent, constantsLent, structsLent, namesLent};
+ghost use Rattle.coding.specs.Coding.{vmIn, emittedCoded, toldCoded, through, emitThrough};
+
+// Appends an opcode to the code of the current function, with the given place.
+#[no_mangle]
+pub extern "C" fn chaffwheel_add_op(
+    vm: &mut [u64],
+    op: u8,
+    place: u32,
+    functions: &mut [u64],
+    main: &mut [u8],
+    main_places: &mut [u32],
+    other: &mut [u8],
+    other_places: &mut [u32],
+    answer: &mut [u64],
+) -> u32
+    ensures { λ r. ⌜ ((rest : Stores) → record { coded = record { number = r; vm = now (vm .exit); answer = now (answer .exit) }; stores = (codeLent rest (now (functions .exit)) (now (main .exit)) (now («main_places» .exit)) (now (other .exit)) (now («other_places» .exit))) } ≡ emitThrough (now (vm .entry)) (now (answer .entry)) (codeLent rest (now (functions .entry)) (now (main .entry)) (now («main_places» .entry)) (now (other .entry)) (now («other_places» .entry))) (λ (c : Counts). addOpOf c op place (codeLent rest (now (functions .entry)) (now (main .entry)) (now («main_places» .entry)) (now (other .entry)) (now («other_places» .entry))))) ⌝ }
+{
+    let why = slices_refusal(vm, 1, answer);
+    if why == 0 {
+        let m = vm_of(vm);
+        let c = m.program;
+        let done = add_op(
+            c,
+            op,
+            place,
+            functions,
+            main,
+            main_places,
+            other,
+            other_places,
+        );
+        let n = tell_emitted(done, vm, answer);
+        return n;
+    }
+    why
+}
+
+// Appends an opcode and an operand.
+#[no_mangle]
+pub extern "C" fn chaffwheel_add_op1(
+    vm: &mut [u64],
+    op: u8,
+    a: u16,
+    place: u32,
+    functions: &mut [u64],
+    main: &mut [u8],
+    main_places: &mut [u32],
+    other: &mut [u8],
+    other_places: &mut [u32],
+    answer: &mut [u64],
+) -> u32
+    ensures { λ r. ⌜ ((rest : Stores) → record { coded = record { number = r; vm = now (vm .exit); answer = now (answer .exit) }; stores = (codeLent rest (now (functions .exit)) (now (main .exit)) (now («main_places» .exit)) (now (other .exit)) (now («other_places» .exit))) } ≡ emitThrough (now (vm .entry)) (now (answer .entry)) (codeLent rest (now (functions .entry)) (now (main .entry)) (now («main_places» .entry)) (now (other .entry)) (now («other_places» .entry))) (λ (c : Counts). addOp1Of c op a place (codeLent rest (now (functions .entry)) (now (main .entry)) (now («main_places» .entry)) (now (other .entry)) (now («other_places» .entry))))) ⌝ }
+{
+    let why = slices_refusal(vm, 1, answer);
+    if why == 0 {
+        let m = vm_of(vm);
+        let c = m.program;
+        let done = add_op1(
+            c,
+            op,
+            a,
+            place,
+            functions,
+            main,
+            main_places,
+            other,
+            other_places,
+        );
+        let n = tell_emitted(done, vm, answer);
+        return n;
+    }
+    why
+}
+
+// Appends an opcode and two operands.
+#[no_mangle]
+pub extern "C" fn chaffwheel_add_op2(
+    vm: &mut [u64],
+    op: u8,
+    a: u16,
+    b: u16,
+    place: u32,
+    functions: &mut [u64],
+    main: &mut [u8],
+    main_places: &mut [u32],
+    other: &mut [u8],
+    other_places: &mut [u32],
+    answer: &mut [u64],
+) -> u32
+    ensures { λ r. ⌜ ((rest : Stores) → record { coded = record { number = r; vm = now (vm .exit); answer = now (answer .exit) }; stores = (codeLent rest (now (functions .exit)) (now (main .exit)) (now («main_places» .exit)) (now (other .exit)) (now («other_places» .exit))) } ≡ emitThrough (now (vm .entry)) (now (answer .entry)) (codeLent rest (now (functions .entry)) (now (main .entry)) (now («main_places» .entry)) (now (other .entry)) (now («other_places» .entry))) (λ (c : Counts). addOp2Of c op a b place (codeLent rest (now (functions .entry)) (now (main .entry)) (now («main_places» .entry)) (now (other .entry)) (now («other_places» .entry))))) ⌝ }
+{
+    let why = slices_refusal(vm, 1, answer);
+    if why == 0 {
+        let m = vm_of(vm);
+        let c = m.program;
+        let done = add_op2(
+            c,
+            op,
+            a,
+            b,
+            place,
+            functions,
+            main,
+            main_places,
+            other,
+            other_places,
+        );
+        let n = tell_emitted(done, vm, answer);
+        return n;
+    }
+    why
+}
+
+// Appends an opcode and three operands.
+#[no_mangle]
+pub extern "C" fn chaffwheel_add_op3(
+    vm: &mut [u64],
+    op: u8,
+    a: u16,
+    b: u16,
+    d: u16,
+    place: u32,
+    functions: &mut [u64],
+    main: &mut [u8],
+    main_places: &mut [u32],
+    other: &mut [u8],
+    other_places: &mut [u32],
+    answer: &mut [u64],
+) -> u32
+    ensures { λ r. ⌜ ((rest : Stores) → record { coded = record { number = r; vm = now (vm .exit); answer = now (answer .exit) }; stores = (codeLent rest (now (functions .exit)) (now (main .exit)) (now («main_places» .exit)) (now (other .exit)) (now («other_places» .exit))) } ≡ emitThrough (now (vm .entry)) (now (answer .entry)) (codeLent rest (now (functions .entry)) (now (main .entry)) (now («main_places» .entry)) (now (other .entry)) (now («other_places» .entry))) (λ (c : Counts). addOp3Of c op a b d place (codeLent rest (now (functions .entry)) (now (main .entry)) (now («main_places» .entry)) (now (other .entry)) (now («other_places» .entry))))) ⌝ }
+{
+    let why = slices_refusal(vm, 1, answer);
+    if why == 0 {
+        let m = vm_of(vm);
+        let c = m.program;
+        let done = add_op3(
+            c,
+            op,
+            a,
+            b,
+            d,
+            place,
+            functions,
+            main,
+            main_places,
+            other,
+            other_places,
+        );
+        let n = tell_emitted(done, vm, answer);
+        return n;
+    }
+    why
+}
+
+// Overwrites two bytes of the code of the current function.
+#[no_mangle]
+pub extern "C" fn chaffwheel_patch_u16_value_at(
+    vm: &mut [u64],
+    offset: u16,
+    arg: u16,
+    functions: &[u64],
+    main: &mut [u8],
+    other: &mut [u8],
+    answer: &mut [u64],
+) -> u32
+    ensures { λ r. ⌜ ((rest : Stores) → record { coded = record { number = r; vm = now (vm .exit); answer = now (answer .exit) }; stores = (bytesLent rest (now (functions .entry)) (now (main .exit)) (now (other .exit))) } ≡ emitThrough (now (vm .entry)) (now (answer .entry)) (bytesLent rest (now (functions .entry)) (now (main .entry)) (now (other .entry))) (λ (c : Counts). patchOf c offset arg (bytesLent rest (now (functions .entry)) (now (main .entry)) (now (other .entry))))) ⌝ }
+{
+    let why = slices_refusal(vm, 1, answer);
+    if why == 0 {
+        let m = vm_of(vm);
+        let c = m.program;
+        let done = patch_u16_value_at(c, offset, arg, functions, main, other);
+        let n = tell_emitted(done, vm, answer);
+        return n;
+    }
+    why
+}
+
+// Appends a scalar to the constants: its 64 bits, kept as they are.
+#[no_mangle]
+pub extern "C" fn chaffwheel_add_scalar(
+    vm: &mut [u64],
+    bits: u64,
+    constants: &mut [u64],
+    text: &mut [u8],
+    answer: &mut [u64],
+) -> u32
+    ensures { λ r. ⌜ ((rest : Stores) → record { coded = record { number = r; vm = now (vm .exit); answer = now (answer .exit) }; stores = (constantsLent rest (now (constants .exit)) (now (text .exit))) } ≡ emitThrough (now (vm .entry)) (now (answer .entry)) (constantsLent rest (now (constants .entry)) (now (text .entry))) (λ (c : Counts). addConstantOf c (k.Scalar bits) [] (constantsLent rest (now (constants .entry)) (now (text .entry))))) ⌝ }
+{
+    let why = slices_refusal(vm, 1, answer);
+    if why == 0 {
+        let m = vm_of(vm);
+        let c = m.program;
+        let done = add_constant(c, Constant::Scalar(bits), b"", constants, text);
+        let n = tell_emitted(done, vm, answer);
+        return n;
+    }
+    why
+}
+
+// Appends a boolean to the constants.
+#[no_mangle]
+pub extern "C" fn chaffwheel_add_boolean(
+    vm: &mut [u64],
+    value: bool,
+    constants: &mut [u64],
+    text: &mut [u8],
+    answer: &mut [u64],
+) -> u32
+    ensures { λ r. ⌜ ((rest : Stores) → record { coded = record { number = r; vm = now (vm .exit); answer = now (answer .exit) }; stores = (constantsLent rest (now (constants .exit)) (now (text .exit))) } ≡ emitThrough (now (vm .entry)) (now (answer .entry)) (constantsLent rest (now (constants .entry)) (now (text .entry))) (λ (c : Counts). addConstantOf c (k.Boolean value) [] (constantsLent rest (now (constants .entry)) (now (text .entry))))) ⌝ }
+{
+    let why = slices_refusal(vm, 1, answer);
+    if why == 0 {
+        let m = vm_of(vm);
+        let c = m.program;
+        let done = add_constant(c, Constant::Boolean(value), b"", constants, text);
+        let n = tell_emitted(done, vm, answer);
+        return n;
+    }
+    why
+}
+
+// Appends a string to the constants.
+#[no_mangle]
+pub extern "C" fn chaffwheel_add_string(
+    vm: &mut [u64],
+    lent: &[u8],
+    constants: &mut [u64],
+    text: &mut [u8],
+    answer: &mut [u64],
+) -> u32
+    ensures { λ r. ⌜ ((rest : Stores) → record { coded = record { number = r; vm = now (vm .exit); answer = now (answer .exit) }; stores = (constantsLent rest (now (constants .exit)) (now (text .exit))) } ≡ emitThrough (now (vm .entry)) (now (answer .entry)) (constantsLent rest (now (constants .entry)) (now (text .entry))) (λ (c : Counts). addConstantOf c k.String (now (lent .entry)) (constantsLent rest (now (constants .entry)) (now (text .entry))))) ⌝ }
+{
+    let why = slices_refusal(vm, 1, answer);
+    if why == 0 {
+        let m = vm_of(vm);
+        let c = m.program;
+        let done = add_constant(c, Constant::String, lent, constants, text);
+        let n = tell_emitted(done, vm, answer);
+        return n;
+    }
+    why
+}
+
+// Appends a function reference to the constants.
+#[no_mangle]
+pub extern "C" fn chaffwheel_add_reference(
+    vm: &mut [u64],
+    lent: &[u8],
+    constants: &mut [u64],
+    text: &mut [u8],
+    answer: &mut [u64],
+) -> u32
+    ensures { λ r. ⌜ ((rest : Stores) → record { coded = record { number = r; vm = now (vm .exit); answer = now (answer .exit) }; stores = (constantsLent rest (now (constants .exit)) (now (text .exit))) } ≡ emitThrough (now (vm .entry)) (now (answer .entry)) (constantsLent rest (now (constants .entry)) (now (text .entry))) (λ (c : Counts). addConstantOf c k.FunctionReference (now (lent .entry)) (constantsLent rest (now (constants .entry)) (now (text .entry))))) ⌝ }
+{
+    let why = slices_refusal(vm, 1, answer);
+    if why == 0 {
+        let m = vm_of(vm);
+        let c = m.program;
+        let done = add_constant(c, Constant::FunctionReference, lent, constants, text);
+        let n = tell_emitted(done, vm, answer);
+        return n;
+    }
+    why
+}
+
+// The number of a struct name, which is added where it is not known.
+#[no_mangle]
+pub extern "C" fn chaffwheel_add_struct_info(
+    vm: &mut [u64],
+    name: &[u8],
+    structs: &mut [u64],
+    text: &mut [u8],
+    answer: &mut [u64],
+) -> u32
+    ensures { λ r. ⌜ ((rest : Stores) → record { coded = record { number = r; vm = now (vm .exit); answer = now (answer .exit) }; stores = (structsLent rest (now (structs .exit)) (now (text .exit))) } ≡ emitThrough (now (vm .entry)) (now (answer .entry)) (structsLent rest (now (structs .entry)) (now (text .entry))) (λ (c : Counts). addStructOf c (now (name .entry)) (structsLent rest (now (structs .entry)) (now (text .entry))))) ⌝ }
+{
+    let why = slices_refusal(vm, 1, answer);
+    if why == 0 {
+        let m = vm_of(vm);
+        let c = m.program;
+        let done = add_struct_info(c, name, structs, text);
+        let n = tell_emitted(done, vm, answer);
+        return n;
+    }
+    why
+}
+
+// Begins a function, which is then current.
+#[no_mangle]
+pub extern "C" fn chaffwheel_begin_function(
+    vm: &mut [u64],
+    name: &[u8],
+    functions: &mut [u64],
+    text: &mut [u8],
+    answer: &mut [u64],
+) -> u32
+    ensures { λ r. ⌜ ((rest : Stores) → record { coded = record { number = r; vm = now (vm .exit); answer = now (answer .exit) }; stores = (namesLent rest (now (functions .exit)) (now (text .exit))) } ≡ emitThrough (now (vm .entry)) (now (answer .entry)) (namesLent rest (now (functions .entry)) (now (text .entry))) (λ (c : Counts). beginFunctionOf c (now (name .entry)) (namesLent rest (now (functions .entry)) (now (text .entry))))) ⌝ }
+{
+    let why = slices_refusal(vm, 1, answer);
+    if why == 0 {
+        let m = vm_of(vm);
+        let c = m.program;
+        let done = begin_function(c, name, functions, text);
+        let n = tell_emitted(done, vm, answer);
+        return n;
+    }
+    why
+}
+
+// Makes main current.
+#[no_mangle]
+pub extern "C" fn chaffwheel_end_function(vm: &mut [u64], answer: &mut [u64]) -> u32
+    ensures { λ r. ⌜ record { number = r; vm = now (vm .exit); answer = now (answer .exit) } ≡ through (now (vm .entry)) (now (answer .entry)) (emittedCoded (endFunctionOf (vmIn (now (vm .entry)) .program)) (now (vm .entry)) (now (answer .entry))) ⌝ }
+{
+    let why = slices_refusal(vm, 1, answer);
+    if why == 0 {
+        let m = vm_of(vm);
+        let c = m.program;
+        let done = end_function(c);
+        let n = tell_emitted(done, vm, answer);
+        return n;
+    }
+    why
+}
+
+// The length of the code of the current function.
+#[no_mangle]
+pub extern "C" fn chaffwheel_current_offset(
+    vm: &[u64],
+    functions: &[u64],
+    answer: &mut [u64],
+) -> u32
+    ensures { λ r. ⌜ record { number = r; vm = now (vm .entry); answer = now (answer .exit) } ≡ through (now (vm .entry)) (now (answer .entry)) (toldCoded (currentOffsetOf (vmIn (now (vm .entry)) .program) (now (functions .entry))) (now (vm .entry)) (now (answer .entry))) ⌝ }
+{
+    let why = slices_refusal(vm, 1, answer);
+    if why == 0 {
+        let m = vm_of(vm);
+        let c = m.program;
+        let told = current_offset(c, functions);
+        let n = tell(told, answer);
+        return n;
+    }
+    why
+}
+
+// The newest function of a name.
+#[no_mangle]
+pub extern "C" fn chaffwheel_get_function_idx(
+    vm: &[u64],
+    name: &[u8],
+    functions: &[u64],
+    text: &[u8],
+    answer: &mut [u64],
+) -> u32
+    ensures { λ r. ⌜ ((rest : Stores) → record { number = r; vm = now (vm .entry); answer = now (answer .exit) } ≡ through (now (vm .entry)) (now (answer .entry)) (toldCoded (functionIdxOf (vmIn (now (vm .entry)) .program) (now (name .entry)) (namesLent rest (now (functions .entry)) (now (text .entry)))) (now (vm .entry)) (now (answer .entry)))) ⌝ }
+{
+    let why = slices_refusal(vm, 1, answer);
+    if why == 0 {
+        let m = vm_of(vm);
+        let c = m.program;
+        let told = get_function_idx(c, name, functions, text);
+        let n = tell(told, answer);
+        return n;
+    }
+    why
+}

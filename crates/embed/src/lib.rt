@@ -1,0 +1,232 @@
+// The machine's entries for a host in C: numbers and slices alone. `include/chaffwheel.h` declares them, docs/EMBEDDING.md shows their use.
+pub mod emission; // emission.rt: a program is written
+
+use coding::out_refusal;
+use coding::slices_refusal;
+use coding::tell;
+use coding::tell_run;
+use coding::tell_started;
+use coding::vm_of;
+use image::save;
+use listing::disassemble;
+use machine::backtrace;
+use machine::load;
+use machine::new;
+use machine::run;
+use model::Frame;
+ghost use mathlib.Core.Path.{_≡_};
+ghost use mathlib.Core.List.{List};
+ghost use Prim.Native.Nat.{ℕ};
+ghost use Rattle.model.specs.declared.Vm.{Vm};
+ghost use Rattle.model.specs.Stores.{Stores};
+ghost use Rattle.model.specs.Loading.{saveOf, listOf};
+ghost use Rattle.model.specs.Machines.{backtraceIn, loadMachineOf, newMachineOf};
+ghost use Rattle.program.specs.Links.{namesLent};
+ghost use Rattle.image.specs.Fills.{lent};
+ghost use Rattle.listing.specs.Links.{lent as listed};
+ghost use Rattle.ends.specs.Links.{programLent};
+ghost use Rattle.machine.specs.Links.{runLent};
+ghost use Rattle.coding.specs.Coding.{RunThrough, startThrough, outThrough};
+
+// A machine over a new program.
+#[no_mangle]
+pub extern "C" fn chaffwheel_new(
+    vm: &mut [u64],
+    functions: &mut [u64],
+    text: &mut [u8],
+    frames: &mut [Frame],
+    answer: &mut [u64],
+) -> u32
+    ensures { λ r. ⌜ ((rest : Stores) → record { coded = record { number = r; vm = now (vm .exit); answer = now (answer .exit) }; stores = namesLent rest (now (functions .exit)) (now (text .exit)); frames = now (frames .exit) } ≡ startThrough (now (vm .entry)) (now (answer .entry)) (namesLent rest (now (functions .entry)) (now (text .entry))) (now (frames .entry)) (newMachineOf (namesLent rest (now (functions .entry)) (now (text .entry))) (now (frames .entry)))) ⌝ }
+{
+    let why = out_refusal(vm, 1, answer);
+    if why == 0 {
+        let made = new(functions, text, frames);
+        let n = tell_started(made, vm, answer);
+        return n;
+    }
+    why
+}
+
+// A machine over the program of an image.
+#[no_mangle]
+pub extern "C" fn chaffwheel_load(
+    image: &[u8],
+    vm: &mut [u64],
+    constants: &mut [u64],
+    structs: &mut [u64],
+    functions: &mut [u64],
+    text: &mut [u8],
+    main: &mut [u8],
+    main_places: &mut [u32],
+    other: &mut [u8],
+    other_places: &mut [u32],
+    frames: &mut [Frame],
+    answer: &mut [u64],
+) -> u32
+    ensures { λ r. ⌜ record { coded = record { number = r; vm = now (vm .exit); answer = now (answer .exit) }; stores = lent (now (constants .exit)) (now (structs .exit)) (now (functions .exit)) (now (text .exit)) (now (main .exit)) (now («main_places» .exit)) (now (other .exit)) (now («other_places» .exit)); frames = now (frames .exit) } ≡ startThrough (now (vm .entry)) (now (answer .entry)) (lent (now (constants .entry)) (now (structs .entry)) (now (functions .entry)) (now (text .entry)) (now (main .entry)) (now («main_places» .entry)) (now (other .entry)) (now («other_places» .entry))) (now (frames .entry)) (loadMachineOf (now (image .entry)) (lent (now (constants .entry)) (now (structs .entry)) (now (functions .entry)) (now (text .entry)) (now (main .entry)) (now («main_places» .entry)) (now (other .entry)) (now («other_places» .entry))) (now (frames .entry))) ⌝ }
+{
+    let why = out_refusal(vm, 1, answer);
+    if why == 0 {
+        let made = load(
+            image,
+            constants,
+            structs,
+            functions,
+            text,
+            main,
+            main_places,
+            other,
+            other_places,
+            frames,
+        );
+        let n = tell_started(made, vm, answer);
+        return n;
+    }
+    why
+}
+
+// A run of the machine with `units`.
+#[no_mangle]
+pub extern "C" fn chaffwheel_run(
+    units: u64,
+    vm: &mut [u64],
+    constants: &[u64],
+    functions: &[u64],
+    text: &[u8],
+    main: &[u8],
+    main_places: &[u32],
+    other: &[u8],
+    other_places: &[u32],
+    stack: &mut [u64],
+    cells: &mut [u64],
+    frames: &mut [Frame],
+    copy: &mut [u64],
+    trace: &mut [u32],
+    answer: &mut [u64],
+) -> u32
+    ensures { λ r. ⌜ RunThrough (now (vm .entry)) (now (answer .entry)) (λ (structs : List ℕ). programLent structs (now (constants .entry)) (now (functions .entry)) (now (text .entry)) (now (main .entry)) (now («main_places» .entry)) (now (other .entry)) (now («other_places» .entry))) (runLent (now (stack .entry)) (now (cells .entry)) (now (frames .entry)) (now (copy .entry)) (now (trace .entry))) units (record { number = r; vm = now (vm .exit); answer = now (answer .exit) }) (runLent (now (stack .exit)) (now (cells .exit)) (now (frames .exit)) (now (copy .exit)) (now (trace .exit))) ⌝ }
+{
+    let why = slices_refusal(vm, 4, answer);
+    if why == 0 {
+        let m = vm_of(vm);
+        let result = run(
+            m,
+            units,
+            constants,
+            functions,
+            text,
+            main,
+            main_places,
+            other,
+            other_places,
+            stack,
+            cells,
+            frames,
+            copy,
+            trace,
+        );
+        let n = tell_run(result, vm, answer);
+        return n;
+    }
+    why
+}
+
+// The backtrace of the machine's frames.
+#[no_mangle]
+pub extern "C" fn chaffwheel_backtrace(
+    vm: &[u64],
+    functions: &[u64],
+    text: &[u8],
+    main: &[u8],
+    main_places: &[u32],
+    other: &[u8],
+    other_places: &[u32],
+    frames: &[Frame],
+    out: &mut [u32],
+    answer: &mut [u64],
+) -> u32
+    ensures { λ r. ⌜ ((structs constants : List ℕ) → record { coded = record { number = r; vm = now (vm .entry); answer = now (answer .exit) }; out = now (out .exit) } ≡ outThrough (now (vm .entry)) (now (answer .entry)) (now (out .entry)) (λ m. backtraceIn m (programLent structs constants (now (functions .entry)) (now (text .entry)) (now (main .entry)) (now («main_places» .entry)) (now (other .entry)) (now («other_places» .entry))) (now (frames .entry)) (now (out .entry)))) ⌝ }
+{
+    let why = slices_refusal(vm, 1, answer);
+    if why == 0 {
+        let m = vm_of(vm);
+        let told = backtrace(
+            m,
+            functions,
+            text,
+            main,
+            main_places,
+            other,
+            other_places,
+            frames,
+            out,
+        );
+        let n = tell(told, answer);
+        return n;
+    }
+    why
+}
+
+// The image of the program.
+#[no_mangle]
+pub extern "C" fn chaffwheel_save(
+    vm: &[u64],
+    constants: &[u64],
+    structs: &[u64],
+    functions: &[u64],
+    text: &[u8],
+    main: &[u8],
+    main_places: &[u32],
+    other: &[u8],
+    other_places: &[u32],
+    out: &mut [u8],
+    answer: &mut [u64],
+) -> u32
+    ensures { λ r. ⌜ record { coded = record { number = r; vm = now (vm .entry); answer = now (answer .exit) }; out = now (out .exit) } ≡ outThrough (now (vm .entry)) (now (answer .entry)) (now (out .entry)) (λ (m : Vm). saveOf (m .program) (lent (now (constants .entry)) (now (structs .entry)) (now (functions .entry)) (now (text .entry)) (now (main .entry)) (now («main_places» .entry)) (now (other .entry)) (now («other_places» .entry))) (now (out .entry))) ⌝ }
+{
+    let why = slices_refusal(vm, 1, answer);
+    if why == 0 {
+        let m = vm_of(vm);
+        let c = m.program;
+        let told = save(
+            c,
+            constants,
+            structs,
+            functions,
+            text,
+            main,
+            main_places,
+            other,
+            other_places,
+            out,
+        );
+        let n = tell(told, answer);
+        return n;
+    }
+    why
+}
+
+// The listing of the program.
+#[no_mangle]
+pub extern "C" fn chaffwheel_disassemble<'a>(
+    vm: &[u64],
+    functions: &[u64],
+    text: &[u8],
+    main: &'a [u8],
+    other: &'a [u8],
+    out: &mut [u8],
+    answer: &mut [u64],
+) -> u32
+    ensures { λ r. ⌜ ((rest : Stores) → record { coded = record { number = r; vm = now (vm .entry); answer = now (answer .exit) }; out = now (out .exit) } ≡ outThrough (now (vm .entry)) (now (answer .entry)) (now (out .entry)) (λ (m : Vm). listOf (m .program) (listed rest (now (functions .entry)) (now (text .entry)) (now (main .entry)) (now (other .entry))) (now (out .entry)))) ⌝ }
+{
+    let why = slices_refusal(vm, 1, answer);
+    if why == 0 {
+        let m = vm_of(vm);
+        let c = m.program;
+        let told = disassemble(c, functions, text, main, other, out);
+        let n = tell(told, answer);
+        return n;
+    }
+    why
+}
