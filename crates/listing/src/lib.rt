@@ -2,8 +2,6 @@
 mod lines; // lines.rt: the lines of one function's code
 
 use crate::lines::write_lines;
-use texts::put_text;
-use texts::write_decimal;
 use model::Counts;
 use model::Told;
 use program::order::counts_ok;
@@ -15,6 +13,8 @@ use program::words::first;
 use program::words::part;
 use program::words::room;
 use program::words::second;
+use texts::put_text;
+use texts::write_decimal;
 ghost use mathlib.Core.Path.{_≡_};
 ghost use mathlib.Core.List.{List};
 ghost use Prim.Native.Nat.{ℕ, _+_, _*_, _≤_, _<_, _^_};

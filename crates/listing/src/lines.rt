@@ -1,13 +1,13 @@
 // The lines of one function's code.
-use texts::put_byte;
-use texts::put_text;
-use texts::write_decimal;
 use model::Decoded;
 use model::Told;
 use opcode::decode;
 use opcode::name_byte;
 use opcode::name_len;
 use opcode::num_operands;
+use texts::put_byte;
+use texts::put_text;
+use texts::write_decimal;
 ghost use mathlib.Core.Path.{_≡_};
 ghost use Prim.Native.Nat.{_+_, _*_, _≤_, _<_, _^_};
 ghost use lib.ListN.{length};

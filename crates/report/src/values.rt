@@ -9,6 +9,7 @@ ghost use mathlib.Core.Path.{_≡_};
 ghost use mathlib.Core.List.{_++_};
 ghost use Prim.Native.Nat.{_+_, _*_, _≤_, _<_, _^_};
 ghost use lib.ListN.{length};
+ghost use Rattle.model.specs.Basics.{ascii};
 ghost use Rattle.model.specs.Heap.{heapOf, headIn};
 ghost use Rattle.model.specs.Listings.{decimal};
 ghost use Rattle.model.specs.Reports.{hexDigit, hexFor, valueText};
