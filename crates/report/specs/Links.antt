@@ -1,9 +1,19 @@
 -- What a report reads, and what a program prints.
+use mathlib.Core.Path.{_≡_}
+use mathlib.Core.Bool.{true}
 use mathlib.Core.List.{List}
 use Prim.Native.Nat.{ℕ, _*_, _≤_, _<_, _^_}
+use lib.Dec.{leb}
 use lib.ListN.{length}
+use Rattle.model.specs.declared.Loaded.{Loaded}
+use Rattle.model.specs.declared.Loaded.the-variants as l
 use Rattle.model.specs.declared.RunResult.{RunResult}
 use Rattle.model.specs.declared.RunResult.the-variants.{Value, Continue, Fault, Refused}
+use Rattle.model.specs.Basics.{if_then_else_}
+use Rattle.model.specs.Values.{places}
+use Rattle.model.specs.Stores.{Stores}
+use Rattle.model.specs.Emission.{written}
+use Rattle.model.specs.Loading.{listOrder}
 
 -- what an answer speaks of lies inside stores of these lengths: the cells of a value, the entries of a backtrace
 abbrev pub Inside : RunResult → ℕ → ℕ → Type 0
@@ -16,3 +26,19 @@ Inside (Refused n) cells backtrace = Unit
 pub record Shows (r : RunResult) (cells backtrace : List ℕ) : Type 0 where
   pub inside : Inside r (length cells) (length backtrace)
   pub small : length backtrace < 2 ^ 32
+
+-- ---- printing: how many bytes, and the store that they were put into
+
+pub record Printed : Type 0 where
+  pub count : ℕ
+  pub out : List ℕ
+
+-- a text that fits is put at the front of the store; of one that does not, nothing
+unfoldable pub printed : List ℕ → List ℕ → Printed
+printed bytes out = if leb (length bytes) (places 1 out) then record { count = length bytes; out = written out 0 bytes } else record { count = 0; out = out }
+
+-- a program that was loaded can be listed
+abbrev pub Listable : Loaded → Stores → Type 0
+Listable (l.Done c) s = listOrder c s ≡ true
+Listable (l.Broken i) s = Unit
+Listable (l.Refused n) s = Unit

@@ -1,3 +1,103 @@
 // What the runner and the lister print, as bytes in a lent store.
 mod values; // values.rt: a value's line
 mod runs; // runs.rt: a run's lines
+
+use crate::runs::put_refused;
+use image::load;
+use listing::disassemble;
+use model::Counts;
+use model::Loaded;
+use model::Told;
+use program::words::room;
+ghost use mathlib.Core.Path.{_≡_};
+ghost use mathlib.Core.Bool.{true};
+ghost use Rattle.model.specs.Listings.{listingOf};
+ghost use Rattle.model.specs.Stores.{Stores, programIn};
+ghost use Rattle.model.specs.Loading.{listOrder};
+ghost use Rattle.model.specs.Reports.{refusedLine, listedText, loadedText, listerText};
+ghost use Rattle.listing.specs.Links.{lent};
+ghost use Rattle.report.specs.Links.{printed, Listable};
+
+// A refusal. It is measured first, with no room to write into.
+fn print_refused(n: u8, out: &mut [u8]) -> usize
+    ensures { λ r. ⌜ record { count = r; out = now (out .exit) } ≡ printed (refusedLine n) (now (out .entry)) ⌝ }
+{
+    let none = 0;
+    let len = put_refused(n, &mut out[..none]);
+    if room(out.len(), 1) < len {
+        return 0;
+    }
+    put_refused(n, out)
+}
+
+// The listing of a program in good order, or its refusal.
+fn list_program<'a>(
+    c: Counts,
+    functions: &[u64],
+    text: &[u8],
+    main: &'a [u8],
+    other: &'a [u8],
+    out: &mut [u8],
+) -> usize
+    requires { ⌜ ((rest : Stores) → listOrder c (lent rest (now functions) (now text) (now main) (now other)) ≡ true) ⌝ }
+    ensures { λ r. ⌜ ((rest : Stores) → record { count = r; out = now (out .exit) } ≡ printed (listedText (listingOf (programIn c (lent rest (now (functions .entry)) (now (text .entry)) (now (main .entry)) (now (other .entry)))))) (now (out .entry))) ⌝ }
+{
+    let told = disassemble(c, functions, text, main, other, out);
+    match told {
+        Told::Number(n) => n,
+        Told::Refused(n) => {
+            if n == 17 {
+                return 0;
+            }
+            print_refused(n, out)
+        }
+    }
+}
+
+// The listing of what was loaded, or why nothing was.
+fn list_loaded<'a>(
+    loaded: Loaded,
+    functions: &[u64],
+    text: &[u8],
+    main: &'a [u8],
+    other: &'a [u8],
+    out: &mut [u8],
+) -> usize
+    requires { ⌜ ((rest : Stores) → Listable loaded (lent rest (now functions) (now text) (now main) (now other))) ⌝ }
+    ensures { λ r. ⌜ ((rest : Stores) → record { count = r; out = now (out .exit) } ≡ printed (loadedText loaded (lent rest (now (functions .entry)) (now (text .entry)) (now (main .entry)) (now (other .entry)))) (now (out .entry))) ⌝ }
+{
+    match loaded {
+        Loaded::Done(c) => list_program(c, functions, text, main, other, out),
+        Loaded::Broken(_) => print_refused(20, out),
+        Loaded::Refused(n) => print_refused(n, out),
+    }
+}
+
+// The lister: an image of at most 16,384 bytes, loaded into stores of its own and listed.
+pub fn list_image(image: &[u8], out: &mut [u8]) -> usize
+    ensures { λ r. ⌜ record { count = r; out = now (out .exit) } ≡ printed (listerText (now (image .entry))) (now (out .entry)) ⌝ }
+{
+    if 16384 < image.len() {
+        return print_refused(22, out);
+    }
+    let mut constants = [0u64; 512];
+    let mut structs = [0u64; 256];
+    let mut functions = [0u64; 512];
+    let mut text = [0u8; 16384];
+    let mut main = [0u8; 8192];
+    let mut main_places = [0u32; 8192];
+    let mut other = [0u8; 8192];
+    let mut other_places = [0u32; 8192];
+    let loaded = load(
+        image,
+        &mut constants,
+        &mut structs,
+        &mut functions,
+        &mut text,
+        &mut main,
+        &mut main_places,
+        &mut other,
+        &mut other_places,
+    );
+    list_loaded(loaded, &functions, &text, &main, &other, out)
+}
