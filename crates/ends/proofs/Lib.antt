@@ -1,0 +1,4 @@
+pub mod Judging
+pub mod Starting
+pub mod Answering
+pub mod Begins

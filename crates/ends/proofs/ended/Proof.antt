@@ -1,0 +1,46 @@
+-- `ends::ended` meets its contract.
+use borrow.Author.Needs.{needs}
+use Rattle.ends.proofs.Answering.{ends-unanswered, ends-none, ends-some}
+use Rattle.ends.proofs.ended.Statement.{statement}
+use Rattle.ends.proofs.ended.Tie as tie
+
+last-in-requires : tie.Need-last-in-requires
+last-in-requires c κs = search needs
+
+add-vm-with : tie.Need-add-vm-with
+add-vm-with c = search needs
+
+vm-with-requires : tie.Need-vm-with-requires
+vm-with-requires c κs = search needs
+
+sub-spent : tie.Need-sub-spent
+sub-spent c = search needs
+
+returns : tie.Need-returns
+returns c = ends-unanswered _ _ _ (c .before .before .before .before .last-in .ensures) (c .before .before .vm-with .ensures) (c .if1 .taken)
+
+enum-told : tie.Need-enum-told
+enum-told c = search needs
+
+enum-known-last : tie.Need-enum-known-last
+enum-known-last c = search needs
+
+returns-2 : tie.Need-returns-2
+returns-2 c = ends-none _ _ _ (c .before .before .before .before .before .before .last-in .ensures) (c .before .before .before .before .vm-with .ensures) (c .before .before .if1 .left) (c .enum-told .given .1)
+
+returns-3 : tie.Need-returns-3
+returns-3 c = ends-some _ _ _ (c .before .before .before .before .before .before .before .last-in .ensures) (c .before .before .before .before .before .vm-with .ensures) (c .before .before .before .if1 .left) (c .before .last .given .1)
+
+pub ended-spec : {M : Type 1} → statement M
+ended-spec =
+    tie.close
+    (tie.spec
+    last-in-requires
+    add-vm-with
+    vm-with-requires
+    sub-spent
+    returns
+    enum-told
+    enum-known-last
+    returns-2
+    returns-3)

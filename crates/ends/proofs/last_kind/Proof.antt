@@ -1,0 +1,23 @@
+-- `ends::last_kind` meets its contract.
+use borrow.Author.Needs.{needs}
+use Rattle.ends.proofs.Starting.{kind-none, kind-some}
+use Rattle.ends.proofs.last_kind.Statement.{statement}
+use Rattle.ends.proofs.last_kind.Tie as tie
+
+enum-told : tie.Need-enum-told
+enum-told c = search needs
+
+enum-known-last : tie.Need-enum-known-last
+enum-known-last c = search needs
+
+kind-of-requires : tie.Need-kind-of-requires
+kind-of-requires c κs = search needs
+
+returns : tie.Need-returns
+returns c = kind-none (c .enum-told .given .1)
+
+returns-2 : tie.Need-returns-2
+returns-2 c = kind-some (c .before .before .last .given .1) (c .kind-of .ensures)
+
+pub last-kind-spec : {M : Type 1} → statement M
+last-kind-spec = tie.close (tie.spec enum-told enum-known-last kind-of-requires returns returns-2)

@@ -1,0 +1,34 @@
+-- `ends::slot_ok` meets its contract.
+use borrow.Author.Needs.{needs}
+use Rattle.ends.proofs.Judging.{slot-is}
+use Rattle.ends.proofs.slot_ok.Statement.{statement}
+use Rattle.ends.proofs.slot_ok.Tie as tie
+
+first-requires : tie.Need-first-requires
+first-requires c κs = search needs
+
+second-requires : tie.Need-second-requires
+second-requires c κs = search needs
+
+value-of-requires : tie.Need-value-of-requires
+value-of-requires c κs = search needs
+
+exact-value-requires : tie.Need-exact-value-requires
+exact-value-requires c κs = search needs
+
+placed-requires : tie.Need-placed-requires
+placed-requires c κs = search needs
+
+returns : tie.Need-returns
+returns c = slot-is _ _ _ _ _ (c .before .before .before .before .first .ensures) (c .before .before .before .second .ensures) (c .before .before .value-of .ensures) (c .before .exact-value .ensures) (c .placed .ensures)
+
+pub slot-ok-spec : {M : Type 1} → statement M
+slot-ok-spec =
+    tie.close
+    (tie.spec
+    first-requires
+    second-requires
+    value-of-requires
+    exact-value-requires
+    placed-requires
+    returns)

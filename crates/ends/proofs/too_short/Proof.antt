@@ -1,0 +1,24 @@
+-- `ends::too_short` meets its contract.
+use borrow.Author.Needs.{needs}
+use Rattle.ends.proofs.Judging.{short-is}
+use Rattle.ends.proofs.too_short.Statement.{statement}
+use Rattle.ends.proofs.too_short.Tie as tie
+
+room-requires : tie.Need-room-requires
+room-requires c κs = search needs
+
+room-requires-2 : tie.Need-room-requires-2
+room-requires-2 c κs = search needs
+
+room-requires-3 : tie.Need-room-requires-3
+room-requires-3 c κs = search needs
+
+lesser-requires : tie.Need-lesser-requires
+lesser-requires c κs = search needs
+
+returns : tie.Need-returns
+returns c = short-is _ _ _ _ (c .before .before .room2 .ensures) (c .lesser .ensures) (c .before .before .before .room .ensures) (c .before .room3 .ensures)
+
+pub too-short-spec : {M : Type 1} → statement M
+too-short-spec =
+    tie.close (tie.spec room-requires room-requires-2 room-requires-3 lesser-requires returns)

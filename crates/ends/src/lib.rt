@@ -1,0 +1,306 @@
+// The two ends of a run, without its loop: judging and copying before it, what it leaves and answers behind it.
+use arms::Fixed;
+use arms::Going;
+use cells::good_cells;
+use cells::placed;
+use model::Counts;
+use model::Frame;
+use model::Last;
+use model::RunResult;
+use model::Vm;
+use program::order::constants_ok;
+use program::order::counts_ok;
+use program::order::functions_ok;
+use program::order::inside_codes;
+use program::order::main_ok;
+use program::order::text_ok;
+use program::words::first;
+use program::words::lesser;
+use program::words::room;
+use program::words::second;
+use program::words::size_of;
+use value::words::exact_value;
+use value::words::kind_of;
+use value::words::payload_of;
+use value::words::value_of;
+ghost use mathlib.Core.Path.{_≡_};
+ghost use mathlib.Core.Bool.{_&&_};
+ghost use mathlib.Core.List.{List};
+ghost use Prim.Native.Nat.{ℕ, _-_, _*_, _≤_, _<_, _^_};
+ghost use lib.ListN.{length, take};
+ghost use Rattle.model.specs.Values.{kindAt, payloadAt, valueAt, exactValue};
+ghost use Rattle.model.specs.Heap.{heapOf, placedBelow};
+ghost use Rattle.model.specs.Emission.{written};
+ghost use Rattle.model.specs.Stores.{size, codeWord};
+ghost use Rattle.model.specs.Orders.{cellsOk, stackOk, lastOk};
+ghost use Rattle.model.specs.Runs.{root};
+ghost use Rattle.rules.specs.Ordered.{runProgram};
+ghost use Rattle.arms.specs.Links.{lastIn};
+ghost use Rattle.ends.specs.Links.{programLent, restOrder, ShortPost, FixedPost, lastKind, Begun, vmWith, endedWith, faultedWith};
+
+// ---- before the loop
+
+// What a run judges of the program.
+fn program_ok(
+    c: Counts,
+    constants: &[u64],
+    functions: &[u64],
+    text: &[u8],
+    main: &[u8],
+    main_places: &[u32],
+    other: &[u8],
+    other_places: &[u32],
+) -> bool
+    ensures { λ r. ⌜ ((structs : List ℕ) → r ≡ runProgram c (programLent structs (now (constants .entry)) (now (functions .entry)) (now (text .entry)) (now (main .entry)) (now («main_places» .entry)) (now (other .entry)) (now («other_places» .entry)))) ⌝ }
+{
+    counts_ok(c)
+        & text_ok(c, text)
+        & constants_ok(c, constants)
+        & functions_ok(c, functions)
+        & main_ok(functions, text)
+        & inside_codes(c, functions, main.len(), other.len())
+        & inside_codes(c, functions, main_places.len(), other_places.len())
+}
+
+// The taken cells: within their store, in exact words, blocks one behind the other.
+fn cells_ok(texts: usize, used: usize, cells: &[u64]) -> bool
+    ensures { λ r. ⌜ r ≡ cellsOk texts used (now (cells .entry)) ⌝ }
+{
+    if room(cells.len(), 2) < used {
+        return false;
+    }
+    good_cells(texts, cells, used)
+}
+
+// The value in slot i of the stack: in exact words, and placed in the cells.
+fn slot_ok(texts: usize, used: usize, cells: &[u64], stack: &[u64], i: usize) -> bool
+    requires { ⌜ 2 * used ≤ length (now cells) ⌝ }
+    ensures { λ r. ⌜ r ≡ exactValue (kindAt (now (stack .entry)) i) (payloadAt (now (stack .entry)) i) && placedBelow texts (heapOf used (now (cells .entry))) (length (heapOf used (now (cells .entry)))) (valueAt (now (stack .entry)) i) ⌝ }
+{
+    let kind = first(stack, i);
+    let payload = second(stack, i);
+    let v = value_of(kind, payload);
+    exact_value(kind, payload) & placed(v, texts, cells, used)
+}
+
+// The stack: within its store, every value as it must be.
+fn stack_ok(texts: usize, used: usize, cells: &[u64], n: usize, stack: &[u64]) -> bool
+    requires { ⌜ 2 * used ≤ length (now cells) ⌝ }
+    ensures { λ r. ⌜ r ≡ stackOk texts (heapOf used (now (cells .entry))) n (now (stack .entry)) ⌝ }
+{
+    if room(stack.len(), 2) < n {
+        return false;
+    }
+    let mut i = 0;
+    while i < n {
+        let ok = slot_ok(texts, used, cells, stack, i);
+        if !ok {
+            return false;
+        }
+        i += 1;
+    }
+    true
+}
+
+// The last result, if there is one: placed in the cells.
+fn last_ok(texts: usize, used: usize, cells: &[u64], last: Last) -> bool
+    requires { ⌜ 2 * used ≤ length (now cells) ⌝ }
+    ensures { λ r. ⌜ r ≡ lastOk texts (heapOf used (now (cells .entry))) last ⌝ }
+{
+    match last {
+        Last::Nothing => true,
+        Last::Is(v) => placed(v, texts, cells, used),
+    }
+}
+
+// The good order that a run judges, but for the frames.
+pub fn judge(
+    m: Vm,
+    constants: &[u64],
+    functions: &[u64],
+    text: &[u8],
+    main: &[u8],
+    main_places: &[u32],
+    other: &[u8],
+    other_places: &[u32],
+    stack: &[u64],
+    cells: &[u64],
+) -> bool
+    ensures { λ r. ⌜ ((structs : List ℕ) → r ≡ restOrder m (programLent structs (now (constants .entry)) (now (functions .entry)) (now (text .entry)) (now (main .entry)) (now («main_places» .entry)) (now (other .entry)) (now («other_places» .entry))) (now (stack .entry)) (now (cells .entry))) ⌝ }
+{
+    let c = m.program;
+    let whole = program_ok(
+        c,
+        constants,
+        functions,
+        text,
+        main,
+        main_places,
+        other,
+        other_places,
+    );
+    if !whole {
+        return false;
+    }
+    let texts = c.text;
+    let used = m.cells;
+    let exact = cells_ok(texts, used, cells);
+    if !exact {
+        return false;
+    }
+    let good = stack_ok(texts, used, cells, m.stack, stack);
+    let last = m.last;
+    good & last_ok(texts, used, cells, last)
+}
+
+// Whether the copy store is shorter than the stack store, or the backtrace store than the frame store, by their lengths.
+pub fn too_short(stack: usize, frames: usize, copy: usize, backtrace: usize) -> bool
+    ensures { λ r. ⌜ ShortPost stack frames copy backtrace r ⌝ }
+{
+    (room(copy, 2) < room(stack, 2)) | (room(backtrace, 2) < lesser(frames, 0xFFFF_FFFF))
+}
+
+// The first n values of one store at the front of another: the starting stack is kept, and put back.
+pub fn copy_front(n: usize, from: &[u64], to: &mut [u64])
+    requires { ⌜ (2 * n ≤ length (now from)) × (2 * n ≤ length (now to)) ⌝ }
+    ensures { λ _. ⌜ now (to .exit) ≡ written (now (to .entry)) 0 (take (2 * n) (now (from .entry))) ⌝ }
+{
+    let end = 2 * n;
+    let mut i = 0;
+    while i < end {
+        to[i] = from[i];
+        i += 1;
+    }
+}
+
+// What no step changes; stack and frames are the lengths of their stores.
+pub fn fixed(m: Vm, stack: usize, frames: usize) -> Fixed
+    ensures { λ r. ⌜ FixedPost m stack frames r ⌝ }
+{
+    let c = m.program;
+    Fixed {
+        constants: c.constants,
+        structs: c.structs,
+        functions: c.functions,
+        slots: room(stack, 2),
+        frames: lesser(frames, 0xFFFF_FFFF),
+    }
+}
+
+// Where the innermost of n frames stands in their store.
+pub fn innermost_at(n: usize) -> usize
+    ensures { λ r. ⌜ r ≡ n - 1 ⌝ }
+{
+    if n == 0 {
+        return 0;
+    }
+    n - 1
+}
+
+// The last result in words: its kind, 7 where there is none.
+fn last_kind(last: Last) -> u64
+    ensures { λ r. ⌜ r ≡ lastKind last ⌝ }
+{
+    match last {
+        Last::Nothing => 7,
+        Last::Is(v) => kind_of(v),
+    }
+}
+
+// And its payload.
+fn last_payload(last: Last) -> u64
+    ensures { λ r. ⌜ lastIn (lastKind last) r ≡ last ⌝ }
+{
+    match last {
+        Last::Nothing => 0,
+        Last::Is(v) => payload_of(v),
+    }
+}
+
+// The machine at its start, in the frame f.
+pub fn begin(m: Vm, f: Frame, units: u64) -> Going
+    ensures { λ r. ⌜ Begun m f units r ⌝ }
+{
+    let last = m.last;
+    Going {
+        sp: m.stack,
+        function: f.function,
+        position: f.position,
+        base: f.base,
+        callers: innermost_at(m.frames),
+        used: m.cells,
+        units,
+        kind: last_kind(last),
+        payload: last_payload(last),
+        mark: m.cells,
+        answered: 0,
+    }
+}
+
+// ---- behind the loop
+
+// The last result from its words.
+fn last_in(kind: u64, payload: u64) -> Last
+    ensures { λ r. ⌜ r ≡ lastIn kind payload ⌝ }
+{
+    if kind == 7 {
+        return Last::Nothing;
+    }
+    Last::Is(value_of(kind, payload))
+}
+
+// The machine over the same program, with these counts and this last result.
+fn vm_with(m: Vm, stack: usize, frames: usize, cells: usize, last: Last) -> Vm
+    ensures { λ r. ⌜ r ≡ vmWith m stack frames cells last ⌝ }
+{
+    let c = m.program;
+    Vm {
+        program: c,
+        stack,
+        frames,
+        cells,
+        last,
+    }
+}
+
+// What a run answers that has ended: the value of its last root Return, or "continue".
+pub fn ended(m: Vm, units: u64, g: Going) -> RunResult
+    requires { ⌜ (g .units ≤ units) × (g .callers < 2 ^ 32) ⌝ }
+    ensures { λ r. ⌜ r ≡ endedWith m units g ⌝ }
+{
+    let last = last_in(g.kind, g.payload);
+    let left = vm_with(m, g.sp, g.callers + 1, g.used, last);
+    let spent = units - g.units;
+    let answered = g.answered;
+    if answered == 0 {
+        return RunResult::Continue(left, spent);
+    }
+    match last {
+        Last::Nothing => RunResult::Continue(left, spent),
+        Last::Is(v) => RunResult::Value(left, v, spent),
+    }
+}
+
+// What a run answers that has faulted: the stack of the start, one frame, and the mark's cells and last result.
+pub fn faulted(m: Vm, units: u64, g: Going, fault: u8) -> RunResult
+    requires { ⌜ (g .units ≤ units) × (g .callers < 2 ^ 32) ⌝ }
+    ensures { λ r. ⌜ r ≡ faultedWith m units g fault ⌝ }
+{
+    let last = last_in(g.kind, g.payload);
+    let left = vm_with(m, m.stack, 1, g.mark, last);
+    let spent = units - g.units;
+    let traced = g.callers + 1;
+    RunResult::Fault(left, fault, spent, traced)
+}
+
+// The frame that a fault leaves: function 0 at the end of main.
+pub fn root_at(functions: &[u64]) -> Frame
+    ensures { λ r. ⌜ r ≡ root (size (codeWord (now (functions .entry)) 0)) ⌝ }
+{
+    let end = size_of(second(functions, 0));
+    Frame {
+        function: 0,
+        position: end,
+        base: 0,
+    }
+}
