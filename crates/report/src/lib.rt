@@ -3,20 +3,26 @@ mod values; // values.rt: a value's line
 mod runs; // runs.rt: a run's lines
 
 use crate::runs::put_refused;
+use crate::runs::put_report;
 use image::load;
 use listing::disassemble;
 use model::Counts;
 use model::Loaded;
+use model::RunResult;
 use model::Told;
 use program::words::room;
 ghost use mathlib.Core.Path.{_≡_};
 ghost use mathlib.Core.Bool.{true};
+ghost use mathlib.Core.List.{List};
+ghost use Prim.Native.Nat.{ℕ};
+ghost use Rattle.model.specs.declared.Frame.{Frame};
 ghost use Rattle.model.specs.Listings.{listingOf};
 ghost use Rattle.model.specs.Stores.{Stores, programIn};
 ghost use Rattle.model.specs.Loading.{listOrder};
-ghost use Rattle.model.specs.Reports.{refusedLine, listedText, loadedText, listerText};
+ghost use Rattle.model.specs.Machines.{answerIn};
+ghost use Rattle.model.specs.Reports.{refusedLine, reportOf, listedText, loadedText, listerText};
 ghost use Rattle.listing.specs.Links.{lent};
-ghost use Rattle.report.specs.Links.{printed, Listable};
+ghost use Rattle.report.specs.Links.{Shows, printed, Listable};
 
 // A refusal. It is measured first, with no room to write into.
 fn print_refused(n: u8, out: &mut [u8]) -> usize
@@ -28,6 +34,19 @@ fn print_refused(n: u8, out: &mut [u8]) -> usize
         return 0;
     }
     put_refused(n, out)
+}
+
+// What a run answered, with the stores as it left them. Likewise measured first.
+pub fn print_report(r: RunResult, cells: &[u64], backtrace: &[u32], out: &mut [u8]) -> usize
+    requires { ⌜ Shows r (now cells) (now backtrace) ⌝ }
+    ensures { λ n. ⌜ ((stack : List ℕ) (frames : List Frame) (copy : List ℕ) → record { count = n; out = now (out .exit) } ≡ printed (reportOf (answerIn (record { stack = stack; cells = now (cells .entry); frames = frames; copy = copy; backtrace = now (backtrace .entry) }) r)) (now (out .entry))) ⌝ }
+{
+    let none = 0;
+    let len = put_report(r, cells, backtrace, &mut out[..none]);
+    if room(out.len(), 1) < len {
+        return 0;
+    }
+    put_report(r, cells, backtrace, out)
 }
 
 // The listing of a program in good order, or its refusal.
