@@ -1,6 +1,7 @@
 // What the runner and the lister print, as bytes in a lent store.
 mod values; // values.rt: a value's line
 mod runs; // runs.rt: a run's lines
+mod playing; // playing.rt: a run on call frames of its own
 
 use crate::runs::put_refused;
 use crate::runs::put_report;
