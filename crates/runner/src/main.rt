@@ -1,0 +1,12 @@
+// Reads a rule image from standard input, runs it, and prints what came of it.
+use libc::STDIN_FILENO;
+use libc::STDOUT_FILENO;
+
+// One byte more than an image may have is read, so that a longer one is seen to be longer.
+fn main() {
+    let mut image = [0u8; 16385];
+    let n = io::read_full(STDIN_FILENO, &mut image);
+    let mut out = [0u8; 32768];
+    let len = report::run_image(&image[..n], &mut out);
+    io::write_all(STDOUT_FILENO, &out[..len]);
+}
