@@ -61,22 +61,22 @@ done-only (fine p) x c y e =
     (λ h. let g : _≡_ {A = LoadRes} (record { answer = l.Refused 22; stores = x }) (record { answer = l.Done c; stores = y }) = rw h at e in
     absurd (not-done (ap (λ (k : LoadRes). k .answer) g)))
 
--- saving stores that stand for p
-saved : (p : Program) (c : Counts) (y : Stores) (out : List ℕ) → programOk c y ≡ true → programIn c y ≡ p → saveOf c y out ≡ putOut (imageOf p) out
-unfolding saveOf
-saved p c y out o e = rw (o, e)
+-- what was loaded is in good order, and stands for the program whose image it was loaded from
+pub loaded-as : (b : List ℕ) (x y : Stores) (c : Counts) → Bytes b → loadOf b x ≡ record { answer = l.Done c; stores = y }
+    → (b ≡ imageOf (programIn c y)) × (programOk c y ≡ true)
+unfolding loadOf Done
+loaded-as b x y c h e =
+    let d = done-only (judge b) x c y e in
+    let o = image-only b (d .0) h (d .1) in
+    let s = loaded-stands (d .0) x (o .1) (d .2) (d .3) in (
+      o .0 ∙ ap imageOf (sym (ap (λ (k : Counts). programIn k y) (sym (d .4)) ∙ ap (programIn (countsFor (d .0))) (sym (d .5)) ∙ s .1)),
+      ap (λ (k : Counts). programOk k y) (sym (d .4)) ∙ ap (programOk (countsFor (d .0))) (sym (d .5)) ∙ s .0,
+    )
 
 -- what was loaded is saved again as the same bytes
 pub load-then-save : (b : List ℕ) (x y : Stores) (c : Counts) (out : List ℕ) → Bytes b → loadOf b x ≡ record { answer = l.Done c; stores = y } → saveOf c y out ≡ putOut b out
-unfolding loadOf Done
-load-then-save b x y c out h e =
-    let d = done-only (judge b) x c y e in
-    let o = image-only b (d .0) h (d .1) in
-    let s = loaded-stands (d .0) x (o .1) (d .2) (d .3) in
-    saved (d .0) c y out
-    (ap (λ (k : Counts). programOk k y) (sym (d .4)) ∙ ap (programOk (countsFor (d .0))) (sym (d .5)) ∙ s .0)
-    (ap (λ (k : Counts). programIn k y) (sym (d .4)) ∙ ap (programIn (countsFor (d .0))) (sym (d .5)) ∙ s .1)
-    ∙ ap (λ (k : List ℕ). putOut k out) (sym (o .0))
+unfolding saveOf
+load-then-save b x y c out h e = let s = loaded-as b x y c h e in rw (s .1, ← (s .0))
 
 -- what is saved loads as the same program: the numbers below 2 ^ 64 and 2 ^ 32 are what the types of the stores say
 pub save-then-load : (c : Counts) (x : Stores) → programOk c x ≡ true → Below (2 ^ 64) (x .constants) → Below (2 ^ 32) (x .mainPlaces) → Below (2 ^ 32) (x .otherPlaces)

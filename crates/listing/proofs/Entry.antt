@@ -23,7 +23,7 @@ use Rattle.program.proofs.Known.{limited}
 use Rattle.listing.specs.Links.{Listing, toldOf, lent}
 use Rattle.listing.proofs.Judging.{wrote, not-wrote}
 
-empty : (x out : List ℕ) → length x ≡ 0 → x ++ out ≡ out
+pub empty : (x out : List ℕ) → length x ≡ 0 → x ++ out ≡ out
 empty [] out z = refl
 empty (y ∷ x) out z = absurd (let k : ⊥ = omega arith in k)
 

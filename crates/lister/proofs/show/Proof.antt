@@ -1,0 +1,53 @@
+-- `lister::show` is safe: what was printed lies inside its store.
+use borrow.Author.Needs.{needs}
+use mathlib.Core.Path.{sym}
+use native.Mathlib.Omega.{arith}
+use lib.Seq.{length-take-le}
+use Rattle.report.proofs.Prints.{inside}
+use Rattle.lister.proofs.show.Statement.{statement}
+use Rattle.lister.proofs.show.Tie as tie
+
+read-full-requires : tie.Need-read-full-requires
+read-full-requires c κs = search needs
+
+slice-reshare-prefix-list-image : tie.Need-slice-reshare-prefix-list-image
+slice-reshare-prefix-list-image c = search needs
+
+slice-aggregate-list-image : tie.Need-slice-aggregate-list-image
+slice-aggregate-list-image c = search needs
+
+list-image-requires : tie.Need-list-image-requires
+list-image-requires c κs = search needs
+
+slice-reshare-prefix-write-all : tie.Need-slice-reshare-prefix-write-all
+slice-reshare-prefix-write-all c = omega (arith, inside _ _ (c .before .before .list-image .ensures))
+
+slice-aggregate-write-all : tie.Need-slice-aggregate-write-all
+slice-aggregate-write-all c = sym (length-take-le _ _ (omega (arith, inside _ _ (c .before .before .before .list-image .ensures))))
+
+write-all-requires : tie.Need-write-all-requires
+write-all-requires c κs = search needs
+
+same-length : tie.Need-same-length
+same-length c = search needs
+
+same-length-2 : tie.Need-same-length-2
+same-length-2 c = search needs
+
+returns : tie.Need-returns
+returns c = search needs
+
+pub show-spec : {M : Type 1} → statement M
+show-spec =
+    tie.close
+    (tie.spec
+    read-full-requires
+    slice-reshare-prefix-list-image
+    slice-aggregate-list-image
+    list-image-requires
+    slice-reshare-prefix-write-all
+    slice-aggregate-write-all
+    write-all-requires
+    same-length
+    same-length-2
+    returns)

@@ -1,0 +1,17 @@
+// Reads a rule image from standard input, and prints the listing of each of its functions.
+use libc::STDIN_FILENO;
+use libc::STDOUT_FILENO;
+
+// Reads an image and prints its listing.
+fn show(image: &mut [u8], out: &mut [u8]) {
+    let n = io::read_full(STDIN_FILENO, image);
+    let len = report::list_image(&image[..n], out);
+    io::write_all(STDOUT_FILENO, &out[..len]);
+}
+
+// One byte more than an image may have is read, so that a longer one is seen to be longer.
+fn main() {
+    let mut image = [0u8; 16385];
+    let mut out = [0u8; 524288];
+    show(&mut image, &mut out);
+}

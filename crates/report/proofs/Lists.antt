@@ -1,0 +1,177 @@
+-- What the lister prints: the listing of what was loaded, or why there is none.
+use mathlib.Core.Path.{_≡_, refl, sym, subst}
+use mathlib.Core.Bool.{Bool, true, false, _&&_}
+use mathlib.Core.List.{List, [], _∷_}
+use Prim.Native.Nat.{ℕ, zero, suc, _≤_, _<_}
+use native.Mathlib.Omega.{arith}
+use lib.Dec.{ltb, leb}
+use lib.ListN.{length, getD}
+use denote.Enum.Declared.{tagOf}
+use types.Run.{OneOf, miss}
+use borrow.Author.Tests.{lt-ltb, le-ltb, leb-true, leb-false}
+use Rattle.model.proofs.Loaded.{the-type}
+use Rattle.model.specs.declared.Counts.{Counts}
+use Rattle.model.specs.declared.Decoded.{Decoded}
+use Rattle.model.specs.declared.Decoded.the-variants as d
+use Rattle.model.specs.declared.Loaded.{Loaded}
+use Rattle.model.specs.declared.Loaded.the-variants as l
+use Rattle.model.specs.declared.Told.{Told}
+use Rattle.model.specs.declared.Told.the-variants as t
+use Rattle.model.specs.Basics.{if_then_else_}
+use Rattle.model.specs.Numbers.{Bytes}
+use Rattle.model.specs.Opcodes.{Opcode, opcodeAt}
+use Rattle.model.specs.Values.{places}
+use Rattle.model.specs.Programs.{Function, behind}
+use Rattle.model.specs.Listings.{Listed, text, unlisted, inFront, lineOf, headerLine, knownThen, opcodeThen, lineThen, linesFor, andListed, listingFrom, listingOf}
+use Rattle.model.specs.Stores.{Stores, programIn}
+use Rattle.model.specs.Orders.{countsOk, textOk, constantsOk, structsOk, functionsOk, mainOk, insideCodes, programOk}
+use Rattle.model.specs.Loading.{loadOf, OutRes, putOut, putListing, listOrder, listOf}
+use Rattle.model.specs.Reports.{emptyStores, refusedLine, listedText, loadedText, listerText}
+use Rattle.program.proofs.Bools.{either-way, and-left, and-right, and-both}
+use Rattle.image.specs.Fills as whole
+use Rattle.image.proofs.Trip.{loaded-as}
+use Rattle.listing.specs.Links.{lent}
+use Rattle.report.specs.Links.{printed, Listable}
+use Rattle.report.proofs.Prints.{too-long, fits}
+
+-- ---- a listing is refused 1 or 3, and never 17
+
+abbrev Small : Listed → Type 0
+Small (text b) = Unit
+Small (unlisted n) = n < 17
+
+small-front : (b : List ℕ) (w : Listed) → Small w → Small (inFront b w)
+unfolding inFront
+small-front b (text r) h = tt
+small-front b (unlisted n) h = h
+
+small-and : (v w : Listed) → Small v → Small w → Small (andListed v w)
+unfolding andListed
+small-and (text b) w h k = small-front b w k
+small-and (unlisted n) w h k = h
+
+module _ (k : ℕ → Listed) (h : (j : ℕ) → Small (k j)) (code : List ℕ) (i : ℕ) where
+  small-known : (c : Opcode) → Small (knownThen k code i c)
+  unfolding knownThen
+  small-known c =
+      either-way (leb (behind i (c .listed)) (length code)) (λ e. rw e (small-front (lineOf code i c) (k (behind i (c .listed))) (h (behind i (c .listed)))))
+      (λ e. rw e (omega arith))
+
+  small-opcode : (c : Opcode) (x : Decoded) → Small (opcodeThen k code i c x)
+  unfolding opcodeThen
+  small-opcode c (d.Carried p) = small-known c
+  small-opcode c d.NotCarried = small-known c
+  small-opcode c d.Unknown = omega arith
+
+  small-line : (b : Bool) → Small (lineThen k code i b)
+  unfolding lineThen
+  small-line true = small-opcode (opcodeAt (getD code i 0)) (opcodeAt (getD code i 0) .what)
+  small-line false = tt
+
+small-lines : (f : ℕ) (code : List ℕ) (i : ℕ) → Small (linesFor f code i)
+unfolding linesFor
+small-lines zero code i = tt
+small-lines (suc f) code i = small-line (linesFor f code) (small-lines f code) code i (ltb i (length code))
+
+small-from : (i : ℕ) (fs : List Function) → Small (listingFrom i fs)
+unfolding listingFrom
+small-from i [] = tt
+small-from i (f ∷ fs) =
+    small-front (headerLine i (f .name)) (andListed (linesFor (length (f .code)) (f .code) 0) (listingFrom (suc i) fs))
+    (small-and (linesFor (length (f .code)) (f .code) 0) (listingFrom (suc i) fs) (small-lines (length (f .code)) (f .code) 0) (small-from (suc i) fs))
+
+-- ---- what the listing's answer says: it was put, or it did not fit, or it is refused
+
+abbrev Says : List ℕ → Listed → Told → List ℕ → Type 0
+Says out w (t.Number n) out' = record { count = n; out = out' } ≡ printed (listedText w) out
+Says out w (t.Refused n) out' = (n ≡ 17 → record { count = 0; out = out' } ≡ printed (listedText w) out) × ((n ≡ 17 → ⊥) → (w ≡ unlisted n) × (out' ≡ out))
+
+says-put : (out : List ℕ) (w : Listed) → Small w → Says out w (putListing w out .answer) (putListing w out .out)
+unfolding putListing putOut listedText
+says-put out (text b) h =
+    either-way (leb (length b) (places 1 out)) (λ e. rw e (fits b out (leb-true _ _ e)))
+    (λ e. rw e (λ k. too-long b out (leb-false _ _ e), λ k. absurd (k refl)))
+says-put out (unlisted n) h = (λ e. absurd (let z : ⊥ = omega arith in z), λ k. (refl, refl))
+
+module _ (c : Counts) (s : Stores) (ok : listOrder c s ≡ true) (out : List ℕ) where
+  abbrev listing : Listed
+  listing = listingOf (programIn c s)
+
+  says : (x : Told) (out' : List ℕ) → record { answer = x; out = out' } ≡ listOf c s out → Says out listing x out'
+  unfolding listOf listingOf
+  says x out' e =
+      let f : _≡_ {A = OutRes} (record { answer = x; out = out' }) (putListing listing out) = rw ok at e in
+      subst (λ (r : OutRes). Says out listing (r .answer) (r .out)) (sym f) (says-put out listing (small-from 0 (programIn c s .functions)))
+
+  module _ {x : Told} {out' : List ℕ} (e : record { answer = x; out = out' } ≡ listOf c s out) {n : ℕ} where
+    pub was-listed : x ≡ t.Number n → record { count = n; out = out' } ≡ printed (listedText listing) out
+    was-listed f = rw f at (says x out' e)
+
+    module _ (f : x ≡ t.Refused n) where
+      said : Says out listing (t.Refused n) out'
+      said = rw f at (says x out' e)
+
+      pub did-not-fit : n ≡ 17 → record { count = 0; out = out' } ≡ printed (listedText listing) out
+      did-not-fit g = said .0 g
+
+      pub not-listed : (n ≡ 17 → ⊥) → {r : ℕ} {out'' : List ℕ} → record { count = r; out = out'' } ≡ printed (refusedLine n) out' → record { count = r; out = out'' } ≡ printed (listedText listing) out
+      unfolding listedText
+      not-listed g p = let z = said .1 g in rw (z .0) (rw (z .1) at p)
+
+-- ---- what was loaded
+
+module _ (s : Stores) (out : List ℕ) {a : Loaded} {r : ℕ} {out' : List ℕ} where
+  pub done-printed : {c : Counts} → a ≡ l.Done c → record { count = r; out = out' } ≡ printed (listedText (listingOf (programIn c s))) out
+      → record { count = r; out = out' } ≡ printed (loadedText a s) out
+  unfolding loadedText
+  done-printed e p = rw e p
+
+  pub refused-printed : {n : ℕ} → a ≡ l.Refused n → record { count = r; out = out' } ≡ printed (refusedLine n) out → record { count = r; out = out' } ≡ printed (loadedText a s) out
+  unfolding loadedText
+  refused-printed e p = rw e p
+
+pub broken-printed : (s : Stores) (out : List ℕ) (a : Loaded) → OneOf (1 ∷ []) (tagOf the-type a) → {r : ℕ} {out' : List ℕ}
+    → record { count = r; out = out' } ≡ printed (refusedLine 20) out → record { count = r; out = out' } ≡ printed (loadedText a s) out
+unfolding loadedText
+broken-printed s out (l.Done c) d p = absurd (miss (1 ∷ []) 0 tt d)
+broken-printed s out (l.Broken i) d p = p
+broken-printed s out (l.Refused n) d p = absurd (miss (1 ∷ []) 2 tt d)
+
+pub can-list : {a : Loaded} (s : Stores) {c : Counts} → Listable a s → a ≡ l.Done c → listOrder c s ≡ true
+can-list s h e = rw e at h
+
+-- ---- what an image is loaded as is in good order
+
+fewer : (a b c d e f g h : Bool) → (a && b && c && d && e && f && g && h) ≡ true → (a && b && e && f && g) ≡ true
+fewer a b c d e f g h z =
+    let y = and-left (a && b && c && d && e && f && g) h z in
+    let x = and-left (a && b && c && d && e && f) g y in
+    let w = and-left (a && b && c && d && e) f x in
+    let v = and-left (a && b) c (and-left (a && b && c) d (and-left (a && b && c && d) e w)) in
+    and-both (a && b && e && f) g (and-both (a && b && e) f (and-both (a && b) e v (and-right (a && b && c && d) e w)) (and-right (a && b && c && d && e) f x))
+    (and-right (a && b && c && d && e && f) g y)
+
+bytes-of : (b : List ℕ) → ((i : ℕ) → getD b i 0 < 256) → Bytes b
+unfolding Bytes
+bytes-of [] h = tt
+bytes-of (x ∷ b) h = (h 0, bytes-of b (λ i. h (suc i)))
+
+module _ (image : List ℕ) (small : (i : ℕ) → getD image i 0 < 256) (cs ss fs tx mn mp ot op : List ℕ) where
+  pub loads-listable : (x : Stores) (a : Loaded) → record { answer = a; stores = whole.lent cs ss fs tx mn mp ot op } ≡ loadOf image x
+      → (rest : Stores) → Listable a (lent rest fs tx mn ot)
+  unfolding programOk listOrder lent
+  loads-listable x (l.Done c) e rest =
+      fewer (countsOk c) (textOk c tx) (constantsOk c cs) (structsOk c ss tx) (functionsOk c fs) (mainOk fs tx) (insideCodes c fs mn ot) (insideCodes c fs mp op)
+      (loaded-as image x (whole.lent cs ss fs tx mn mp ot op) c (bytes-of image small) (sym e) .1)
+  loads-listable x (l.Broken i) e rest = tt
+  loads-listable x (l.Refused n) e rest = tt
+
+module _ (image out : List ℕ) {r : ℕ} {out' : List ℕ} where
+  pub image-too-long : 16384 < length image → record { count = r; out = out' } ≡ printed (refusedLine 22) out → record { count = r; out = out' } ≡ printed (listerText image) out
+  unfolding listerText
+  image-too-long h p = rw (lt-ltb 16384 (length image) h) p
+
+  pub image-listed : length image ≤ 16384 → (a : Loaded) (cs ss fs tx mn mp ot op : List ℕ) → record { answer = a; stores = whole.lent cs ss fs tx mn mp ot op } ≡ loadOf image emptyStores
+      → ((rest : Stores) → record { count = r; out = out' } ≡ printed (loadedText a (lent rest fs tx mn ot)) out) → record { count = r; out = out' } ≡ printed (listerText image) out
+  unfolding listerText lent
+  image-listed h a cs ss fs tx mn mp ot op e p = rw (le-ltb 16384 (length image) h, ← e) (p (whole.lent cs ss fs tx mn mp ot op))

@@ -1,0 +1,111 @@
+-- The pieces of a value's text, put one behind the other.
+use mathlib.Core.Path.{_≡_, refl, sym, ap, _∙_}
+use mathlib.Core.Bool.{Bool, true, false}
+use mathlib.Core.List.{List, [], _∷_, _++_, append-assoc}
+use Prim.Native.Nat.{ℕ, zero, suc, _+_, _-_, _/_, _%_, _≤_, _<_}
+use native.Mathlib.Omega.{arith}
+use lib.Dec.{eqb}
+use lib.Ieee.{Float, binary64, toBits}
+use lib.ListN.{length, List·getD-eq-default}
+use borrow.Author.Tests.{lt-ltb, le-ltb}
+use Rattle.model.specs.declared.Header.{Header}
+use Rattle.model.specs.declared.Value.{Value}
+use Rattle.model.specs.declared.Value.the-variants as v
+use Rattle.model.specs.Basics.{ascii}
+use Rattle.model.specs.Values.{kindAt, payloadAt}
+use Rattle.model.specs.Heap.{Cell, item, head, headerOf, heapOf, isHead, headOf, cellIn, headIn}
+use Rattle.model.specs.Listings.{decimal}
+use Rattle.model.specs.Reports.{hexDigit, hexFor, booleanText, valueText}
+use Rattle.cells.proofs.Stands.{length-heap, kind-is, head-is}
+use Rattle.texts.specs.Links.{Put}
+use Rattle.texts.proofs.Puts.{is, within, both, nothing}
+use Rattle.texts.proofs.Digits.{like, plain}
+
+-- ---- a text and a number
+
+pub count-is : (name : List ℕ) (n : ℕ) {s₀ s₁ s₂ : List ℕ} {i₀ i₁ i₂ : ℕ}
+    → Put (length name) name s₀ i₀ s₁ i₁ → Put 20 (like 0 n) s₁ i₁ s₂ i₂ → Put (length name + 20) (name ++ decimal n) s₀ i₀ s₂ i₂
+count-is name n p q = both p (is q (plain n))
+
+-- ---- hex digits
+
+pub digit-is : (d : ℕ) → d < 10 → 48 + d ≡ hexDigit d
+unfolding hexDigit
+digit-is d h = rw (lt-ltb d 10 h)
+
+pub letter-is : (d : ℕ) → 10 ≤ d → 55 + d ≡ hexDigit d
+unfolding hexDigit
+letter-is d h = rw (le-ltb d 10 h)
+
+pub no-hex : (n w : ℕ) → n ≡ 0 → {s : List ℕ} {i : ℕ} → Put n (hexFor n w) s i s i
+unfolding hexFor
+no-hex zero w e = nothing _ _
+no-hex (suc n) w e = absurd (let z : ⊥ = omega arith in z)
+
+pub more-hex : (n w : ℕ) → (n ≡ 0 → ⊥) → (b : ℕ) → b ≡ hexDigit (w % 16) → {s₀ s₁ s₂ : List ℕ} {i₀ i₁ i₂ : ℕ}
+    → Put (n - 1) (hexFor (n - 1) (w / 16)) s₀ i₀ s₁ i₁ → Put 1 (b ∷ []) s₁ i₁ s₂ i₂ → Put n (hexFor n w) s₀ i₀ s₂ i₂
+unfolding hexFor
+more-hex zero w h b e p q = absurd (h refl)
+more-hex (suc n) w h b e p q =
+    let z : suc n - 1 ≡ n = omega arith in
+    within (both (rw z at p) (rw e at q)) (suc n) (omega arith)
+
+-- ---- the header at a cell
+
+abbrev no-elements : Header
+no-elements = record { count = 0; number = 0; depth = 0 }
+
+unheaded : (x : Cell) → isHead x ≡ false → headOf x ≡ no-elements
+unheaded (item u) e = refl
+unheaded (head h) e = absurd (let z : _≡_ {A = ℕ} 0 1 = cc in omega arith)
+
+module _ (w : List ℕ) (used p : ℕ) where
+  pub past-cells : used ≤ p → no-elements ≡ headIn (heapOf used w) p
+  unfolding headIn cellIn
+  past-cells h = sym (ap headOf (List·getD-eq-default (heapOf used w) _ (let l = length-heap used w in omega arith)))
+
+  module _ (l : p < used) where
+    pub header-there : (h : Header) → h ≡ headerOf (payloadAt w p) → eqb (kindAt w p) 6 ≡ true → h ≡ headIn (heapOf used w) p
+    header-there h e k = e ∙ sym (head-is w used p l (sym (kind-is w used p l) ∙ k))
+
+    pub no-header : eqb (kindAt w p) 6 ≡ false → no-elements ≡ headIn (heapOf used w) p
+    unfolding headIn
+    no-header k = sym (unheaded (cellIn (heapOf used w) p) (sym (kind-is w used p l) ∙ k))
+
+-- ---- a value
+
+pub struct-is : (number count : ℕ) {s₀ s₁ s₂ : List ℕ} {i₀ i₁ i₂ : ℕ}
+    → Put 27 (ascii "struct " ++ decimal number) s₀ i₀ s₁ i₁ → Put 21 (ascii " " ++ decimal count) s₁ i₁ s₂ i₂
+    → Put 48 (ascii "struct " ++ decimal number ++ ascii " " ++ decimal count) s₀ i₀ s₂ i₂
+struct-is number count p q = is (both p q) (sym (append-assoc (ascii "struct " ++ decimal number) (ascii " ") (decimal count)))
+
+module _ (H : List Cell) {u : Value} {s₀ : List ℕ} {i₀ : ℕ} {s₁ : List ℕ} {i₁ : ℕ} where
+  pub scalar-is : {x : Float} → u ≡ v.Scalar x → (w : ℕ) → w ≡ toBits binary64 x → {s₂ : List ℕ} {i₂ : ℕ}
+      → Put 7 (ascii "scalar ") s₀ i₀ s₁ i₁ → Put 16 (hexFor 16 w) s₁ i₁ s₂ i₂ → Put 64 (valueText H u) s₀ i₀ s₂ i₂
+  unfolding valueText
+  scalar-is e w f p q = rw e (within (both p (rw f at q)) 64 (omega arith))
+
+  pub true-is : {b : Bool} → u ≡ v.Boolean b → b ≡ true → Put 4 (ascii "true") s₀ i₀ s₁ i₁ → Put 64 (valueText H u) s₀ i₀ s₁ i₁
+  unfolding valueText booleanText
+  true-is e f p = rw (e, f) (within p 64 (omega arith))
+
+  pub false-is : {b : Bool} → u ≡ v.Boolean b → b ≡ false → Put 5 (ascii "false") s₀ i₀ s₁ i₁ → Put 64 (valueText H u) s₀ i₀ s₁ i₁
+  unfolding valueText booleanText
+  false-is e f p = rw (e, f) (within p 64 (omega arith))
+
+  pub string-is : {o n : ℕ} → u ≡ v.String o n → Put 27 (ascii "string " ++ decimal n) s₀ i₀ s₁ i₁ → Put 64 (valueText H u) s₀ i₀ s₁ i₁
+  unfolding valueText
+  string-is e p = rw e (within p 64 (omega arith))
+
+  pub reference-is : {o n : ℕ} → u ≡ v.FunctionReference o n → Put 29 (ascii "function " ++ decimal n) s₀ i₀ s₁ i₁ → Put 64 (valueText H u) s₀ i₀ s₁ i₁
+  unfolding valueText
+  reference-is e p = rw e (within p 64 (omega arith))
+
+  module _ {p : ℕ} (h : Header) (f : h ≡ headIn H p) where
+    pub list-is : u ≡ v.List p → Put 25 (ascii "list " ++ decimal (h .count)) s₀ i₀ s₁ i₁ → Put 64 (valueText H u) s₀ i₀ s₁ i₁
+    unfolding valueText
+    list-is e q = rw (e, ← f) (within q 64 (omega arith))
+
+    pub instance-is : u ≡ v.StructInstance p → Put 48 (ascii "struct " ++ decimal (h .number) ++ ascii " " ++ decimal (h .count)) s₀ i₀ s₁ i₁ → Put 64 (valueText H u) s₀ i₀ s₁ i₁
+    unfolding valueText
+    instance-is e q = rw (e, ← f) (within q 64 (omega arith))

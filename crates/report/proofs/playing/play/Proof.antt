@@ -1,0 +1,266 @@
+-- `play` meets its contract: a walk of its MIR, by hand. The frames are a local array, lent to the run (`Lending.antt`).
+-- Assumes nothing.
+use Rattle.frames.proofs.Walk.{_≡_, refl, true, none, some, List, [], _∷_, ℕ, length, URA, fullShare, w64, Val, vint, vptr, SProp, ent, id⊢, Memory, Routine, Heap, Tables, WpFn, Atoms, Lfts, Shares, Fun, givenOf, tables, tablesOf, FmC, fmOf}
+use Rattle.frames.proofs.Walk.{Given, ‵, ⋆, _$_, _∵_, !, qed, by, move, keep, fsplit, fjoin, suffices, frame, done, agg, addr, of-opd, stop, from, load, look-in, Is, shows, uint-makes, u8, u32, u64, now, Room, owned, onEntry, tripleOf, Contract, Triple, cited, says, walkOf, ends-at}
+use Rattle.frames.proofs.Walk.{Blocks, here, of, ofs, behind, sets, lands-in, enters, leaves, Sl, sl, sval, Arg, val, shr, mut, Holds, Toks, Owns, Lists, lfts, shares, denots, valss, values, passing, lent, takes, gives, splits, joins, unasked, unneeded, Kind, own, shared, unique, stays, Passed, Known, closed}
+use mathlib.Core.List.{_++_}
+use mathlib.Core.Option.{Option}
+use lib.Dec.{lit<}
+use lib.ListN.{replicate, take, drop}
+use mir.Syntax.{Local, memorySlot}
+use base.Fml.{GName}
+use types.Kit.{use1}
+use types.Part.{rep}
+use types.Run.{and-then, no-more}
+use denote.Plain.{uint-tells}
+use denote.Array.{Array, arrayVal, array-repeat, array-lawful}
+use denote.Slice.{sliceVal}
+use denote.Steps.{peeks}
+use denote.Struct.Laws as LL
+use Rattle.model.specs.declared.Vm.{Vm}
+use Rattle.model.specs.declared.Frame.{Frame}
+use Rattle.model.specs.declared.RunResult.{RunResult}
+use Rattle.model.proofs.Frame as T
+use Rattle.model.proofs.Frame.Laws as T′
+use Rattle.model.specs.Runs.{root}
+use Rattle.model.specs.Stores.{Stores}
+use Rattle.model.specs.Machines.{Lent, RunPost}
+use Rattle.frames.proofs.Frames.{R, fval, frame-copy, frame-makes, frame-typed}
+use Rattle.ends.specs.Links.{programLent}
+use Rattle.machine.specs.Links.{runLent}
+use Rattle.machine.proofs.Rows.{VmRow, vmVal, vm-tells, vm-typed, vm-makes, ResultRow, resultVal, result-tells, result-typed, result-makes}
+use Rattle.machine.proofs.run as it
+use Rattle.machine.proofs.run.Symbol as it-def
+use Rattle.machine.proofs.run.Symbol.{name as #it}
+use Rattle.machine.proofs.run.Met as it-thm
+use Rattle.report.specs.Links.{PlayPost}
+use Rattle.report.proofs.Lending.{front, rear, apart, whole, lend-array, back-array, calls-with}
+use Rattle.report.proofs.playing.play.Key.{name as #me}
+use Rattle.report.proofs.playing.play as me
+use Rattle.report.proofs.playing.play.Statement as stated
+use Rattle.report.proofs.playing.play.Code as code
+
+abbrev kinds : List (Kind 11)
+kinds = own VmRow vmVal vm-tells (λ x f. refl) ∷ own u64 (vint w64) (uint-tells w64) (λ x f. refl) ∷ shared 0 tt u64 ∷ shared 1 tt u64 ∷ shared 2 tt u8 ∷ shared 3 tt u8 ∷ shared 4 tt u32 ∷ shared 5 tt u8 ∷ shared 6 tt u32 ∷ unique 7 tt u64 ∷ unique 8 tt u64 ∷ unique 9 tt u64 ∷ unique 10 tt u32 ∷ []
+
+-- the frames as they are made
+abbrev frames₀ : List Frame
+frames₀ = replicate 256 (root 0)
+
+abbrev array₀ : Val
+array₀ = arrayVal (replicate 256 (fval (root 0)))
+
+is-root : Is R (root 0) (fval (root 0) ∷ [])
+is-root = LL.owes T.the-type T′.the-laws (root 0) ((refl, lit< tt), ((refl, lit< tt), ((refl, lit< tt), tt)))
+
+room : Room R 256
+room = (lit< tt, lit< tt)
+
+module _ {M : Type 1} (𝓤 : URA M) (H : Heap 𝓤) (A : Atoms 𝓤) (W : Given 𝓤 H A) (mem : Memory → SProp 𝓤) (run : Routine → Fun 𝓤) where
+  abbrev It : Contract 𝓤
+  It = tripleOf 𝓤 H A it.signature (it.spec 𝓤 H A mem run)
+
+  module _ (𝓣 : Tables 𝓤 H) (known : Triple 𝓤 (𝓣 .C #it) It) (κs : Lfts 11) (qs : Shares 11) (a : Passed kinds ResultRow κs) (is : Known kinds ResultRow κs a) where
+    -- the parameters
+    abbrev m : Vm
+    m = a .0
+
+    abbrev units : ℕ
+    units = a .1 .0
+
+    abbrev s0 : Sl
+    s0 = sl (κs .0) (qs .0) (a .1 .1 .0)
+
+    abbrev s1 : Sl
+    s1 = sl (κs .1 .0) (qs .1 .0) (a .1 .1 .1 .0)
+
+    abbrev s2 : Sl
+    s2 = sl (κs .1 .1 .0) (qs .1 .1 .0) (a .1 .1 .1 .1 .0)
+
+    abbrev s3 : Sl
+    s3 = sl (κs .1 .1 .1 .0) (qs .1 .1 .1 .0) (a .1 .1 .1 .1 .1 .0)
+
+    abbrev s4 : Sl
+    s4 = sl (κs .1 .1 .1 .1 .0) (qs .1 .1 .1 .1 .0) (a .1 .1 .1 .1 .1 .1 .0)
+
+    abbrev s5 : Sl
+    s5 = sl (κs .1 .1 .1 .1 .1 .0) (qs .1 .1 .1 .1 .1 .0) (a .1 .1 .1 .1 .1 .1 .1 .0)
+
+    abbrev s6 : Sl
+    s6 = sl (κs .1 .1 .1 .1 .1 .1 .0) (qs .1 .1 .1 .1 .1 .1 .0) (a .1 .1 .1 .1 .1 .1 .1 .1 .0)
+
+    abbrev s7 : Sl
+    s7 = sl (κs .1 .1 .1 .1 .1 .1 .1 .0) (qs .1 .1 .1 .1 .1 .1 .1 .0) (a .1 .1 .1 .1 .1 .1 .1 .1 .1 .0)
+
+    abbrev s8 : Sl
+    s8 = sl (κs .1 .1 .1 .1 .1 .1 .1 .1 .0) (qs .1 .1 .1 .1 .1 .1 .1 .1 .0) (a .1 .1 .1 .1 .1 .1 .1 .1 .1 .1 .0)
+
+    abbrev s9 : Sl
+    s9 = sl (κs .1 .1 .1 .1 .1 .1 .1 .1 .1 .0) (qs .1 .1 .1 .1 .1 .1 .1 .1 .1 .0) (a .1 .1 .1 .1 .1 .1 .1 .1 .1 .1 .1 .0)
+
+    abbrev s10 : Sl
+    s10 = sl (κs .1 .1 .1 .1 .1 .1 .1 .1 .1 .1 .0) (qs .1 .1 .1 .1 .1 .1 .1 .1 .1 .1 .0) (a .1 .1 .1 .1 .1 .1 .1 .1 .1 .1 .1 .1 .0)
+
+    abbrev constants : List ℕ
+    constants = now (a .1 .1 .0)
+
+    abbrev functions : List ℕ
+    functions = now (a .1 .1 .1 .0)
+
+    abbrev text : List ℕ
+    text = now (a .1 .1 .1 .1 .0)
+
+    abbrev main : List ℕ
+    main = now (a .1 .1 .1 .1 .1 .0)
+
+    abbrev mainPlaces : List ℕ
+    mainPlaces = now (a .1 .1 .1 .1 .1 .1 .0)
+
+    abbrev other : List ℕ
+    other = now (a .1 .1 .1 .1 .1 .1 .1 .0)
+
+    abbrev otherPlaces : List ℕ
+    otherPlaces = now (a .1 .1 .1 .1 .1 .1 .1 .1 .0)
+
+    abbrev stack : List ℕ
+    stack = now (a .1 .1 .1 .1 .1 .1 .1 .1 .1 .0)
+
+    abbrev cells : List ℕ
+    cells = now (a .1 .1 .1 .1 .1 .1 .1 .1 .1 .1 .0)
+
+    abbrev copy : List ℕ
+    copy = now (a .1 .1 .1 .1 .1 .1 .1 .1 .1 .1 .1 .0)
+
+    abbrev backtrace : List ℕ
+    backtrace = now (a .1 .1 .1 .1 .1 .1 .1 .1 .1 .1 .1 .1 .0)
+
+    abbrev room0 : Room u64 (s0 .count)
+    room0 = is .1 .1 .0 .0 .1
+
+    abbrev room1 : Room u64 (s1 .count)
+    room1 = is .1 .1 .1 .0 .0 .1
+
+    abbrev room2 : Room u8 (s2 .count)
+    room2 = is .1 .1 .1 .1 .0 .0 .1
+
+    abbrev room3 : Room u8 (s3 .count)
+    room3 = is .1 .1 .1 .1 .1 .0 .0 .1
+
+    abbrev room4 : Room u32 (s4 .count)
+    room4 = is .1 .1 .1 .1 .1 .1 .0 .0 .1
+
+    abbrev room5 : Room u8 (s5 .count)
+    room5 = is .1 .1 .1 .1 .1 .1 .1 .0 .0 .1
+
+    abbrev room6 : Room u32 (s6 .count)
+    room6 = is .1 .1 .1 .1 .1 .1 .1 .1 .0 .0 .1
+
+    abbrev room7 : Room u64 (s7 .count)
+    room7 = is .1 .1 .1 .1 .1 .1 .1 .1 .1 .0 .0 .1
+
+    abbrev room8 : Room u64 (s8 .count)
+    room8 = is .1 .1 .1 .1 .1 .1 .1 .1 .1 .1 .0 .0 .1
+
+    abbrev room9 : Room u64 (s9 .count)
+    room9 = is .1 .1 .1 .1 .1 .1 .1 .1 .1 .1 .1 .0 .0 .1
+
+    abbrev room10 : Room u32 (s10 .count)
+    room10 = is .1 .1 .1 .1 .1 .1 .1 .1 .1 .1 .1 .1 .0 .0 .1
+
+    -- the slices before and behind the frames
+    abbrev firsts : List ℕ → List ℕ → List Arg
+    firsts stack′ cells′ = shr u64 s0 constants ∷ shr u64 s1 functions ∷ shr u8 s2 text ∷ shr u8 s3 main ∷ shr u32 s4 mainPlaces ∷ shr u8 s5 other ∷ shr u32 s6 otherPlaces ∷ mut u64 s7 stack′ ∷ mut u64 s8 cells′ ∷ []
+
+    abbrev lasts : List ℕ → List ℕ → List Arg
+    lasts copy′ backtrace′ = mut u64 s9 copy′ ∷ mut u32 s10 backtrace′ ∷ []
+
+    abbrev slices : List ℕ → List ℕ → List ℕ → List ℕ → List Arg
+    slices stack′ cells′ copy′ backtrace′ = firsts stack′ cells′ ++ lasts copy′ backtrace′
+
+    abbrev xs : List ℕ → List ℕ → List ℕ → List ℕ → List Arg
+    xs stack′ cells′ copy′ backtrace′ = val VmRow m (vmVal m) ∷ val u64 units (vint w64 units) ∷ slices stack′ cells′ copy′ backtrace′
+
+    abbrev entry : List Arg
+    entry = xs stack cells copy backtrace
+
+    abbrev Post : Val → SProp 𝓤
+    Post = walkOf 𝓤 H A me.ended (stays kinds) (me.clauses 𝓤 H A mem run) .post (passing entry)
+
+    abbrev stores : List ℕ → Stores
+    stores structs = programLent structs constants functions text main mainPlaces other otherPlaces
+
+    abbrev before : List Frame → Lent
+    before frames = runLent stack cells frames copy backtrace
+
+    exits : (r : RunResult) (stack′ cells′ copy′ backtrace′ : List ℕ) → Is ResultRow r (resultVal r ∷ []) → length stack′ ≡ s7 .count → length cells′ ≡ s8 .count → length copy′ ≡ s9 .count → length backtrace′ ≡ s10 .count
+        → PlayPost m units stores before r (λ frames. runLent stack′ cells′ frames copy′ backtrace′) → ent 𝓤 (⋆ 𝓤 H A (‵ (Holds (slices stack′ cells′ copy′ backtrace′)) ∷ [])) (Post (resultVal r))
+    exits r stack′ cells′ copy′ backtrace′ isr len-stack len-cells len-copy len-backtrace said =
+        qed W (‵ (Holds (slices stack′ cells′ copy′ backtrace′)) ∷ []) ∵ suffices ! _ (ends-at 𝓤 H A me.ended (stays kinds) (me.clauses 𝓤 H A mem run) W (passing entry) (resultVal r) r
+        (tt, (tt, (tt, (tt, (tt, (tt, (tt, (tt, (tt, (stack′, (cells′, (copy′, (backtrace′, tt))))))))))))) (tt, (tt, (tt, (tt, (tt, (tt, (tt, (tt, (tt, (len-stack, (len-cells, (len-copy, (len-backtrace, tt)))))))))))))) $ says ! said $
+        gives ! (xs stack′ cells′ copy′ backtrace′) (vm-makes 𝓤 H A W m _ (is .0), (uint-makes 𝓤 H A W w64 units _ (is .1 .0), tt)) (frame ! $ owned ! ResultRow (Is ResultRow) (result-makes 𝓤 H A W) r _ isr $ keep ! (1 ∷ 0 ∷ []) $ done !)
+
+    -- the frames, lent, and the call
+    module _ (ν : ℕ) (δ : GName) (l : ℕ) where
+      abbrev sf : Sl
+      sf = record { lft = ν ∷ []; share = fullShare; name = δ; block = l; offset = 0; count = 256 }
+
+      abbrev to-it : List Arg
+      to-it = val VmRow m (vmVal m) ∷ val u64 units (vint w64 units) ∷ firsts stack cells ++ mut R sf frames₀ ∷ lasts copy backtrace
+
+      abbrev Ran : RunResult → Lists to-it → Type 0
+      Ran r zs = (structs : List ℕ) → RunPost m (stores structs) (before frames₀) units r (runLent (zs .1 .1 .1 .1 .1 .1 .1 .1 .1 .0) (zs .1 .1 .1 .1 .1 .1 .1 .1 .1 .1 .0) (zs .1 .1 .1 .1 .1 .1 .1 .1 .1 .1 .1 .0) (zs .1 .1 .1 .1 .1 .1 .1 .1 .1 .1 .1 .1 .0) (zs .1 .1 .1 .1 .1 .1 .1 .1 .1 .1 .1 .1 .1 .0))
+
+    -- the locals before and behind the array
+    abbrev fs : List Local
+    fs = take 15 (code.function .locals)
+
+    abbrev bs : List Local
+    bs = drop 16 (code.function .locals)
+
+    abbrev us : List (Option Val)
+    us = none ∷ some (vmVal m) ∷ some (vint w64 units) ∷ some (sval s0) ∷ some (sval s1) ∷ some (sval s2) ∷ some (sval s3) ∷ some (sval s4) ∷ some (sval s5) ∷ some (sval s6) ∷ some (sval s7) ∷ some (sval s8) ∷ some (sval s9) ∷ some (sval s10) ∷ some (fval (root 0)) ∷ []
+
+    abbrev ws : ℕ → List (Option Val)
+    ws l = none ∷ some (vptr (s7 .block) (s7 .offset)) ∷ some (sval s7) ∷ some (vptr (s8 .block) (s8 .offset)) ∷ some (sval s8) ∷ some (vptr l 0) ∷ some (sliceVal (l, 0) 256) ∷ some (vptr (s9 .block) (s9 .offset)) ∷ some (sval s9) ∷ some (vptr (s10 .block) (s10 .offset)) ∷ some (sval s10) ∷ []
+
+    walk : ent 𝓤 (onEntry 𝓤 H A me.signature (lfts entry) (shares entry) (denots entry) (valss entry)) (WpFn 𝓤 H (𝓣 .C) (𝓣 .Λ) code.function (values entry) Post)
+    walk =
+        qed W (‵ (Toks entry) ∷ ‵ (Owns entry) ∷ []) ∵ takes ! entry (
+        -- what the array owns, and that its machine value is one of the type
+        owned ! R (Is R) (frame-makes 𝓤 H A W) (root 0) (fval (root 0) ∷ []) is-root $ use1 W (‵ (Array R 256 .own frames₀ (array₀ ∷ []))) (array-repeat 𝓤 H A W R (frame-copy 𝓤 H A W) 256 (root 0) (fval (root 0))) $
+        peeks ! (Array R 256) (Is (Array R 256)) (shows 𝓤 H A (Array R 256)) frames₀ (array₀ ∷ []) (λ isa. enters ! (𝓣 .C) (𝓣 .Λ) code.function (values entry) Post
+
+        (vm-typed 𝓤 H A W m (is .0), ((tt, record { fits = is .1 .0 .1 }), ((tt, (tt, (record { fits = room0 .0 }, tt))), ((tt, (tt, (record { fits = room1 .0 }, tt))), ((tt, (tt, (record { fits = room2 .0 }, tt))), ((tt, (tt, (record { fits = room3 .0 }, tt))), ((tt, (tt, (record { fits = room4 .0 }, tt))), ((tt, (tt, (record { fits = room5 .0 }, tt))), ((tt, (tt, (record { fits = room6 .0 }, tt))), ((tt, (tt, (record { fits = room7 .0 }, tt))), ((tt, (tt, (record { fits = room8 .0 }, tt))), ((tt, (tt, (record { fits = room9 .0 }, tt))), ((tt, (tt, (record { fits = room10 .0 }, tt))), tt))))))))))))) (λ ls.
+
+        sets ! (agg ! (ofs ! refl)) (frame-typed 𝓤 H A W (root 0) is-root) $
+        sets ! (rep ! 256 (of ! refl)) (array-lawful 𝓤 H A W R (LL.lawful T.the-type T′.the-laws 𝓤 H A W) 256 .typed frames₀ (array₀ ∷ []) isa .0) $
+        sets ! (addr ! (behind ! refl refl)) (tt, tt) $ sets ! (agg ! (ofs ! refl)) (tt, (tt, (record { fits = room7 .0 }, tt))) $
+        sets ! (addr ! (behind ! refl refl)) (tt, tt) $ sets ! (agg ! (ofs ! refl)) (tt, (tt, (record { fits = room8 .0 }, tt))) $
+        sets ! (addr ! (from ! (stop !))) (tt, tt) $ sets ! (agg ! (ofs ! refl)) (tt, (tt, (record { fits = lit< tt }, tt))) $
+        sets ! (addr ! (behind ! refl refl)) (tt, tt) $ sets ! (agg ! (ofs ! refl)) (tt, (tt, (record { fits = room9 .0 }, tt))) $
+        sets ! (addr ! (behind ! refl refl)) (tt, tt) $ sets ! (agg ! (ofs ! refl)) (tt, (tt, (record { fits = room10 .0 }, tt))) $
+        -- [the locals; what the array owns; the slices]
+        apart _ memorySlot bs (ws (ls .1 .1 .1 .1 .1 .1 .1 .1 .1 .1 .1 .1 .1 .1 .1 .0)) ! fs us tt array₀ ls (move ! (1 ∷ 4 ∷ []) $ lend-array ! tt R tt 256 room frames₀ (ls .1 .1 .1 .1 .1 .1 .1 .1 .1 .1 .1 .1 .1 .1 .1 .0) array₀ (λ ν δ e.
+        -- [the frames; the lender's part; the locals before; what frees the array; the locals behind; the slices]
+        move ! (5 ∷ []) $ splits ! (firsts stack cells) (lasts copy backtrace) (move ! (2 ∷ 1 ∷ []) $ fjoin ! $ move ! (1 ∷ 0 ∷ []) $ joins ! (firsts stack cells) (mut R (sf ν δ (ls .1 .1 .1 .1 .1 .1 .1 .1 .1 .1 .1 .1 .1 .1 .1 .0)) frames₀ ∷ lasts copy backtrace) (
+        -- [all the slices; the lender's part; the locals before; what frees the array; the locals behind]
+        calls-with 𝓤 H A W (to-it ν δ (ls .1 .1 .1 .1 .1 .1 .1 .1 .1 .1 .1 .1 .1 .1 .1 .0)) It ResultRow resultVal (Ran ν δ (ls .1 .1 .1 .1 .1 .1 .1 .1 .1 .1 .1 .1 .1 .1 .1 .0)) result-tells (λ ns. passing (lent (to-it ν δ (ls .1 .1 .1 .1 .1 .1 .1 .1 .1 .1 .1 .1 .1 .1 .1 .0)) ns)) (λ ns. unasked W (lent (to-it ν δ (ls .1 .1 .1 .1 .1 .1 .1 .1 .1 .1 .1 .1 .1 .1 .1 .0)) ns)) (λ ns w. id⊢ 𝓤 _)
+        (vm-makes 𝓤 H A W m _ (is .0), (uint-makes 𝓤 H A W w64 units _ (is .1 .0), tt)) ((refl, room0), ((refl, room1), ((refl, room2), ((refl, room3), ((refl, room4), ((refl, room5), ((refl, room6), ((refl, room7), ((refl, room8), ((e, room), ((refl, room9), ((refl, room10), tt))))))))))))
+        ! fm known (λ ns. and-then ! (load ! (from ! (stop !)) (look-in ! 3 (here ! 1 refl))) (and-then ! (load ! (from ! (stop !)) (look-in ! 3 (here ! 2 refl))) (and-then ! (load ! (from ! (stop !)) (look-in ! 3 (here ! 3 refl))) (and-then ! (load ! (from ! (stop !)) (look-in ! 3 (here ! 4 refl))) (and-then ! (load ! (from ! (stop !)) (look-in ! 3 (here ! 5 refl))) (and-then ! (load ! (from ! (stop !)) (look-in ! 3 (here ! 6 refl))) (and-then ! (load ! (from ! (stop !)) (look-in ! 3 (here ! 7 refl))) (and-then ! (load ! (from ! (stop !)) (look-in ! 3 (here ! 8 refl))) (and-then ! (load ! (from ! (stop !)) (look-in ! 3 (here ! 9 refl))) (and-then ! (load ! (from ! (stop !)) (look-in ! 5 (here ! 2 refl))) (and-then ! (load ! (from ! (stop !)) (look-in ! 5 (here ! 4 refl))) (and-then ! (load ! (from ! (stop !)) (look-in ! 5 (here ! 6 refl))) (and-then ! (load ! (from ! (stop !)) (look-in ! 5 (here ! 8 refl))) (and-then ! (load ! (from ! (stop !)) (look-in ! 5 (here ! 10 refl))) (no-more !))))))))))))))) (λ r zs said lens isr.
+        splits ! (firsts (zs .1 .1 .1 .1 .1 .1 .1 .1 .1 .0) (zs .1 .1 .1 .1 .1 .1 .1 .1 .1 .1 .0)) (mut R (sf ν δ (ls .1 .1 .1 .1 .1 .1 .1 .1 .1 .1 .1 .1 .1 .1 .1 .0)) (zs .1 .1 .1 .1 .1 .1 .1 .1 .1 .1 .1 .0) ∷ lasts (zs .1 .1 .1 .1 .1 .1 .1 .1 .1 .1 .1 .1 .0) (zs .1 .1 .1 .1 .1 .1 .1 .1 .1 .1 .1 .1 .1 .0)) (move ! (1 ∷ []) $ fsplit ! $ move ! (2 ∷ 1 ∷ []) $ joins ! (firsts (zs .1 .1 .1 .1 .1 .1 .1 .1 .1 .0) (zs .1 .1 .1 .1 .1 .1 .1 .1 .1 .1 .0)) (lasts (zs .1 .1 .1 .1 .1 .1 .1 .1 .1 .1 .1 .1 .0) (zs .1 .1 .1 .1 .1 .1 .1 .1 .1 .1 .1 .1 .1 .0)) (
+        -- [the slices; the frames; the lender's part; the locals before; what frees the array; the locals behind]
+        move ! (1 ∷ 2 ∷ []) $ back-array ! tt R 256 (zs .1 .1 .1 .1 .1 .1 .1 .1 .1 .1 .1 .0) (ls .1 .1 .1 .1 .1 .1 .1 .1 .1 .1 .1 .1 .1 .1 .1 .0) ν δ 256 (λ u. move ! (2 ∷ 0 ∷ 3 ∷ 4 ∷ []) $ whole _ memorySlot bs (ws (ls .1 .1 .1 .1 .1 .1 .1 .1 .1 .1 .1 .1 .1 .1 .1 .0)) ! fs us tt u ls (
+        lands-in ! (result-typed 𝓤 H A W r isr) $ sets ! (of-opd ! (of ! refl)) (result-typed 𝓤 H A W r isr) $ leaves ! refl $
+        by ! (exits r (zs .1 .1 .1 .1 .1 .1 .1 .1 .1 .0) (zs .1 .1 .1 .1 .1 .1 .1 .1 .1 .1 .0) (zs .1 .1 .1 .1 .1 .1 .1 .1 .1 .1 .1 .1 .0) (zs .1 .1 .1 .1 .1 .1 .1 .1 .1 .1 .1 .1 .1 .0) isr (lens .0) (lens .1 .0) (lens .1 .1 .1 .0) (lens .1 .1 .1 .1 .0) (record { frames = (zs .1 .1 .1 .1 .1 .1 .1 .1 .1 .1 .1 .0); post = said }))))))))))))))
+      where
+        fm : FmC 𝓤 H (W .laws) (𝓣 .C)
+        fm = fmOf 𝓤 H (W .laws) 𝓣
+
+pub play-spec : {M : Type 1} → stated.statement M
+unfolding code.routine tablesOf
+play-spec 𝓤 H 𝓜 𝓖 𝓡 =
+    let W : Given 𝓤 H (𝓖 .A) = givenOf 𝓤 H 𝓜 𝓖 in
+    closed kinds ResultRow 𝓤 H 𝓜 𝓖 𝓡 code.env #me code.function (code.unfolded 𝓤 H 𝓜 𝓡) (me.clauses 𝓤 H (𝓖 .A) (𝓜 .mem) (𝓡 .run))
+    (λ κs qs a g is. unneeded 𝓤 _
+    (walk 𝓤 H (𝓖 .A) W (𝓜 .mem) (𝓡 .run) (tablesOf 𝓤 H 𝓜 (tables 𝓤 H 𝓜 𝓡 code.env))
+    (cited 𝓤 H (It 𝓤 H (𝓖 .A) W (𝓜 .mem) (𝓡 .run)) 𝓜 𝓡 code.env #it it-def.routine code.calls-machine·run (it-thm.met 𝓤 H 𝓜 𝓖 𝓡)) κs qs a is))

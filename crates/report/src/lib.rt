@@ -1,0 +1,234 @@
+// What the runner and the lister print, as bytes in a lent store.
+mod values; // values.rt: a value's line
+mod runs; // runs.rt: a run's lines
+mod playing; // playing.rt: a run on call frames of its own
+
+use crate::playing::play;
+use crate::runs::put_refused;
+use crate::runs::put_report;
+use image::load;
+use listing::disassemble;
+use model::Counts;
+use model::Last;
+use model::Loaded;
+use model::RunResult;
+use model::Told;
+use model::Vm;
+use program::words::room;
+ghost use mathlib.Core.Path.{_≡_};
+ghost use mathlib.Core.Bool.{true};
+ghost use mathlib.Core.List.{List};
+ghost use Prim.Native.Nat.{ℕ, _<_, _^_};
+ghost use lib.ListN.{length, replicate};
+ghost use Rattle.model.specs.declared.Frame.{Frame};
+ghost use Rattle.model.specs.Listings.{listingOf};
+ghost use Rattle.model.specs.Runs.{root};
+ghost use Rattle.model.specs.Stores.{Stores, programIn};
+ghost use Rattle.model.specs.Loading.{listOrder};
+ghost use Rattle.model.specs.Machines.{runAnswer, answerIn, fresh};
+ghost use Rattle.model.specs.Reports.{refusedLine, reportOf, listedText, loadedText, listerText, runnerText};
+ghost use Rattle.listing.specs.Links.{lent};
+ghost use Rattle.ends.specs.Links.{programLent};
+ghost use Rattle.machine.specs.Links.{runLent};
+ghost use Rattle.report.specs.Links.{Shows, printed, Listable};
+
+// A refusal. It is measured first, with no room to write into.
+fn print_refused(n: u8, out: &mut [u8]) -> usize
+    ensures { λ r. ⌜ record { count = r; out = now (out .exit) } ≡ printed (refusedLine n) (now (out .entry)) ⌝ }
+{
+    let none = 0;
+    let len = put_refused(n, &mut out[..none]);
+    if room(out.len(), 1) < len {
+        return 0;
+    }
+    put_refused(n, out)
+}
+
+// What a run answered, with the stores as it left them. Likewise measured first.
+pub fn print_report(r: RunResult, cells: &[u64], backtrace: &[u32], out: &mut [u8]) -> usize
+    requires { ⌜ Shows r (now cells) (now backtrace) ⌝ }
+    ensures { λ n. ⌜ ((stack : List ℕ) (frames : List Frame) (copy : List ℕ) → record { count = n; out = now (out .exit) } ≡ printed (reportOf (answerIn (record { stack = stack; cells = now (cells .entry); frames = frames; copy = copy; backtrace = now (backtrace .entry) }) r)) (now (out .entry))) ⌝ }
+{
+    let none = 0;
+    let len = put_report(r, cells, backtrace, &mut out[..none]);
+    if room(out.len(), 1) < len {
+        return 0;
+    }
+    put_report(r, cells, backtrace, out)
+}
+
+// The listing of a program in good order, or its refusal.
+fn list_program<'a>(
+    c: Counts,
+    functions: &[u64],
+    text: &[u8],
+    main: &'a [u8],
+    other: &'a [u8],
+    out: &mut [u8],
+) -> usize
+    requires { ⌜ ((rest : Stores) → listOrder c (lent rest (now functions) (now text) (now main) (now other)) ≡ true) ⌝ }
+    ensures { λ r. ⌜ ((rest : Stores) → record { count = r; out = now (out .exit) } ≡ printed (listedText (listingOf (programIn c (lent rest (now (functions .entry)) (now (text .entry)) (now (main .entry)) (now (other .entry)))))) (now (out .entry))) ⌝ }
+{
+    let told = disassemble(c, functions, text, main, other, out);
+    match told {
+        Told::Number(n) => n,
+        Told::Refused(n) => {
+            if n == 17 {
+                return 0;
+            }
+            print_refused(n, out)
+        }
+    }
+}
+
+// The listing of what was loaded, or why nothing was.
+fn list_loaded<'a>(
+    loaded: Loaded,
+    functions: &[u64],
+    text: &[u8],
+    main: &'a [u8],
+    other: &'a [u8],
+    out: &mut [u8],
+) -> usize
+    requires { ⌜ ((rest : Stores) → Listable loaded (lent rest (now functions) (now text) (now main) (now other))) ⌝ }
+    ensures { λ r. ⌜ ((rest : Stores) → record { count = r; out = now (out .exit) } ≡ printed (loadedText loaded (lent rest (now (functions .entry)) (now (text .entry)) (now (main .entry)) (now (other .entry)))) (now (out .entry))) ⌝ }
+{
+    match loaded {
+        Loaded::Done(c) => list_program(c, functions, text, main, other, out),
+        Loaded::Broken(_) => print_refused(20, out),
+        Loaded::Refused(n) => print_refused(n, out),
+    }
+}
+
+// The lister: an image of at most 16,384 bytes, loaded into stores of its own and listed.
+pub fn list_image(image: &[u8], out: &mut [u8]) -> usize
+    ensures { λ r. ⌜ record { count = r; out = now (out .exit) } ≡ printed (listerText (now (image .entry))) (now (out .entry)) ⌝ }
+{
+    if 16384 < image.len() {
+        return print_refused(22, out);
+    }
+    let mut constants = [0u64; 512];
+    let mut structs = [0u64; 256];
+    let mut functions = [0u64; 512];
+    let mut text = [0u8; 16384];
+    let mut main = [0u8; 8192];
+    let mut main_places = [0u32; 8192];
+    let mut other = [0u8; 8192];
+    let mut other_places = [0u32; 8192];
+    let loaded = load(
+        image,
+        &mut constants,
+        &mut structs,
+        &mut functions,
+        &mut text,
+        &mut main,
+        &mut main_places,
+        &mut other,
+        &mut other_places,
+    );
+    list_loaded(loaded, &functions, &text, &main, &other, out)
+}
+
+// A machine that has not run.
+fn fresh_vm(c: Counts) -> Vm
+    ensures { λ r. ⌜ r ≡ fresh c ⌝ }
+{
+    Vm {
+        program: c,
+        stack: 0,
+        frames: 1,
+        cells: 0,
+        last: Last::Nothing,
+    }
+}
+
+// The report of a program that was loaded and is then run.
+fn run_loaded(
+    c: Counts,
+    constants: &[u64],
+    functions: &[u64],
+    text: &[u8],
+    main: &[u8],
+    main_places: &[u32],
+    other: &[u8],
+    other_places: &[u32],
+    stack: &mut [u64],
+    cells: &mut [u64],
+    copy: &mut [u64],
+    backtrace: &mut [u32],
+    out: &mut [u8],
+) -> usize
+    requires { ⌜ length (now backtrace) < 2 ^ 32 ⌝ }
+    ensures { λ r. ⌜ ((structs : List ℕ) → record { count = r; out = now (out .exit) } ≡ printed (reportOf (runAnswer (fresh c) (programLent structs (now (constants .entry)) (now (functions .entry)) (now (text .entry)) (now (main .entry)) (now («main_places» .entry)) (now (other .entry)) (now («other_places» .entry))) (runLent (now (stack .entry)) (now (cells .entry)) (replicate 256 (root 0)) (now (copy .entry)) (now (backtrace .entry))) 1000000)) (now (out .entry))) ⌝ }
+{
+    let m = fresh_vm(c);
+    let r = play(
+        m,
+        1000000,
+        constants,
+        functions,
+        text,
+        main,
+        main_places,
+        other,
+        other_places,
+        stack,
+        cells,
+        copy,
+        backtrace,
+    );
+    print_report(r, cells, backtrace, out)
+}
+
+// The runner: an image of at most 16,384 bytes, loaded into stores of its own and run with 1,000,000 units.
+pub fn run_image(image: &[u8], out: &mut [u8]) -> usize
+    ensures { λ r. ⌜ record { count = r; out = now (out .exit) } ≡ printed (runnerText (now (image .entry))) (now (out .entry)) ⌝ }
+{
+    if 16384 < image.len() {
+        return print_refused(22, out);
+    }
+    let mut constants = [0u64; 512];
+    let mut structs = [0u64; 256];
+    let mut functions = [0u64; 512];
+    let mut text = [0u8; 16384];
+    let mut main = [0u8; 8192];
+    let mut main_places = [0u32; 8192];
+    let mut other = [0u8; 8192];
+    let mut other_places = [0u32; 8192];
+    let loaded = load(
+        image,
+        &mut constants,
+        &mut structs,
+        &mut functions,
+        &mut text,
+        &mut main,
+        &mut main_places,
+        &mut other,
+        &mut other_places,
+    );
+    match loaded {
+        Loaded::Done(c) => {
+            let mut stack = [0u64; 2048];
+            let mut cells = [0u64; 4096];
+            let mut copy = [0u64; 2048];
+            let mut backtrace = [0u32; 512];
+            run_loaded(
+                c,
+                &constants,
+                &functions,
+                &text,
+                &main,
+                &main_places,
+                &other,
+                &other_places,
+                &mut stack,
+                &mut cells,
+                &mut copy,
+                &mut backtrace,
+                out,
+            )
+        }
+        Loaded::Broken(_) => print_refused(20, out),
+        Loaded::Refused(n) => print_refused(n, out),
+    }
+}

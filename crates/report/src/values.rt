@@ -1,0 +1,103 @@
+// A value as the runner prints it.
+use model::Header;
+use model::Value;
+use texts::put_byte;
+use texts::put_text;
+use texts::write_decimal;
+use value::words;
+ghost use mathlib.Core.Path.{_≡_};
+ghost use mathlib.Core.List.{_++_};
+ghost use Prim.Native.Nat.{_+_, _*_, _≤_, _<_, _^_};
+ghost use lib.ListN.{length};
+ghost use Rattle.model.specs.Basics.{ascii};
+ghost use Rattle.model.specs.Heap.{heapOf, headIn};
+ghost use Rattle.model.specs.Listings.{decimal};
+ghost use Rattle.model.specs.Reports.{hexDigit, hexFor, valueText};
+ghost use Rattle.texts.specs.Links.{Put};
+
+// A text, and a number behind it.
+pub fn put_count(name: &[u8], n: usize, out: &mut [u8], at: usize) -> usize
+    requires { ⌜ at + (length (now name) + 20) < 2 ^ 64 ⌝ }
+    ensures { λ r. ⌜ Put (length (now (name .entry)) + 20) (now (name .entry) ++ decimal n) (now (out .entry)) at (now (out .exit)) r ⌝ }
+{
+    let next = put_text(name, out, at);
+    write_decimal(n, 0, out, next)
+}
+
+// A digit below 16, as a capital.
+fn hex_digit(d: u64) -> u8
+    requires { ⌜ d < 16 ⌝ }
+    ensures { λ r. ⌜ r ≡ hexDigit d ⌝ }
+{
+    if d < 10 {
+        return 48 + d as u8;
+    }
+    55 + d as u8
+}
+
+// The n lowest hex digits of w.
+fn write_hex(n: usize, w: u64, out: &mut [u8], at: usize) -> usize
+    requires { ⌜ at + n < 2 ^ 64 ⌝ }
+    ensures { λ r. ⌜ Put n (hexFor n w) (now (out .entry)) at (now (out .exit)) r ⌝ }
+{
+    if n == 0 {
+        return at;
+    }
+    let next = write_hex(n - 1, w / 16, out, at);
+    put_byte(hex_digit(w % 16), out, next)
+}
+
+// The header at cell p of the first `used`; where there is none, one of no elements.
+fn header_at(cells: &[u64], used: usize, p: usize) -> Header
+    requires { ⌜ 2 * used ≤ length (now cells) ⌝ }
+    ensures { λ r. ⌜ r ≡ headIn (heapOf used (now (cells .entry))) p ⌝ }
+{
+    if p < used {
+        if words::is_header(cells, p) {
+            return words::read_header(cells, p);
+        }
+    }
+    Header {
+        count: 0,
+        number: 0,
+        depth: 0,
+    }
+}
+
+// A struct: its number, and how many fields it has.
+fn put_struct(h: Header, out: &mut [u8], at: usize) -> usize
+    requires { ⌜ at + 48 < 2 ^ 64 ⌝ }
+    ensures { λ r. ⌜ Put 48 (ascii "struct " ++ decimal (h .number) ++ ascii " " ++ decimal (h .count)) (now (out .entry)) at (now (out .exit)) r ⌝ }
+{
+    let next = put_count(b"struct ", h.number, out, at);
+    put_count(b" ", h.count, out, next)
+}
+
+// The value v, whose cells are among the first `used`.
+pub fn put_value(v: Value, cells: &[u64], used: usize, out: &mut [u8], at: usize) -> usize
+    requires { ⌜ (2 * used ≤ length (now cells)) × (at + 64 < 2 ^ 64) ⌝ }
+    ensures { λ r. ⌜ Put 64 (valueText (heapOf used (now (cells .entry))) v) (now (out .entry)) at (now (out .exit)) r ⌝ }
+{
+    match v {
+        Value::Scalar(x) => {
+            let next = put_text(b"scalar ", out, at);
+            write_hex(16, words::to_word(x), out, next)
+        }
+        Value::Boolean(b) => {
+            if b {
+                return put_text(b"true", out, at);
+            }
+            put_text(b"false", out, at)
+        }
+        Value::String(_, n) => put_count(b"string ", n as usize, out, at),
+        Value::FunctionReference(_, n) => put_count(b"function ", n as usize, out, at),
+        Value::List(p) => {
+            let h = header_at(cells, used, p as usize);
+            put_count(b"list ", h.count, out, at)
+        }
+        Value::StructInstance(p) => {
+            let h = header_at(cells, used, p as usize);
+            put_struct(h, out, at)
+        }
+    }
+}
