@@ -14,13 +14,13 @@ use mir.Raw.{raw as rawTy}
 use mir.Syntax.{Ty, Home, named, tyArray, Name, Local, local, Place, Opd as Operand, Body, seq, call}
 use mir.Val.{Val}
 use base.Logic.{ent, sep}
-use base.Fml.{GName, Fml, fsep, fat, fdies, flft, flent, fres}
+use base.Fml.{GName, fsep, fat, fdies, flent, fres}
 use prog.Wp.{Heap, Env, Calls, Loops}
 use ghost.Atoms.{Atoms, sem}
 use contract.Monad.{fact}
 use sound.WpLaws.{FmC}
 use types.Kit as Kit
-use types.Kit.{Goal, Soaks, Given, Item, ‵, raw, mean, _⊛_, later, Post, runs, lands, Seq, Step, step, _$_, move, use1, use2, use3, drop, split, pick, rewrite, fsplit, fjoin, fpick, fpack, feqL, await}
+use types.Kit.{Goal, Soaks, Given, Item, ‵, raw, mean, _⊛_, later, Post, runs, lands, Seq, _$_, move, use1, use2, use3, drop, split, pick, rewrite, fsplit, fjoin, fpick, fpack, feqL, await}
 use types.Run.{Opds}
 use types.Tokens.{lft-new, lft-end}
 use types.SemTy.{cells as elements, Arr}

@@ -1,5 +1,5 @@
 -- The lines of a run, put one behind the other.
-use mathlib.Core.Path.{_≡_, refl, sym, ap, _∙_}
+use mathlib.Core.Path.{_≡_, sym, ap, _∙_}
 use mathlib.Core.List.{List, [], _∷_, _++_, append-assoc, append-nil}
 use Prim.Native.Nat.{ℕ, zero, suc, _+_, _*_, _≤_, _<_}
 use native.Mathlib.Omega.{arith}
@@ -11,7 +11,6 @@ use Rattle.model.specs.declared.Vm.{Vm}
 use Rattle.model.specs.declared.RunResult.{RunResult}
 use Rattle.model.specs.declared.RunResult.the-variants as r
 use Rattle.model.specs.Basics.{ascii}
-use Rattle.model.specs.Values.{vals}
 use Rattle.model.specs.Heap.{heapOf}
 use Rattle.model.specs.Listings.{decimal}
 use Rattle.model.specs.Runs.{Entry, entry}

@@ -17,7 +17,6 @@ use Rattle.model.specs.declared.Loaded.{Loaded}
 use Rattle.model.specs.declared.Loaded.the-variants as l
 use Rattle.model.specs.declared.Told.{Told}
 use Rattle.model.specs.declared.Told.the-variants as t
-use Rattle.model.specs.Basics.{if_then_else_}
 use Rattle.model.specs.Numbers.{Bytes}
 use Rattle.model.specs.Opcodes.{Opcode, opcodeAt}
 use Rattle.model.specs.Values.{places}

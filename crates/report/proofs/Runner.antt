@@ -1,5 +1,5 @@
 -- What the runner prints: what a run of the program that was loaded answers, or why there is none.
-use mathlib.Core.Path.{_≡_, refl, sym, ap, _∙_}
+use mathlib.Core.Path.{_≡_, sym, ap, _∙_}
 use mathlib.Core.List.{List, [], _∷_}
 use Prim.Native.Nat.{ℕ, _≤_, _<_, _^_}
 use lib.ListN.{length, getD, replicate}
@@ -15,8 +15,8 @@ use Rattle.model.specs.declared.Loaded.the-variants as l
 use Rattle.model.specs.declared.RunResult.{RunResult}
 use Rattle.model.specs.Runs.{root}
 use Rattle.model.specs.Stores.{Stores}
-use Rattle.model.specs.Loading.{LoadRes, loadOf}
-use Rattle.model.specs.Machines.{Lent, runAnswer, answerIn, RunPost, fresh, startWith, loadMachineOf}
+use Rattle.model.specs.Loading.{loadOf}
+use Rattle.model.specs.Machines.{runAnswer, answerIn, RunPost, fresh, startWith, loadMachineOf}
 use Rattle.model.specs.Reports.{refusedLine, reportOf, emptyStores, emptyLent, startedText, started, runnerText}
 use Rattle.image.specs.Fills as whole
 use Rattle.ends.specs.Links.{programLent}

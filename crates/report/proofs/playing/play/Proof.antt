@@ -1,8 +1,8 @@
 -- `play` meets its contract: a walk of its MIR, by hand. The frames are a local array, lent to the run (`Lending.antt`).
 -- Assumes nothing.
-use Rattle.frames.proofs.Walk.{_≡_, refl, true, none, some, List, [], _∷_, ℕ, length, URA, fullShare, w64, Val, vint, vptr, SProp, ent, id⊢, Memory, Routine, Heap, Tables, WpFn, Atoms, Lfts, Shares, Fun, givenOf, tables, tablesOf, FmC, fmOf}
+use Rattle.frames.proofs.Walk.{_≡_, refl, none, some, List, [], _∷_, ℕ, length, URA, fullShare, w64, Val, vint, vptr, SProp, ent, id⊢, Memory, Routine, Heap, Tables, WpFn, Atoms, Lfts, Shares, Fun, givenOf, tables, tablesOf, FmC, fmOf}
 use Rattle.frames.proofs.Walk.{Given, ‵, ⋆, _$_, _∵_, !, qed, by, move, keep, fsplit, fjoin, suffices, frame, done, agg, addr, of-opd, stop, from, load, look-in, Is, shows, uint-makes, u8, u32, u64, now, Room, owned, onEntry, tripleOf, Contract, Triple, cited, says, walkOf, ends-at}
-use Rattle.frames.proofs.Walk.{Blocks, here, of, ofs, behind, sets, lands-in, enters, leaves, Sl, sl, sval, Arg, val, shr, mut, Holds, Toks, Owns, Lists, lfts, shares, denots, valss, values, passing, lent, takes, gives, splits, joins, unasked, unneeded, Kind, own, shared, unique, stays, Passed, Known, closed}
+use Rattle.frames.proofs.Walk.{here, of, ofs, behind, sets, lands-in, enters, leaves, Sl, sl, sval, Arg, val, shr, mut, Holds, Toks, Owns, Lists, lfts, shares, denots, valss, values, passing, lent, takes, gives, splits, joins, unasked, unneeded, Kind, own, shared, unique, stays, Passed, Known, closed}
 use mathlib.Core.List.{_++_}
 use mathlib.Core.Option.{Option}
 use lib.Dec.{lit<}
@@ -34,7 +34,7 @@ use Rattle.machine.proofs.run.Symbol as it-def
 use Rattle.machine.proofs.run.Symbol.{name as #it}
 use Rattle.machine.proofs.run.Met as it-thm
 use Rattle.report.specs.Links.{PlayPost}
-use Rattle.report.proofs.Lending.{front, rear, apart, whole, lend-array, back-array, calls-with}
+use Rattle.report.proofs.Lending.{apart, whole, lend-array, back-array, calls-with}
 use Rattle.report.proofs.playing.play.Key.{name as #me}
 use Rattle.report.proofs.playing.play as me
 use Rattle.report.proofs.playing.play.Statement as stated
@@ -229,9 +229,7 @@ module _ {M : Type 1} (𝓤 : URA M) (H : Heap 𝓤) (A : Atoms 𝓤) (W : Given
         -- what the array owns, and that its machine value is one of the type
         owned ! R (Is R) (frame-makes 𝓤 H A W) (root 0) (fval (root 0) ∷ []) is-root $ use1 W (‵ (Array R 256 .own frames₀ (array₀ ∷ []))) (array-repeat 𝓤 H A W R (frame-copy 𝓤 H A W) 256 (root 0) (fval (root 0))) $
         peeks ! (Array R 256) (Is (Array R 256)) (shows 𝓤 H A (Array R 256)) frames₀ (array₀ ∷ []) (λ isa. enters ! (𝓣 .C) (𝓣 .Λ) code.function (values entry) Post
-
         (vm-typed 𝓤 H A W m (is .0), ((tt, record { fits = is .1 .0 .1 }), ((tt, (tt, (record { fits = room0 .0 }, tt))), ((tt, (tt, (record { fits = room1 .0 }, tt))), ((tt, (tt, (record { fits = room2 .0 }, tt))), ((tt, (tt, (record { fits = room3 .0 }, tt))), ((tt, (tt, (record { fits = room4 .0 }, tt))), ((tt, (tt, (record { fits = room5 .0 }, tt))), ((tt, (tt, (record { fits = room6 .0 }, tt))), ((tt, (tt, (record { fits = room7 .0 }, tt))), ((tt, (tt, (record { fits = room8 .0 }, tt))), ((tt, (tt, (record { fits = room9 .0 }, tt))), ((tt, (tt, (record { fits = room10 .0 }, tt))), tt))))))))))))) (λ ls.
-
         sets ! (agg ! (ofs ! refl)) (frame-typed 𝓤 H A W (root 0) is-root) $
         sets ! (rep ! 256 (of ! refl)) (array-lawful 𝓤 H A W R (LL.lawful T.the-type T′.the-laws 𝓤 H A W) 256 .typed frames₀ (array₀ ∷ []) isa .0) $
         sets ! (addr ! (behind ! refl refl)) (tt, tt) $ sets ! (agg ! (ofs ! refl)) (tt, (tt, (record { fits = room7 .0 }, tt))) $
