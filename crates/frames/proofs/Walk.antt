@@ -42,6 +42,9 @@ pub use denote.Triple.Walked.{says, needs, walkOf, ends-at}
 pub use Rattle.frames.proofs.Locals.{Blocks, envAt, Locals, here, of, ofs, behind, sets, sets-last, lands-in, enters, leaves, trims}
 pub use Rattle.frames.proofs.Slices.{Sl, sl, sval, Arg, val, shr, mut, peek, Holds, Toks, Owns, Lists, Lens, lfts, shares, denots, valss, values, passing, lent, after, takes, gives, splits, joins}
 pub use Rattle.frames.proofs.Calls.{Rule, call-with, asked, unasked}
+pub use Rattle.frames.proofs.Picks.{unneeded, calls-on}
+pub use Rattle.frames.proofs.Elements.{bytes-known}
+pub use Rattle.frames.proofs.Branches.{returns-if}
 pub use Rattle.frames.proofs.Loops.{Loop, Turn, rounds, whiles, again}
 pub use Rattle.frames.proofs.Matches.{tag-of, payload-of, matches}
 pub use Rattle.frames.proofs.Closing.{Kind, own, number, shared, unique, stays, Passed, Known, closed}

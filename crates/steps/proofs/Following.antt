@@ -70,6 +70,18 @@ same-room : (x y : List ℕ) → length y ≡ length x → places 2 y ≡ places
 unfolding places
 same-room x y e = rw e
 
+-- the world is what the slices say, whatever the cells hold
+pub lent-on : {w : World} {k : Fixed} {constants functions text x x' : List ℕ} → Lent w k constants functions text x → length x' ≡ length x → Lent w k constants functions text x'
+lent-on {x = x} {x' = x'} l e = record {
+  suits = l .suits;
+  values = l .values;
+  room = l .room;
+  rest = l .rest;
+  named = l .named;
+  cellRoom = l .cellRoom ∙ sym (same-room x x' e);
+  sane = l .sane;
+}
+
 ends-same : (w : World) {a b : Last} {m n : Mark} → a ≡ b → m ≡ n → (t : State) → endFrom w a m t ≡ endFrom w b n t
 ends-same w p q t = rw (p, q)
 
@@ -174,17 +186,6 @@ module _ {w : World} {cs : List Frame} {k : Fixed} {code constants functions tex
       follows : endFrom w (answerIn g) (markIn g x) (stateOf g s x cs) ≡ next (endFrom w) (answerIn g) (markIn g x) (outcomeOf cs r s' x')
       follows = end-step w _ _ (stateOf g s x cs) inside ∙ ap (next (endFrom w) (answerIn g) (markIn g x)) outcome
 
-      lent-on : length x' ≡ length x → Lent w k constants functions text x'
-      lent-on e = record {
-        suits = at .lent .suits;
-        values = at .lent .values;
-        room = at .lent .room;
-        rest = at .lent .rest;
-        named = at .lent .named;
-        cellRoom = at .lent .cellRoom ∙ sym (same-room x x' e);
-        sane = at .lent .sane;
-      }
-
       before-mark : (i : ℕ) → i ≤ g .mark → heapOf i x' ≡ heapOf i x
       before-mark i l = p .before i (let z = at .fits .mark in omega arith)
 
@@ -222,7 +223,7 @@ module _ {w : World} {cs : List Frame} {k : Fixed} {code constants functions tex
           let l : n .units < g .units = spends h p in
           record {
             ready = record {
-              lent = lent-on h p e;
+              lent = lent-on (at .lent) e;
               callers = at .callers ∙ sym (p .kept .callers);
               coded = rw (called h p refl) (at .coded);
               fits = record { stack = p .within; cells = p .cells; mark = marked h p (p .kept) (a .1) (a .0) };
@@ -260,7 +261,7 @@ module _ {w : World} {cs : List Frame} {k : Fixed} {code constants functions tex
         let l : d .going .units < g .units = spends h p in
         record {
           ready = record {
-            lent = lent-on h p e;
+            lent = lent-on (at .lent) e;
             callers = at .callers ∙ sym (p .kept .callers);
             coded = rw (q .frames .function) (at .coded);
             fits = record {

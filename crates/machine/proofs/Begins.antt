@@ -1,0 +1,82 @@
+-- A run from its start: what the loop leans on, and that its end is the run's.
+--     Begins        what is at hand when the loop begins
+--     begins-end    the end from there is the end of the run
+--     run-under     the loop may begin
+-- Assumes nothing.
+use mathlib.Core.Path.{_≡_, refl}
+use Prim.Native.Nat.{ℕ, _-_}
+use native.Mathlib.Omega.{arith}
+use lib.ListN.{getD}
+use Rattle.model.specs.declared.Vm.{Vm}
+use Rattle.model.specs.declared.Last.the-variants.{Nothing}
+use Rattle.model.specs.Values.{places}
+use Rattle.model.specs.Steps.{State}
+use Rattle.model.specs.Runs.{begin, mark, endOf}
+use Rattle.model.specs.Stores.{Stores}
+use Rattle.model.specs.Machines.{Lent, frameRoom, machineIn, worldOf}
+use Rattle.rules.specs.Paths.{endFrom}
+use Rattle.rules.specs.Ordered.{CodeBytes}
+use Rattle.rules.proofs.Ends.{end-of}
+use Rattle.rules.proofs.Programs.{parts-of}
+use Rattle.rules.proofs.Ordered.{order-of, order-exact, order-sane}
+use Rattle.frames.specs.Links.{noFrame, callersOf}
+use Rattle.arms.specs.declared.Fixed.{Fixed}
+use Rattle.arms.specs.declared.Going.{Going}
+use Rattle.arms.specs.Links.{stateOf}
+use Rattle.arms.proofs.Keeping.{exact-all}
+use Rattle.steps.specs.Links.{answerIn, markIn}
+use Rattle.turns.specs.Links.{Under}
+use Rattle.ends.specs.Links.{Begun}
+use Rattle.machine.specs.Links.{Granted}
+use Rattle.machine.proofs.Callers.{innermost-is, callers-are}
+use Rattle.machine.proofs.Granted.{lengths-of}
+use Rattle.machine.proofs.Lends.{FixedIn, text-taken, lent-is, coded-is}
+
+pub record Begins (m : Vm) (s : Stores) (l : Lent) (u : ℕ) (k : Fixed) (g : Going) : Type 0 where
+  pub granted : Granted m s l
+  pub bytes : CodeBytes s
+  pub fixed : FixedIn m l k
+  pub begun : Begun m (getD (l .frames) (m .frames - 1) noFrame) u g
+
+module _ (m : Vm) (s : Stores) (l : Lent) (u : ℕ) (k : Fixed) (g : Going) (h : Begins m s l u k g) where
+  abbrev start : State
+  start = stateOf g (l .stack) (l .cells) (callersOf (g .callers) (l .frames))
+
+  -- the running machine stands for the machine that the run is of
+  start-is : begin (machineIn m l) u ≡ start
+  unfolding machineIn
+  start-is =
+      let b = h .begun in
+      let n = lengths-of m s l (h .granted) in
+      rw (callers-are (m .frames) (l .frames) refl (let z = n .current in omega arith), innermost-is (m .frames) (l .frames) refl, b .sp, b .function, b .position, b .base, b .callers, b .used, b .units, b .last)
+
+  no-answer : answerIn g ≡ Nothing
+  unfolding answerIn
+  no-answer = rw (h .begun .answered)
+
+  same-mark : markIn g (l .cells) ≡ mark start
+  same-mark = rw (h .begun .mark, h .begun .used)
+
+  pub begins-end : endOf (worldOf m s l) (begin (machineIn m l) u) ≡ endFrom (worldOf m s l) (answerIn g) (markIn g (l .cells)) start
+  begins-end = rw (start-is, no-answer, same-mark) (end-of (worldOf m s l) start)
+
+  pub run-under : Under (worldOf m s l) k g (m .program .text) (s .constants) (s .functions) (s .text) (s .main) (s .other) (l .stack) (l .cells) (l .frames)
+  unfolding frameRoom places
+  run-under =
+      let o = h .granted .order in
+      let b = h .begun in
+      let x = h .fixed in
+      let exact = order-exact m s l o in
+      let n = lengths-of m s l (h .granted) in
+      record {
+        taken = text-taken (m .program) s (parts-of (m .program) s (order-of m s l o .program));
+        lent = lent-is m s l k x o (h .bytes);
+        coded = coded-is m s l k x;
+        room = omega arith;
+        fits = record {
+          stack = record { count = omega arith; room = omega arith; exact = rw (b .sp) (exact-all (m .stack) (l .stack) (exact .stack)); callers = omega arith };
+          cells = record { count = rw (b .used) (n .cells); exact = rw (b .used) (exact .cells) };
+          mark = omega arith;
+        };
+        sane = rw start-is at (order-sane m s l o u);
+      }

@@ -1,0 +1,54 @@
+-- `new_program`: emitted where there is a place for a frame.
+use Rattle.machine.proofs.Makings.{none-new, made-new, not-new}
+use borrow.Author.Needs.{needs}
+use Rattle.machine.proofs.starting.new_program.Statement.{statement}
+use Rattle.machine.proofs.starting.new_program.Tie as tie
+
+returns : tie.Need-returns
+returns c = λ rest. none-new _ (c .if1 .taken)
+
+new-requires : tie.Need-new-requires
+new-requires c κs = search needs
+
+enum-known-emitted : tie.Need-enum-known-emitted
+enum-known-emitted c = search needs
+
+fresh-vm-requires : tie.Need-fresh-vm-requires
+fresh-vm-requires c κs = search needs
+
+enum-known-emitted-2 : tie.Need-enum-known-emitted-2
+enum-known-emitted-2 c = search needs
+
+same-length : tie.Need-same-length
+same-length c = search needs
+
+same-length-2 : tie.Need-same-length-2
+same-length-2 c = search needs
+
+returns-2 : tie.Need-returns-2
+returns-2 c = λ rest. made-new _ (c .before .before .before .before .before .before .before .before .new .ensures rest) _ _ (c .before .before .emitted .given .1) (c .before .before .before .before .before .before .before .before .before .before .before .if1 .left) (c .fresh-vm .ensures)
+
+same-length-3 : tie.Need-same-length-3
+same-length-3 c = search needs
+
+same-length-4 : tie.Need-same-length-4
+same-length-4 c = search needs
+
+returns-3 : tie.Need-returns-3
+returns-3 c = λ rest. not-new _ (c .before .before .before .before .before .before .before .new .ensures rest) _ (c .before .emitted2 .given .1)
+
+pub new-program-spec : {M : Type 1} → statement M
+new-program-spec =
+    tie.close
+    (tie.spec
+    returns
+    new-requires
+    enum-known-emitted
+    fresh-vm-requires
+    enum-known-emitted-2
+    same-length
+    same-length-2
+    returns-2
+    same-length-3
+    same-length-4
+    returns-3)

@@ -1,0 +1,78 @@
+-- What a machine's entries are lent, and their contracts in parts.
+use mathlib.Core.Path.{_≡_}
+use mathlib.Core.Bool.{Bool, true, false, _&&_}
+use mathlib.Core.List.{List, _∷_}
+use Prim.Native.Nat.{ℕ, _-_, _≤_}
+use lib.Dec.{ltb}
+use lib.ListN.{length, getD}
+use Rattle.model.specs.declared.Counts.{Counts}
+use Rattle.model.specs.declared.Vm.{Vm}
+use Rattle.model.specs.declared.Frame.{Frame}
+use Rattle.model.specs.declared.RunResult.the-variants as r
+use Rattle.model.specs.declared.Told.the-variants as t
+use Rattle.model.specs.declared.Started.{Started}
+use Rattle.model.specs.declared.Started.the-variants as st
+use Rattle.model.specs.Basics.{if_then_else_}
+use Rattle.model.specs.Values.{places}
+use Rattle.model.specs.Stores.{Stores}
+use Rattle.model.specs.Orders.{insideCodes}
+use Rattle.model.specs.Loading.{OutRes, listOrder}
+use Rattle.model.specs.Machines.{Lent, runOrder, tooShort, RunPost, StartRes}
+use Rattle.frames.specs.Links.{noFrame, callersOf, traceWords, written, traceGood, TraceFits}
+
+-- what a run is lent besides the program's stores
+unfoldable pub runLent : List ℕ → List ℕ → List Frame → List ℕ → List ℕ → Lent
+runLent stack cells frames copy backtrace = record { stack = stack; cells = cells; frames = frames; copy = copy; backtrace = backtrace }
+
+-- a run that is not refused
+pub record Granted (m : Vm) (s : Stores) (l : Lent) : Type 0 where
+  pub order : runOrder m s l ≡ true
+  pub long : tooShort l ≡ false
+
+-- the number of a refusal, or 0: by the good order of all but the frames, that of the frames, and whether a store is too short
+unfoldable pub refusalBy : Bool → Bool → Bool → ℕ
+refusalBy good fine short = if good then (if fine then (if short then 17 else 0) else 19) else 19
+
+-- what this number says of a run
+pub record RunJudged (m : Vm) (s : Stores) (l : Lent) (n : ℕ) : Type 0 where
+  pub grants : n ≡ 0 → Granted m s l
+  pub refuses : (n ≡ 0 → ⊥) → (u : ℕ) → RunPost m s l u (r.Refused n) l
+
+-- ---- the backtrace
+
+-- what a backtrace judges of the program
+unfoldable pub traceProgram : Counts → Stores → Bool
+traceProgram c s = listOrder c s && insideCodes c (s .functions) (s .mainPlaces) (s .otherPlaces)
+
+-- n frames, the innermost first
+unfoldable pub framesIn : ℕ → List Frame → List Frame
+framesIn n frames = getD frames (n - 1) noFrame ∷ callersOf (n - 1) frames
+
+-- why there is no backtrace of n frames, before their places are looked at; 0 where there may be one
+unfoldable pub traceRefusal : Bool → ℕ → List ℕ → ℕ
+traceRefusal good n out = if good then (if ltb (places 2 out) n then 17 else 0) else 19
+
+-- the frames have room, and where their places lie inside their codes they can be read
+pub record Traceable (words main other : List ℕ) (n : ℕ) (frames : List Frame) (room : ℕ) : Type 0 where
+  pub some : 1 ≤ n
+  pub there : n ≤ length frames
+  pub fits : traceGood words (framesIn n frames) ≡ true → TraceFits words main other (getD frames (n - 1) noFrame) (n - 1) frames room
+
+-- the backtrace of n frames in numbers, or 16
+unfoldable pub traceInto : List ℕ → List ℕ → List ℕ → ℕ → List Frame → List ℕ → OutRes
+traceInto words main other n frames out =
+    if traceGood words (framesIn n frames)
+    then record { answer = t.Number n; out = written out 0 (traceWords words main other (framesIn n frames)) }
+    else record { answer = t.Refused 16; out = out }
+
+-- ---- making a machine
+
+unfoldable pub isDone : Started → Bool
+isDone (st.Done m) = true
+isDone (st.Broken i) = false
+isDone (st.Refused n) = false
+
+-- what making a machine answers beside a frame store of n places, and the other stores as they then are
+pub record Makes (w : List Frame → StartRes) (n : ℕ) (r : Started) (s : Stores) : Type 0 where
+  pub answer : (rs : List Frame) → length rs ≡ n → r ≡ w rs .answer
+  pub stores : (rs : List Frame) → length rs ≡ n → s ≡ w rs .stores

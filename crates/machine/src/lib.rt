@@ -1,0 +1,172 @@
+// A machine over lent stores: the public entries.
+mod running; // running.rt: a run's judging, its two ends, and recovery
+mod starting; // starting.rt: making a machine, all but its frame
+mod tracing; // tracing.rt: judging and writing a backtrace
+
+use crate::running::go;
+use crate::running::not_run;
+use crate::running::run_refusal;
+use crate::starting::first_frame;
+use crate::starting::is_done;
+use crate::starting::load_program;
+use crate::starting::new_program;
+use crate::tracing::put_trace;
+use crate::tracing::refused;
+use crate::tracing::trace_order;
+use crate::tracing::trace_refusal;
+use frames::write_frame;
+use model::Frame;
+use model::RunResult;
+use model::Started;
+use model::Told;
+use model::Vm;
+ghost use mathlib.Core.Path.{_≡_};
+ghost use mathlib.Core.List.{List};
+ghost use Prim.Native.Nat.{ℕ};
+ghost use Rattle.model.specs.Machines.{backtraceIn, RunPost, loadMachineOf, newMachineOf};
+ghost use Rattle.model.specs.Stores.{Stores};
+ghost use Rattle.program.specs.Links.{namesLent};
+ghost use Rattle.image.specs.Fills.{lent};
+ghost use Rattle.ends.specs.Links.{programLent};
+ghost use Rattle.machine.specs.Links.{runLent};
+
+// A run of the machine with `units`.
+pub fn run(
+    m: Vm,
+    units: u64,
+    constants: &[u64],
+    functions: &[u64],
+    text: &[u8],
+    main: &[u8],
+    main_places: &[u32],
+    other: &[u8],
+    other_places: &[u32],
+    stack: &mut [u64],
+    cells: &mut [u64],
+    frames: &mut [Frame],
+    copy: &mut [u64],
+    backtrace: &mut [u32],
+) -> RunResult
+    ensures { λ r. ⌜ ((structs : List ℕ) → RunPost m (programLent structs (now (constants .entry)) (now (functions .entry)) (now (text .entry)) (now (main .entry)) (now («main_places» .entry)) (now (other .entry)) (now («other_places» .entry))) (runLent (now (stack .entry)) (now (cells .entry)) (now (frames .entry)) (now (copy .entry)) (now (backtrace .entry))) units r (runLent (now (stack .exit)) (now (cells .exit)) (now (frames .exit)) (now (copy .exit)) (now (backtrace .exit)))) ⌝ }
+{
+    let why = run_refusal(
+        m,
+        copy.len(),
+        backtrace.len(),
+        constants,
+        functions,
+        text,
+        main,
+        main_places,
+        other,
+        other_places,
+        stack,
+        cells,
+        frames,
+    );
+    if why == 0 {
+        let answer = go(
+            m,
+            units,
+            constants,
+            functions,
+            text,
+            main,
+            main_places,
+            other,
+            other_places,
+            stack,
+            cells,
+            frames,
+            copy,
+            backtrace,
+        );
+        return answer;
+    }
+    let answer = not_run(why);
+    answer
+}
+
+// The backtrace of a machine's frames, into out, and how many entries it has.
+pub fn backtrace(
+    m: Vm,
+    functions: &[u64],
+    text: &[u8],
+    main: &[u8],
+    main_places: &[u32],
+    other: &[u8],
+    other_places: &[u32],
+    frames: &[Frame],
+    out: &mut [u32],
+) -> Told
+    ensures { λ r. ⌜ ((structs constants : List ℕ) → record { answer = r; out = now (out .exit) } ≡ backtraceIn m (programLent structs constants (now (functions .entry)) (now (text .entry)) (now (main .entry)) (now («main_places» .entry)) (now (other .entry)) (now («other_places» .entry))) (now (frames .entry)) (now (out .entry))) ⌝ }
+{
+    let n = m.frames;
+    let good = trace_order(
+        m,
+        functions,
+        text,
+        main,
+        main_places,
+        other,
+        other_places,
+        frames,
+    );
+    let why = trace_refusal(good, n, out.len());
+    if why == 0 {
+        let told = put_trace(n, functions, main_places, other_places, frames, out);
+        return told;
+    }
+    let told = refused(why);
+    told
+}
+
+// A machine over a new program.
+pub fn new(functions: &mut [u64], text: &mut [u8], frames: &mut [Frame]) -> Started
+    ensures { λ r. ⌜ ((rest : Stores) → record { answer = r; stores = namesLent rest (now (functions .exit)) (now (text .exit)); frames = now (frames .exit) } ≡ newMachineOf (namesLent rest (now (functions .entry)) (now (text .entry))) (now (frames .entry))) ⌝ }
+{
+    let made = new_program(functions, text, frames.len());
+    let done = is_done(made);
+    if done {
+        let f = first_frame();
+        write_frame(frames, 0, f);
+        return made;
+    }
+    made
+}
+
+// A machine over the program of an image.
+pub fn load(
+    image: &[u8],
+    constants: &mut [u64],
+    structs: &mut [u64],
+    functions: &mut [u64],
+    text: &mut [u8],
+    main: &mut [u8],
+    main_places: &mut [u32],
+    other: &mut [u8],
+    other_places: &mut [u32],
+    frames: &mut [Frame],
+) -> Started
+    ensures { λ r. ⌜ record { answer = r; stores = lent (now (constants .exit)) (now (structs .exit)) (now (functions .exit)) (now (text .exit)) (now (main .exit)) (now («main_places» .exit)) (now (other .exit)) (now («other_places» .exit)); frames = now (frames .exit) } ≡ loadMachineOf (now (image .entry)) (lent (now (constants .entry)) (now (structs .entry)) (now (functions .entry)) (now (text .entry)) (now (main .entry)) (now («main_places» .entry)) (now (other .entry)) (now («other_places» .entry))) (now (frames .entry)) ⌝ }
+{
+    let made = load_program(
+        image,
+        constants,
+        structs,
+        functions,
+        text,
+        main,
+        main_places,
+        other,
+        other_places,
+        frames.len(),
+    );
+    let done = is_done(made);
+    if done {
+        let f = first_frame();
+        write_frame(frames, 0, f);
+        return made;
+    }
+    made
+}

@@ -1,0 +1,239 @@
+// A run over lent stores: its judging, its beginning, its end, and what it leaves where a fault stops it.
+use crate::tracing::counted;
+use arms::Going;
+use ends::begin;
+use ends::copy_front;
+use ends::ended;
+use ends::faulted;
+use ends::fixed;
+use ends::innermost_at;
+use ends::judge;
+use ends::root_at;
+use ends::too_short;
+use frames::backtrace::trace;
+use frames::order::frames_ok;
+use frames::read_frame;
+use frames::write_frame;
+use model::Frame;
+use model::RunResult;
+use model::Vm;
+use program::words::room;
+use turns::frame_of;
+use turns::turns;
+ghost use mathlib.Core.Path.{_≡_};
+ghost use mathlib.Core.List.{List, _∷_};
+ghost use Prim.Native.Nat.{ℕ, _-_, _*_, _<_, _≤_, _^_};
+ghost use lib.ListN.{length, getD, set, take};
+ghost use Rattle.model.specs.declared.RunResult.the-variants as v;
+ghost use Rattle.model.specs.Runs.{root};
+ghost use Rattle.model.specs.Stores.{size, codeWord};
+ghost use Rattle.model.specs.Emission.{written};
+ghost use Rattle.model.specs.Machines.{RunPost};
+ghost use Rattle.arms.specs.Links.{frameIn};
+ghost use Rattle.frames.specs.Links.{noFrame, callersOf, traceWords, TraceFits};
+ghost use Rattle.ends.specs.Links.{programLent, Begun, endedWith, faultedWith};
+ghost use Rattle.machine.specs.Links.{runLent, Granted, refusalBy, RunJudged};
+
+// 19 or 17, or 0: by the good order of all but the frames, that of the frames, and whether a store is too short.
+fn refusal(good: bool, fine: bool, short: bool) -> u8
+    ensures { λ r. ⌜ r ≡ refusalBy good fine short ⌝ }
+{
+    if good {
+        if fine {
+            if short {
+                return 17;
+            }
+            return 0;
+        }
+        return 19;
+    }
+    19
+}
+
+// Why a run is refused, or 0. The copy and the backtrace store are judged by their lengths.
+pub fn run_refusal(
+    m: Vm,
+    copies: usize,
+    entries: usize,
+    constants: &[u64],
+    functions: &[u64],
+    text: &[u8],
+    main: &[u8],
+    main_places: &[u32],
+    other: &[u8],
+    other_places: &[u32],
+    stack: &[u64],
+    cells: &[u64],
+    frames: &[Frame],
+) -> u8
+    ensures { λ r. ⌜ ((structs copy backtrace : List ℕ) → length copy ≡ copies → length backtrace ≡ entries → RunJudged m (programLent structs (now (constants .entry)) (now (functions .entry)) (now (text .entry)) (now (main .entry)) (now («main_places» .entry)) (now (other .entry)) (now («other_places» .entry))) (runLent (now (stack .entry)) (now (cells .entry)) (now (frames .entry)) copy backtrace) r) ⌝ }
+{
+    let n = m.frames;
+    let good = judge(
+        m,
+        constants,
+        functions,
+        text,
+        main,
+        main_places,
+        other,
+        other_places,
+        stack,
+        cells,
+    );
+    let count = counted(good, m);
+    let slots = room(stack.len(), 2);
+    let fine = frames_ok(functions, count, slots, n, frames);
+    let short = too_short(stack.len(), frames.len(), copies, entries);
+    let why = refusal(good, fine, short);
+    why
+}
+
+// The beginning: the stack is copied, and the innermost frame is read.
+fn start(m: Vm, units: u64, stack: &[u64], frames: &[Frame], copy: &mut [u64]) -> Going
+    requires { ⌜ (2 * m .stack ≤ length (now stack)) × (2 * m .stack ≤ length (now copy)) × (m .frames - 1 < length (now frames)) ⌝ }
+    ensures { λ r. ⌜ Begun m (getD (now (frames .entry)) (m .frames - 1) noFrame) units r × (now (copy .exit) ≡ written (now (copy .entry)) 0 (take (2 * m .stack) (now (stack .entry)))) ⌝ }
+{
+    let n = m.stack;
+    copy_front(n, stack, copy);
+    let count = m.frames;
+    let at = innermost_at(count);
+    let f = read_frame(frames, at);
+    let g = begin(m, f, units);
+    g
+}
+
+// How much of the text is taken.
+fn text_of(m: Vm) -> usize
+    ensures { λ r. ⌜ r ≡ m .program .text ⌝ }
+{
+    m.program.text
+}
+
+// The end of a run that no fault stops: the innermost frame goes back to its store.
+fn finish(m: Vm, units: u64, g: Going, frames: &mut [Frame]) -> RunResult
+    requires { ⌜ (g .units ≤ units) × (g .callers < 2 ^ 32) × (g .callers < length (now frames)) ⌝ }
+    ensures { λ r. ⌜ (r ≡ endedWith m units g) × (now (frames .exit) ≡ set (now (frames .entry)) (g .callers) (frameIn g)) ⌝ }
+{
+    let f = frame_of(g);
+    let at = g.callers;
+    write_frame(frames, at, f);
+    let answer = ended(m, units, g);
+    answer
+}
+
+// The copied values back to the front of the stack.
+fn put_back(n: usize, stack: &mut [u64], copy: &[u64])
+    requires { ⌜ (2 * n ≤ length (now copy)) × (2 * n ≤ length (now stack)) ⌝ }
+    ensures { λ _. ⌜ now (stack .exit) ≡ written (now (stack .entry)) 0 (take (2 * n) (now (copy .entry))) ⌝ }
+{
+    copy_front(n, copy, stack);
+}
+
+// Recovery: the starting stack of n values, and one frame at the end of main.
+fn recover(n: usize, functions: &[u64], stack: &mut [u64], frames: &mut [Frame], copy: &[u64])
+    requires { ⌜ (2 * n ≤ length (now copy)) × (2 * n ≤ length (now stack)) × (0 < length (now frames)) ⌝ }
+    ensures { λ _. ⌜ (now (stack .exit) ≡ written (now (stack .entry)) 0 (take (2 * n) (now (copy .entry)))) × (now (frames .exit) ≡ set (now (frames .entry)) 0 (root (size (codeWord (now (functions .entry)) 0)))) ⌝ }
+{
+    put_back(n, stack, copy);
+    let f = root_at(functions);
+    write_frame(frames, 0, f);
+}
+
+// The end of a run that a fault stops: its backtrace, then recovery.
+fn stop(
+    m: Vm,
+    units: u64,
+    g: Going,
+    fault: u8,
+    functions: &[u64],
+    main_places: &[u32],
+    other_places: &[u32],
+    stack: &mut [u64],
+    frames: &mut [Frame],
+    copy: &[u64],
+    backtrace: &mut [u32],
+) -> RunResult
+    requires { ⌜ (g .units ≤ units) × (g .callers < 2 ^ 32) × TraceFits (now functions) (now «main_places») (now «other_places») (frameIn g) (g .callers) (now frames) (length (now backtrace)) × (2 * m .stack ≤ length (now copy)) × (2 * m .stack ≤ length (now stack)) × (0 < length (now frames)) ⌝ }
+    ensures { λ r. ⌜ (r ≡ faultedWith m units g fault) × (now (backtrace .exit) ≡ written (now (backtrace .entry)) 0 (traceWords (now (functions .entry)) (now («main_places» .entry)) (now («other_places» .entry)) (frameIn g ∷ callersOf (g .callers) (now (frames .entry))))) × (now (stack .exit) ≡ written (now (stack .entry)) 0 (take (2 * m .stack) (now (copy .entry)))) × (now (frames .exit) ≡ set (now (frames .entry)) 0 (root (size (codeWord (now (functions .entry)) 0)))) ⌝ }
+{
+    let f = frame_of(g);
+    let callers = g.callers;
+    trace(
+        functions,
+        main_places,
+        other_places,
+        f,
+        callers,
+        frames,
+        backtrace,
+    );
+    let n = m.stack;
+    recover(n, functions, stack, frames, copy);
+    let answer = faulted(m, units, g, fault);
+    answer
+}
+
+// The run itself, in good order and with stores that are long enough.
+pub fn go(
+    m: Vm,
+    units: u64,
+    constants: &[u64],
+    functions: &[u64],
+    text: &[u8],
+    main: &[u8],
+    main_places: &[u32],
+    other: &[u8],
+    other_places: &[u32],
+    stack: &mut [u64],
+    cells: &mut [u64],
+    frames: &mut [Frame],
+    copy: &mut [u64],
+    backtrace: &mut [u32],
+) -> RunResult
+    requires { ⌜ ((structs : List ℕ) → Granted m (programLent structs (now constants) (now functions) (now text) (now main) (now «main_places») (now other) (now «other_places»)) (runLent (now stack) (now cells) (now frames) (now copy) (now backtrace))) ⌝ }
+    ensures { λ r. ⌜ ((structs : List ℕ) → RunPost m (programLent structs (now (constants .entry)) (now (functions .entry)) (now (text .entry)) (now (main .entry)) (now («main_places» .entry)) (now (other .entry)) (now («other_places» .entry))) (runLent (now (stack .entry)) (now (cells .entry)) (now (frames .entry)) (now (copy .entry)) (now (backtrace .entry))) units r (runLent (now (stack .exit)) (now (cells .exit)) (now (frames .exit)) (now (copy .exit)) (now (backtrace .exit)))) ⌝ }
+{
+    let k = fixed(m, stack.len(), frames.len());
+    let begun = start(m, units, stack, frames, copy);
+    let n = text_of(m);
+    let c = turns(
+        k,
+        begun,
+        n,
+        constants,
+        functions,
+        text,
+        main,
+        other,
+        stack,
+        cells,
+        frames,
+    );
+    let g = c.going;
+    let fault = c.fault;
+    if fault == 0 {
+        let answer = finish(m, units, g, frames);
+        return answer;
+    }
+    let answer = stop(
+        m,
+        units,
+        g,
+        fault,
+        functions,
+        main_places,
+        other_places,
+        stack,
+        frames,
+        copy,
+        backtrace,
+    );
+    answer
+}
+
+pub fn not_run(n: u8) -> RunResult
+    ensures { λ r. ⌜ r ≡ v.Refused n ⌝ }
+{
+    RunResult::Refused(n)
+}

@@ -1,0 +1,129 @@
+// Making a machine that has not run: all but its frame.
+use image::Judgement;
+use image::judge;
+use image::load;
+use model::Counts;
+use model::Emitted;
+use model::Frame;
+use model::Last;
+use model::Loaded;
+use model::Started;
+use model::Vm;
+use program::functions::new;
+ghost use mathlib.Core.Path.{_≡_};
+ghost use Prim.Native.Nat.{ℕ};
+ghost use Rattle.model.specs.Runs.{root};
+ghost use Rattle.model.specs.Stores.{Stores};
+ghost use Rattle.model.specs.Machines.{fresh, loadMachineOf, newMachineOf};
+ghost use Rattle.program.specs.Links.{namesLent};
+ghost use Rattle.image.specs.Fills.{lent};
+ghost use Rattle.machine.specs.Links.{isDone, Makes};
+
+// An empty stack, no last result, one frame.
+fn fresh_vm(c: Counts) -> Vm
+    ensures { λ r. ⌜ r ≡ fresh c ⌝ }
+{
+    Vm {
+        program: c,
+        stack: 0,
+        frames: 1,
+        cells: 0,
+        last: Last::Nothing,
+    }
+}
+
+// The first frame: function 0, base 0, position 0.
+pub fn first_frame() -> Frame
+    ensures { λ r. ⌜ r ≡ root 0 ⌝ }
+{
+    Frame {
+        function: 0,
+        position: 0,
+        base: 0,
+    }
+}
+
+pub fn is_done(r: Started) -> bool
+    ensures { λ b. ⌜ b ≡ isDone r ⌝ }
+{
+    match r {
+        Started::Done(m) => true,
+        Started::Broken(i) => false,
+        Started::Refused(n) => false,
+    }
+}
+
+// What loading answers where there is no place for a frame: what is wrong with the image comes first.
+fn no_place(image: &[u8]) -> Started
+    ensures { λ r. ⌜ ((s : Stores) → Makes (loadMachineOf (now (image .entry)) s) 0 r s) ⌝ }
+{
+    match judge(image) {
+        Judgement::Broken(o) => Started::Broken(o),
+        Judgement::Fine(z) => {
+            let within = (z.constants <= 65535)
+                & (z.structs <= 65536)
+                & (z.functions <= 65536)
+                & z.within;
+            if within {
+                return Started::Refused(21);
+            }
+            Started::Refused(22)
+        }
+    }
+}
+
+// Loads the program; `frames` is how many places the frame store has.
+pub fn load_program(
+    image: &[u8],
+    constants: &mut [u64],
+    structs: &mut [u64],
+    functions: &mut [u64],
+    text: &mut [u8],
+    main: &mut [u8],
+    main_places: &mut [u32],
+    other: &mut [u8],
+    other_places: &mut [u32],
+    frames: usize,
+) -> Started
+    ensures { λ r. ⌜ Makes (loadMachineOf (now (image .entry)) (lent (now (constants .entry)) (now (structs .entry)) (now (functions .entry)) (now (text .entry)) (now (main .entry)) (now («main_places» .entry)) (now (other .entry)) (now («other_places» .entry)))) frames r (lent (now (constants .exit)) (now (structs .exit)) (now (functions .exit)) (now (text .exit)) (now (main .exit)) (now («main_places» .exit)) (now (other .exit)) (now («other_places» .exit))) ⌝ }
+{
+    if frames == 0 {
+        return no_place(image);
+    }
+    let loaded = load(
+        image,
+        constants,
+        structs,
+        functions,
+        text,
+        main,
+        main_places,
+        other,
+        other_places,
+    );
+    match loaded {
+        Loaded::Done(c) => {
+            let m = fresh_vm(c);
+            Started::Done(m)
+        }
+        Loaded::Broken(i) => Started::Broken(i),
+        Loaded::Refused(n) => Started::Refused(n),
+    }
+}
+
+// Emits a new program; `frames` is how many places the frame store has.
+pub fn new_program(functions: &mut [u64], text: &mut [u8], frames: usize) -> Started
+    ensures { λ r. ⌜ ((rest : Stores) → Makes (newMachineOf (namesLent rest (now (functions .entry)) (now (text .entry)))) frames r (namesLent rest (now (functions .exit)) (now (text .exit)))) ⌝ }
+{
+    if frames == 0 {
+        return Started::Refused(21);
+    }
+    let emitted = new(functions, text);
+    match emitted {
+        Emitted::Done(c, n) => {
+            let m = fresh_vm(c);
+            Started::Done(m)
+        }
+        Emitted::Refused(n) => Started::Refused(n),
+    }
+}

@@ -1,0 +1,12 @@
+use borrow.Author.Needs.{needs}
+use Rattle.turns.proofs.stopped.Statement.{statement}
+use Rattle.turns.proofs.stopped.Tie as tie
+
+fault-number-requires : tie.Need-fault-number-requires
+fault-number-requires c κs = search needs
+
+returns : tie.Need-returns
+returns c = rw (c .fault-number .ensures)
+
+pub stopped-spec : {M : Type 1} → statement M
+stopped-spec = tie.close (tie.spec fault-number-requires returns)
