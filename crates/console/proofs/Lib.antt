@@ -1,0 +1,4 @@
+pub mod Weights
+pub mod Switches
+pub mod Arrays
+pub mod Calls

@@ -1,0 +1,53 @@
+use borrow.Author.Needs.{needs}
+use native.Mathlib.Omega.{arith}
+use Rattle.console.proofs.script.words_from.Statement.{statement}
+use Rattle.console.proofs.script.words_from.Tie as tie
+
+abbrev Inv-loop : tie.InvT-loop
+Inv-loop line k at₀ left₀ at left = Unit {0}
+
+abbrev μ-loop : tie.MeasureT-loop
+μ-loop line k at₀ left₀ at left = left
+
+next-word-requires : tie.Need-next-word-requires Inv-loop μ-loop
+next-word-requires c κs = search needs
+
+loop-holds : tie.Need-loop-holds Inv-loop μ-loop
+loop-holds c = tt
+
+next-of-requires : tie.Need-next-of-requires Inv-loop μ-loop
+next-of-requires c κs = search needs
+
+next-word-requires-2 : tie.Need-next-word-requires-2 Inv-loop μ-loop
+next-word-requires-2 c κs = search needs
+
+sub-left : tie.Need-sub-left Inv-loop μ-loop
+sub-left c = omega arith
+
+loop-less : tie.Need-loop-less Inv-loop μ-loop
+loop-less c = omega arith
+
+loop-again : tie.Need-loop-again Inv-loop μ-loop
+loop-again c = tt
+
+cut-requires : tie.Need-cut-requires Inv-loop μ-loop
+cut-requires c κs = search needs
+
+returns : tie.Need-returns Inv-loop μ-loop
+returns c = search needs
+
+pub words-from-spec : {M : Type 1} → statement M
+words-from-spec =
+    tie.close
+    (tie.spec
+    Inv-loop
+    μ-loop
+    next-word-requires
+    loop-holds
+    next-of-requires
+    next-word-requires-2
+    sub-left
+    loop-less
+    loop-again
+    cut-requires
+    returns)

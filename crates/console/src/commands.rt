@@ -1,0 +1,497 @@
+// What a line asks, and all that needs no frames.
+use crate::bridge::Call;
+use crate::damage;
+use crate::emission;
+use crate::say;
+use crate::script;
+use crate::script::Line;
+use crate::script::Most;
+use crate::script::word;
+use model::Counts;
+use model::Frame;
+use model::Last;
+use model::Told;
+use model::Vm;
+use program::code::current_offset;
+use program::functions::get_function_idx;
+use program::words::same_bytes;
+
+// What a line asks: a call over frames, with an image of so many bytes; or something else.
+pub enum Asked {
+    Frames(Call, usize),
+    Other,
+}
+
+// What line l asks. An image's bytes go into space.
+pub fn ask(l: Line, text: &[u8], space: &mut [u8]) -> Asked {
+    let line = script::bytes_of(text, l);
+    let what = word(line, 0);
+    let only = script::words_from(line, 1);
+    let alone = only.len() == 0;
+    if same_bytes(what, b"new") & alone {
+        return Asked::Frames(Call::New, 0);
+    }
+    if same_bytes(what, b"trace") & alone {
+        return Asked::Frames(Call::Trace, 0);
+    }
+    if same_bytes(what, b"run") {
+        let n = script::decimal(only);
+        if n.good {
+            return Asked::Frames(Call::Run(n.is), 0);
+        }
+        return Asked::Other;
+    }
+    if same_bytes(what, b"image") {
+        let b = script::read_bytes(only, space);
+        if b.good {
+            return Asked::Frames(Call::Load, b.size);
+        }
+    }
+    Asked::Other
+}
+
+// The commands that need no frames, in groups.
+enum Group {
+    Code,
+    Patch,
+    Constant,
+    Name,
+    Look,
+    Count,
+    Result,
+    Poke,
+    Frame,
+    Sum,
+    Said,
+    Unknown,
+}
+
+fn is_code(what: &[u8]) -> bool {
+    same_bytes(what, b"op") | same_bytes(what, b"op1") | same_bytes(what, b"op2") | same_bytes(what, b"op3")
+}
+
+fn is_constant(what: &[u8]) -> bool {
+    same_bytes(what, b"scalar") | same_bytes(what, b"boolean") | same_bytes(what, b"string") | same_bytes(what, b"reference")
+}
+
+fn is_name(what: &[u8]) -> bool {
+    same_bytes(what, b"struct") | same_bytes(what, b"begin") | same_bytes(what, b"end")
+}
+
+fn is_look(what: &[u8]) -> bool {
+    same_bytes(what, b"offset") | same_bytes(what, b"find") | same_bytes(what, b"save") | same_bytes(what, b"list")
+}
+
+// A blank line, or a comment.
+fn is_said(what: &[u8]) -> bool {
+    if what.len() == 0 {
+        return true;
+    }
+    what[0] == b'#'
+}
+
+fn group_of(what: &[u8]) -> Group {
+    if is_said(what) {
+        return Group::Said;
+    }
+    if is_code(what) {
+        return Group::Code;
+    }
+    if is_constant(what) {
+        return Group::Constant;
+    }
+    if is_name(what) {
+        return Group::Name;
+    }
+    if is_look(what) {
+        return Group::Look;
+    }
+    if same_bytes(what, b"patch") {
+        return Group::Patch;
+    }
+    if same_bytes(what, b"count") {
+        return Group::Count;
+    }
+    if same_bytes(what, b"result") {
+        return Group::Result;
+    }
+    if same_bytes(what, b"poke") {
+        return Group::Poke;
+    }
+    if same_bytes(what, b"frame") {
+        return Group::Frame;
+    }
+    if same_bytes(what, b"sum") {
+        return Group::Sum;
+    }
+    Group::Unknown
+}
+
+// A comment that begins with `#!` is echoed.
+fn echo(line: &[u8]) {
+    if same_bytes(word(line, 0), b"#!") {
+        say::say(script::words_from(line, 1));
+        say::say(b"\n");
+    }
+}
+
+// Bytes in hex.
+fn say_bytes(s: &[u8]) {
+    let mut i = 0;
+    while i < s.len() {
+        say::say_byte(s[i]);
+        i += 1;
+    }
+    say::say(b"\n");
+}
+
+// `save`: the image, in hex.
+fn save(
+    c: Counts,
+    constants: &[u64],
+    structs: &[u64],
+    functions: &[u64],
+    text: &[u8],
+    main: &[u8],
+    main_places: &[u32],
+    other: &[u8],
+    other_places: &[u32],
+    space: &mut [u8],
+    number: u64,
+) {
+    let told = image::save(
+        c,
+        constants,
+        structs,
+        functions,
+        text,
+        main,
+        main_places,
+        other,
+        other_places,
+        space,
+    );
+    match told {
+        Told::Number(n) => {
+            say::say_count(b"image ", n);
+            say::say(b" ");
+            say_bytes(script::cut(space, 0, n));
+        }
+        Told::Refused(n) => say::say_refused(n, number),
+    }
+}
+
+// `list`: the listing.
+fn list<'a>(
+    c: Counts,
+    functions: &[u64],
+    text: &[u8],
+    main: &'a [u8],
+    other: &'a [u8],
+    space: &mut [u8],
+    number: u64,
+) {
+    let told = listing::disassemble(c, functions, text, main, other, space);
+    match told {
+        Told::Number(n) => say::say(script::cut(space, 0, n)),
+        Told::Refused(n) => say::say_refused(n, number),
+    }
+}
+
+// `offset`, `find HEX`, `save`, `list`.
+fn look<'a>(
+    c: Counts,
+    line: &[u8],
+    number: u64,
+    space: &mut [u8],
+    constants: &[u64],
+    structs: &[u64],
+    functions: &[u64],
+    text: &[u8],
+    main: &'a [u8],
+    main_places: &[u32],
+    other: &'a [u8],
+    other_places: &[u32],
+) {
+    let what = word(line, 0);
+    if same_bytes(what, b"offset") {
+        say::say_told(current_offset(c, functions), number);
+        return;
+    }
+    if same_bytes(what, b"save") {
+        save(
+            c,
+            constants,
+            structs,
+            functions,
+            text,
+            main,
+            main_places,
+            other,
+            other_places,
+            space,
+            number,
+        );
+        return;
+    }
+    if same_bytes(what, b"list") {
+        list(c, functions, text, main, other, space, number);
+        return;
+    }
+    let b = script::read_bytes(script::words_from(line, 1), space);
+    if b.good {
+        let name = script::cut(space, 0, b.size);
+        say::say_told(get_function_idx(c, name, functions, text), number);
+        return;
+    }
+    say::say_unknown(number);
+}
+
+// Damage is not answered, unless it is not understood.
+fn damaged(m: Vm, d: damage::Changed, number: u64) -> Vm {
+    if d.good {
+        return d.m;
+    }
+    say::say_unknown(number);
+    m
+}
+
+fn poked(good: bool, number: u64) {
+    if !good {
+        say::say_unknown(number);
+    }
+}
+
+// `frame I` shows a frame, `frame I FUNCTION POSITION BASE` puts one.
+fn frame(line: &[u8], number: u64, frames: &mut [u64]) {
+    let most = 0xFFFF_FFFF_FFFF;
+    let limits = Most {
+        a: most,
+        b: most,
+        c: most,
+        d: most,
+        e: most,
+    };
+    let one = script::read_args(line, 1, 2, limits);
+    if one.good {
+        say::say_frame(damage::frame_in(frames, one.a as usize));
+        return;
+    }
+    let all = script::read_args(line, 1, 5, limits);
+    if all.good {
+        let f = Frame {
+            function: all.b as usize,
+            position: all.c as usize,
+            base: all.d as usize,
+        };
+        damage::put_frame(frames, all.a as usize, f);
+        return;
+    }
+    say::say_unknown(number);
+}
+
+// The checksum of the counts, the last result and all stores.
+fn sum(
+    m: Vm,
+    constants: &[u64],
+    structs: &[u64],
+    functions: &[u64],
+    text: &[u8],
+    main: &[u8],
+    main_places: &[u32],
+    other: &[u8],
+    other_places: &[u32],
+    stack: &[u64],
+    cells: &[u64],
+    copy: &[u64],
+    trace: &[u32],
+    frames: &[u64],
+) -> u64 {
+    let a = damage::mixed_counts(0, m);
+    let b = damage::mixed_words(a, constants);
+    let c = damage::mixed_words(b, structs);
+    let d = damage::mixed_words(c, functions);
+    let e = damage::mixed_bytes(d, text);
+    let f = damage::mixed_bytes(e, main);
+    let g = damage::mixed_places(f, main_places);
+    let h = damage::mixed_bytes(g, other);
+    let i = damage::mixed_places(h, other_places);
+    let j = damage::mixed_words(i, stack);
+    let k = damage::mixed_words(j, cells);
+    let n = damage::mixed_words(k, copy);
+    let o = damage::mixed_places(n, trace);
+    damage::mixed_words(o, frames)
+}
+
+// A line that emits; the machine as it then is.
+fn emit(
+    m: Vm,
+    group: Group,
+    line: &[u8],
+    number: u64,
+    space: &mut [u8],
+    constants: &mut [u64],
+    structs: &mut [u64],
+    functions: &mut [u64],
+    text: &mut [u8],
+    main: &mut [u8],
+    main_places: &mut [u32],
+    other: &mut [u8],
+    other_places: &mut [u32],
+) -> Vm {
+    let c = m.program;
+    match group {
+        Group::Code => {
+            let e = emission::emit_code(
+                c,
+                line,
+                functions,
+                main,
+                main_places,
+                other,
+                other_places,
+            );
+            say::say_emitted(m, e, number)
+        }
+        Group::Patch => {
+            let e = emission::emit_patch(c, line, functions, main, other);
+            say::say_emitted(m, e, number)
+        }
+        Group::Constant => {
+            let e = emission::emit_constant(c, line, space, constants, text);
+            say::say_emitted(m, e, number)
+        }
+        _ => {
+            let e = emission::emit_name(c, line, space, structs, functions, text);
+            say::say_emitted(m, e, number)
+        }
+    }
+}
+
+// A line that needs no frames; the machine as it then is.
+pub fn obey(
+    m: Vm,
+    l: Line,
+    script: &[u8],
+    space: &mut [u8],
+    constants: &mut [u64],
+    structs: &mut [u64],
+    functions: &mut [u64],
+    text: &mut [u8],
+    main: &mut [u8],
+    main_places: &mut [u32],
+    other: &mut [u8],
+    other_places: &mut [u32],
+    stack: &mut [u64],
+    cells: &mut [u64],
+    copy: &[u64],
+    trace: &[u32],
+    frames: &mut [u64],
+) -> Vm {
+    let line = script::bytes_of(script, l);
+    let number = l.number;
+    let group = group_of(word(line, 0));
+    match group {
+        Group::Look => {
+            look(
+                m.program,
+                line,
+                number,
+                space,
+                constants,
+                structs,
+                functions,
+                text,
+                main,
+                main_places,
+                other,
+                other_places,
+            );
+            m
+        }
+        Group::Count => damaged(m, damage::with_count(m, line), number),
+        Group::Result => damaged(m, damage::with_result(m, line), number),
+        Group::Poke => {
+            let good = damage::poke(
+                line,
+                constants,
+                structs,
+                functions,
+                text,
+                main,
+                main_places,
+                other,
+                other_places,
+                stack,
+                cells,
+            );
+            poked(good, number);
+            m
+        }
+        Group::Frame => {
+            frame(line, number, frames);
+            m
+        }
+        Group::Sum => {
+            let h = sum(
+                m,
+                constants,
+                structs,
+                functions,
+                text,
+                main,
+                main_places,
+                other,
+                other_places,
+                stack,
+                cells,
+                copy,
+                trace,
+                frames,
+            );
+            say::say_sum(h);
+            m
+        }
+        Group::Said => {
+            echo(line);
+            m
+        }
+        Group::Unknown => {
+            say::say_unknown(number);
+            m
+        }
+        _ => emit(
+            m,
+            group,
+            line,
+            number,
+            space,
+            constants,
+            structs,
+            functions,
+            text,
+            main,
+            main_places,
+            other,
+            other_places,
+        ),
+    }
+}
+
+// A machine before any is made: nothing is in good order yet.
+pub fn no_machine() -> Vm {
+    let program = Counts {
+        constants: 0,
+        structs: 0,
+        functions: 0,
+        text: 0,
+        current: 0,
+    };
+    Vm {
+        program,
+        stack: 0,
+        frames: 0,
+        cells: 0,
+        last: Last::Nothing,
+    }
+}

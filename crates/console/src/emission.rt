@@ -1,0 +1,224 @@
+// The commands that emit a program: each calls one entry of emission.
+use crate::script::Args;
+use crate::script::Most;
+use crate::script::read_args;
+use crate::script::read_bytes;
+use crate::script::cut;
+use crate::script::hex;
+use crate::script::word;
+use crate::script::words_from;
+use model::Constant;
+use model::Counts;
+use model::Emitted;
+use program::code;
+use program::constants::add_constant;
+use program::functions::begin_function;
+use program::functions::end_function;
+use program::structs::add_struct_info;
+use program::words::same_bytes;
+
+fn byte(n: u64) -> u8 {
+    (n % 0x100) as u8
+}
+
+fn operand(n: u64) -> u16 {
+    (n % 0x1_0000) as u16
+}
+
+fn place(n: u64) -> u32 {
+    (n % 0x1_0000_0000) as u32
+}
+
+// The numbers of an opcode with its operands; the place is the word before end.
+fn op_args(line: &[u8], end: usize) -> Args {
+    let most = 0xFFFF_FFFF;
+    read_args(
+        line,
+        1,
+        end,
+        Most {
+            a: 255,
+            b: most,
+            c: most,
+            d: most,
+            e: most,
+        },
+    )
+}
+
+// A number above an operand's most.
+fn wide(n: u64) -> bool {
+    0xFFFF < n
+}
+
+// A line that is not understood.
+fn unknown() -> Emitted {
+    Emitted::Refused(0)
+}
+
+// `op N PLACE`, and `op1`, `op2`, `op3` with operands between.
+pub fn emit_code(
+    c: Counts,
+    line: &[u8],
+    functions: &mut [u64],
+    main: &mut [u8],
+    main_places: &mut [u32],
+    other: &mut [u8],
+    other_places: &mut [u32],
+) -> Emitted {
+    let what = word(line, 0);
+    if same_bytes(what, b"op") {
+        let n = op_args(line, 3);
+        if n.good {
+            return code::add_op(
+                c,
+                byte(n.a),
+                place(n.b),
+                functions,
+                main,
+                main_places,
+                other,
+                other_places,
+            );
+        }
+        return unknown();
+    }
+    if same_bytes(what, b"op1") {
+        let n = op_args(line, 4);
+        if !n.good | wide(n.b) {
+            return unknown();
+        }
+        return code::add_op1(
+            c,
+            byte(n.a),
+            operand(n.b),
+            place(n.c),
+            functions,
+            main,
+            main_places,
+            other,
+            other_places,
+        );
+    }
+    if same_bytes(what, b"op2") {
+        let n = op_args(line, 5);
+        if !n.good | wide(n.b) | wide(n.c) {
+            return unknown();
+        }
+        return code::add_op2(
+            c,
+            byte(n.a),
+            operand(n.b),
+            operand(n.c),
+            place(n.d),
+            functions,
+            main,
+            main_places,
+            other,
+            other_places,
+        );
+    }
+    let n = op_args(line, 6);
+    if !n.good | wide(n.b) | wide(n.c) | wide(n.d) {
+        return unknown();
+    }
+    code::add_op3(
+        c,
+        byte(n.a),
+        operand(n.b),
+        operand(n.c),
+        operand(n.d),
+        place(n.e),
+        functions,
+        main,
+        main_places,
+        other,
+        other_places,
+    )
+}
+
+// `patch AT VALUE`.
+pub fn emit_patch(
+    c: Counts,
+    line: &[u8],
+    functions: &[u64],
+    main: &mut [u8],
+    other: &mut [u8],
+) -> Emitted {
+    let n = read_args(
+        line,
+        1,
+        3,
+        Most {
+            a: 0xFFFF,
+            b: 0xFFFF,
+            c: 0,
+            d: 0,
+            e: 0,
+        },
+    );
+    if n.good {
+        return code::patch_u16_value_at(c, operand(n.a), operand(n.b), functions, main, other);
+    }
+    unknown()
+}
+
+// `scalar HEX16`, `boolean 0` or `1`, `string HEX`, `reference HEX`. A text's bytes go by way of space.
+pub fn emit_constant(
+    c: Counts,
+    line: &[u8],
+    space: &mut [u8],
+    constants: &mut [u64],
+    text: &mut [u8],
+) -> Emitted {
+    let what = word(line, 0);
+    if same_bytes(what, b"scalar") {
+        let n = hex(words_from(line, 1));
+        if n.good {
+            return add_constant(c, Constant::Scalar(n.is), b"", constants, text);
+        }
+        return unknown();
+    }
+    if same_bytes(what, b"boolean") {
+        let n = read_args(line, 1, 2, Most { a: 1, b: 0, c: 0, d: 0, e: 0 });
+        if n.good {
+            return add_constant(c, Constant::Boolean(n.a == 1), b"", constants, text);
+        }
+        return unknown();
+    }
+    let b = read_bytes(words_from(line, 1), space);
+    if b.good {
+        let lent = cut(space, 0, b.size);
+        if same_bytes(what, b"string") {
+            return add_constant(c, Constant::String, lent, constants, text);
+        }
+        return add_constant(c, Constant::FunctionReference, lent, constants, text);
+    }
+    unknown()
+}
+
+// `struct HEX`, `begin HEX`, `end`.
+pub fn emit_name(
+    c: Counts,
+    line: &[u8],
+    space: &mut [u8],
+    structs: &mut [u64],
+    functions: &mut [u64],
+    text: &mut [u8],
+) -> Emitted {
+    let what = word(line, 0);
+    let b = read_bytes(words_from(line, 1), space);
+    if b.good {
+        let name = cut(space, 0, b.size);
+        if same_bytes(what, b"struct") {
+            return add_struct_info(c, name, structs, text);
+        }
+        if same_bytes(what, b"begin") {
+            return begin_function(c, name, functions, text);
+        }
+        if name.len() == 0 {
+            return end_function(c);
+        }
+    }
+    unknown()
+}

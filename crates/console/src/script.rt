@@ -1,0 +1,305 @@
+// A script's lines, their words, and the numbers and bytes that words say.
+ghost use Prim.Native.Nat.{_≤_};
+ghost use Rattle.console.specs.Lines.{weight};
+
+// A line: where it starts and ends, its number, whether there is such a line, and how many more there can be.
+pub struct Line {
+    pub start: usize,
+    pub end: usize,
+    pub number: u64,
+    pub on: bool,
+    pub left: usize,
+}
+
+// Where the byte b is next, or the end.
+fn next_of(s: &[u8], b: u8, at: usize) -> usize {
+    let mut i = at;
+    while i < s.len() {
+        if s[i] == b {
+            return i;
+        }
+        i += 1;
+    }
+    i
+}
+
+// Where a byte that is not a blank is next, or the end.
+fn next_word(s: &[u8], at: usize) -> usize {
+    let mut i = at;
+    while i < s.len() {
+        if s[i] != b' ' {
+            return i;
+        }
+        i += 1;
+    }
+    i
+}
+
+// The bytes from one place to another; none where they are not all there.
+pub fn cut(s: &[u8], from: usize, to: usize) -> &[u8] {
+    if from <= to {
+        if to <= s.len() {
+            return &s[from..to];
+        }
+    }
+    &s[..0]
+}
+
+pub fn first_line(script: &[u8]) -> Line {
+    Line {
+        start: 0,
+        end: next_of(script, b'\n', 0),
+        number: 1,
+        on: true,
+        left: script.len(),
+    }
+}
+
+// The line behind l. There are no more lines than bytes.
+pub fn next_line(l: Line, script: &[u8]) -> Line
+    ensures { λ r. ⌜ weight (r .on) (r .left) ≤ l .left ⌝ }
+{
+    let left = l.left;
+    let end = l.end;
+    let size = script.len();
+    if left > 0 {
+        if end < size {
+            let start = end + 1;
+            if start < size {
+                let to = next_of(script, b'\n', start);
+                let number = l.number % 0x1_0000_0000 + 1;
+                let fewer = left - 1;
+                return Line {
+                    start,
+                    end: to,
+                    number,
+                    on: true,
+                    left: fewer,
+                };
+            }
+        }
+    }
+    Line {
+        start: end,
+        end,
+        number: l.number,
+        on: false,
+        left,
+    }
+}
+
+pub fn bytes_of(script: &[u8], l: Line) -> &[u8] {
+    cut(script, l.start, l.end)
+}
+
+// The line from its word k on.
+pub fn words_from(line: &[u8], k: usize) -> &[u8] {
+    let mut at = next_word(line, 0);
+    let mut left = k;
+    while left > 0 {
+        at = next_word(line, next_of(line, b' ', at));
+        left -= 1;
+    }
+    cut(line, at, line.len())
+}
+
+// Word k of a line; none where it has fewer.
+pub fn word(line: &[u8], k: usize) -> &[u8] {
+    let rest = words_from(line, k);
+    cut(rest, 0, next_of(rest, b' ', 0))
+}
+
+// A number that a word may say.
+pub struct Number {
+    pub is: u64,
+    pub good: bool,
+}
+
+// What a digit of up to base 16 stands for; 16 where it is none.
+fn digit(b: u8) -> u64 {
+    let d = b as u64;
+    if d < 48 {
+        return 16;
+    }
+    if d < 58 {
+        return d - 48;
+    }
+    if d < 65 {
+        return 16;
+    }
+    if d < 71 {
+        return d - 55;
+    }
+    16
+}
+
+fn no_number() -> Number {
+    Number { is: 0, good: false }
+}
+
+fn with_decimal(n: Number, b: u8) -> Number {
+    let d = digit(b);
+    let is = n.is;
+    if d < 10 {
+        if is < 1844674407370955161 {
+            return Number {
+                is: is * 10 + d,
+                good: n.good,
+            };
+        }
+    }
+    no_number()
+}
+
+fn with_hex(n: Number, b: u8) -> Number {
+    let d = digit(b);
+    let is = n.is;
+    if d < 16 {
+        if is < 0x1000_0000_0000_0000 {
+            return Number {
+                is: is * 16 + d,
+                good: n.good,
+            };
+        }
+    }
+    no_number()
+}
+
+// A word in decimal.
+pub fn decimal(w: &[u8]) -> Number {
+    let mut n = Number {
+        is: 0,
+        good: w.len() > 0,
+    };
+    let mut i = 0;
+    while i < w.len() {
+        n = with_decimal(n, w[i]);
+        i += 1;
+    }
+    n
+}
+
+// A word in hex.
+pub fn hex(w: &[u8]) -> Number {
+    let mut n = Number {
+        is: 0,
+        good: w.len() > 0,
+    };
+    let mut i = 0;
+    while i < w.len() {
+        n = with_hex(n, w[i]);
+        i += 1;
+    }
+    n
+}
+
+// The numbers that a command of up to five numbers says, and whether it says them and nothing else, none above its most.
+pub struct Args {
+    pub a: u64,
+    pub b: u64,
+    pub c: u64,
+    pub d: u64,
+    pub e: u64,
+    pub good: bool,
+}
+
+// The most that each number may be.
+pub struct Most {
+    pub a: u64,
+    pub b: u64,
+    pub c: u64,
+    pub d: u64,
+    pub e: u64,
+}
+
+// The number that word k of the words before end says; 0 from there on.
+fn arg(line: &[u8], k: usize, end: usize, most: u64) -> Number {
+    if k < end {
+        let n = decimal(word(line, k));
+        return Number {
+            is: n.is,
+            good: n.good & (n.is <= most),
+        };
+    }
+    Number { is: 0, good: true }
+}
+
+// The numbers of the words from k on, before end.
+pub fn read_args(line: &[u8], k: usize, end: usize, most: Most) -> Args {
+    if 100 < k {
+        return Args { a: 0, b: 0, c: 0, d: 0, e: 0, good: false };
+    }
+    let a = arg(line, k, end, most.a);
+    let b = arg(line, k + 1, end, most.b);
+    let c = arg(line, k + 2, end, most.c);
+    let d = arg(line, k + 3, end, most.d);
+    let e = arg(line, k + 4, end, most.e);
+    let rest = word(line, end);
+    let good = a.good & b.good & c.good & d.good & e.good & (rest.len() == 0);
+    Args {
+        a: a.is,
+        b: b.is,
+        c: c.is,
+        d: d.is,
+        e: e.is,
+        good,
+    }
+}
+
+// Bytes in hex as they are read: how many there are, the digit that waits for its second (16: none), and whether all is well.
+pub struct Bytes {
+    pub size: usize,
+    pub high: u64,
+    pub good: bool,
+}
+
+// One character more, into out.
+fn with_byte(h: Bytes, b: u8, out: &mut [u8]) -> Bytes {
+    let size = h.size;
+    let high = h.high;
+    if b == b' ' {
+        return h;
+    }
+    let d = digit(b);
+    if d < 16 {
+        if 16 <= high {
+            return Bytes {
+                size,
+                high: d,
+                good: h.good,
+            };
+        }
+        if size < out.len() {
+            out[size] = ((high * 16 + d) % 256) as u8;
+            return Bytes {
+                size: size + 1,
+                high: 16,
+                good: h.good,
+            };
+        }
+    }
+    Bytes {
+        size,
+        high,
+        good: false,
+    }
+}
+
+// The bytes that words say in hex, two digits to a byte, blanks between where one likes.
+pub fn read_bytes(words: &[u8], out: &mut [u8]) -> Bytes {
+    let mut h = Bytes {
+        size: 0,
+        high: 16,
+        good: true,
+    };
+    let mut i = 0;
+    while i < words.len() {
+        h = with_byte(h, words[i], out);
+        i += 1;
+    }
+    Bytes {
+        size: h.size,
+        high: h.high,
+        good: h.good & (h.high == 16),
+    }
+}
