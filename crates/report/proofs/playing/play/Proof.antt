@@ -229,9 +229,7 @@ module _ {M : Type 1} (𝓤 : URA M) (H : Heap 𝓤) (A : Atoms 𝓤) (W : Given
         -- what the array owns, and that its machine value is one of the type
         owned ! R (Is R) (frame-makes 𝓤 H A W) (root 0) (fval (root 0) ∷ []) is-root $ use1 W (‵ (Array R 256 .own frames₀ (array₀ ∷ []))) (array-repeat 𝓤 H A W R (frame-copy 𝓤 H A W) 256 (root 0) (fval (root 0))) $
         peeks ! (Array R 256) (Is (Array R 256)) (shows 𝓤 H A (Array R 256)) frames₀ (array₀ ∷ []) (λ isa. enters ! (𝓣 .C) (𝓣 .Λ) code.function (values entry) Post
-
         (vm-typed 𝓤 H A W m (is .0), ((tt, record { fits = is .1 .0 .1 }), ((tt, (tt, (record { fits = room0 .0 }, tt))), ((tt, (tt, (record { fits = room1 .0 }, tt))), ((tt, (tt, (record { fits = room2 .0 }, tt))), ((tt, (tt, (record { fits = room3 .0 }, tt))), ((tt, (tt, (record { fits = room4 .0 }, tt))), ((tt, (tt, (record { fits = room5 .0 }, tt))), ((tt, (tt, (record { fits = room6 .0 }, tt))), ((tt, (tt, (record { fits = room7 .0 }, tt))), ((tt, (tt, (record { fits = room8 .0 }, tt))), ((tt, (tt, (record { fits = room9 .0 }, tt))), ((tt, (tt, (record { fits = room10 .0 }, tt))), tt))))))))))))) (λ ls.
-
         sets ! (agg ! (ofs ! refl)) (frame-typed 𝓤 H A W (root 0) is-root) $
         sets ! (rep ! 256 (of ! refl)) (array-lawful 𝓤 H A W R (LL.lawful T.the-type T′.the-laws 𝓤 H A W) 256 .typed frames₀ (array₀ ∷ []) isa .0) $
         sets ! (addr ! (behind ! refl refl)) (tt, tt) $ sets ! (agg ! (ofs ! refl)) (tt, (tt, (record { fits = room7 .0 }, tt))) $
