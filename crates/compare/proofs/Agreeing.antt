@@ -13,8 +13,9 @@ use Rattle.model.specs.declared.Told.the-variants as t
 use Rattle.model.specs.Equality.{sameBytes}
 use Rattle.model.specs.Stores.{Stores}
 use Rattle.model.specs.Loading.{saveOf}
+use Rattle.model.specs.Reports.{runnerText, listerText}
 use Rattle.program.proofs.Bools.{apart, and-left, and-right}
-use Rattle.compare.specs.Compared.{loadText, readOf, backTo, savingOf, listerOf, listerText, listingOf, comparedAt, compareOf}
+use Rattle.compare.specs.Compared.{loadText, readOf, backTo, savingOf, comparedAt, compareOf, shown, verdictOf}
 
 same-is : (a b : List ℕ) → sameBytes a b ≡ true → a ≡ b
 unfolding sameBytes
@@ -45,24 +46,33 @@ unfolding backTo
 back-is image (t.Number n) out e = record { count = n; number = refl; bytes = same-is _ _ e }
 back-is image (t.Refused n) out e = apart false e refl
 
-module _ (image loading listing : List ℕ) (s : Stores) (saved listed : List ℕ) where
-  pub loading-is : compareOf image loading listing s saved listed .loading ≡ true → loadText (readOf image s .answer) ≡ loading
+module _ (image loading : List ℕ) (s : Stores) (saved : List ℕ) where
+  pub loading-is : compareOf image loading s saved .loading ≡ true → loadText (readOf image s .answer) ≡ loading
   unfolding compareOf comparedAt
   loading-is e = same-is _ _ e
 
-  pub loading-so : loadText (readOf image s .answer) ≡ loading → compareOf image loading listing s saved listed .loading ≡ true
+  pub loading-so : loadText (readOf image s .answer) ≡ loading → compareOf image loading s saved .loading ≡ true
   unfolding compareOf comparedAt
   loading-so e = same-so _ _ e
 
-  pub listing-is : compareOf image loading listing s saved listed .listing ≡ true → listerText (listerOf (readOf image s .answer) (readOf image s .stores) listed) ≡ listing
-  unfolding compareOf comparedAt listingOf
-  listing-is e = same-is _ _ e
-
-  pub listing-so : listerText (listerOf (readOf image s .answer) (readOf image s .stores) listed) ≡ listing → compareOf image loading listing s saved listed .listing ≡ true
-  unfolding compareOf comparedAt listingOf
-  listing-so e = same-so _ _ e
-
-  pub saving-is : compareOf image loading listing s saved listed .saving ≡ true → (c : Counts) → readOf image s .answer ≡ l.Done c
+  pub saving-is : compareOf image loading s saved .saving ≡ true → (c : Counts) → readOf image s .answer ≡ l.Done c
       → Back image (saveOf c (readOf image s .stores) saved .answer) (saveOf c (readOf image s .stores) saved .out)
   unfolding compareOf comparedAt savingOf
   saving-is e c h = back-is _ _ _ (rw h at e)
+
+module _ (image loading running listing : List ℕ) where
+  pub running-is : verdictOf image loading running listing .running ≡ true → shown 32768 (runnerText image) ≡ running
+  unfolding verdictOf
+  running-is e = same-is _ _ e
+
+  pub running-so : shown 32768 (runnerText image) ≡ running → verdictOf image loading running listing .running ≡ true
+  unfolding verdictOf
+  running-so e = same-so _ _ e
+
+  pub listing-is : verdictOf image loading running listing .listing ≡ true → shown 524288 (listerText image) ≡ listing
+  unfolding verdictOf
+  listing-is e = same-is _ _ e
+
+  pub listing-so : shown 524288 (listerText image) ≡ listing → verdictOf image loading running listing .listing ≡ true
+  unfolding verdictOf
+  listing-so e = same-so _ _ e

@@ -1,4 +1,4 @@
--- What the three answers are, way by way.
+-- What the answers are, way by way.
 use mathlib.Core.Path.{_≡_, refl, ap}
 use mathlib.Core.Bool.{Bool, true, false}
 use mathlib.Core.List.{List, [], _∷_}
@@ -16,9 +16,10 @@ use Rattle.model.specs.declared.Told.{Told}
 use Rattle.model.specs.declared.Told.the-variants as t
 use Rattle.model.specs.Equality.{sameBytes}
 use Rattle.model.specs.Stores.{Stores}
-use Rattle.model.specs.Loading.{LoadRes, loadOf, saveOf, listOf}
-use Rattle.listing.specs.Links.{lent}
-use Rattle.compare.specs.Compared.{loadText, outText, readOf, backTo, savingOf, listerOf, listerText, listingOf, Compared, comparedAt, compareOf, runnerStores, verdictOf}
+use Rattle.model.specs.Loading.{LoadRes, loadOf, saveOf}
+use Rattle.model.specs.Reports.{emptyStores, runnerText, listerText}
+use Rattle.report.specs.Links.{printed}
+use Rattle.compare.specs.Compared.{loadText, readOf, backTo, savingOf, Compared, comparedAt, compareOf, shown, verdictOf}
 
 pub too-long : (image : List ℕ) (s : Stores) → 16384 < length image → record { answer = l.Refused 22; stores = s } ≡ readOf image s
 unfolding readOf
@@ -27,17 +28,6 @@ too-long image s h = rw (lt-leb _ _ h)
 pub loads : (image : List ℕ) (s : Stores) {r : LoadRes} → length image ≤ 16384 → r ≡ loadOf image s → r ≡ readOf image s
 unfolding readOf
 loads image s h e = rw (le-leb _ _ h) e
-
--- ---- what was written, or the refusal's line
-
-module _ (out want : List ℕ) (r : Bool) {told : Told} {n : ℕ} where
-  pub out-number : told ≡ t.Number n → r ≡ sameBytes (take n out) want → r ≡ sameBytes (outText told out) want
-  unfolding outText
-  out-number e h = rw e h
-
-  pub out-refused : told ≡ t.Refused n → r ≡ sameBytes (loadText (l.Refused n)) want → r ≡ sameBytes (outText told out) want
-  unfolding outText loadText
-  out-refused e h = rw e h
 
 -- ---- saving
 
@@ -65,37 +55,27 @@ module _ (image : List ℕ) (s : Stores) (out : List ℕ) where
     unfolding backTo
     saved-as f r g = saved r (rw f g)
 
--- ---- listing
+-- ---- loading and saving
 
-module _ (want : List ℕ) (s : Stores) (out : List ℕ) (r : Bool) where
-  pub listed-as : {answer : Loaded} {c : Counts} → answer ≡ l.Done c → {told : Told} {o : List ℕ} → record { answer = told; out = o } ≡ listOf c s out → r ≡ sameBytes (outText told o) want → record { agrees = r; out = o } ≡ listingOf want answer s out
-  unfolding listingOf listerOf listerText
-  listed-as e h g = rw (e, ← h, g)
-
-  pub listed-broken : (answer : Loaded) → OneOf (1 ∷ []) (tagOf loaded-type answer) → r ≡ sameBytes (loadText (l.Refused 20)) want → record { agrees = r; out = out } ≡ listingOf want answer s out
-  unfolding listingOf listerOf listerText outText loadText
-  listed-broken (l.Done c) d g = absurd (miss (1 ∷ []) 0 tt d)
-  listed-broken (l.Broken o) d g = rw g
-  listed-broken (l.Refused n) d g = absurd (miss (1 ∷ []) 2 tt d)
-
-  pub listed-refused : {answer : Loaded} {n : ℕ} → answer ≡ l.Refused n → r ≡ sameBytes (loadText (l.Refused n)) want → record { agrees = r; out = out } ≡ listingOf want answer s out
-  unfolding listingOf listerOf listerText outText loadText
-  listed-refused e g = rw (e, g)
+pub all : (image loading : List ℕ) (s : Stores) (saved : List ℕ) {answer : Loaded} {s' : Stores} → record { answer = answer; stores = s' } ≡ readOf image s
+    → {a : Bool} → a ≡ sameBytes (loadText answer) loading → {b : Bool} {saved' : List ℕ} → record { agrees = b; out = saved' } ≡ savingOf image answer s' saved
+    → record { loading = a; saving = b; stores = s'; saved = saved' } ≡ compareOf image loading s saved
+unfolding compareOf comparedAt
+all image loading s saved h f g = rw (← h, f, ← g)
 
 -- ---- all of it
 
-pub all : (image loading listing : List ℕ) (s : Stores) (saved listed : List ℕ) {answer : Loaded} {s' : Stores} → record { answer = answer; stores = s' } ≡ readOf image s
-    → {a : Bool} → a ≡ sameBytes (loadText answer) loading → {b : Bool} {saved' : List ℕ} → record { agrees = b; out = saved' } ≡ savingOf image answer s' saved
-    → {d : Bool} {listed' : List ℕ} → ((rest : Stores) → record { agrees = d; out = listed' } ≡ listingOf listing answer (lent rest (s' .functions) (s' .text) (s' .main) (s' .other)) listed)
-    → record { loading = a; saving = b; listing = d; stores = s'; saved = saved'; listed = listed' } ≡ compareOf image loading listing s saved listed
-unfolding compareOf comparedAt lent
-all image loading listing s saved listed {s' = s'} h f g k = rw (← h, f, ← g, ← (k s'))
+pub told : (k : ℕ) (bytes want : List ℕ) {n : ℕ} {out : List ℕ} → record { count = n; out = out } ≡ printed bytes (replicate k 0) → (r : Bool) → r ≡ sameBytes (take n out) want → r ≡ sameBytes (shown k bytes) want
+unfolding shown
+told k bytes want e r h = rw (← e) h
 
--- ---- with the runner's stores
-
-pub judged : (image loading listing : List ℕ) {a b d : Bool} {s : Stores} {saved listed : List ℕ}
-    → record { loading = a; saving = b; listing = d; stores = s; saved = saved; listed = listed } ≡ compareOf image loading listing
-    record { constants = replicate 512 0; structs = replicate 256 0; functions = replicate 512 0; text = replicate 16384 0; main = replicate 8192 0; mainPlaces = replicate 8192 0; other = replicate 8192 0; otherPlaces = replicate 8192 0 } (replicate 16384 0) (replicate 524288 0)
-    → (a ≡ verdictOf image loading listing .loading) × (b ≡ verdictOf image loading listing .saving) × (d ≡ verdictOf image loading listing .listing)
-unfolding verdictOf runnerStores
-judged image loading listing h = (ap (λ (x : Compared). x .loading) h, ap (λ (x : Compared). x .saving) h, ap (λ (x : Compared). x .listing) h)
+pub judged : (image loading running listing : List ℕ) {a b ran listed : Bool} {s : Stores} {saved : List ℕ}
+    → record { loading = a; saving = b; stores = s; saved = saved } ≡ compareOf image loading
+    record { constants = replicate 512 0; structs = replicate 256 0; functions = replicate 512 0; text = replicate 16384 0; main = replicate 8192 0; mainPlaces = replicate 8192 0; other = replicate 8192 0; otherPlaces = replicate 8192 0 } (replicate 16384 0)
+    → ran ≡ sameBytes (shown 32768 (runnerText image)) running → listed ≡ sameBytes (shown 524288 (listerText image)) listing
+    → record { loading = a; saving = b; running = ran; listing = listed } ≡ verdictOf image loading running listing
+unfolding verdictOf emptyStores
+judged image loading running listing h f g =
+    let a = ap (λ (x : Compared). x .loading) h in
+    let b = ap (λ (x : Compared). x .saving) h in
+    rw (a, b, f, g)

@@ -15,11 +15,12 @@ use Rattle.model.specs.declared.Loaded.the-variants as l
 use Rattle.model.specs.Basics.{ascii}
 use Rattle.model.specs.Equality.{sameBytes}
 use Rattle.model.specs.Emission.{written}
+use Rattle.model.specs.Reports.{refusedLine}
 use Rattle.program.proofs.Bools.{either-way}
 use Rattle.texts.specs.Links.{Put}
 use Rattle.texts.proofs.Puts.{is, within, both}
 use Rattle.texts.proofs.Digits.{like, plain}
-use Rattle.compare.specs.Compared.{field, refusal, breach, loaded, loadText}
+use Rattle.compare.specs.Compared.{field, breach, loaded, loadText}
 
 -- ---- the pieces of a line
 
@@ -28,8 +29,8 @@ unfolding field
 field-is n p q = both p (is q (plain n))
 
 module _ {s₀ s₁ s₂ s₃ : List ℕ} {i₀ i₁ i₂ i₃ : ℕ} where
-  pub refusal-is : (n : ℕ) → Put 7 (114 ∷ 101 ∷ 102 ∷ 117 ∷ 115 ∷ 101 ∷ 100 ∷ []) s₀ i₀ s₁ i₁ → Put 21 (field n) s₁ i₁ s₂ i₂ → Put 1 (10 ∷ []) s₂ i₂ s₃ i₃ → Put 96 (refusal n) s₀ i₀ s₃ i₃
-  unfolding refusal ascii
+  pub refusal-is : (n : ℕ) → Put 7 (114 ∷ 101 ∷ 102 ∷ 117 ∷ 115 ∷ 101 ∷ 100 ∷ []) s₀ i₀ s₁ i₁ → Put 21 (field n) s₁ i₁ s₂ i₂ → Put 1 (10 ∷ []) s₂ i₂ s₃ i₃ → Put 96 (refusedLine n) s₀ i₀ s₃ i₃
+  unfolding field refusedLine ascii
   refusal-is n p q r = within (both (both p q) r) 96 (omega arith)
 
   pub breach-is : (o : ℕ) → Put 10 (114 ∷ 101 ∷ 102 ∷ 117 ∷ 115 ∷ 101 ∷ 100 ∷ 32 ∷ 50 ∷ 48 ∷ []) s₀ i₀ s₁ i₁ → Put 21 (field o) s₁ i₁ s₂ i₂ → Put 1 (10 ∷ []) s₂ i₂ s₃ i₃ → Put 96 (breach o) s₀ i₀ s₃ i₃
@@ -51,7 +52,7 @@ module _ {a : Loaded} {k : ℕ} {s s' : List ℕ} {i r : ℕ} where
   unfolding loadText
   line-broken e p = rw e p
 
-  pub line-refused : {n : ℕ} → a ≡ l.Refused n → Put k (refusal n) s i s' r → Put k (loadText a) s i s' r
+  pub line-refused : {n : ℕ} → a ≡ l.Refused n → Put k (refusedLine n) s i s' r → Put k (loadText a) s i s' r
   unfolding loadText
   line-refused e p = rw e p
 

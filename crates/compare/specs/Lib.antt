@@ -1,2 +1,2 @@
--- What an image's loading, saving and listing are held against.
+-- What an image's loading, saving, running and listing are held against.
 pub mod Compared

@@ -1,29 +1,36 @@
-// What loading, saving and listing an image answer, held against texts that say what they should.
+// What loading, saving, running and listing an image answer, held against texts that say what they should.
 use image::load;
 use image::save;
-use listing::disassemble;
 use model::Counts;
 use model::Loaded;
 use model::Told;
 use program::words::lesser;
 use program::words::same_bytes;
+use report::list_image;
+use report::run_image;
 use texts::put_text;
 use texts::write_decimal;
 ghost use mathlib.Core.Path.{_≡_};
 ghost use Prim.Native.Nat.{_+_, _<_, _^_};
 ghost use lib.ListN.{take};
 ghost use Rattle.model.specs.Equality.{sameBytes};
-ghost use Rattle.model.specs.Stores.{Stores};
+ghost use Rattle.model.specs.Reports.{refusedLine, listerText, runnerText};
 ghost use Rattle.image.specs.Fills.{lent};
 ghost use Rattle.texts.specs.Links.{Put};
-ghost use Rattle.listing.specs.Links as part;
-ghost use Rattle.compare.specs.Compared.{field, refusal, breach, loaded, loadText, outText, readOf, savingOf, listingOf, compareOf, verdictOf};
+ghost use Rattle.compare.specs.Compared.{field, breach, loaded, loadText, readOf, savingOf, compareOf, shown, verdictOf};
 
 // Which answers agree.
 pub struct Verdict {
     pub loading: bool,
     pub saving: bool,
+    pub running: bool,
     pub listing: bool,
+}
+
+// Those of them that loading and saving give.
+struct Kept {
+    loading: bool,
+    saving: bool,
 }
 
 // ---- texts
@@ -39,7 +46,7 @@ fn put_field(n: usize, out: &mut [u8], at: usize) -> usize
 
 // The line of a refusal.
 fn put_refusal(n: u8, out: &mut [u8]) -> usize
-    ensures { λ r. ⌜ Put 96 (refusal n) (now (out .entry)) 0 (now (out .exit)) r ⌝ }
+    ensures { λ r. ⌜ Put 96 (refusedLine n) (now (out .entry)) 0 (now (out .exit)) r ⌝ }
 {
     let number = put_text(b"refused", out, 0);
     let end = put_field(n as usize, out, number);
@@ -97,17 +104,7 @@ fn same_line(answer: Loaded, want: &[u8]) -> bool
     same_front(&line, n, want)
 }
 
-// Whether what was written, or the line of the refusal, is this.
-fn same_out(told: Told, out: &[u8], want: &[u8]) -> bool
-    ensures { λ r. ⌜ r ≡ sameBytes (outText told (now (out .entry))) (now (want .entry)) ⌝ }
-{
-    match told {
-        Told::Number(n) => same_front(out, n, want),
-        Told::Refused(n) => same_line(Loaded::Refused(n), want),
-    }
-}
-
-// ---- the three answers
+// ---- the answers
 
 // Loads an image of at most 16,384 bytes.
 fn read(
@@ -176,34 +173,10 @@ fn saves(
     same_front(saved, n, image)
 }
 
-// Whether this is what the lister prints.
-fn lists<'a>(
-    answer: Loaded,
-    want: &[u8],
-    functions: &[u64],
-    text: &[u8],
-    main: &'a [u8],
-    other: &'a [u8],
-    listed: &mut [u8],
-) -> bool
-    ensures { λ r. ⌜ ((rest : Stores) → record { agrees = r; out = now (listed .exit) } ≡ listingOf (now (want .entry)) answer (part.lent rest (now (functions .entry)) (now (text .entry)) (now (main .entry)) (now (other .entry))) (now (listed .entry))) ⌝ }
-{
-    match answer {
-        Loaded::Done(c) => {
-            let told = disassemble(c, functions, text, main, other, listed);
-            same_out(told, listed, want)
-        }
-        Loaded::Broken(_) => same_line(Loaded::Refused(20), want),
-        Loaded::Refused(n) => same_line(Loaded::Refused(n), want),
-    }
-}
-
-// An image against what loading should answer, `loading`, and what the lister should print, `listing`. What was loaded, saved and listed
-// stays in the stores.
-pub fn compare(
+// An image against what loading should answer. What was loaded and saved stays in the stores.
+fn compare(
     image: &[u8],
     loading: &[u8],
-    listing: &[u8],
     constants: &mut [u64],
     structs: &mut [u64],
     functions: &mut [u64],
@@ -213,9 +186,8 @@ pub fn compare(
     other: &mut [u8],
     other_places: &mut [u32],
     saved: &mut [u8],
-    listed: &mut [u8],
-) -> Verdict
-    ensures { λ r. ⌜ record { loading = r .loading; saving = r .saving; listing = r .listing; stores = lent (now (constants .exit)) (now (structs .exit)) (now (functions .exit)) (now (text .exit)) (now (main .exit)) (now («main_places» .exit)) (now (other .exit)) (now («other_places» .exit)); saved = now (saved .exit); listed = now (listed .exit) } ≡ compareOf (now (image .entry)) (now (loading .entry)) (now (listing .entry)) (lent (now (constants .entry)) (now (structs .entry)) (now (functions .entry)) (now (text .entry)) (now (main .entry)) (now («main_places» .entry)) (now (other .entry)) (now («other_places» .entry))) (now (saved .entry)) (now (listed .entry)) ⌝ }
+) -> Kept
+    ensures { λ r. ⌜ record { loading = r .loading; saving = r .saving; stores = lent (now (constants .exit)) (now (structs .exit)) (now (functions .exit)) (now (text .exit)) (now (main .exit)) (now («main_places» .exit)) (now (other .exit)) (now («other_places» .exit)); saved = now (saved .exit) } ≡ compareOf (now (image .entry)) (now (loading .entry)) (lent (now (constants .entry)) (now (structs .entry)) (now (functions .entry)) (now (text .entry)) (now (main .entry)) (now («main_places» .entry)) (now (other .entry)) (now («other_places» .entry))) (now (saved .entry)) ⌝ }
 {
     let answer = read(
         image,
@@ -242,17 +214,33 @@ pub fn compare(
         other_places,
         saved,
     );
-    let lists = lists(answer, listing, functions, text, main, other, listed);
-    Verdict {
+    Kept {
         loading: loads,
         saving: saving,
-        listing: lists,
     }
 }
 
-// The same with the runner's stores.
-pub fn judge(image: &[u8], loading: &[u8], listing: &[u8]) -> Verdict
-    ensures { λ r. ⌜ (r .loading ≡ verdictOf (now (image .entry)) (now (loading .entry)) (now (listing .entry)) .loading) × (r .saving ≡ verdictOf (now (image .entry)) (now (loading .entry)) (now (listing .entry)) .saving) × (r .listing ≡ verdictOf (now (image .entry)) (now (loading .entry)) (now (listing .entry)) .listing) ⌝ }
+// Whether this is what the runner prints.
+fn runs(image: &[u8], want: &[u8]) -> bool
+    ensures { λ r. ⌜ r ≡ sameBytes (shown 32768 (runnerText (now (image .entry)))) (now (want .entry)) ⌝ }
+{
+    let mut out = [0u8; 32768];
+    let n = run_image(image, &mut out);
+    same_front(&out, n, want)
+}
+
+// Whether this is what the lister prints.
+fn lists(image: &[u8], want: &[u8]) -> bool
+    ensures { λ r. ⌜ r ≡ sameBytes (shown 524288 (listerText (now (image .entry)))) (now (want .entry)) ⌝ }
+{
+    let mut out = [0u8; 524288];
+    let n = list_image(image, &mut out);
+    same_front(&out, n, want)
+}
+
+// An image against what loading should answer, and what the runner and the lister should print.
+pub fn judge(image: &[u8], loading: &[u8], running: &[u8], listing: &[u8]) -> Verdict
+    ensures { λ r. ⌜ r ≡ verdictOf (now (image .entry)) (now (loading .entry)) (now (running .entry)) (now (listing .entry)) ⌝ }
 {
     let mut constants = [0u64; 512];
     let mut structs = [0u64; 256];
@@ -263,11 +251,9 @@ pub fn judge(image: &[u8], loading: &[u8], listing: &[u8]) -> Verdict
     let mut other = [0u8; 8192];
     let mut other_places = [0u32; 8192];
     let mut saved = [0u8; 16384];
-    let mut listed = [0u8; 524288];
-    compare(
+    let kept = compare(
         image,
         loading,
-        listing,
         &mut constants,
         &mut structs,
         &mut functions,
@@ -277,6 +263,13 @@ pub fn judge(image: &[u8], loading: &[u8], listing: &[u8]) -> Verdict
         &mut other,
         &mut other_places,
         &mut saved,
-        &mut listed,
-    )
+    );
+    let ran = runs(image, running);
+    let listed = lists(image, listing);
+    Verdict {
+        loading: kept.loading,
+        saving: kept.saving,
+        running: ran,
+        listing: listed,
+    }
 }

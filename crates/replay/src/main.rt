@@ -5,7 +5,7 @@ use libc::STDOUT_FILENO;
 ghost use mathlib.Core.Path.{_≡_};
 ghost use Prim.Native.Nat.{_+_, _*_, _≤_};
 ghost use lib.ListN.{length};
-ghost use Rattle.replay.specs.Turns.{wanted, Judged, turnOf};
+ghost use Rattle.replay.specs.Turns.{wanted, turnOf};
 
 // Where each of a record's four parts ends: they stand one behind the other.
 struct Ends {
@@ -51,7 +51,7 @@ fn ends_of(h: [u8; 16]) -> Ends
 // The verdict on a record's parts.
 fn judged(body: &[u8], e: Ends) -> Verdict
     requires { ⌜ (e .image ≤ e .loading) × (e .loading ≤ e .running) × (e .running ≤ e .listing) × (e .listing ≤ length (now body)) ⌝ }
-    ensures { λ r. ⌜ Judged (wanted (now (body .entry)) e) r ⌝ }
+    ensures { λ r. ⌜ r ≡ wanted (now (body .entry)) e ⌝ }
 {
     let image = e.image;
     let loading = e.loading;
@@ -60,6 +60,7 @@ fn judged(body: &[u8], e: Ends) -> Verdict
     compare::judge(
         &body[..image],
         &body[image..loading],
+        &body[loading..running],
         &body[running..listing],
     )
 }
@@ -75,7 +76,7 @@ fn say(at: u64, what: &[u8]) {
 fn report(at: u64, v: Verdict) -> Turn
     ensures { λ r. ⌜ r ≡ turnOf v ⌝ }
 {
-    let all = v.loading & v.saving & v.listing;
+    let all = v.loading & v.saving & v.running & v.listing;
     if all {
         return Turn::Same;
     }
@@ -84,6 +85,9 @@ fn report(at: u64, v: Verdict) -> Turn
     }
     if !v.saving {
         say(at, b": saving differs\n");
+    }
+    if !v.running {
+        say(at, b": running differs\n");
     }
     if !v.listing {
         say(at, b": listing differs\n");

@@ -13,11 +13,8 @@ same-line-requires c κs = search needs
 saves-requires : tie.Need-saves-requires
 saves-requires c κs = search needs
 
-lists-requires : tie.Need-lists-requires
-lists-requires c κs = search needs
-
 same-length : tie.Need-same-length
-same-length c = c .before .before .before .before .before .before .before .before .before .before .before .before .before .before .before .before .before .before .before .before .before .before .before .before .before .before .before .before .before .before .before .before .before .before .before .before .constants .given
+same-length c = c .before .before .before .before .before .before .before .before .before .before .before .before .before .before .before .before .before .before .before .before .before .before .before .before .before .before .before .before .constants .given
 
 same-length-2 : tie.Need-same-length-2
 same-length-2 c = search needs
@@ -43,11 +40,8 @@ same-length-8 c = search needs
 same-length-9 : tie.Need-same-length-9
 same-length-9 c = search needs
 
-same-length-10 : tie.Need-same-length-10
-same-length-10 c = search needs
-
 returns : tie.Need-returns
-returns c = all _ _ _ _ _ _ (c .before .before .before .before .before .before .before .before .before .before .before .before .before .before .before .before .before .before .before .before .before .before .before .before .before .before .before .before .before .before .before .before .before .before .before .before .before .read .ensures) (c .before .before .before .before .before .before .before .before .before .before .before .before .before .before .before .before .before .before .before .before .same-line .ensures) (c .before .before .before .before .before .before .before .before .before .before .saves .ensures) (c .before .before .lists .ensures)
+returns c = all _ _ _ _ (c .before .before .before .before .before .before .before .before .before .before .before .before .before .before .before .before .before .before .before .before .before .before .before .before .before .before .before .before .before .read .ensures) (c .before .before .before .before .before .before .before .before .before .before .before .before .same-line .ensures) (c .before .before .saves .ensures)
 
 pub compare-spec : {M : Type 1} → statement M
 compare-spec =
@@ -56,7 +50,6 @@ compare-spec =
     read-requires
     same-line-requires
     saves-requires
-    lists-requires
     same-length
     same-length-2
     same-length-3
@@ -66,5 +59,4 @@ compare-spec =
     same-length-7
     same-length-8
     same-length-9
-    same-length-10
     returns)

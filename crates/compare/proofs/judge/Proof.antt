@@ -31,14 +31,17 @@ slice-aggregate-compare-8 c = search needs
 slice-aggregate-compare-9 : tie.Need-slice-aggregate-compare-9
 slice-aggregate-compare-9 c = search needs
 
-slice-aggregate-compare-10 : tie.Need-slice-aggregate-compare-10
-slice-aggregate-compare-10 c = search needs
-
 compare-requires : tie.Need-compare-requires
 compare-requires c κs = search needs
 
+runs-requires : tie.Need-runs-requires
+runs-requires c κs = search needs
+
+lists-requires : tie.Need-lists-requires
+lists-requires c κs = search needs
+
 returns : tie.Need-returns
-returns c = judged _ _ _ (c .before .before .before .before .before .before .before .before .before .before .compare .ensures)
+returns c = judged _ _ _ _ (c .before .before .before .before .before .before .before .before .before .before .before .compare .ensures) (c .before .runs .ensures) (c .lists .ensures)
 
 pub judge-spec : {M : Type 1} → statement M
 judge-spec =
@@ -53,6 +56,7 @@ judge-spec =
     slice-aggregate-compare-7
     slice-aggregate-compare-8
     slice-aggregate-compare-9
-    slice-aggregate-compare-10
     compare-requires
+    runs-requires
+    lists-requires
     returns)

@@ -27,6 +27,15 @@ part-judge-start-2 c = search needs
 part-judge-end-2 : tie.Need-part-judge-end-2
 part-judge-end-2 c = search needs
 
+sub-judge-3 : tie.Need-sub-judge-3
+sub-judge-3 c = search needs
+
+part-judge-start-3 : tie.Need-part-judge-start-3
+part-judge-start-3 c = search needs
+
+part-judge-end-3 : tie.Need-part-judge-end-3
+part-judge-end-3 c = search needs
+
 judge-requires : tie.Need-judge-requires
 judge-requires c κs = search needs
 
@@ -45,5 +54,8 @@ judged-spec =
     sub-judge-2
     part-judge-start-2
     part-judge-end-2
+    sub-judge-3
+    part-judge-start-3
+    part-judge-end-3
     judge-requires
     returns)

@@ -25,11 +25,17 @@ slice-aggregate-say-3 c = search needs
 say-requires-3 : tie.Need-say-requires-3
 say-requires-3 c κs = search needs
 
+slice-aggregate-say-4 : tie.Need-slice-aggregate-say-4
+slice-aggregate-say-4 c = search needs
+
+say-requires-4 : tie.Need-say-requires-4
+say-requires-4 c κs = search needs
+
 returns-2 : tie.Need-returns-2
-returns-2 c = differs _ (c .before .before .before .before .before .before .before .before .if1 .left)
+returns-2 c = differs _ (c .before .before .before .before .before .before .before .before .before .before .if1 .left)
 
 returns-3 : tie.Need-returns-3
-returns-3 c = differs _ (c .before .before .before .before .before .before .if1 .left)
+returns-3 c = differs _ (c .before .before .before .before .before .before .before .before .if1 .left)
 
 pub report-spec : {M : Type 1} → statement M
 report-spec =
@@ -42,5 +48,7 @@ report-spec =
     say-requires-2
     slice-aggregate-say-3
     say-requires-3
+    slice-aggregate-say-4
+    say-requires-4
     returns-2
     returns-3)
