@@ -67,11 +67,17 @@ enum Group {
 }
 
 fn is_code(what: &[u8]) -> bool {
-    same_bytes(what, b"op") | same_bytes(what, b"op1") | same_bytes(what, b"op2") | same_bytes(what, b"op3")
+    same_bytes(what, b"op")
+        | same_bytes(what, b"op1")
+        | same_bytes(what, b"op2")
+        | same_bytes(what, b"op3")
 }
 
 fn is_constant(what: &[u8]) -> bool {
-    same_bytes(what, b"scalar") | same_bytes(what, b"boolean") | same_bytes(what, b"string") | same_bytes(what, b"reference")
+    same_bytes(what, b"scalar")
+        | same_bytes(what, b"boolean")
+        | same_bytes(what, b"string")
+        | same_bytes(what, b"reference")
 }
 
 fn is_name(what: &[u8]) -> bool {
@@ -79,7 +85,10 @@ fn is_name(what: &[u8]) -> bool {
 }
 
 fn is_look(what: &[u8]) -> bool {
-    same_bytes(what, b"offset") | same_bytes(what, b"find") | same_bytes(what, b"save") | same_bytes(what, b"list")
+    same_bytes(what, b"offset")
+        | same_bytes(what, b"find")
+        | same_bytes(what, b"save")
+        | same_bytes(what, b"list")
 }
 
 // A blank line, or a comment.
@@ -342,15 +351,7 @@ fn emit(
     let c = m.program;
     match group {
         Group::Code => {
-            let e = emission::emit_code(
-                c,
-                line,
-                functions,
-                main,
-                main_places,
-                other,
-                other_places,
-            );
+            let e = emission::emit_code(c, line, functions, main, main_places, other, other_places);
             say::say_emitted(m, e, number)
         }
         Group::Patch => {

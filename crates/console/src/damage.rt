@@ -69,8 +69,14 @@ fn mixed_last(h: u64, last: Last) -> u64 {
 pub fn mixed_counts(h: u64, m: Vm) -> u64 {
     let c = m.program;
     let last = m.last;
-    let a = mixed(mixed(mixed(h, c.constants as u64), c.structs as u64), c.functions as u64);
-    let b = mixed(mixed(mixed(a, c.text as u64), c.current as u64), m.stack as u64);
+    let a = mixed(
+        mixed(mixed(h, c.constants as u64), c.structs as u64),
+        c.functions as u64,
+    );
+    let b = mixed(
+        mixed(mixed(a, c.text as u64), c.current as u64),
+        m.stack as u64,
+    );
     mixed_last(mixed(mixed(b, m.frames as u64), m.cells as u64), last)
 }
 
@@ -114,23 +120,38 @@ fn with_program(m: Vm, name: &[u8], n: usize) -> Changed {
     let c = m.program;
     if same_bytes(name, b"constants") {
         let p = Counts { constants: n, ..c };
-        return Changed { m: Vm { program: p, ..m }, good: true };
+        return Changed {
+            m: Vm { program: p, ..m },
+            good: true,
+        };
     }
     if same_bytes(name, b"structs") {
         let p = Counts { structs: n, ..c };
-        return Changed { m: Vm { program: p, ..m }, good: true };
+        return Changed {
+            m: Vm { program: p, ..m },
+            good: true,
+        };
     }
     if same_bytes(name, b"functions") {
         let p = Counts { functions: n, ..c };
-        return Changed { m: Vm { program: p, ..m }, good: true };
+        return Changed {
+            m: Vm { program: p, ..m },
+            good: true,
+        };
     }
     if same_bytes(name, b"text") {
         let p = Counts { text: n, ..c };
-        return Changed { m: Vm { program: p, ..m }, good: true };
+        return Changed {
+            m: Vm { program: p, ..m },
+            good: true,
+        };
     }
     if same_bytes(name, b"current") {
         let p = Counts { current: n, ..c };
-        return Changed { m: Vm { program: p, ..m }, good: true };
+        return Changed {
+            m: Vm { program: p, ..m },
+            good: true,
+        };
     }
     Changed { m, good: false }
 }
@@ -138,29 +159,63 @@ fn with_program(m: Vm, name: &[u8], n: usize) -> Changed {
 // `count NAME N`: one of the counts.
 pub fn with_count(m: Vm, line: &[u8]) -> Changed {
     let name = word(line, 1);
-    let a = read_args(line, 2, 3, Most { a: 0xFFFF_FFFF_FFFF, b: 0, c: 0, d: 0, e: 0 });
+    let a = read_args(
+        line,
+        2,
+        3,
+        Most {
+            a: 0xFFFF_FFFF_FFFF,
+            b: 0,
+            c: 0,
+            d: 0,
+            e: 0,
+        },
+    );
     if !a.good {
         return Changed { m, good: false };
     }
     let n = a.a as usize;
     if same_bytes(name, b"stack") {
-        return Changed { m: Vm { stack: n, ..m }, good: true };
+        return Changed {
+            m: Vm { stack: n, ..m },
+            good: true,
+        };
     }
     if same_bytes(name, b"frames") {
-        return Changed { m: Vm { frames: n, ..m }, good: true };
+        return Changed {
+            m: Vm { frames: n, ..m },
+            good: true,
+        };
     }
     if same_bytes(name, b"cells") {
-        return Changed { m: Vm { cells: n, ..m }, good: true };
+        return Changed {
+            m: Vm { cells: n, ..m },
+            good: true,
+        };
     }
     with_program(m, name, n)
 }
 
 // `result KIND PAYLOAD`: the last result, of a kind below 6.
 pub fn with_result(m: Vm, line: &[u8]) -> Changed {
-    let a = read_args(line, 1, 3, Most { a: 5, b: 0xFFFF_FFFF_FFFF_FFFF, c: 0, d: 0, e: 0 });
+    let a = read_args(
+        line,
+        1,
+        3,
+        Most {
+            a: 5,
+            b: 0xFFFF_FFFF_FFFF_FFFF,
+            c: 0,
+            d: 0,
+            e: 0,
+        },
+    );
     if a.good {
         let last = Last::Is(words::value_of(a.a, a.b));
-        return Changed { m: Vm { last, ..m }, good: true };
+        return Changed {
+            m: Vm { last, ..m },
+            good: true,
+        };
     }
     Changed { m, good: false }
 }
@@ -268,7 +323,18 @@ pub fn poke(
     cells: &mut [u64],
 ) -> bool {
     let store = word(line, 1);
-    let a = read_args(line, 2, 4, Most { a: 0xFFFF_FFFF, b: 0xFFFF_FFFF_FFFF_FFFF, c: 0, d: 0, e: 0 });
+    let a = read_args(
+        line,
+        2,
+        4,
+        Most {
+            a: 0xFFFF_FFFF,
+            b: 0xFFFF_FFFF_FFFF_FFFF,
+            c: 0,
+            d: 0,
+            e: 0,
+        },
+    );
     let i = a.a as usize;
     if a.good {
         return poke_words(store, i, a.b, constants, structs, functions, stack, cells)

@@ -1,10 +1,10 @@
 // The commands that emit a program: each calls one entry of emission.
 use crate::script::Args;
 use crate::script::Most;
-use crate::script::read_args;
-use crate::script::read_bytes;
 use crate::script::cut;
 use crate::script::hex;
+use crate::script::read_args;
+use crate::script::read_bytes;
 use crate::script::word;
 use crate::script::words_from;
 use model::Constant;
@@ -180,7 +180,18 @@ pub fn emit_constant(
         return unknown();
     }
     if same_bytes(what, b"boolean") {
-        let n = read_args(line, 1, 2, Most { a: 1, b: 0, c: 0, d: 0, e: 0 });
+        let n = read_args(
+            line,
+            1,
+            2,
+            Most {
+                a: 1,
+                b: 0,
+                c: 0,
+                d: 0,
+                e: 0,
+            },
+        );
         if n.good {
             return add_constant(c, Constant::Boolean(n.a == 1), b"", constants, text);
         }

@@ -227,7 +227,14 @@ fn arg(line: &[u8], k: usize, end: usize, most: u64) -> Number {
 // The numbers of the words from k on, before end.
 pub fn read_args(line: &[u8], k: usize, end: usize, most: Most) -> Args {
     if 100 < k {
-        return Args { a: 0, b: 0, c: 0, d: 0, e: 0, good: false };
+        return Args {
+            a: 0,
+            b: 0,
+            c: 0,
+            d: 0,
+            e: 0,
+            good: false,
+        };
     }
     let a = arg(line, k, end, most.a);
     let b = arg(line, k + 1, end, most.b);

@@ -336,29 +336,26 @@ module _ {M : Type 1} (𝓤 : URA M) (H : Heap 𝓤) (A : Atoms 𝓤) (W : Given
 
       answers : (c : Call) → callVal c ≡ callVal call → IsCall c → (fs : List Frame) → length fs ≡ s11 .count → Sq W (‵ (Locals (code.function .locals) ls (held c)) ∷ ‵ (Holds (slices constants structs functions text main mainPlaces other otherPlaces stack cells fs copy trace words)) ∷ []) (runs (𝓣 .C) (𝓣 .Λ) (envAt (code.function .locals) ls) cm.t-6 (atRet (envAt (code.function .locals) ls) Post))
       answers New e isc fs len =
-          returns-match ! 𝓣 (tag-of ! refl refl refl refl) refl (sets ! (addr ! (behind ! refl refl)) (tt, tt) $ sets ! (agg ! (ofs ! refl)) (tt, (tt, (record { fits = room3 .0 }, tt))) $ sets ! (addr ! (behind ! refl refl)) (tt, tt) $ sets ! (agg ! (ofs ! refl)) (tt, (tt, (record { fits = room4 .0 }, tt))) $ sets ! (addr ! (behind ! refl refl)) (tt, tt) $ sets ! (agg ! (ofs ! refl)) (tt, (tt, (record { fits = room11 .0 }, tt))) $ calls-on ! (false ∷ false ∷ false ∷ true ∷ true ∷ false ∷ false ∷ false ∷ false ∷ false ∷ false ∷ true ∷ []) (slices constants structs functions text main mainPlaces other otherPlaces stack cells fs copy trace words) (call-new fs len) (λ zs. (slices constants structs (zs .0) (zs .1 .0) main mainPlaces other otherPlaces stack cells (zs .1 .1 .0) copy trace words)) refl (λ zs. refl) (λ zs. refl) fm known-new refl (λ x zs₁ said₁ lens₁ isx. lands-in ! (started-typed 𝓤 H A W x isx) $ 
-          sets ! (addr ! (behind ! refl refl)) (tt, tt) $ sets ! (agg ! (ofs ! refl)) (tt, (tt, (record { fits = room11 .0 }, tt))) $ sets ! (addr ! (behind ! refl refl)) (tt, tt) $ sets ! (agg ! (ofs ! refl)) (tt, (tt, (record { fits = room14 .0 }, tt))) $ calls-on ! (false ∷ false ∷ false ∷ false ∷ false ∷ false ∷ false ∷ false ∷ false ∷ false ∷ false ∷ true ∷ false ∷ false ∷ true ∷ []) (slices constants structs (zs₁ .0) (zs₁ .1 .0) main mainPlaces other otherPlaces stack cells (zs₁ .1 .1 .0) copy trace words) (call-keep (zs₁ .1 .1 .0) words (lens₁ .1 .1 .0) refl) (λ zs. (slices constants structs (zs₁ .0) (zs₁ .1 .0) main mainPlaces other otherPlaces stack cells (zs₁ .1 .1 .0) copy trace (zs .1 .0))) refl (λ zs. refl) (λ zs. refl) fm known-keep refl (λ u zs₂ said₂ lens₂ isu. lands-in ! (tt, tt) $ 
+          returns-match ! 𝓣 (tag-of ! refl refl refl refl) refl (sets ! (addr ! (behind ! refl refl)) (tt, tt) $ sets ! (agg ! (ofs ! refl)) (tt, (tt, (record { fits = room3 .0 }, tt))) $ sets ! (addr ! (behind ! refl refl)) (tt, tt) $ sets ! (agg ! (ofs ! refl)) (tt, (tt, (record { fits = room4 .0 }, tt))) $ sets ! (addr ! (behind ! refl refl)) (tt, tt) $ sets ! (agg ! (ofs ! refl)) (tt, (tt, (record { fits = room11 .0 }, tt))) $ calls-on ! (false ∷ false ∷ false ∷ true ∷ true ∷ false ∷ false ∷ false ∷ false ∷ false ∷ false ∷ true ∷ []) (slices constants structs functions text main mainPlaces other otherPlaces stack cells fs copy trace words) (call-new fs len) (λ zs. (slices constants structs (zs .0) (zs .1 .0) main mainPlaces other otherPlaces stack cells (zs .1 .1 .0) copy trace words)) refl (λ zs. refl) (λ zs. refl) fm known-new refl (λ x zs₁ said₁ lens₁ isx. lands-in ! (started-typed 𝓤 H A W x isx) $
+          sets ! (addr ! (behind ! refl refl)) (tt, tt) $ sets ! (agg ! (ofs ! refl)) (tt, (tt, (record { fits = room11 .0 }, tt))) $ sets ! (addr ! (behind ! refl refl)) (tt, tt) $ sets ! (agg ! (ofs ! refl)) (tt, (tt, (record { fits = room14 .0 }, tt))) $ calls-on ! (false ∷ false ∷ false ∷ false ∷ false ∷ false ∷ false ∷ false ∷ false ∷ false ∷ false ∷ true ∷ false ∷ false ∷ true ∷ []) (slices constants structs (zs₁ .0) (zs₁ .1 .0) main mainPlaces other otherPlaces stack cells (zs₁ .1 .1 .0) copy trace words) (call-keep (zs₁ .1 .1 .0) words (lens₁ .1 .1 .0) refl) (λ zs. (slices constants structs (zs₁ .0) (zs₁ .1 .0) main mainPlaces other otherPlaces stack cells (zs₁ .1 .1 .0) copy trace (zs .1 .0))) refl (λ zs. refl) (λ zs. refl) fm known-keep refl (λ u zs₂ said₂ lens₂ isu. lands-in ! (tt, tt) $
           calls-on ! [] (slices constants structs (zs₁ .0) (zs₁ .1 .0) main mainPlaces other otherPlaces stack cells (zs₁ .1 .1 .0) copy trace (zs₂ .1 .0)) (call-made x isx) (λ zs. (slices constants structs (zs₁ .0) (zs₁ .1 .0) main mainPlaces other otherPlaces stack cells (zs₁ .1 .1 .0) copy trace (zs₂ .1 .0))) refl (λ zs. refl) (λ zs. refl) fm known-made refl (λ r zs₉ er lens₉ isr. lands-in ! (answer-typed 𝓤 H A W r isr) $ sets ! (of-opd ! (of ! refl)) (answer-typed 𝓤 H A W r isr) $ leaves ! refl $ by ! (exits r constants structs (zs₁ .0) (zs₁ .1 .0) main mainPlaces other otherPlaces stack cells (zs₁ .1 .1 .0) copy trace (zs₂ .1 .0) isr refl refl (lens₁ .0) (lens₁ .1 .0) refl refl refl refl refl refl (lens₁ .1 .1 .0) refl refl (lens₂ .0))))))
-
       answers Load e isc fs len =
-          returns-match ! 𝓣 (tag-of ! refl refl refl refl) refl (sets ! (addr ! (behind ! refl refl)) (tt, tt) $ sets ! (agg ! (ofs ! refl)) (tt, (tt, (record { fits = room1 .0 }, tt))) $ sets ! (addr ! (behind ! refl refl)) (tt, tt) $ sets ! (agg ! (ofs ! refl)) (tt, (tt, (record { fits = room2 .0 }, tt))) $ sets ! (addr ! (behind ! refl refl)) (tt, tt) $ sets ! (agg ! (ofs ! refl)) (tt, (tt, (record { fits = room3 .0 }, tt))) $ sets ! (addr ! (behind ! refl refl)) (tt, tt) $ sets ! (agg ! (ofs ! refl)) (tt, (tt, (record { fits = room4 .0 }, tt))) $ sets ! (addr ! (behind ! refl refl)) (tt, tt) $ sets ! (agg ! (ofs ! refl)) (tt, (tt, (record { fits = room5 .0 }, tt))) $ sets ! (addr ! (behind ! refl refl)) (tt, tt) $ sets ! (agg ! (ofs ! refl)) (tt, (tt, (record { fits = room6 .0 }, tt))) $ sets ! (addr ! (behind ! refl refl)) (tt, tt) $ sets ! (agg ! (ofs ! refl)) (tt, (tt, (record { fits = room7 .0 }, tt))) $ sets ! (addr ! (behind ! refl refl)) (tt, tt) $ sets ! (agg ! (ofs ! refl)) (tt, (tt, (record { fits = room8 .0 }, tt))) $ sets ! (addr ! (behind ! refl refl)) (tt, tt) $ sets ! (agg ! (ofs ! refl)) (tt, (tt, (record { fits = room11 .0 }, tt))) $ calls-on ! (true ∷ true ∷ true ∷ true ∷ true ∷ true ∷ true ∷ true ∷ true ∷ false ∷ false ∷ true ∷ []) (slices constants structs functions text main mainPlaces other otherPlaces stack cells fs copy trace words) (call-load fs len) (λ zs. (slices (zs .1 .0) (zs .1 .1 .0) (zs .1 .1 .1 .0) (zs .1 .1 .1 .1 .0) (zs .1 .1 .1 .1 .1 .0) (zs .1 .1 .1 .1 .1 .1 .0) (zs .1 .1 .1 .1 .1 .1 .1 .0) (zs .1 .1 .1 .1 .1 .1 .1 .1 .0) stack cells (zs .1 .1 .1 .1 .1 .1 .1 .1 .1 .0) copy trace words)) refl (λ zs. refl) (λ zs. refl) fm known-load refl (λ x zs₁ said₁ lens₁ isx. lands-in ! (started-typed 𝓤 H A W x isx) $ 
-          sets ! (addr ! (behind ! refl refl)) (tt, tt) $ sets ! (agg ! (ofs ! refl)) (tt, (tt, (record { fits = room11 .0 }, tt))) $ sets ! (addr ! (behind ! refl refl)) (tt, tt) $ sets ! (agg ! (ofs ! refl)) (tt, (tt, (record { fits = room14 .0 }, tt))) $ calls-on ! (false ∷ false ∷ false ∷ false ∷ false ∷ false ∷ false ∷ false ∷ false ∷ false ∷ false ∷ true ∷ false ∷ false ∷ true ∷ []) (slices (zs₁ .1 .0) (zs₁ .1 .1 .0) (zs₁ .1 .1 .1 .0) (zs₁ .1 .1 .1 .1 .0) (zs₁ .1 .1 .1 .1 .1 .0) (zs₁ .1 .1 .1 .1 .1 .1 .0) (zs₁ .1 .1 .1 .1 .1 .1 .1 .0) (zs₁ .1 .1 .1 .1 .1 .1 .1 .1 .0) stack cells (zs₁ .1 .1 .1 .1 .1 .1 .1 .1 .1 .0) copy trace words) (call-keep (zs₁ .1 .1 .1 .1 .1 .1 .1 .1 .1 .0) words (lens₁ .1 .1 .1 .1 .1 .1 .1 .1 .0) refl) (λ zs. (slices (zs₁ .1 .0) (zs₁ .1 .1 .0) (zs₁ .1 .1 .1 .0) (zs₁ .1 .1 .1 .1 .0) (zs₁ .1 .1 .1 .1 .1 .0) (zs₁ .1 .1 .1 .1 .1 .1 .0) (zs₁ .1 .1 .1 .1 .1 .1 .1 .0) (zs₁ .1 .1 .1 .1 .1 .1 .1 .1 .0) stack cells (zs₁ .1 .1 .1 .1 .1 .1 .1 .1 .1 .0) copy trace (zs .1 .0))) refl (λ zs. refl) (λ zs. refl) fm known-keep refl (λ u zs₂ said₂ lens₂ isu. lands-in ! (tt, tt) $ 
+          returns-match ! 𝓣 (tag-of ! refl refl refl refl) refl (sets ! (addr ! (behind ! refl refl)) (tt, tt) $ sets ! (agg ! (ofs ! refl)) (tt, (tt, (record { fits = room1 .0 }, tt))) $ sets ! (addr ! (behind ! refl refl)) (tt, tt) $ sets ! (agg ! (ofs ! refl)) (tt, (tt, (record { fits = room2 .0 }, tt))) $ sets ! (addr ! (behind ! refl refl)) (tt, tt) $ sets ! (agg ! (ofs ! refl)) (tt, (tt, (record { fits = room3 .0 }, tt))) $ sets ! (addr ! (behind ! refl refl)) (tt, tt) $ sets ! (agg ! (ofs ! refl)) (tt, (tt, (record { fits = room4 .0 }, tt))) $ sets ! (addr ! (behind ! refl refl)) (tt, tt) $ sets ! (agg ! (ofs ! refl)) (tt, (tt, (record { fits = room5 .0 }, tt))) $ sets ! (addr ! (behind ! refl refl)) (tt, tt) $ sets ! (agg ! (ofs ! refl)) (tt, (tt, (record { fits = room6 .0 }, tt))) $ sets ! (addr ! (behind ! refl refl)) (tt, tt) $ sets ! (agg ! (ofs ! refl)) (tt, (tt, (record { fits = room7 .0 }, tt))) $ sets ! (addr ! (behind ! refl refl)) (tt, tt) $ sets ! (agg ! (ofs ! refl)) (tt, (tt, (record { fits = room8 .0 }, tt))) $ sets ! (addr ! (behind ! refl refl)) (tt, tt) $ sets ! (agg ! (ofs ! refl)) (tt, (tt, (record { fits = room11 .0 }, tt))) $ calls-on ! (true ∷ true ∷ true ∷ true ∷ true ∷ true ∷ true ∷ true ∷ true ∷ false ∷ false ∷ true ∷ []) (slices constants structs functions text main mainPlaces other otherPlaces stack cells fs copy trace words) (call-load fs len) (λ zs. (slices (zs .1 .0) (zs .1 .1 .0) (zs .1 .1 .1 .0) (zs .1 .1 .1 .1 .0) (zs .1 .1 .1 .1 .1 .0) (zs .1 .1 .1 .1 .1 .1 .0) (zs .1 .1 .1 .1 .1 .1 .1 .0) (zs .1 .1 .1 .1 .1 .1 .1 .1 .0) stack cells (zs .1 .1 .1 .1 .1 .1 .1 .1 .1 .0) copy trace words)) refl (λ zs. refl) (λ zs. refl) fm known-load refl (λ x zs₁ said₁ lens₁ isx. lands-in ! (started-typed 𝓤 H A W x isx) $
+          sets ! (addr ! (behind ! refl refl)) (tt, tt) $ sets ! (agg ! (ofs ! refl)) (tt, (tt, (record { fits = room11 .0 }, tt))) $ sets ! (addr ! (behind ! refl refl)) (tt, tt) $ sets ! (agg ! (ofs ! refl)) (tt, (tt, (record { fits = room14 .0 }, tt))) $ calls-on ! (false ∷ false ∷ false ∷ false ∷ false ∷ false ∷ false ∷ false ∷ false ∷ false ∷ false ∷ true ∷ false ∷ false ∷ true ∷ []) (slices (zs₁ .1 .0) (zs₁ .1 .1 .0) (zs₁ .1 .1 .1 .0) (zs₁ .1 .1 .1 .1 .0) (zs₁ .1 .1 .1 .1 .1 .0) (zs₁ .1 .1 .1 .1 .1 .1 .0) (zs₁ .1 .1 .1 .1 .1 .1 .1 .0) (zs₁ .1 .1 .1 .1 .1 .1 .1 .1 .0) stack cells (zs₁ .1 .1 .1 .1 .1 .1 .1 .1 .1 .0) copy trace words) (call-keep (zs₁ .1 .1 .1 .1 .1 .1 .1 .1 .1 .0) words (lens₁ .1 .1 .1 .1 .1 .1 .1 .1 .0) refl) (λ zs. (slices (zs₁ .1 .0) (zs₁ .1 .1 .0) (zs₁ .1 .1 .1 .0) (zs₁ .1 .1 .1 .1 .0) (zs₁ .1 .1 .1 .1 .1 .0) (zs₁ .1 .1 .1 .1 .1 .1 .0) (zs₁ .1 .1 .1 .1 .1 .1 .1 .0) (zs₁ .1 .1 .1 .1 .1 .1 .1 .1 .0) stack cells (zs₁ .1 .1 .1 .1 .1 .1 .1 .1 .1 .0) copy trace (zs .1 .0))) refl (λ zs. refl) (λ zs. refl) fm known-keep refl (λ u zs₂ said₂ lens₂ isu. lands-in ! (tt, tt) $
           calls-on ! [] (slices (zs₁ .1 .0) (zs₁ .1 .1 .0) (zs₁ .1 .1 .1 .0) (zs₁ .1 .1 .1 .1 .0) (zs₁ .1 .1 .1 .1 .1 .0) (zs₁ .1 .1 .1 .1 .1 .1 .0) (zs₁ .1 .1 .1 .1 .1 .1 .1 .0) (zs₁ .1 .1 .1 .1 .1 .1 .1 .1 .0) stack cells (zs₁ .1 .1 .1 .1 .1 .1 .1 .1 .1 .0) copy trace (zs₂ .1 .0)) (call-made x isx) (λ zs. (slices (zs₁ .1 .0) (zs₁ .1 .1 .0) (zs₁ .1 .1 .1 .0) (zs₁ .1 .1 .1 .1 .0) (zs₁ .1 .1 .1 .1 .1 .0) (zs₁ .1 .1 .1 .1 .1 .1 .0) (zs₁ .1 .1 .1 .1 .1 .1 .1 .0) (zs₁ .1 .1 .1 .1 .1 .1 .1 .1 .0) stack cells (zs₁ .1 .1 .1 .1 .1 .1 .1 .1 .1 .0) copy trace (zs₂ .1 .0))) refl (λ zs. refl) (λ zs. refl) fm known-made refl (λ r zs₉ er lens₉ isr. lands-in ! (answer-typed 𝓤 H A W r isr) $ sets ! (of-opd ! (of ! refl)) (answer-typed 𝓤 H A W r isr) $ leaves ! refl $ by ! (exits r (zs₁ .1 .0) (zs₁ .1 .1 .0) (zs₁ .1 .1 .1 .0) (zs₁ .1 .1 .1 .1 .0) (zs₁ .1 .1 .1 .1 .1 .0) (zs₁ .1 .1 .1 .1 .1 .1 .0) (zs₁ .1 .1 .1 .1 .1 .1 .1 .0) (zs₁ .1 .1 .1 .1 .1 .1 .1 .1 .0) stack cells (zs₁ .1 .1 .1 .1 .1 .1 .1 .1 .1 .0) copy trace (zs₂ .1 .0) isr (lens₁ .0) (lens₁ .1 .0) (lens₁ .1 .1 .0) (lens₁ .1 .1 .1 .0) (lens₁ .1 .1 .1 .1 .0) (lens₁ .1 .1 .1 .1 .1 .0) (lens₁ .1 .1 .1 .1 .1 .1 .0) (lens₁ .1 .1 .1 .1 .1 .1 .1 .0) refl refl (lens₁ .1 .1 .1 .1 .1 .1 .1 .1 .0) refl refl (lens₂ .0))))))
-
       answers (Run units) e isc fs len =
-          returns-match ! 𝓣 (tag-of ! refl refl refl refl) refl (sets ! (of-opd ! (payload-of ! refl refl refl refl refl refl)) (tt, record { fits = run-fits units isc .1 }) $ sets ! (addr ! (behind ! refl refl)) (tt, tt) $ sets ! (agg ! (ofs ! refl)) (tt, (tt, (record { fits = room1 .0 }, tt))) $ sets ! (addr ! (behind ! refl refl)) (tt, tt) $ sets ! (agg ! (ofs ! refl)) (tt, (tt, (record { fits = room3 .0 }, tt))) $ sets ! (addr ! (behind ! refl refl)) (tt, tt) $ sets ! (agg ! (ofs ! refl)) (tt, (tt, (record { fits = room4 .0 }, tt))) $ sets ! (addr ! (behind ! refl refl)) (tt, tt) $ sets ! (agg ! (ofs ! refl)) (tt, (tt, (record { fits = room5 .0 }, tt))) $ sets ! (addr ! (behind ! refl refl)) (tt, tt) $ sets ! (agg ! (ofs ! refl)) (tt, (tt, (record { fits = room6 .0 }, tt))) $ sets ! (addr ! (behind ! refl refl)) (tt, tt) $ sets ! (agg ! (ofs ! refl)) (tt, (tt, (record { fits = room7 .0 }, tt))) $ sets ! (addr ! (behind ! refl refl)) (tt, tt) $ sets ! (agg ! (ofs ! refl)) (tt, (tt, (record { fits = room8 .0 }, tt))) $ sets ! (addr ! (behind ! refl refl)) (tt, tt) $ sets ! (agg ! (ofs ! refl)) (tt, (tt, (record { fits = room9 .0 }, tt))) $ sets ! (addr ! (behind ! refl refl)) (tt, tt) $ sets ! (agg ! (ofs ! refl)) (tt, (tt, (record { fits = room10 .0 }, tt))) $ sets ! (addr ! (behind ! refl refl)) (tt, tt) $ sets ! (agg ! (ofs ! refl)) (tt, (tt, (record { fits = room11 .0 }, tt))) $ sets ! (addr ! (behind ! refl refl)) (tt, tt) $ sets ! (agg ! (ofs ! refl)) (tt, (tt, (record { fits = room12 .0 }, tt))) $ sets ! (addr ! (behind ! refl refl)) (tt, tt) $ sets ! (agg ! (ofs ! refl)) (tt, (tt, (record { fits = room13 .0 }, tt))) $ calls-on ! (false ∷ true ∷ false ∷ true ∷ true ∷ true ∷ true ∷ true ∷ true ∷ true ∷ true ∷ true ∷ true ∷ true ∷ []) (slices constants structs functions text main mainPlaces other otherPlaces stack cells fs copy trace words) (call-go units (run-fits units isc) fs len) (λ zs. (slices constants structs functions text main mainPlaces other otherPlaces (zs .1 .1 .1 .1 .1 .1 .1 .1 .1 .0) (zs .1 .1 .1 .1 .1 .1 .1 .1 .1 .1 .0) (zs .1 .1 .1 .1 .1 .1 .1 .1 .1 .1 .1 .0) (zs .1 .1 .1 .1 .1 .1 .1 .1 .1 .1 .1 .1 .0) (zs .1 .1 .1 .1 .1 .1 .1 .1 .1 .1 .1 .1 .1 .0) words)) refl (λ zs. refl) (λ zs. refl) fm known-go refl (λ x zs₁ said₁ lens₁ isx. lands-in ! (result-typed 𝓤 H A W x isx) $ 
-          sets ! (addr ! (behind ! refl refl)) (tt, tt) $ sets ! (agg ! (ofs ! refl)) (tt, (tt, (record { fits = room11 .0 }, tt))) $ sets ! (addr ! (behind ! refl refl)) (tt, tt) $ sets ! (agg ! (ofs ! refl)) (tt, (tt, (record { fits = room14 .0 }, tt))) $ calls-on ! (false ∷ false ∷ false ∷ false ∷ false ∷ false ∷ false ∷ false ∷ false ∷ false ∷ false ∷ true ∷ false ∷ false ∷ true ∷ []) (slices constants structs functions text main mainPlaces other otherPlaces (zs₁ .1 .1 .1 .1 .1 .1 .1 .1 .1 .0) (zs₁ .1 .1 .1 .1 .1 .1 .1 .1 .1 .1 .0) (zs₁ .1 .1 .1 .1 .1 .1 .1 .1 .1 .1 .1 .0) (zs₁ .1 .1 .1 .1 .1 .1 .1 .1 .1 .1 .1 .1 .0) (zs₁ .1 .1 .1 .1 .1 .1 .1 .1 .1 .1 .1 .1 .1 .0) words) (call-keep (zs₁ .1 .1 .1 .1 .1 .1 .1 .1 .1 .1 .1 .0) words (lens₁ .1 .1 .0) refl) (λ zs. (slices constants structs functions text main mainPlaces other otherPlaces (zs₁ .1 .1 .1 .1 .1 .1 .1 .1 .1 .0) (zs₁ .1 .1 .1 .1 .1 .1 .1 .1 .1 .1 .0) (zs₁ .1 .1 .1 .1 .1 .1 .1 .1 .1 .1 .1 .0) (zs₁ .1 .1 .1 .1 .1 .1 .1 .1 .1 .1 .1 .1 .0) (zs₁ .1 .1 .1 .1 .1 .1 .1 .1 .1 .1 .1 .1 .1 .0) (zs .1 .0))) refl (λ zs. refl) (λ zs. refl) fm known-keep refl (λ u zs₂ said₂ lens₂ isu. lands-in ! (tt, tt) $ 
+          returns-match ! 𝓣 (tag-of ! refl refl refl refl) refl (sets ! (of-opd ! (payload-of ! refl refl refl refl refl refl)) (tt, record { fits = run-fits units isc .1 }) $ sets ! (addr ! (behind ! refl refl)) (tt, tt) $ sets ! (agg ! (ofs ! refl)) (tt, (tt, (record { fits = room1 .0 }, tt))) $ sets ! (addr ! (behind ! refl refl)) (tt, tt) $ sets ! (agg ! (ofs ! refl)) (tt, (tt, (record { fits = room3 .0 }, tt))) $ sets ! (addr ! (behind ! refl refl)) (tt, tt) $ sets ! (agg ! (ofs ! refl)) (tt, (tt, (record { fits = room4 .0 }, tt))) $ sets ! (addr ! (behind ! refl refl)) (tt, tt) $ sets ! (agg ! (ofs ! refl)) (tt, (tt, (record { fits = room5 .0 }, tt))) $ sets ! (addr ! (behind ! refl refl)) (tt, tt) $ sets ! (agg ! (ofs ! refl)) (tt, (tt, (record { fits = room6 .0 }, tt))) $ sets ! (addr ! (behind ! refl refl)) (tt, tt) $ sets ! (agg ! (ofs ! refl)) (tt, (tt, (record { fits = room7 .0 }, tt))) $ sets ! (addr ! (behind ! refl refl)) (tt, tt) $ sets ! (agg ! (ofs ! refl)) (tt, (tt, (record { fits = room8 .0 }, tt))) $ sets ! (addr ! (behind ! refl refl)) (tt, tt) $ sets ! (agg ! (ofs ! refl)) (tt, (tt, (record { fits = room9 .0 }, tt))) $ sets ! (addr ! (behind ! refl refl)) (tt, tt) $ sets ! (agg ! (ofs ! refl)) (tt, (tt, (record { fits = room10 .0 }, tt))) $ sets ! (addr ! (behind ! refl refl)) (tt, tt) $ sets ! (agg ! (ofs ! refl)) (tt, (tt, (record { fits = room11 .0 }, tt))) $ sets ! (addr ! (behind ! refl refl)) (tt, tt) $ sets ! (agg ! (ofs ! refl)) (tt, (tt, (record { fits = room12 .0 }, tt))) $ sets ! (addr ! (behind ! refl refl)) (tt, tt) $ sets ! (agg ! (ofs ! refl)) (tt, (tt, (record { fits = room13 .0 }, tt))) $ calls-on ! (false ∷ true ∷ false ∷ true ∷ true ∷ true ∷ true ∷ true ∷ true ∷ true ∷ true ∷ true ∷ true ∷ true ∷ []) (slices constants structs functions text main mainPlaces other otherPlaces stack cells fs copy trace words) (call-go units (run-fits units isc) fs len) (λ zs. (slices constants structs functions text main mainPlaces other otherPlaces (zs .1 .1 .1 .1 .1 .1 .1 .1 .1 .0) (zs .1 .1 .1 .1 .1 .1 .1 .1 .1 .1 .0) (zs .1 .1 .1 .1 .1 .1 .1 .1 .1 .1 .1 .0) (zs .1 .1 .1 .1 .1 .1 .1 .1 .1 .1 .1 .1 .0) (zs .1 .1 .1 .1 .1 .1 .1 .1 .1 .1 .1 .1 .1 .0) words)) refl (λ zs. refl) (λ zs. refl) fm known-go refl (λ x zs₁ said₁ lens₁ isx. lands-in ! (result-typed 𝓤 H A W x isx) $
+          sets ! (addr ! (behind ! refl refl)) (tt, tt) $ sets ! (agg ! (ofs ! refl)) (tt, (tt, (record { fits = room11 .0 }, tt))) $ sets ! (addr ! (behind ! refl refl)) (tt, tt) $ sets ! (agg ! (ofs ! refl)) (tt, (tt, (record { fits = room14 .0 }, tt))) $ calls-on ! (false ∷ false ∷ false ∷ false ∷ false ∷ false ∷ false ∷ false ∷ false ∷ false ∷ false ∷ true ∷ false ∷ false ∷ true ∷ []) (slices constants structs functions text main mainPlaces other otherPlaces (zs₁ .1 .1 .1 .1 .1 .1 .1 .1 .1 .0) (zs₁ .1 .1 .1 .1 .1 .1 .1 .1 .1 .1 .0) (zs₁ .1 .1 .1 .1 .1 .1 .1 .1 .1 .1 .1 .0) (zs₁ .1 .1 .1 .1 .1 .1 .1 .1 .1 .1 .1 .1 .0) (zs₁ .1 .1 .1 .1 .1 .1 .1 .1 .1 .1 .1 .1 .1 .0) words) (call-keep (zs₁ .1 .1 .1 .1 .1 .1 .1 .1 .1 .1 .1 .0) words (lens₁ .1 .1 .0) refl) (λ zs. (slices constants structs functions text main mainPlaces other otherPlaces (zs₁ .1 .1 .1 .1 .1 .1 .1 .1 .1 .0) (zs₁ .1 .1 .1 .1 .1 .1 .1 .1 .1 .1 .0) (zs₁ .1 .1 .1 .1 .1 .1 .1 .1 .1 .1 .1 .0) (zs₁ .1 .1 .1 .1 .1 .1 .1 .1 .1 .1 .1 .1 .0) (zs₁ .1 .1 .1 .1 .1 .1 .1 .1 .1 .1 .1 .1 .1 .0) (zs .1 .0))) refl (λ zs. refl) (λ zs. refl) fm known-keep refl (λ u zs₂ said₂ lens₂ isu. lands-in ! (tt, tt) $
           calls-on ! [] (slices constants structs functions text main mainPlaces other otherPlaces (zs₁ .1 .1 .1 .1 .1 .1 .1 .1 .1 .0) (zs₁ .1 .1 .1 .1 .1 .1 .1 .1 .1 .1 .0) (zs₁ .1 .1 .1 .1 .1 .1 .1 .1 .1 .1 .1 .0) (zs₁ .1 .1 .1 .1 .1 .1 .1 .1 .1 .1 .1 .1 .0) (zs₁ .1 .1 .1 .1 .1 .1 .1 .1 .1 .1 .1 .1 .1 .0) (zs₂ .1 .0)) (call-ran x isx) (λ zs. (slices constants structs functions text main mainPlaces other otherPlaces (zs₁ .1 .1 .1 .1 .1 .1 .1 .1 .1 .0) (zs₁ .1 .1 .1 .1 .1 .1 .1 .1 .1 .1 .0) (zs₁ .1 .1 .1 .1 .1 .1 .1 .1 .1 .1 .1 .0) (zs₁ .1 .1 .1 .1 .1 .1 .1 .1 .1 .1 .1 .1 .0) (zs₁ .1 .1 .1 .1 .1 .1 .1 .1 .1 .1 .1 .1 .1 .0) (zs₂ .1 .0))) refl (λ zs. refl) (λ zs. refl) fm known-ran refl (λ r zs₉ er lens₉ isr. lands-in ! (answer-typed 𝓤 H A W r isr) $ sets ! (of-opd ! (of ! refl)) (answer-typed 𝓤 H A W r isr) $ leaves ! refl $ by ! (exits r constants structs functions text main mainPlaces other otherPlaces (zs₁ .1 .1 .1 .1 .1 .1 .1 .1 .1 .0) (zs₁ .1 .1 .1 .1 .1 .1 .1 .1 .1 .1 .0) (zs₁ .1 .1 .1 .1 .1 .1 .1 .1 .1 .1 .1 .0) (zs₁ .1 .1 .1 .1 .1 .1 .1 .1 .1 .1 .1 .1 .0) (zs₁ .1 .1 .1 .1 .1 .1 .1 .1 .1 .1 .1 .1 .1 .0) (zs₂ .1 .0) isr refl refl refl refl refl refl refl refl (lens₁ .0) (lens₁ .1 .0) (lens₁ .1 .1 .0) (lens₁ .1 .1 .1 .0) (lens₁ .1 .1 .1 .1 .0) (lens₂ .0))))))
-
       answers Trace e isc fs len =
-          returns-match ! 𝓣 (tag-of ! refl refl refl refl) refl (sets ! (addr ! (behind ! refl refl)) (tt, tt) $ sets ! (agg ! (ofs ! refl)) (tt, (tt, (record { fits = room3 .0 }, tt))) $ sets ! (addr ! (behind ! refl refl)) (tt, tt) $ sets ! (agg ! (ofs ! refl)) (tt, (tt, (record { fits = room4 .0 }, tt))) $ sets ! (addr ! (behind ! refl refl)) (tt, tt) $ sets ! (agg ! (ofs ! refl)) (tt, (tt, (record { fits = room5 .0 }, tt))) $ sets ! (addr ! (behind ! refl refl)) (tt, tt) $ sets ! (agg ! (ofs ! refl)) (tt, (tt, (record { fits = room6 .0 }, tt))) $ sets ! (addr ! (behind ! refl refl)) (tt, tt) $ sets ! (agg ! (ofs ! refl)) (tt, (tt, (record { fits = room7 .0 }, tt))) $ sets ! (addr ! (behind ! refl refl)) (tt, tt) $ sets ! (agg ! (ofs ! refl)) (tt, (tt, (record { fits = room8 .0 }, tt))) $ sets ! (addr ! (behind ! refl refl)) (tt, tt) $ sets ! (agg ! (ofs ! refl)) (tt, (tt, (record { fits = room11 .0 }, tt))) $ sets ! (addr ! (behind ! refl refl)) (tt, tt) $ sets ! (agg ! (ofs ! refl)) (tt, (tt, (record { fits = room13 .0 }, tt))) $ calls-on ! (false ∷ false ∷ false ∷ true ∷ true ∷ true ∷ true ∷ true ∷ true ∷ false ∷ false ∷ true ∷ false ∷ true ∷ []) (slices constants structs functions text main mainPlaces other otherPlaces stack cells fs copy trace words) (call-back fs len) (λ zs. (slices constants structs functions text main mainPlaces other otherPlaces stack cells fs copy (zs .1 .1 .1 .1 .1 .1 .1 .1 .0) words)) refl (λ zs. refl) (λ zs. refl) fm known-back refl (λ x zs₁ said₁ lens₁ isx. lands-in ! (told-typed 𝓤 H A W x isx) $ 
+          returns-match ! 𝓣 (tag-of ! refl refl refl refl) refl (sets ! (addr ! (behind ! refl refl)) (tt, tt) $ sets ! (agg ! (ofs ! refl)) (tt, (tt, (record { fits = room3 .0 }, tt))) $ sets ! (addr ! (behind ! refl refl)) (tt, tt) $ sets ! (agg ! (ofs ! refl)) (tt, (tt, (record { fits = room4 .0 }, tt))) $ sets ! (addr ! (behind ! refl refl)) (tt, tt) $ sets ! (agg ! (ofs ! refl)) (tt, (tt, (record { fits = room5 .0 }, tt))) $ sets ! (addr ! (behind ! refl refl)) (tt, tt) $ sets ! (agg ! (ofs ! refl)) (tt, (tt, (record { fits = room6 .0 }, tt))) $ sets ! (addr ! (behind ! refl refl)) (tt, tt) $ sets ! (agg ! (ofs ! refl)) (tt, (tt, (record { fits = room7 .0 }, tt))) $ sets ! (addr ! (behind ! refl refl)) (tt, tt) $ sets ! (agg ! (ofs ! refl)) (tt, (tt, (record { fits = room8 .0 }, tt))) $ sets ! (addr ! (behind ! refl refl)) (tt, tt) $ sets ! (agg ! (ofs ! refl)) (tt, (tt, (record { fits = room11 .0 }, tt))) $ sets ! (addr ! (behind ! refl refl)) (tt, tt) $ sets ! (agg ! (ofs ! refl)) (tt, (tt, (record { fits = room13 .0 }, tt))) $ calls-on ! (false ∷ false ∷ false ∷ true ∷ true ∷ true ∷ true ∷ true ∷ true ∷ false ∷ false ∷ true ∷ false ∷ true ∷ []) (slices constants structs functions text main mainPlaces other otherPlaces stack cells fs copy trace words) (call-back fs len) (λ zs. (slices constants structs functions text main mainPlaces other otherPlaces stack cells fs copy (zs .1 .1 .1 .1 .1 .1 .1 .1 .0) words)) refl (λ zs. refl) (λ zs. refl) fm known-back refl (λ x zs₁ said₁ lens₁ isx. lands-in ! (told-typed 𝓤 H A W x isx) $
           calls-on ! [] (slices constants structs functions text main mainPlaces other otherPlaces stack cells fs copy (zs₁ .1 .1 .1 .1 .1 .1 .1 .1 .0) words) (call-traced x isx) (λ zs. (slices constants structs functions text main mainPlaces other otherPlaces stack cells fs copy (zs₁ .1 .1 .1 .1 .1 .1 .1 .1 .0) words)) refl (λ zs. refl) (λ zs. refl) fm known-traced refl (λ r zs₉ er lens₉ isr. lands-in ! (answer-typed 𝓤 H A W r isr) $ sets ! (of-opd ! (of ! refl)) (answer-typed 𝓤 H A W r isr) $ leaves ! refl $ by ! (exits r constants structs functions text main mainPlaces other otherPlaces stack cells fs copy (zs₁ .1 .1 .1 .1 .1 .1 .1 .1 .0) words isr refl refl refl refl refl refl refl refl refl refl len refl (lens₁ .0) refl))))
 
     walk : ent 𝓤 (onEntry 𝓤 H A me.signature (lfts xs₀) (shares xs₀) (denots xs₀) (valss xs₀)) (WpFn 𝓤 H (𝓣 .C) (𝓣 .Λ) code.function (values xs₀) Post)
     walk =
         qed W (‵ (Toks xs₀) ∷ ‵ (Owns xs₀) ∷ []) ∵ takes ! xs₀ (enters ! (𝓣 .C) (𝓣 .Λ) code.function (values xs₀) Post
         (vm-typed 𝓤 H A W m is-m, (call-typed 𝓤 H A W call (is .1 .0), ((tt, (tt, (record { fits = room0 .0 }, tt))), ((tt, (tt, (record { fits = room1 .0 }, tt))), ((tt, (tt, (record { fits = room2 .0 }, tt))), ((tt, (tt, (record { fits = room3 .0 }, tt))), ((tt, (tt, (record { fits = room4 .0 }, tt))), ((tt, (tt, (record { fits = room5 .0 }, tt))), ((tt, (tt, (record { fits = room6 .0 }, tt))), ((tt, (tt, (record { fits = room7 .0 }, tt))), ((tt, (tt, (record { fits = room8 .0 }, tt))), ((tt, (tt, (record { fits = room9 .0 }, tt))), ((tt, (tt, (record { fits = room10 .0 }, tt))), ((tt, (tt, (record { fits = room11 .0 }, tt))), ((tt, (tt, (record { fits = room12 .0 }, tt))), ((tt, (tt, (record { fits = room13 .0 }, tt))), ((tt, (tt, (record { fits = room14 .0 }, tt))), tt))))))))))))))))) (λ ls.
-        sets ! (addr ! (behind ! refl refl)) (tt, tt) $ sets ! (agg ! (ofs ! refl)) (tt, (tt, (record { fits = room11 .0 }, tt))) $ sets ! (addr ! (behind ! refl refl)) (tt, tt) $ sets ! (agg ! (ofs ! refl)) (tt, (tt, (record { fits = room14 .0 }, tt))) $ calls-on ! (false ∷ false ∷ false ∷ false ∷ false ∷ false ∷ false ∷ false ∷ false ∷ false ∷ false ∷ true ∷ false ∷ false ∷ true ∷ []) (slices constants structs functions text main mainPlaces other otherPlaces stack cells frames copy trace words) (call-lay) (λ zs. (slices constants structs functions text main mainPlaces other otherPlaces stack cells (zs .0) copy trace words)) refl (λ zs. refl) (λ zs. refl) fm known-lay refl (λ u zs said lens isu. lands-in ! (tt, tt) $ 
+        sets ! (addr ! (behind ! refl refl)) (tt, tt) $ sets ! (agg ! (ofs ! refl)) (tt, (tt, (record { fits = room11 .0 }, tt))) $ sets ! (addr ! (behind ! refl refl)) (tt, tt) $ sets ! (agg ! (ofs ! refl)) (tt, (tt, (record { fits = room14 .0 }, tt))) $ calls-on ! (false ∷ false ∷ false ∷ false ∷ false ∷ false ∷ false ∷ false ∷ false ∷ false ∷ false ∷ true ∷ false ∷ false ∷ true ∷ []) (slices constants structs functions text main mainPlaces other otherPlaces stack cells frames copy trace words) (call-lay) (λ zs. (slices constants structs functions text main mainPlaces other otherPlaces stack cells (zs .0) copy trace words)) refl (λ zs. refl) (λ zs. refl) fm known-lay refl (λ u zs said lens isu. lands-in ! (tt, tt) $
         answers ls call refl (is .1 .0) (zs .0) (lens .0))))
       where
         fm : FmC 𝓤 H (W .laws) (𝓣 .C)
