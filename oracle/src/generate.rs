@@ -30,16 +30,16 @@ impl Rng {
     }
 
     /// A number from `low` to `high`, both included.
-    fn between(&mut self, low: usize, high: usize) -> usize {
+    pub fn between(&mut self, low: usize, high: usize) -> usize {
         low + self.below(high - low + 1)
     }
 
     /// True in `percent` of a hundred.
-    fn chance(&mut self, percent: usize) -> bool {
+    pub fn chance(&mut self, percent: usize) -> bool {
         self.below(100) < percent
     }
 
-    fn pick<T: Copy>(&mut self, from: &[T]) -> T {
+    pub fn pick<T: Copy>(&mut self, from: &[T]) -> T {
         from[self.below(from.len())]
     }
 }
@@ -72,6 +72,35 @@ pub fn case(seed: u64, index: u64) -> Vec<u8> {
         82..=90 => image(&directed(rng)),
         91 => image(&edge_of_units(rng)),
         _ => damaged(rng),
+    }
+}
+
+/// A short program: of an image of at most so many bytes.
+pub fn short(rng: &mut Rng, most: usize) -> Program {
+    loop {
+        let program = match rng.below(8) {
+            0 => random_bytes(rng),
+            1 => random_instructions(rng),
+            2 => comparisons(rng),
+            3 => recursion(rng),
+            4 => numbers(rng),
+            5 => endings(rng),
+            6 => directed(rng),
+            _ => fitting(rng),
+        };
+        if image(&program).len() <= most {
+            return program;
+        }
+    }
+}
+
+/// A short image that is broken, or may be.
+pub fn short_damaged(rng: &mut Rng, most: usize) -> Vec<u8> {
+    loop {
+        let image = damaged(rng);
+        if image.len() <= most {
+            return image;
+        }
     }
 }
 
@@ -191,7 +220,7 @@ pub const SCALARS: [u64; 32] = [
     0x7FFF_FFFF_FFFF_FFFF, // a NaN, all ones
 ];
 
-fn scalar(rng: &mut Rng) -> u64 {
+pub fn scalar(rng: &mut Rng) -> u64 {
     match rng.below(4) {
         0 => rng.draw(),
         1 => (rng.below(20) as f64 - 4.0).to_bits(),
@@ -203,7 +232,7 @@ fn number(value: f64) -> Constant {
     Constant::Scalar(value.to_bits())
 }
 
-fn some_text(rng: &mut Rng, longest: usize) -> Vec<u8> {
+pub fn some_text(rng: &mut Rng, longest: usize) -> Vec<u8> {
     let length = rng.below(longest + 1);
     let any = rng.chance(30);
     (0..length)
@@ -217,7 +246,7 @@ fn some_text(rng: &mut Rng, longest: usize) -> Vec<u8> {
         .collect()
 }
 
-fn some_constant(rng: &mut Rng) -> Constant {
+pub fn some_constant(rng: &mut Rng) -> Constant {
     match rng.below(8) {
         0..=3 => Constant::Scalar(scalar(rng)),
         4 | 5 => Constant::Boolean(rng.chance(50)),

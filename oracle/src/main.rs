@@ -8,7 +8,7 @@ use oracle::limits::Answer;
 use oracle::plain::{self, Ending};
 use oracle::print::{self, value_text};
 use oracle::vm::Vm;
-use oracle::{asm, damage, generate, image};
+use oracle::{asm, calls, console, damage, generate, image};
 
 const HELP: &str = "\
 oracle: source document 000 over f64, and document 01's machine on top of it
@@ -31,14 +31,39 @@ oracle: source document 000 over f64, and document 01's machine on top of it
   oracle damage STEP            the records of damaged small images: names and
                                 runs in every way, and bytes in each STEP-th
                                 way (1: in every way)
+  oracle console                plays a script of host calls from standard input
+                                and prints what the console prints for it
+  oracle calls SEED [BYTES]     a script for the console, made by chance from
+                                the seed, of at most BYTES bytes (48,000)
 
 A record is the lengths of four parts (each u32, low byte first) and then the
 parts: the image, what `load` prints, what the runner prints, what the lister
 prints. Records stand one behind the other up to the end.
 
+The console's commands are those at the head of crates/console/stdin, and
+
+  last, stack I                 the last result; the value at place I
+  header I, element I J         of the list or struct at place I of the stack
+  text I [ROOM]                 of the string or function reference there
+  save ROOM, list ROOM, trace ROOM, run UNITS ROOM
+                                with a store of so many places lent
+
+It stops where the oracle cannot tell the answer: at `sum`, `poke`, `result`
+and the counts of stores other than the frames', which speak of the words in
+stores, and at a frame past those that a call has left.
+
+A script of `calls` has one story of each sort (each fault, the stores full and
+one over, frames damaged, patches, names, lines not understood, an image), then
+any. From 40,000 bytes on it begins with a long one: the text store filled for
+seeds 0, 4, 8 and so on, main's code for 1, 5 .., the others' code for 2, 6 ..,
+constants, structs and functions for 3, 7 ..
+
 FILE may be - for standard input. The plain Rust is stopped after 2,000,000
 steps or at a nesting of 1,000, which it would not be by itself.
 ";
+
+/// The bytes of a script, if nobody says how many.
+const CALLS: usize = 48_000;
 
 fn main() -> ExitCode {
     let arguments: Vec<String> = std::env::args().skip(1).collect();
@@ -57,6 +82,10 @@ fn main() -> ExitCode {
         ["damage", step] => {
             number(step).and_then(|step| records(damage::each(step.max(1) as usize).into_iter()))
         }
+        ["console"] => read("-").and_then(|script| console(&script)),
+        ["calls", seed] => number(seed).and_then(|s| put(calls::script(s, CALLS).as_bytes())),
+        ["calls", seed, bytes] => numbers(seed, bytes)
+            .and_then(|(s, bytes)| put(calls::script(s, bytes as usize).as_bytes())),
         [] | ["help" | "--help" | "-h"] => put(HELP.as_bytes()),
         _ => Err(format!("not understood\n\n{HELP}")),
     };
@@ -144,6 +173,14 @@ fn rust(bytes: &[u8]) -> Done {
         None => "last none\n".to_owned(),
     };
     put(out.as_bytes())
+}
+
+/// What was printed before the oracle had to stop is printed all the same.
+fn console(script: &[u8]) -> Done {
+    let mut out = vec![];
+    let played = console::play(script, &mut out);
+    put(&out)?;
+    played
 }
 
 fn write(seed: u64, count: u64, dir: &str) -> Done {
