@@ -520,10 +520,10 @@ impl Story<'_> {
         self.line("#! An image is loaded");
         // So that a machine is there even if the image is broken.
         self.lines(&["new", "scalar 0000000000000000", "op1 0 0 1", "run 9"]);
-        let bytes = if self.rng.chance(50) {
-            image(&short(self.rng, 250))
-        } else {
-            short_damaged(self.rng, 250)
+        let bytes = match self.rng.below(10) {
+            0 => vec![],
+            1..=5 => image(&short(self.rng, 250)),
+            _ => short_damaged(self.rng, 250),
         };
         self.line(format!("image {}", hex(&bytes)));
         self.look();

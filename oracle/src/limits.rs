@@ -651,11 +651,11 @@ fn instruction(op: u8, operands: &[u16]) -> Vec<u8> {
     bytes
 }
 
-fn main_code(program: &Program) -> usize {
+pub fn main_code(program: &Program) -> usize {
     program.functions[0].code.len()
 }
 
-fn other_code(program: &Program) -> usize {
+pub fn other_code(program: &Program) -> usize {
     program.functions[1..].iter().map(|f| f.code.len()).sum()
 }
 

@@ -8,7 +8,7 @@ use oracle::limits::Answer;
 use oracle::plain::{self, Ending};
 use oracle::print::{self, value_text};
 use oracle::vm::Vm;
-use oracle::{asm, calls, console, damage, generate, image};
+use oracle::{asm, calls, console, damage, edges, generate, image};
 
 const HELP: &str = "\
 oracle: source document 000 over f64, and document 01's machine on top of it
@@ -28,6 +28,9 @@ oracle: source document 000 over f64, and document 01's machine on top of it
                                 of text; or `refused N`, 20 with its offset
   oracle batch SEED COUNT       the records of generated images, on standard
                                 output
+  oracle tally SEED COUNT       counts those of the same images at which a size is
+                                full, one short or one over, or a number of the
+                                image none or very large
   oracle damage STEP            the records of damaged small images: names and
                                 runs in every way, and bytes in each STEP-th
                                 way (1: in every way)
@@ -79,6 +82,7 @@ fn main() -> ExitCode {
         ["load", file] => read(file).and_then(|bytes| put(print::loader(&bytes).as_bytes())),
         ["batch", seed, count] => numbers(seed, count)
             .and_then(|(s, c)| records((0..c).map(|index| generate::case(s, index)))),
+        ["tally", seed, count] => numbers(seed, count).and_then(|(s, c)| tally(s, c)),
         ["damage", step] => {
             number(step).and_then(|step| records(damage::each(step.max(1) as usize).into_iter()))
         }
@@ -210,6 +214,14 @@ fn sample(seed: u64, count: u64) -> Done {
         out += &format!("{ending}: {count}\n");
     }
     put(out.as_bytes())
+}
+
+fn tally(seed: u64, count: u64) -> Done {
+    let counted = edges::tally((0..count).map(|index| generate::case(seed, index)));
+    let lines = counted
+        .iter()
+        .map(|(edge, count)| format!("{edge}: {count}\n"));
+    put(lines.collect::<String>().as_bytes())
 }
 
 fn records(images: impl Iterator<Item = Vec<u8>>) -> Done {
