@@ -274,7 +274,7 @@ impl Story<'_> {
             2 => self.rng.below(needed as usize + 1) as u64,
             3 => needed.saturating_sub(1),
             4 => needed,
-            5 => 18_446_744_073_709_551_609,
+            5 => u64::MAX,
             _ => 1_000_000,
         }
     }
@@ -948,7 +948,7 @@ impl Story<'_> {
             "run 1 x",
             "run 1 2 3",
             "run -1",
-            "run 18446744073709551610",
+            "run 18446744073709551616",
             "run 00000000000000000000001",
             "trace x",
             "op",
@@ -1005,18 +1005,27 @@ impl Story<'_> {
 
     // The long ones
 
-    /// Text that fills its store but for main's name, and some more.
+    /// Texts of each sort that fill their store, with main's name; the last
+    /// of them is first tried with a byte too many.
     fn full_text(&mut self) {
         self.lines(&["#! The text store is filled", "new"]);
-        let room = Stores::RUNNER.text - 6;
-        let rest = self.rng.between(1, 3);
-        self.line(format!("string {}", "78".repeat(room - rest)));
-        self.line(format!("struct {}", "79".repeat(rest + 1)));
-        self.line(format!("begin {}", "66".repeat(rest)));
+        let sorts = ["reference", "struct", "begin"];
+        let last = self.rng.below(3);
+        let rest = [(); 3].map(|()| self.rng.between(1, 3));
+        let long = Stores::RUNNER.text - 6 - rest.iter().sum::<usize>();
+        self.line(format!("string {}", "78".repeat(long)));
+        for index in [last + 1, last + 2, last].map(|index| index % 3) {
+            if index == last {
+                let over = "79".repeat(rest[index] + 1);
+                for sort in sorts.iter().chain(&["string"]) {
+                    self.line(format!("{sort} {over}"));
+                }
+            }
+            self.line(format!("{} {}", sorts[index], "79".repeat(rest[index])));
+        }
         self.lines(&["string 00", "reference 00", "struct 00", "begin 00", "end"]);
         self.lines(&["string", "struct", "begin", "end", "op1 0 0 1", "run 9"]);
-        let text = room - rest;
-        self.line(format!("text 0 {}", text - 1));
+        self.line(format!("text 0 {}", long - 1));
         self.line("save");
     }
 

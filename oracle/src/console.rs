@@ -36,11 +36,12 @@ impl From<NotFixed> for Stop {
 
 type Said = Result<Vec<u8>, Stop>;
 
-/// Plays a script, printing into `out`. The error says why the oracle cannot
+/// Plays a script, printing into `out`; `first` is the number of its first
+/// line, so that a part of a script can be played by itself. The error says why the oracle cannot
 /// go on; what was printed before it stays.
-pub fn play(script: &[u8], out: &mut Vec<u8>) -> Result<(), String> {
+pub fn play(script: &[u8], first: u64, out: &mut Vec<u8>) -> Result<(), String> {
     let mut console = Console::new();
-    for (number, line) in lines(script) {
+    for (number, line) in lines(script, first) {
         out.extend(console.obey(number, line)?);
     }
     Ok(())

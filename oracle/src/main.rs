@@ -34,8 +34,9 @@ oracle: source document 000 over f64, and document 01's machine on top of it
   oracle damage STEP            the records of damaged small images: names and
                                 runs in every way, and bytes in each STEP-th
                                 way (1: in every way)
-  oracle console                plays a script of host calls from standard input
-                                and prints what the console prints for it
+  oracle console [LINE]         plays a script of host calls from standard input
+                                and prints what the console prints for it; LINE
+                                is the number of its first line (1)
   oracle calls SEED [BYTES]     a script for the console, made by chance from
                                 the seed, of at most BYTES bytes (48,000)
 
@@ -86,7 +87,10 @@ fn main() -> ExitCode {
         ["damage", step] => {
             number(step).and_then(|step| records(damage::each(step.max(1) as usize).into_iter()))
         }
-        ["console"] => read("-").and_then(|script| console(&script)),
+        ["console"] => read("-").and_then(|script| console(&script, 1)),
+        ["console", first] => {
+            number(first).and_then(|first| read("-").and_then(|script| console(&script, first)))
+        }
         ["calls", seed] => number(seed).and_then(|s| put(calls::script(s, CALLS).as_bytes())),
         ["calls", seed, bytes] => numbers(seed, bytes)
             .and_then(|(s, bytes)| put(calls::script(s, bytes as usize).as_bytes())),
@@ -180,9 +184,9 @@ fn rust(bytes: &[u8]) -> Done {
 }
 
 /// What was printed before the oracle had to stop is printed all the same.
-fn console(script: &[u8]) -> Done {
+fn console(script: &[u8], first: u64) -> Done {
     let mut out = vec![];
-    let played = console::play(script, &mut out);
+    let played = console::play(script, first, &mut out);
     put(&out)?;
     played
 }

@@ -5,10 +5,10 @@ pub const MAX_SCRIPT: usize = 65_536;
 /// The most bytes that a line may say.
 pub const SPACE: usize = 16_384;
 
-/// The lines, each with its number.
-pub fn lines(script: &[u8]) -> impl Iterator<Item = (u64, &[u8])> {
+/// The lines, each with its number; `first` is that of the first.
+pub fn lines(script: &[u8], first: u64) -> impl Iterator<Item = (u64, &[u8])> {
     let read = &script[..script.len().min(MAX_SCRIPT)];
-    (1..).zip(read.split(|byte| *byte == b'\n'))
+    (first..).zip(read.split(|byte| *byte == b'\n'))
 }
 
 fn without_blanks(text: &[u8]) -> &[u8] {
@@ -42,25 +42,23 @@ fn digit(byte: u8) -> Option<u64> {
     }
 }
 
-/// A number in digits of a base. The console takes one digit more as long as
-/// the number is below the greatest quotient, so the last few below 2^64 are
-/// not taken in decimal.
-fn in_base(word: &[u8], base: u64, below: u64) -> Option<u64> {
+/// A number below 2^64, in digits of a base.
+fn in_base(word: &[u8], base: u64) -> Option<u64> {
     if word.is_empty() {
         return None;
     }
-    word.iter().try_fold(0, |number, byte| {
+    word.iter().try_fold(0u64, |number, byte| {
         let digit = digit(*byte).filter(|digit| *digit < base)?;
-        (number < below).then(|| number * base + digit)
+        number.checked_mul(base)?.checked_add(digit)
     })
 }
 
 pub fn decimal(word: &[u8]) -> Option<u64> {
-    in_base(word, 10, u64::MAX / 10)
+    in_base(word, 10)
 }
 
 pub fn hex(word: &[u8]) -> Option<u64> {
-    in_base(word, 16, 1 << 60)
+    in_base(word, 16)
 }
 
 /// The numbers of the words from `k` on, if they are as many as there are
@@ -107,13 +105,10 @@ mod tests {
     #[test]
     fn numbers_are_decimal_and_capital_hex() {
         assert_eq!(decimal(b"007"), Some(7));
-        for none in [&b""[..], b"-1", b"1 ", b"A", b"18446744073709551610"] {
+        for none in [&b""[..], b"-1", b"1 ", b"A", b"18446744073709551616"] {
             assert_eq!(decimal(none), None);
         }
-        assert_eq!(
-            decimal(b"18446744073709551609"),
-            Some(18_446_744_073_709_551_609)
-        );
+        assert_eq!(decimal(b"18446744073709551615"), Some(u64::MAX));
         assert_eq!(hex(b"FFFFFFFFFFFFFFFF"), Some(u64::MAX));
         assert_eq!(hex(b"0FFFFFFFFFFFFFFFF"), Some(u64::MAX));
         assert_eq!(hex(b"10000000000000000"), None);
@@ -142,7 +137,7 @@ mod tests {
     #[test]
     fn a_script_is_read_so_far() {
         let long = [vec![b'#'; MAX_SCRIPT - 1], b"\nnew\n".to_vec()].concat();
-        assert_eq!(lines(&long).count(), 2);
-        assert_eq!(lines(&long).nth(1), Some((2, &b""[..])));
+        assert_eq!(lines(&long, 1).count(), 2);
+        assert_eq!(lines(&long, 1).nth(1), Some((2, &b""[..])));
     }
 }

@@ -13,7 +13,8 @@ const BYTES: usize = 48_000;
 fn answers() -> Vec<String> {
     let mut out = vec![];
     for seed in 0..SEEDS {
-        play(script(seed, BYTES).as_bytes(), &mut out).expect("no script asks what is not fixed");
+        play(script(seed, BYTES).as_bytes(), 1, &mut out)
+            .expect("no script asks what is not fixed");
     }
     let text = String::from_utf8_lossy(&out);
     text.lines().map(str::to_owned).collect()

@@ -5,7 +5,7 @@ use oracle::console::play;
 
 fn said(script: &str) -> String {
     let mut out = vec![];
-    play(script.as_bytes(), &mut out).expect("the oracle has all that is asked");
+    play(script.as_bytes(), 1, &mut out).expect("the oracle has all that is asked");
     String::from_utf8(out).unwrap()
 }
 
@@ -20,7 +20,7 @@ fn ends(script: &str, behind: &str, answer: &str) {
 }
 
 fn stops(script: &str) -> String {
-    play(script.as_bytes(), &mut vec![]).expect_err("the oracle cannot tell")
+    play(script.as_bytes(), 1, &mut vec![]).expect_err("the oracle cannot tell")
 }
 
 /// A list, a struct, a string, a reference and a number on the stack.
@@ -57,6 +57,13 @@ fn lines_and_comments() {
         said("# no\n\n#! yes, \n#!no\njump 5\n  new\n"),
         "yes, \n? 5\ndone\n"
     );
+}
+
+#[test]
+fn a_part_of_a_script_keeps_its_line_numbers() {
+    let mut out = vec![];
+    play(b"#! behind\njump 5\n", 430, &mut out).unwrap();
+    assert_eq!(out, b"behind\n? 431\n");
 }
 
 #[test]
