@@ -58,9 +58,9 @@ stores, and at a frame past those that a call has left.
 
 A script of `calls` has one story of each sort (each fault, the stores full and
 one over, frames damaged, patches, names, lines not understood, an image), then
-any. From 40,000 bytes on it begins with a long one: the text store filled for
-seeds 0, 4, 8 and so on, main's code for 1, 5 .., the others' code for 2, 6 ..,
-constants, structs and functions for 3, 7 ..
+any, emitted programs too. From 40,000 bytes on it begins with a long one: the
+text store is filled for seeds 0, 4, 8 .., main's code for 1, 5 .., the others'
+code for 2, 6 .., constants, structs and functions for 3, 7 ..
 
 FILE may be - for standard input. The plain Rust is stopped after 2,000,000
 steps or at a nesting of 1,000, which it would not be by itself.
