@@ -1,7 +1,10 @@
 //! Images to compare on: seeded and repeatable. Case `index` of a seed does
 //! not depend on the other cases.
 
-use crate::image::{image, Constant, Function, Program, MAIN};
+use crate::edges::{LARGEST, ROLES};
+use crate::image::{
+    self, image, read_number, write_number, Constant, Function, Number, Program, MAIN,
+};
 use crate::limits::Stores;
 use crate::op::{Op, OPS};
 use crate::print::{MAX_IMAGE, UNITS};
@@ -30,16 +33,16 @@ impl Rng {
     }
 
     /// A number from `low` to `high`, both included.
-    fn between(&mut self, low: usize, high: usize) -> usize {
+    pub fn between(&mut self, low: usize, high: usize) -> usize {
         low + self.below(high - low + 1)
     }
 
     /// True in `percent` of a hundred.
-    fn chance(&mut self, percent: usize) -> bool {
+    pub fn chance(&mut self, percent: usize) -> bool {
         self.below(100) < percent
     }
 
-    fn pick<T: Copy>(&mut self, from: &[T]) -> T {
+    pub fn pick<T: Copy>(&mut self, from: &[T]) -> T {
         from[self.below(from.len())]
     }
 }
@@ -71,7 +74,37 @@ pub fn case(seed: u64, index: u64) -> Vec<u8> {
         78..=81 => image(&endings(rng)),
         82..=90 => image(&directed(rng)),
         91 => image(&edge_of_units(rng)),
+        92..=94 => edge(rng),
         _ => damaged(rng),
+    }
+}
+
+/// A short program: of an image of at most so many bytes.
+pub fn short(rng: &mut Rng, most: usize) -> Program {
+    loop {
+        let program = match rng.below(8) {
+            0 => random_bytes(rng),
+            1 => random_instructions(rng),
+            2 => comparisons(rng),
+            3 => recursion(rng),
+            4 => numbers(rng),
+            5 => endings(rng),
+            6 => directed(rng),
+            _ => fitting(rng),
+        };
+        if image(&program).len() <= most {
+            return program;
+        }
+    }
+}
+
+/// A short image that is broken, or may be.
+pub fn short_damaged(rng: &mut Rng, most: usize) -> Vec<u8> {
+    loop {
+        let image = damaged(rng);
+        if image.len() <= most {
+            return image;
+        }
     }
 }
 
@@ -191,7 +224,7 @@ pub const SCALARS: [u64; 32] = [
     0x7FFF_FFFF_FFFF_FFFF, // a NaN, all ones
 ];
 
-fn scalar(rng: &mut Rng) -> u64 {
+pub fn scalar(rng: &mut Rng) -> u64 {
     match rng.below(4) {
         0 => rng.draw(),
         1 => (rng.below(20) as f64 - 4.0).to_bits(),
@@ -203,7 +236,7 @@ fn number(value: f64) -> Constant {
     Constant::Scalar(value.to_bits())
 }
 
-fn some_text(rng: &mut Rng, longest: usize) -> Vec<u8> {
+pub fn some_text(rng: &mut Rng, longest: usize) -> Vec<u8> {
     let length = rng.below(longest + 1);
     let any = rng.chance(30);
     (0..length)
@@ -217,7 +250,7 @@ fn some_text(rng: &mut Rng, longest: usize) -> Vec<u8> {
         .collect()
 }
 
-fn some_constant(rng: &mut Rng) -> Constant {
+pub fn some_constant(rng: &mut Rng) -> Constant {
     match rng.below(8) {
         0..=3 => Constant::Scalar(scalar(rng)),
         4 | 5 => Constant::Boolean(rng.chance(50)),
@@ -1144,23 +1177,27 @@ fn last_frame(rng: &mut Rng) -> Program {
     program
 }
 
-/// An image whose stores are just large enough, or too small by one.
+/// A size of a store: all of it, one short, or one over.
+fn about(rng: &mut Rng, size: usize) -> usize {
+    size - 1 + rng.below(3)
+}
+
+/// An image whose stores are just large enough, or larger or smaller by one.
 fn store_edge(rng: &mut Rng) -> Vec<u8> {
     let stores = Stores::RUNNER;
-    let past = rng.below(2);
     let mut program = Program::new();
     program.constants = vec![number(1.0)];
     let mut main = Code::default();
     main.op1(Op::LoadConstant, 0).op(Op::Return);
     match rng.below(9) {
         0 => {
-            program.constants = (0..stores.constants + past)
+            program.constants = (0..about(rng, stores.constants))
                 .map(|n| Constant::Boolean(n % 2 == 0))
                 .collect();
             main.op1(Op::LoadConstant, 255).op(Op::Return);
         }
         1 => {
-            program.structs = struct_names(stores.structs + past);
+            program.structs = struct_names(about(rng, stores.structs));
             main.op2(Op::BuildStructInstance, 255, 0).op(Op::Return);
         }
         2 => {
@@ -1170,19 +1207,20 @@ fn store_edge(rng: &mut Rng) -> Vec<u8> {
                     name: b"f".to_vec(),
                     ..f
                 };
-                stores.functions + past
+                about(rng, stores.functions)
             ];
             main.op2(Op::Call, 255, 0);
         }
         3 => {
-            while main.0.len() < stores.main_code + past {
+            let length = about(rng, stores.main_code);
+            while main.0.len() < length {
                 main.op(Op::Return);
             }
         }
         4 => {
             // The other codes share one store.
             let split = rng.below(stores.other_code);
-            for length in [split, stores.other_code + past - split] {
+            for length in [split, about(rng, stores.other_code) - split] {
                 program.functions.push(Function {
                     name: b"f".to_vec(),
                     code: vec![Op::Return as u8; length],
@@ -1197,19 +1235,29 @@ fn store_edge(rng: &mut Rng) -> Vec<u8> {
             let rest = MAX_IMAGE - 60;
             program.functions.extend(vec![empty; rest / 2]);
         }
+        // The longest image there may be, one byte less, and one more.
+        6 => {
+            // With as much text as it can have, which is less than its store.
+            program.constants.clear();
+            return of_length(program, about(rng, MAX_IMAGE));
+        }
         _ => {
-            // The longest image there may be, and one byte more.
-            program.constants.push(Constant::String(vec![]));
             main.op1(Op::LoadConstant, 1).op(Op::Return);
             program.functions[0] = function(rng, MAIN, main);
-            let short = image(&program).len();
-            // The text's length takes two bytes then, and took one.
-            let text = MAX_IMAGE + past - short - 1;
-            program.constants[1] = Constant::String(vec![b'x'; text]);
-            return image(&program);
+            return of_length(program, about(rng, MAX_IMAGE));
         }
     }
     program.functions[0] = function(rng, MAIN, main);
+    image(&program)
+}
+
+/// The image of a program with a text added that makes it so long.
+fn of_length(mut program: Program, length: usize) -> Vec<u8> {
+    program.constants.push(Constant::String(vec![]));
+    // The text's length takes two bytes then, and took one.
+    let text = length - image(&program).len() - 1;
+    let last = program.constants.last_mut().expect("it was pushed");
+    *last = Constant::String(vec![b'x'; text]);
     image(&program)
 }
 
@@ -1614,6 +1662,25 @@ fn sundry(rng: &mut Rng) -> Program {
             program
         }
     }
+}
+
+/// No bytes at all, or one number of an image made none or very large.
+fn edge(rng: &mut Rng) -> Vec<u8> {
+    if rng.chance(10) {
+        return vec![];
+    }
+    let mut bytes = image(&sundry(rng));
+    let role = rng.pick(&ROLES);
+    let numbers = image::numbers(&bytes);
+    let of_role: Vec<Number> = numbers.into_iter().filter(|n| n.role == role).collect();
+    if !of_role.is_empty() {
+        let offset = rng.pick(&of_role).offset;
+        let (_, groups) = read_number(&bytes[offset..]).expect("it is a number");
+        let mut large = vec![];
+        write_number(&mut large, rng.pick(&LARGEST));
+        bytes.splice(offset..offset + groups, large);
+    }
+    bytes
 }
 
 /// An image that is broken, or may be.

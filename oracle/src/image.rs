@@ -53,60 +53,99 @@ impl Default for Program {
 /// and its offset is where it begins; one that is missing altogether would
 /// begin at the end of the input.
 pub fn parse(bytes: &[u8]) -> Result<Program, usize> {
-    let mut reader = Reader { bytes, position: 0 };
+    Reader::new(bytes).program()
+}
 
-    let constant_count = reader.number()?;
-    let mut constants = vec![];
-    for _ in 0..constant_count {
-        constants.push(reader.constant()?);
-    }
+/// What a number of an image says.
+#[derive(Clone, Copy, Debug, PartialEq, Eq)]
+pub enum Role {
+    Constants,
+    Kind,
+    Text,
+    Structs,
+    Functions,
+    Code,
+    Run,
+    Place,
+}
 
-    let struct_count = reader.number()?;
-    let mut structs = vec![];
-    let mut names = HashSet::new();
-    for _ in 0..struct_count {
-        let start = reader.position;
-        let name = reader.text()?;
-        if !names.insert(name.clone()) {
-            return Err(start);
-        }
-        structs.push(name);
-    }
+/// A number of an image, and where it begins.
+#[derive(Clone, Copy, Debug, PartialEq, Eq)]
+pub struct Number {
+    pub role: Role,
+    pub offset: usize,
+    pub value: u32,
+}
 
-    let start = reader.position;
-    let function_count = reader.number()?;
-    if function_count == 0 {
-        return Err(start);
-    }
-    let mut functions = vec![];
-    for number in 0..function_count {
-        let start = reader.position;
-        let name = reader.text()?;
-        if number == 0 && name != MAIN {
-            return Err(start);
-        }
-        let code_length = reader.number()? as usize;
-        let code = reader.take(code_length)?.to_vec();
-        let places = reader.runs(code_length)?;
-        functions.push(Function { name, code, places });
-    }
-
-    if reader.position < bytes.len() {
-        return Err(reader.position);
-    }
-    Ok(Program {
-        constants,
-        structs,
-        functions,
-    })
+/// The numbers of an image, as far as it is read.
+pub fn numbers(bytes: &[u8]) -> Vec<Number> {
+    let mut reader = Reader::new(bytes);
+    let _ = reader.program();
+    reader.numbers
 }
 
 struct Reader<'a> {
     bytes: &'a [u8],
     position: usize,
+    numbers: Vec<Number>,
 }
 
 impl<'a> Reader<'a> {
+    fn new(bytes: &'a [u8]) -> Reader<'a> {
+        Reader {
+            bytes,
+            position: 0,
+            numbers: vec![],
+        }
+    }
+
+    fn program(&mut self) -> Result<Program, usize> {
+        let constant_count = self.number(Role::Constants)?;
+        let mut constants = vec![];
+        for _ in 0..constant_count {
+            constants.push(self.constant()?);
+        }
+
+        let struct_count = self.number(Role::Structs)?;
+        let mut structs = vec![];
+        let mut names = HashSet::new();
+        for _ in 0..struct_count {
+            let start = self.position;
+            let name = self.text()?;
+            if !names.insert(name.clone()) {
+                return Err(start);
+            }
+            structs.push(name);
+        }
+
+        let start = self.position;
+        let function_count = self.number(Role::Functions)?;
+        if function_count == 0 {
+            return Err(start);
+        }
+        let mut functions = vec![];
+        for number in 0..function_count {
+            let start = self.position;
+            let name = self.text()?;
+            if number == 0 && name != MAIN {
+                return Err(start);
+            }
+            let code_length = self.number(Role::Code)? as usize;
+            let code = self.take(code_length)?.to_vec();
+            let places = self.runs(code_length)?;
+            functions.push(Function { name, code, places });
+        }
+
+        if self.position < self.bytes.len() {
+            return Err(self.position);
+        }
+        Ok(Program {
+            constants,
+            structs,
+            functions,
+        })
+    }
+
     /// The next `count` bytes, as (part of) one item.
     fn take(&mut self, count: usize) -> Result<&'a [u8], usize> {
         let rest = &self.bytes[self.position..];
@@ -118,23 +157,29 @@ impl<'a> Reader<'a> {
     }
 
     /// A number in its shortest form, below 2^32.
-    fn number(&mut self) -> Result<u32, usize> {
-        let (number, groups) = read_number(&self.bytes[self.position..]).ok_or(self.position)?;
+    fn number(&mut self, role: Role) -> Result<u32, usize> {
+        let offset = self.position;
+        let (value, groups) = read_number(&self.bytes[offset..]).ok_or(offset)?;
         self.position += groups;
-        Ok(number)
+        self.numbers.push(Number {
+            role,
+            offset,
+            value,
+        });
+        Ok(value)
     }
 
     /// A text is one item with its length, so a text cut short is named
     /// where its length begins.
     fn text(&mut self) -> Result<Vec<u8>, usize> {
         let start = self.position;
-        let length = self.number()? as usize;
+        let length = self.number(Role::Text)? as usize;
         Ok(self.take(length).map_err(|_| start)?.to_vec())
     }
 
     fn constant(&mut self) -> Result<Constant, usize> {
         let start = self.position;
-        match self.number()? {
+        match self.number(Role::Kind)? {
             0 => {
                 let scalar = self.take(8)?;
                 Ok(Constant::Scalar(u64::from_le_bytes(
@@ -160,12 +205,12 @@ impl<'a> Reader<'a> {
         let mut places: Vec<u32> = vec![];
         while places.len() < code_length {
             let start = self.position;
-            let count = self.number()? as usize;
+            let count = self.number(Role::Run)? as usize;
             if count == 0 || count > code_length - places.len() {
                 return Err(start);
             }
             let start = self.position;
-            let place = self.number()?;
+            let place = self.number(Role::Place)?;
             if places.last() == Some(&place) {
                 return Err(start);
             }

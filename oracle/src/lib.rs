@@ -10,15 +10,27 @@
 //!
 //! Both read programs from the rule image ([`image`]). [`print`] holds what
 //! the runner and the lister print, [`generate`] and [`damage`] make images to
-//! compare on, [`asm`] makes an image of a rule that a person wrote.
+//! compare on, [`edges`] counts those at which a size or number is the largest,
+//! [`asm`] makes an image of a rule that a person wrote.
+//!
+//! [`console`] makes a host's calls from a script and prints each answer:
+//! [`script`] and [`command`] read the lines, [`frames`] are the call frames as
+//! a host holds them, [`readers`] is what it reads. [`calls`] makes scripts.
 
 pub mod asm;
+pub mod calls;
+pub mod command;
+pub mod console;
 pub mod damage;
+pub mod edges;
+pub mod frames;
 pub mod generate;
 pub mod image;
 pub mod limits;
 pub mod op;
 pub mod plain;
 pub mod print;
+pub mod readers;
+pub mod script;
 pub mod value;
 pub mod vm;

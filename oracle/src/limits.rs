@@ -2,9 +2,10 @@
 //! cells and depth, and a number for every way to go wrong.
 //!
 //! Cells are counted here and not laid out: a list or struct of n elements
-//! takes n + 1, and none come back but after a fault. Refusals 17 and 19 do
-//! not occur, because nothing is lent and nobody outside can disturb the
-//! records.
+//! takes n + 1, and none come back but after a fault. Nothing is lent here and
+//! nobody outside can disturb the records, so 17 and 19 are no matter of this
+//! machine: [`crate::console`] judges what a host may do to the frames, and
+//! how much it lends for an answer.
 
 use crate::image::{self, Constant, Function, Program};
 use crate::op::Op;
@@ -48,10 +49,24 @@ impl Stores {
 /// A refusal: nothing was done and nothing has changed.
 #[derive(Clone, Copy, Debug, PartialEq, Eq)]
 pub enum Refused {
+    /// 1: an opcode of 38 or more, at emission or in a listing.
+    Opcode,
+    /// 3: a listing of code that ends inside an instruction.
+    CutShort,
+    /// 5: a reader is given a value of the wrong kind.
+    Kind,
+    /// 6: no such place on the stack, or no such element.
+    Number,
+    /// 7: no last result.
+    NoLastResult,
     /// 14: no function of that name.
     NoSuchFunction,
     /// 16: a frame's place lies outside its code.
     Backtrace,
+    /// 17: a result or copy store is too short.
+    ResultStore,
+    /// 19: the machine's records are not in good order.
+    Order,
     /// 20, with the offset of the first item that breaks a rule.
     Image(usize),
     /// 21: a store would be exceeded.
@@ -65,8 +80,15 @@ pub enum Refused {
 impl Refused {
     pub fn number(self) -> u32 {
         match self {
+            Refused::Opcode => 1,
+            Refused::CutShort => 3,
+            Refused::Kind => 5,
+            Refused::Number => 6,
+            Refused::NoLastResult => 7,
             Refused::NoSuchFunction => 14,
             Refused::Backtrace => 16,
+            Refused::ResultStore => 17,
+            Refused::Order => 19,
             Refused::Image(_) => 20,
             Refused::Store => 21,
             Refused::Limit => 22,
@@ -96,6 +118,16 @@ pub struct Report {
     pub spent: u64,
     /// Function and place, innermost frame first; empty unless a fault.
     pub backtrace: Vec<(usize, u32)>,
+    /// How far the stores were filled on the way.
+    pub most: Most,
+}
+
+/// The most that was taken at once, between two steps of a run.
+#[derive(Clone, Copy, Debug, Default, PartialEq, Eq)]
+pub struct Most {
+    pub values: usize,
+    pub frames: usize,
+    pub cells: usize,
 }
 
 #[derive(Clone)]
@@ -170,9 +202,11 @@ impl Machine {
         image::image(&self.program)
     }
 
-    // Emission. At each entry 22 comes before 21.
+    // Emission. At each entry 22 comes before 21, and both before the rest.
 
-    fn emit(&mut self, bytes: &[u8], place: u32) -> Result<(), Refused> {
+    /// An instruction of any opcode at all, at the end of the current function.
+    pub fn emit(&mut self, op: u8, operands: &[u16], place: u32) -> Result<(), Refused> {
+        let bytes = instruction(op, operands);
         let length = self.program.functions[self.current].code.len() + bytes.len();
         if length > MAX_CODE {
             return Err(Refused::Limit);
@@ -185,22 +219,25 @@ impl Machine {
         if !fits {
             return Err(Refused::Store);
         }
+        if Op::from_byte(op).is_none() {
+            return Err(Refused::Opcode);
+        }
         let function = &mut self.program.functions[self.current];
-        function.code.extend_from_slice(bytes);
+        function.code.extend(bytes);
         function.places.resize(length, place);
         Ok(())
     }
 
     pub fn add_op(&mut self, op: Op, place: u32) -> Result<(), Refused> {
-        self.emit(&instruction(op, &[]), place)
+        self.emit(op as u8, &[], place)
     }
 
     pub fn add_op1(&mut self, op: Op, arg: u16, place: u32) -> Result<(), Refused> {
-        self.emit(&instruction(op, &[arg]), place)
+        self.emit(op as u8, &[arg], place)
     }
 
     pub fn add_op2(&mut self, op: Op, arg1: u16, arg2: u16, place: u32) -> Result<(), Refused> {
-        self.emit(&instruction(op, &[arg1, arg2]), place)
+        self.emit(op as u8, &[arg1, arg2], place)
     }
 
     pub fn add_op3(
@@ -211,7 +248,7 @@ impl Machine {
         arg3: u16,
         place: u32,
     ) -> Result<(), Refused> {
-        self.emit(&instruction(op, &[arg1, arg2, arg3]), place)
+        self.emit(op as u8, &[arg1, arg2, arg3], place)
     }
 
     pub fn current_offset(&self) -> u16 {
@@ -324,14 +361,17 @@ impl Machine {
         let mut cells_to_keep = self.cells_used;
         let mut answer = Answer::Continue;
         let mut spent = 0;
+        let mut most = Most::default();
 
         let fault = loop {
+            most = self.taken_since(most);
             // The end comes before the units: a run that is over asks none.
             if self.is_at_the_end() {
                 return Report {
                     answer,
                     spent,
                     backtrace: vec![],
+                    most,
                 };
             }
             if spent == units {
@@ -366,6 +406,15 @@ impl Machine {
             answer: Answer::Fault(fault),
             spent,
             backtrace,
+            most,
+        }
+    }
+
+    fn taken_since(&self, most: Most) -> Most {
+        Most {
+            values: most.values.max(self.stack.len()),
+            frames: most.frames.max(self.frames.len()),
+            cells: most.cells.max(self.cells_used),
         }
     }
 
@@ -594,19 +643,19 @@ impl Machine {
     }
 }
 
-fn instruction(op: Op, operands: &[u16]) -> Vec<u8> {
-    let mut bytes = vec![op as u8];
+fn instruction(op: u8, operands: &[u16]) -> Vec<u8> {
+    let mut bytes = vec![op];
     for operand in operands {
         bytes.extend_from_slice(&operand.to_le_bytes());
     }
     bytes
 }
 
-fn main_code(program: &Program) -> usize {
+pub fn main_code(program: &Program) -> usize {
     program.functions[0].code.len()
 }
 
-fn other_code(program: &Program) -> usize {
+pub fn other_code(program: &Program) -> usize {
     program.functions[1..].iter().map(|f| f.code.len()).sum()
 }
 

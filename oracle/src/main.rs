@@ -8,7 +8,7 @@ use oracle::limits::Answer;
 use oracle::plain::{self, Ending};
 use oracle::print::{self, value_text};
 use oracle::vm::Vm;
-use oracle::{asm, damage, generate, image};
+use oracle::{asm, calls, console, damage, edges, generate, image};
 
 const HELP: &str = "\
 oracle: source document 000 over f64, and document 01's machine on top of it
@@ -28,17 +28,46 @@ oracle: source document 000 over f64, and document 01's machine on top of it
                                 of text; or `refused N`, 20 with its offset
   oracle batch SEED COUNT       the records of generated images, on standard
                                 output
+  oracle tally SEED COUNT       counts those of the same images at which a size is
+                                full, one short or one over, or a number of the
+                                image none or very large
   oracle damage STEP            the records of damaged small images: names and
                                 runs in every way, and bytes in each STEP-th
                                 way (1: in every way)
+  oracle console [LINE]         plays a script of host calls from standard input
+                                and prints what the console prints for it; LINE
+                                is the number of its first line (1)
+  oracle calls SEED [BYTES]     a script for the console, made by chance from
+                                the seed, of at most BYTES bytes (48,000)
 
 A record is the lengths of four parts (each u32, low byte first) and then the
 parts: the image, what `load` prints, what the runner prints, what the lister
 prints. Records stand one behind the other up to the end.
 
+The console's commands are those at the head of crates/console/stdin, and
+
+  last, stack I                 the last result; the value at place I
+  header I, element I J         of the list or struct at place I of the stack
+  text I [ROOM]                 of the string or function reference there
+  save ROOM, list ROOM, trace ROOM, run UNITS ROOM
+                                with a store of so many places lent
+
+It stops where the oracle cannot tell the answer: at `sum`, `poke`, `result`
+and the counts of stores other than the frames', which speak of the words in
+stores, and at a frame past those that a call has left.
+
+A script of `calls` has one story of each sort (each fault, the stores full and
+one over, frames damaged, patches, names, lines not understood, an image), then
+any, emitted programs too. From 40,000 bytes on it begins with a long one: the
+text store is filled for seeds 0, 4, 8 .., main's code for 1, 5 .., the others'
+code for 2, 6 .., constants, structs and functions for 3, 7 ..
+
 FILE may be - for standard input. The plain Rust is stopped after 2,000,000
 steps or at a nesting of 1,000, which it would not be by itself.
 ";
+
+/// The bytes of a script, if nobody says how many.
+const CALLS: usize = 48_000;
 
 fn main() -> ExitCode {
     let arguments: Vec<String> = std::env::args().skip(1).collect();
@@ -54,9 +83,17 @@ fn main() -> ExitCode {
         ["load", file] => read(file).and_then(|bytes| put(print::loader(&bytes).as_bytes())),
         ["batch", seed, count] => numbers(seed, count)
             .and_then(|(s, c)| records((0..c).map(|index| generate::case(s, index)))),
+        ["tally", seed, count] => numbers(seed, count).and_then(|(s, c)| tally(s, c)),
         ["damage", step] => {
             number(step).and_then(|step| records(damage::each(step.max(1) as usize).into_iter()))
         }
+        ["console"] => read("-").and_then(|script| console(&script, 1)),
+        ["console", first] => {
+            number(first).and_then(|first| read("-").and_then(|script| console(&script, first)))
+        }
+        ["calls", seed] => number(seed).and_then(|s| put(calls::script(s, CALLS).as_bytes())),
+        ["calls", seed, bytes] => numbers(seed, bytes)
+            .and_then(|(s, bytes)| put(calls::script(s, bytes as usize).as_bytes())),
         [] | ["help" | "--help" | "-h"] => put(HELP.as_bytes()),
         _ => Err(format!("not understood\n\n{HELP}")),
     };
@@ -146,6 +183,14 @@ fn rust(bytes: &[u8]) -> Done {
     put(out.as_bytes())
 }
 
+/// What was printed before the oracle had to stop is printed all the same.
+fn console(script: &[u8], first: u64) -> Done {
+    let mut out = vec![];
+    let played = console::play(script, first, &mut out);
+    put(&out)?;
+    played
+}
+
 fn write(seed: u64, count: u64, dir: &str) -> Done {
     std::fs::create_dir_all(dir).map_err(|e| format!("{dir}: {e}"))?;
     for index in 0..count {
@@ -173,6 +218,14 @@ fn sample(seed: u64, count: u64) -> Done {
         out += &format!("{ending}: {count}\n");
     }
     put(out.as_bytes())
+}
+
+fn tally(seed: u64, count: u64) -> Done {
+    let counted = edges::tally((0..count).map(|index| generate::case(seed, index)));
+    let lines = counted
+        .iter()
+        .map(|(edge, count)| format!("{edge}: {count}\n"));
+    put(lines.collect::<String>().as_bytes())
 }
 
 fn records(images: impl Iterator<Item = Vec<u8>>) -> Done {

@@ -1,5 +1,6 @@
 //! What the runner and the lister print, and the records to compare with.
 
+use crate::image::Program;
 use crate::limits::{self, Answer, Machine, Refused, Report, Stores};
 use crate::op::Op;
 use crate::value::{shown_bits, Value};
@@ -105,27 +106,24 @@ pub fn value_text(value: &Value) -> String {
 
 /// The text of the lister. It is bytes, as function names are.
 pub fn lister(image: &[u8]) -> Vec<u8> {
-    match load(image) {
-        Ok(machine) => match listing(&machine) {
-            Ok(out) => out,
-            Err(number) => format!("refused {number}\n").into_bytes(),
-        },
-        Err(refused) => refused_text(refused).into_bytes(),
-    }
+    load(image)
+        .and_then(|machine| listing(&machine.program))
+        .unwrap_or_else(|refused| refused_text(refused).into_bytes())
 }
 
 /// The listing of all functions in order, or 1 or 3 as met first.
-fn listing(machine: &Machine) -> Result<Vec<u8>, u32> {
+pub fn listing(program: &Program) -> Result<Vec<u8>, Refused> {
     let mut out = vec![];
-    for (number, function) in machine.program.functions.iter().enumerate() {
+    for (number, function) in program.functions.iter().enumerate() {
         out.extend_from_slice(format!(".CODE {number} (").as_bytes());
         out.extend_from_slice(&function.name);
         out.extend_from_slice(b")\n");
         let mut offset = 0;
         while offset < function.code.len() {
-            let op = Op::from_byte(function.code[offset]).ok_or(1u32)?;
+            let op = Op::from_byte(function.code[offset]).ok_or(Refused::Opcode)?;
             let end = offset + 1 + 2 * op.num_operands();
-            let operands = function.code.get(offset + 1..end).ok_or(3u32)?;
+            let operands = function.code.get(offset + 1..end);
+            let operands = operands.ok_or(Refused::CutShort)?;
             let operands: Vec<String> = operands
                 .chunks_exact(2)
                 .map(|pair| u16::from_le_bytes([pair[0], pair[1]]).to_string())

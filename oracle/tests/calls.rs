@@ -1,0 +1,135 @@
+//! `oracle calls`: what its scripts have in them, and that the oracle can
+//! play them.
+
+use std::collections::BTreeSet;
+
+use oracle::calls::script;
+use oracle::console::play;
+
+const SEEDS: u64 = 8;
+const BYTES: usize = 48_000;
+
+/// What the scripts of some seeds are answered, line by line.
+fn answers() -> Vec<String> {
+    let mut out = vec![];
+    for seed in 0..SEEDS {
+        play(script(seed, BYTES).as_bytes(), 1, &mut out)
+            .expect("no script asks what is not fixed");
+    }
+    let text = String::from_utf8_lossy(&out);
+    text.lines().map(str::to_owned).collect()
+}
+
+#[test]
+fn a_seed_is_a_script_of_so_many_bytes() {
+    for seed in 0..SEEDS {
+        let one = script(seed, BYTES);
+        assert_eq!(one, script(seed, BYTES));
+        assert!((BYTES - 1_000..=BYTES).contains(&one.len()), "{seed}");
+    }
+    assert_ne!(script(1, 5_000), script(2, 5_000));
+    assert!(script(0, 5_000).len() <= 5_000);
+    assert_eq!(script(0, 0), "");
+}
+
+#[test]
+fn every_command_comes_up() {
+    let scripts: String = (0..SEEDS).map(|seed| script(seed, BYTES)).collect();
+    let words: BTreeSet<String> = scripts
+        .lines()
+        .map(|line| {
+            let words: Vec<&str> = line.split(' ').filter(|word| !word.is_empty()).collect();
+            format!("{} {}", words.first().unwrap_or(&""), words.len())
+        })
+        .collect();
+    for command in [
+        "new 1",
+        "image 2",
+        "run 2",
+        "run 3",
+        "trace 1",
+        "trace 2",
+        "op 3",
+        "op1 4",
+        "op2 5",
+        "op3 6",
+        "patch 3",
+        "scalar 2",
+        "boolean 2",
+        "string 1",
+        "string 2",
+        "reference 2",
+        "struct 2",
+        "begin 2",
+        "end 1",
+        "offset 1",
+        "find 1",
+        "find 2",
+        "save 1",
+        "save 2",
+        "list 1",
+        "list 2",
+        "frame 2",
+        "frame 5",
+        "count 3",
+        "last 1",
+        "stack 2",
+        "header 2",
+        "element 3",
+        "text 2",
+        "text 3",
+        " 0",
+    ] {
+        assert!(words.contains(command), "{command}");
+    }
+}
+
+#[test]
+fn every_fault_and_refusal_comes_up() {
+    let answers = answers();
+    let has = |start: &str| answers.iter().any(|answer| answer.starts_with(start));
+    for fault in 1..=14 {
+        assert!(has(&format!("fault {fault},")), "fault {fault}");
+    }
+    for refused in [1, 3, 5, 6, 7, 14, 16, 17, 19, 21, 23] {
+        let refused = format!("refused {refused}");
+        assert!(answers.contains(&refused), "{refused}");
+    }
+    for start in [
+        "value scalar",
+        "value true",
+        "value list",
+        "value struct",
+        "continue",
+        "broken",
+        "? ",
+        "shown scalar",
+        "shown true",
+        "shown string",
+        "shown function",
+        "shown list",
+        "shown struct",
+        "header",
+        "text",
+        "number",
+        "image",
+        ".CODE",
+        "frame",
+        "at ",
+    ] {
+        assert!(has(start), "{start}");
+    }
+}
+
+/// Stack and frames are left exactly full, and a list of the greatest depth.
+#[test]
+fn stores_come_up_exactly_full() {
+    let answers = answers();
+    let ends = |end: &str| answers.iter().any(|answer| answer.ends_with(end));
+    assert!(answers.iter().any(|answer| answer.contains("stack 1024,")));
+    assert!(ends("frames 256"));
+    assert!(ends(" 64") && answers.iter().any(|a| a.starts_with("header 1 0 64")));
+    for full in ["done 255", "number 8192"] {
+        assert!(answers.contains(&full.to_owned()), "{full}");
+    }
+}
