@@ -13,6 +13,10 @@ use Rattle.model.specs.declared.Last.the-variants.{Nothing, Is}
 use Rattle.model.specs.declared.Frame.{Frame}
 use Rattle.model.specs.declared.Told.{Told}
 use Rattle.model.specs.declared.Told.the-variants as t
+use Rattle.model.specs.declared.Shown.{Shown}
+use Rattle.model.specs.declared.Shown.the-variants as sh
+use Rattle.model.specs.declared.Headed.{Headed}
+use Rattle.model.specs.declared.Headed.the-variants as h
 use Rattle.model.specs.declared.Emitted.{Emitted}
 use Rattle.model.specs.declared.Emitted.the-variants as e
 use Rattle.model.specs.declared.Started.{Started}
@@ -70,6 +74,10 @@ recordOk w = leb 10 (length w) && lastExact (getD w 8 0) (getD w 9 0)
 unfoldable pub slicesRefusal : List ℕ → ℕ → List ℕ → ℕ
 slicesRefusal w n a = if recordOk w then (if leb n (length a) then 0 else 17) else 19
 
+-- where the host hands in a value too, as a kind and a payload: 19 where they are not exactly the words of a value, an unknown kind among them
+unfoldable pub valueRefusal : List ℕ → ℕ → ℕ → ℕ → List ℕ → ℕ
+valueRefusal w k p n a = if exactValue k p then slicesRefusal w n a else 19
+
 -- where the record is only written
 unfoldable pub outRefusal : List ℕ → ℕ → List ℕ → ℕ
 outRefusal w n a = if leb 10 (length w) && leb n (length a) then 0 else 17
@@ -104,7 +112,17 @@ unfoldable pub toldCoded : Told → List ℕ → List ℕ → Coded
 toldCoded (t.Number n) w a = record { number = 0; vm = w; answer = written a 0 (n ∷ []) }
 toldCoded (t.Refused n) w a = record { number = n; vm = w; answer = a }
 
--- ---- the entries
+-- the kind and the payload of the value
+unfoldable pub shownCoded : Shown → List ℕ → List ℕ → Coded
+shownCoded (sh.Value v) w a = record { number = 0; vm = w; answer = written a 0 (kind v ∷ payload v ∷ []) }
+shownCoded (sh.Refused n) w a = record { number = n; vm = w; answer = a }
+
+-- the count of elements, the struct number and the depth
+unfoldable pub headedCoded : Headed → List ℕ → List ℕ → Coded
+headedCoded (h.Is x) w a = record { number = 0; vm = w; answer = written a 0 (x .count ∷ x .number ∷ x .depth ∷ []) }
+headedCoded (h.Refused n) w a = record { number = n; vm = w; answer = a }
+
+-- ---- the entries: refused by their slices with the number `why`, or the entry's own rule
 
 -- a run: refused by its slices, or the run of the record's machine, with its result in words
 pub record RunThrough (w a : List ℕ) (s : List ℕ → Stores) (l : Lent) (u : ℕ) (c : Coded) (l' : Lent) : Type 0 where
@@ -130,15 +148,15 @@ pub record OutThrough : Type 0 where
   pub coded : Coded
   pub out : List ℕ
 
-unfoldable pub outThrough : List ℕ → List ℕ → List ℕ → (Vm → OutRes) → OutThrough
-outThrough w a out rule =
-    if eqb (slicesRefusal w 1 a) 0
+unfoldable pub outThrough : ℕ → List ℕ → List ℕ → List ℕ → (Vm → OutRes) → OutThrough
+outThrough why w a out rule =
+    if eqb why 0
     then record { coded = toldCoded (rule (vmIn w) .answer) w a; out = rule (vmIn w) .out }
-    else record { coded = record { number = slicesRefusal w 1 a; vm = w; answer = a }; out = out }
+    else record { coded = record { number = why; vm = w; answer = a }; out = out }
 
--- an entry that changes no store but the record and the answer: c is what it does where its slices are long enough
-unfoldable pub through : List ℕ → List ℕ → Coded → Coded
-through w a c = if eqb (slicesRefusal w 1 a) 0 then c else record { number = slicesRefusal w 1 a; vm = w; answer = a }
+-- an entry that changes no store but the record and the answer: c is what it does where it is not refused by its slices
+unfoldable pub through : ℕ → List ℕ → List ℕ → Coded → Coded
+through why w a c = if eqb why 0 then c else record { number = why; vm = w; answer = a }
 
 -- emission: an entry over the record's counts and the program's stores
 pub record EmitThrough : Type 0 where
