@@ -6,6 +6,9 @@
 #include <string.h>
 #include "machine.h"
 
+/* a refusal ends the function: nothing was done, and the caller is told why */
+#define TRY(call) do { uint32_t no = (call); if (no) return no; } while (0)
+
 enum { LOAD_CONSTANT = 0, DIVIDE = 11, BUILD_LIST = 36, RETURN = 37 }; /* opcodes: docs/RULES.md */
 
 /* What a broker writes down of a run. */
@@ -69,26 +72,34 @@ static struct journal whole_rule(struct chaffwheel_stores *m, uint8_t *image, si
     return j.refused ? j : run(m, before, units);
 }
 
-/* The rest of the rule, mended, on the machine that faulted: it is emitted at the end of main, where the machine stands. */
-static struct journal rest_of_rule(struct chaffwheel_stores *m, double before, uint64_t units)
+/* The rest of the rule, mended: it is emitted at the end of main, where the machine that faulted stands. */
+static uint32_t emit_rest(struct chaffwheel_stores *m)
 {
-    struct journal j = { .before = before, .after = before };
-    uint32_t no = cw_add_scalar(m, bits_of(2));
+    TRY(cw_add_scalar(m, bits_of(2)));
     uint16_t homes = (uint16_t)m->answer[0];
-    (void)(no || (no = cw_add_op1(m, LOAD_CONSTANT, 1, 15)) || (no = cw_add_op1(m, LOAD_CONSTANT, homes, 16)) || (no = cw_add_op(m, DIVIDE, 17)));
-    j.refused = no;
-    return no ? j : run(m, before, units);
+    TRY(cw_add_op1(m, LOAD_CONSTANT, 1, 15)); /* one */
+    TRY(cw_add_op1(m, LOAD_CONSTANT, homes, 16));
+    return cw_add_op(m, DIVIDE, 17);
 }
 
-/* A rule that is emitted, and run: it returns a list of the reading and its unit of measure, and leaves a text on the stack. */
-static uint32_t list_rule(struct chaffwheel_stores *m)
+static struct journal rest_of_rule(struct chaffwheel_stores *m, double before, uint64_t units)
+{
+    struct journal j = { .before = before, .after = before, .refused = emit_rest(m) };
+    return j.refused ? j : run(m, before, units);
+}
+
+/* A rule that is emitted: it returns a list of the reading and its unit of measure, and leaves a text on the stack. */
+static uint32_t emit_list_rule(struct chaffwheel_stores *m)
 {
     const uint8_t unit[] = { 'k', 'W', 'h' };
-    uint32_t no;
-    (void)((no = cw_new(m)) || (no = cw_add_scalar(m, bits_of(42))) || (no = cw_add_string(m, unit, sizeof unit)) /* constants 0 and 1 */
-        || (no = cw_add_op1(m, LOAD_CONSTANT, 0, 1)) || (no = cw_add_op1(m, LOAD_CONSTANT, 1, 1)) || (no = cw_add_op1(m, BUILD_LIST, 2, 1))
-        || (no = cw_add_op(m, RETURN, 2)) || (no = cw_add_op1(m, LOAD_CONSTANT, 1, 3)) || (no = cw_run(m, 100)));
-    return no;
+    TRY(cw_new(m));
+    TRY(cw_add_scalar(m, bits_of(42)));           /* constant 0 */
+    TRY(cw_add_string(m, unit, sizeof unit));     /* constant 1 */
+    TRY(cw_add_op1(m, LOAD_CONSTANT, 0, 1));
+    TRY(cw_add_op1(m, LOAD_CONSTANT, 1, 1));
+    TRY(cw_add_op1(m, BUILD_LIST, 2, 1));
+    TRY(cw_add_op(m, RETURN, 2));
+    return cw_add_op1(m, LOAD_CONSTANT, 1, 3);
 }
 
 /* Prints any value. An element lies below its header, so this ends whatever the stores hold. */
@@ -115,6 +126,22 @@ static void show_value(struct chaffwheel_stores *m, uint64_t kind, uint64_t payl
     }
     if (no)
         printf("refused %" PRIu32, no);
+}
+
+/* What the list rule leaves, read out: the last result, and a value of the stack. */
+static uint32_t show_list_rule(struct chaffwheel_stores *m)
+{
+    TRY(emit_list_rule(m));
+    TRY(cw_run(m, 100));
+    printf("a rule that answers with a list, and leaves %" PRIu64 " value on the stack\n", m->vm[CHAFFWHEEL_STACK]);
+    TRY(cw_last_result(m));
+    printf("    last result ");
+    show_value(m, m->answer[0], m->answer[1]);
+    TRY(cw_stack_value(m, 0));
+    printf(", the stack's ");
+    show_value(m, m->answer[0], m->answer[1]);
+    printf("\n");
+    return 0;
 }
 
 /* Has the reading counted? A root Return that was completed is never undone. If the last result is another one than before, the run has counted;
@@ -172,16 +199,8 @@ int main(int argc, char **argv)
     struct journal again = whole_rule(&m, image, len, 41, 5);
     show("the mended rule with 5 units: it stops before its Return", &again);
 
-    uint32_t no = list_rule(&m);
-    uint64_t left = m.vm[CHAFFWHEEL_STACK];
-    printf("a rule that answers with a list, and leaves %" PRIu64 " value on the stack\n    last result ", left);
-    if (!no && !(no = cw_last_result(&m)))
-        show_value(&m, m.answer[0], m.answer[1]);
-    printf(", the stack's ");
-    if (!no && !(no = cw_stack_value(&m, 0)))
-        show_value(&m, m.answer[0], m.answer[1]);
-    printf("\n");
+    uint32_t refused = show_list_rule(&m);
 
     machine_free(&m);
-    return !no && left == 1 && first.after == 42 && rest.after == 42 && once.after == 42 && twice.after == 43 && !counted(&again, 14) ? 0 : 1;
+    return !refused && first.after == 42 && rest.after == 42 && once.after == 42 && twice.after == 43 && !counted(&again, 14) ? 0 : 1;
 }
