@@ -126,7 +126,7 @@ fn record_ok(vm: &[u64]) -> bool
     (10 <= vm.len()) & last_exact(word(vm, 8), word(vm, 9))
 }
 
-// ---- refusals of the slices themselves
+// ---- refusals of what crosses, before the entry's own
 
 // 19: no machine's record; 17: fewer than n words for the answer; or 0.
 pub fn slices_refusal(vm: &[u64], n: usize, answer: &[u64]) -> u32
