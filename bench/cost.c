@@ -14,11 +14,11 @@ int main(int argc, char **argv)
     size_t len = fread(image, 1, sizeof image, f);
     fclose(f);
 
-    struct machine m;
+    struct chaffwheel_stores m;
     machine_init(&m, strtoul(argv[2], NULL, 10));
-    uint32_t refused = machine_load(&m, image, len);
+    uint32_t refused = cw_load(&m, image, len);
     if (!refused)
-        refused = machine_run(&m, strtoull(argv[3], NULL, 10));
+        refused = cw_run(&m, strtoull(argv[3], NULL, 10));
     if (refused)
         printf("refused %" PRIu32 "\n", refused);
     else

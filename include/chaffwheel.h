@@ -1,19 +1,21 @@
 /* Chaffwheel for a host in C: a machine over stores that the host lends. C99.
  *
  * The functions are those of crates/embed; each is proved to meet its contract there. docs/EMBEDDING.md shows how a broker uses them, and what
- * this boundary assumes. Every slice is a pointer and a count of elements, which must be true. The library allocates nothing, keeps
- * nothing between calls, and holds no pointer after a call has returned: all stores are the host's.
+ * this boundary assumes. The library allocates nothing, keeps nothing between calls, and holds no pointer after a call has returned: all
+ * stores are the host's. chaffwheel_stores.h gathers them in a struct and lends them, so that a call is `cw_run(m, units)`.
  *
  * Each function returns 0, or the number of its refusal. A refusal changes no store; only 20 writes its offset to answer[0].
  *
- *    1  opcode 38 or more          3  the code ends inside an instruction      14  no function of that name
- *   16  a frame's place lies outside its code                                 17  a lent result or copy store is too short
- *   19  records not in good order 20  an image breaks a rule                   21  a store would be exceeded
- *   22  a limit would be exceeded 23  a patch not wholly inside the current function's code
+ *    1  opcode 38 or more                3  the code ends inside an instruction     5  a value of the wrong kind
+ *    6  no such place or element         7  no last result                         14  no function of that name
+ *   16  a frame's place lies outside its code                                      17  a lent result or copy store is too short
+ *   19  records not in good order       20  an image breaks a rule                 21  a store would be exceeded
+ *   22  a limit would be exceeded       23  a patch not wholly inside the current function's code
  *
- * All but chaffwheel_new and chaffwheel_load look at their slices first: 19 where vm has fewer than 10 words, or its last result is not exactly
- * the words of a value or of none; 17 where answer is too short. Then come the refusals that stand at each function, in order. The library
- * judges what it is lent, in time linear in what is taken.
+ * All but chaffwheel_new and chaffwheel_load look at what crosses first: 19 where vm has fewer than 10 words, its last result is not exactly
+ * the words of a value or of none, or a value that is handed in is not exactly the words of a value; 17 where answer is too short. Then come the
+ * refusals that stand at each function, in order. The library judges what it is lent, in time linear in what is taken; a reader judges what it
+ * reads and nothing else.
  */
 #ifndef CHAFFWHEEL_H
 #define CHAFFWHEEL_H
@@ -21,6 +23,9 @@
 #include <stdbool.h>
 #include <stddef.h>
 #include <stdint.h>
+
+/* A lent slice: a pointer and a count of elements, as two arguments. The count must be true. `const`: it is only read. */
+#define CHAFFWHEEL_SLICE(type, name) type *name, size_t name##_len
 
 /* A call frame. Frames stand in their store with the root first. */
 typedef struct chaffwheel_frame {
@@ -61,37 +66,29 @@ enum {
     CHAFFWHEEL_SPENT = 1,        /* units */
     CHAFFWHEEL_KIND = 2,         /* of the value. After a fault: its number, 1 to 14 */
     CHAFFWHEEL_PAYLOAD = 3,      /* of the value. After a fault: the entries of its backtrace */
-    CHAFFWHEEL_ANSWER = 4        /* words of an answer */
+    CHAFFWHEEL_ANSWER = 4        /* words of an answer: enough for every function */
 };
 enum { CHAFFWHEEL_VALUE = 1, CHAFFWHEEL_CONTINUE = 2, CHAFFWHEEL_FAULT = 3 };
+
+/* ---- making a machine, and running it */
 
 /* Makes a machine over a new program: function 0, <main>, with no code. Writes vm, functions, text, and frames[0].
  * Refused 17: vm has fewer than 10 words, or answer none. 21: the text store has fewer than 6 bytes, the function store no place, or the frame
  * store none. */
 uint32_t chaffwheel_new(
-    uint64_t *vm, size_t vm_len,
-    uint64_t *functions, size_t functions_len,
-    uint8_t *text, size_t text_len,
-    chaffwheel_frame *frames, size_t frames_len,
-    uint64_t *answer, size_t answer_len);
+    CHAFFWHEEL_SLICE(uint64_t, vm), CHAFFWHEEL_SLICE(uint64_t, functions), CHAFFWHEEL_SLICE(uint8_t, text),
+    CHAFFWHEEL_SLICE(chaffwheel_frame, frames), CHAFFWHEEL_SLICE(uint64_t, answer));
 
 /* Makes a machine over the program of an image: an empty stack, no last result, one frame, at the start of main. Writes vm, the program's stores
  * and frames[0].
  * Refused 17: vm has fewer than 10 words, or answer none. 20: the image breaks a rule; answer[0] is the offset of the first item that does.
  * 22: a limit. 21: a store is too small for the program, or the frame store has no place. */
 uint32_t chaffwheel_load(
-    const uint8_t *image, size_t image_len,
-    uint64_t *vm, size_t vm_len,
-    uint64_t *constants, size_t constants_len,
-    uint64_t *structs, size_t structs_len,
-    uint64_t *functions, size_t functions_len,
-    uint8_t *text, size_t text_len,
-    uint8_t *main_code, size_t main_len,
-    uint32_t *main_places, size_t main_places_len,
-    uint8_t *other_code, size_t other_len,
-    uint32_t *other_places, size_t other_places_len,
-    chaffwheel_frame *frames, size_t frames_len,
-    uint64_t *answer, size_t answer_len);
+    CHAFFWHEEL_SLICE(const uint8_t, image), CHAFFWHEEL_SLICE(uint64_t, vm),
+    CHAFFWHEEL_SLICE(uint64_t, constants), CHAFFWHEEL_SLICE(uint64_t, structs), CHAFFWHEEL_SLICE(uint64_t, functions),
+    CHAFFWHEEL_SLICE(uint8_t, text), CHAFFWHEEL_SLICE(uint8_t, main_code), CHAFFWHEEL_SLICE(uint32_t, main_places),
+    CHAFFWHEEL_SLICE(uint8_t, other_code), CHAFFWHEEL_SLICE(uint32_t, other_places),
+    CHAFFWHEEL_SLICE(chaffwheel_frame, frames), CHAFFWHEEL_SLICE(uint64_t, answer));
 
 /* Runs the machine of vm, with at most this many units. It reads the program's stores; it writes stack, cells and frames, the starting stack
  * to the front of copy, after a fault the backtrace to the front of trace (two words to an entry, function and place, the innermost frame
@@ -99,169 +96,126 @@ uint32_t chaffwheel_load(
  * the end of main, and the last result of the last root Return that was completed. THE LAST RESULT IS NOT PUT BACK: docs/EMBEDDING.md.
  * answer has 4 words. Refused 19: not in good order. 17: copy has fewer places than stack, or trace than frames. Nothing has run then. */
 uint32_t chaffwheel_run(
-    uint64_t units,
-    uint64_t *vm, size_t vm_len,
-    const uint64_t *constants, size_t constants_len,
-    const uint64_t *functions, size_t functions_len,
-    const uint8_t *text, size_t text_len,
-    const uint8_t *main_code, size_t main_len,
-    const uint32_t *main_places, size_t main_places_len,
-    const uint8_t *other_code, size_t other_len,
-    const uint32_t *other_places, size_t other_places_len,
-    uint64_t *stack, size_t stack_len,
-    uint64_t *cells, size_t cells_len,
-    chaffwheel_frame *frames, size_t frames_len,
-    uint64_t *copy, size_t copy_len,
-    uint32_t *trace, size_t trace_len,
-    uint64_t *answer, size_t answer_len);
+    uint64_t units, CHAFFWHEEL_SLICE(uint64_t, vm),
+    CHAFFWHEEL_SLICE(const uint64_t, constants), CHAFFWHEEL_SLICE(const uint64_t, functions), CHAFFWHEEL_SLICE(const uint8_t, text),
+    CHAFFWHEEL_SLICE(const uint8_t, main_code), CHAFFWHEEL_SLICE(const uint32_t, main_places),
+    CHAFFWHEEL_SLICE(const uint8_t, other_code), CHAFFWHEEL_SLICE(const uint32_t, other_places),
+    CHAFFWHEEL_SLICE(uint64_t, stack), CHAFFWHEEL_SLICE(uint64_t, cells), CHAFFWHEEL_SLICE(chaffwheel_frame, frames),
+    CHAFFWHEEL_SLICE(uint64_t, copy), CHAFFWHEEL_SLICE(uint32_t, trace), CHAFFWHEEL_SLICE(uint64_t, answer));
 
 /* The backtrace of the machine's frames, as a fault's; answer[0] is how many entries it has.
  * Refused 19. 17: out has fewer places than there are frames. 16: the place of a frame lies outside its code. */
 uint32_t chaffwheel_backtrace(
-    const uint64_t *vm, size_t vm_len,
-    const uint64_t *functions, size_t functions_len,
-    const uint8_t *text, size_t text_len,
-    const uint8_t *main_code, size_t main_len,
-    const uint32_t *main_places, size_t main_places_len,
-    const uint8_t *other_code, size_t other_len,
-    const uint32_t *other_places, size_t other_places_len,
-    const chaffwheel_frame *frames, size_t frames_len,
-    uint32_t *out, size_t out_len,
-    uint64_t *answer, size_t answer_len);
+    CHAFFWHEEL_SLICE(const uint64_t, vm), CHAFFWHEEL_SLICE(const uint64_t, functions), CHAFFWHEEL_SLICE(const uint8_t, text),
+    CHAFFWHEEL_SLICE(const uint8_t, main_code), CHAFFWHEEL_SLICE(const uint32_t, main_places),
+    CHAFFWHEEL_SLICE(const uint8_t, other_code), CHAFFWHEEL_SLICE(const uint32_t, other_places),
+    CHAFFWHEEL_SLICE(const chaffwheel_frame, frames), CHAFFWHEEL_SLICE(uint32_t, out), CHAFFWHEEL_SLICE(uint64_t, answer));
 
 /* The image of the program, to the front of out; answer[0] is its length. Refused 19, 17. */
 uint32_t chaffwheel_save(
-    const uint64_t *vm, size_t vm_len,
-    const uint64_t *constants, size_t constants_len,
-    const uint64_t *structs, size_t structs_len,
-    const uint64_t *functions, size_t functions_len,
-    const uint8_t *text, size_t text_len,
-    const uint8_t *main_code, size_t main_len,
-    const uint32_t *main_places, size_t main_places_len,
-    const uint8_t *other_code, size_t other_len,
-    const uint32_t *other_places, size_t other_places_len,
-    uint8_t *out, size_t out_len,
-    uint64_t *answer, size_t answer_len);
+    CHAFFWHEEL_SLICE(const uint64_t, vm),
+    CHAFFWHEEL_SLICE(const uint64_t, constants), CHAFFWHEEL_SLICE(const uint64_t, structs), CHAFFWHEEL_SLICE(const uint64_t, functions),
+    CHAFFWHEEL_SLICE(const uint8_t, text), CHAFFWHEEL_SLICE(const uint8_t, main_code), CHAFFWHEEL_SLICE(const uint32_t, main_places),
+    CHAFFWHEEL_SLICE(const uint8_t, other_code), CHAFFWHEEL_SLICE(const uint32_t, other_places),
+    CHAFFWHEEL_SLICE(uint8_t, out), CHAFFWHEEL_SLICE(uint64_t, answer));
 
 /* The listing of the program, to the front of out; answer[0] is its length. Refused 19, then 1 or 3 as met first, 17. */
 uint32_t chaffwheel_disassemble(
-    const uint64_t *vm, size_t vm_len,
-    const uint64_t *functions, size_t functions_len,
-    const uint8_t *text, size_t text_len,
-    const uint8_t *main_code, size_t main_len,
-    const uint8_t *other_code, size_t other_len,
-    uint8_t *out, size_t out_len,
-    uint64_t *answer, size_t answer_len);
+    CHAFFWHEEL_SLICE(const uint64_t, vm), CHAFFWHEEL_SLICE(const uint64_t, functions), CHAFFWHEEL_SLICE(const uint8_t, text),
+    CHAFFWHEEL_SLICE(const uint8_t, main_code), CHAFFWHEEL_SLICE(const uint8_t, other_code),
+    CHAFFWHEEL_SLICE(uint8_t, out), CHAFFWHEEL_SLICE(uint64_t, answer));
+
+/* ---- readers: what a host reads of a machine. A value that is shown is answer[0], its kind, and answer[1], its payload. A value that is handed in
+ * is two such words: those of an answer, of the record, or of the stack. Words that are not exactly a value's are refused 19: an unknown kind (so
+ * CHAFFWHEEL_NONE too), a boolean other than 0 and 1, another NaN than 7FF8000000000000, bits above a header's cell. */
+
+/* The last result. answer has 2 words. Refused 7: there is none. */
+uint32_t chaffwheel_last_result(CHAFFWHEEL_SLICE(const uint64_t, vm), CHAFFWHEEL_SLICE(uint64_t, answer));
+
+/* The value at place i, from the bottom of the stack. answer has 2 words. Refused 19: the stack that is taken goes past its store, or the place does not
+ * hold exactly a value's words. 6: there is no such place. */
+uint32_t chaffwheel_stack_value(
+    CHAFFWHEEL_SLICE(const uint64_t, vm), size_t i, CHAFFWHEEL_SLICE(const uint64_t, stack), CHAFFWHEEL_SLICE(uint64_t, answer));
+
+/* The header of a list or struct: answer[0] is how many elements it has, answer[1] the struct's number (0 of a list), answer[2] the depth.
+ * Refused 19: the cells that are taken go past their store, or the value does not lie in them whole. 5: it is no list or struct. */
+uint32_t chaffwheel_block_header(
+    CHAFFWHEEL_SLICE(const uint64_t, vm), uint64_t kind, uint64_t payload,
+    CHAFFWHEEL_SLICE(const uint64_t, cells), CHAFFWHEEL_SLICE(uint64_t, answer));
+
+/* Element i of a list, or field i of a struct. answer has 2 words. Refused 19: as above, or the element is not exactly a value's words, or does not lie
+ * below its header, so that a host that follows elements comes to an end. 5: it is no list or struct. 6: there is no such element. */
+uint32_t chaffwheel_element(
+    CHAFFWHEEL_SLICE(const uint64_t, vm), uint64_t kind, uint64_t payload, size_t i,
+    CHAFFWHEEL_SLICE(const uint64_t, cells), CHAFFWHEEL_SLICE(uint64_t, answer));
+
+/* The bytes of a string or a function reference, to the front of out; answer[0] is how many they are. No byte 0 is put behind them.
+ * Refused 19: the text that is taken goes past its store, or the value's text past the text that is taken. 17: out is too short. 5: it is no
+ * string or reference. */
+uint32_t chaffwheel_text(
+    CHAFFWHEEL_SLICE(const uint64_t, vm), uint64_t kind, uint64_t payload,
+    CHAFFWHEEL_SLICE(const uint8_t, text), CHAFFWHEEL_SLICE(uint8_t, out), CHAFFWHEEL_SLICE(uint64_t, answer));
 
 /* ---- emission: a program is written, to the end of the current function. vm takes the new counts. A name or text is copied. */
 
 /* Appends an opcode and its operands, each byte with the place. Refused 19, 22, 21, 1. */
 uint32_t chaffwheel_add_op(
-    uint64_t *vm, size_t vm_len,
-    uint8_t op, uint32_t place,
-    uint64_t *functions, size_t functions_len,
-    uint8_t *main_code, size_t main_len,
-    uint32_t *main_places, size_t main_places_len,
-    uint8_t *other_code, size_t other_len,
-    uint32_t *other_places, size_t other_places_len,
-    uint64_t *answer, size_t answer_len);
+    CHAFFWHEEL_SLICE(uint64_t, vm), uint8_t op, uint32_t place, CHAFFWHEEL_SLICE(uint64_t, functions),
+    CHAFFWHEEL_SLICE(uint8_t, main_code), CHAFFWHEEL_SLICE(uint32_t, main_places),
+    CHAFFWHEEL_SLICE(uint8_t, other_code), CHAFFWHEEL_SLICE(uint32_t, other_places), CHAFFWHEEL_SLICE(uint64_t, answer));
 uint32_t chaffwheel_add_op1(
-    uint64_t *vm, size_t vm_len,
-    uint8_t op, uint16_t a, uint32_t place,
-    uint64_t *functions, size_t functions_len,
-    uint8_t *main_code, size_t main_len,
-    uint32_t *main_places, size_t main_places_len,
-    uint8_t *other_code, size_t other_len,
-    uint32_t *other_places, size_t other_places_len,
-    uint64_t *answer, size_t answer_len);
+    CHAFFWHEEL_SLICE(uint64_t, vm), uint8_t op, uint16_t a, uint32_t place, CHAFFWHEEL_SLICE(uint64_t, functions),
+    CHAFFWHEEL_SLICE(uint8_t, main_code), CHAFFWHEEL_SLICE(uint32_t, main_places),
+    CHAFFWHEEL_SLICE(uint8_t, other_code), CHAFFWHEEL_SLICE(uint32_t, other_places), CHAFFWHEEL_SLICE(uint64_t, answer));
 uint32_t chaffwheel_add_op2(
-    uint64_t *vm, size_t vm_len,
-    uint8_t op, uint16_t a, uint16_t b, uint32_t place,
-    uint64_t *functions, size_t functions_len,
-    uint8_t *main_code, size_t main_len,
-    uint32_t *main_places, size_t main_places_len,
-    uint8_t *other_code, size_t other_len,
-    uint32_t *other_places, size_t other_places_len,
-    uint64_t *answer, size_t answer_len);
+    CHAFFWHEEL_SLICE(uint64_t, vm), uint8_t op, uint16_t a, uint16_t b, uint32_t place, CHAFFWHEEL_SLICE(uint64_t, functions),
+    CHAFFWHEEL_SLICE(uint8_t, main_code), CHAFFWHEEL_SLICE(uint32_t, main_places),
+    CHAFFWHEEL_SLICE(uint8_t, other_code), CHAFFWHEEL_SLICE(uint32_t, other_places), CHAFFWHEEL_SLICE(uint64_t, answer));
 uint32_t chaffwheel_add_op3(
-    uint64_t *vm, size_t vm_len,
-    uint8_t op, uint16_t a, uint16_t b, uint16_t d, uint32_t place,
-    uint64_t *functions, size_t functions_len,
-    uint8_t *main_code, size_t main_len,
-    uint32_t *main_places, size_t main_places_len,
-    uint8_t *other_code, size_t other_len,
-    uint32_t *other_places, size_t other_places_len,
-    uint64_t *answer, size_t answer_len);
+    CHAFFWHEEL_SLICE(uint64_t, vm), uint8_t op, uint16_t a, uint16_t b, uint16_t d, uint32_t place, CHAFFWHEEL_SLICE(uint64_t, functions),
+    CHAFFWHEEL_SLICE(uint8_t, main_code), CHAFFWHEEL_SLICE(uint32_t, main_places),
+    CHAFFWHEEL_SLICE(uint8_t, other_code), CHAFFWHEEL_SLICE(uint32_t, other_places), CHAFFWHEEL_SLICE(uint64_t, answer));
 
 /* answer[0] is the length of the current function's code. Refused 19. */
 uint32_t chaffwheel_current_offset(
-    const uint64_t *vm, size_t vm_len,
-    const uint64_t *functions, size_t functions_len,
-    uint64_t *answer, size_t answer_len);
+    CHAFFWHEEL_SLICE(const uint64_t, vm), CHAFFWHEEL_SLICE(const uint64_t, functions), CHAFFWHEEL_SLICE(uint64_t, answer));
 
 /* Overwrites two bytes of the current function's code, low byte first. Refused 19, 23. */
 uint32_t chaffwheel_patch_u16_value_at(
-    uint64_t *vm, size_t vm_len,
-    uint16_t offset, uint16_t arg,
-    const uint64_t *functions, size_t functions_len,
-    uint8_t *main_code, size_t main_len,
-    uint8_t *other_code, size_t other_len,
-    uint64_t *answer, size_t answer_len);
+    CHAFFWHEEL_SLICE(uint64_t, vm), uint16_t offset, uint16_t arg, CHAFFWHEEL_SLICE(const uint64_t, functions),
+    CHAFFWHEEL_SLICE(uint8_t, main_code), CHAFFWHEEL_SLICE(uint8_t, other_code), CHAFFWHEEL_SLICE(uint64_t, answer));
 
 /* Append a constant: a scalar's 64 bits (kept as they are), a boolean, a string, a function reference. answer[0] is its number.
  * Refused 19, 22, 21. */
 uint32_t chaffwheel_add_scalar(
-    uint64_t *vm, size_t vm_len,
-    uint64_t bits,
-    uint64_t *constants, size_t constants_len,
-    uint8_t *text, size_t text_len,
-    uint64_t *answer, size_t answer_len);
+    CHAFFWHEEL_SLICE(uint64_t, vm), uint64_t bits,
+    CHAFFWHEEL_SLICE(uint64_t, constants), CHAFFWHEEL_SLICE(uint8_t, text), CHAFFWHEEL_SLICE(uint64_t, answer));
 uint32_t chaffwheel_add_boolean(
-    uint64_t *vm, size_t vm_len,
-    bool value,
-    uint64_t *constants, size_t constants_len,
-    uint8_t *text, size_t text_len,
-    uint64_t *answer, size_t answer_len);
+    CHAFFWHEEL_SLICE(uint64_t, vm), bool value,
+    CHAFFWHEEL_SLICE(uint64_t, constants), CHAFFWHEEL_SLICE(uint8_t, text), CHAFFWHEEL_SLICE(uint64_t, answer));
 uint32_t chaffwheel_add_string(
-    uint64_t *vm, size_t vm_len,
-    const uint8_t *bytes, size_t bytes_len,
-    uint64_t *constants, size_t constants_len,
-    uint8_t *text, size_t text_len,
-    uint64_t *answer, size_t answer_len);
+    CHAFFWHEEL_SLICE(uint64_t, vm), CHAFFWHEEL_SLICE(const uint8_t, bytes),
+    CHAFFWHEEL_SLICE(uint64_t, constants), CHAFFWHEEL_SLICE(uint8_t, text), CHAFFWHEEL_SLICE(uint64_t, answer));
 uint32_t chaffwheel_add_reference(
-    uint64_t *vm, size_t vm_len,
-    const uint8_t *name, size_t name_len,
-    uint64_t *constants, size_t constants_len,
-    uint8_t *text, size_t text_len,
-    uint64_t *answer, size_t answer_len);
+    CHAFFWHEEL_SLICE(uint64_t, vm), CHAFFWHEEL_SLICE(const uint8_t, name),
+    CHAFFWHEEL_SLICE(uint64_t, constants), CHAFFWHEEL_SLICE(uint8_t, text), CHAFFWHEEL_SLICE(uint64_t, answer));
 
 /* answer[0] is the number of a struct name, which is added where it is not known. Refused 19, 22, 21. */
 uint32_t chaffwheel_add_struct_info(
-    uint64_t *vm, size_t vm_len,
-    const uint8_t *name, size_t name_len,
-    uint64_t *structs, size_t structs_len,
-    uint8_t *text, size_t text_len,
-    uint64_t *answer, size_t answer_len);
+    CHAFFWHEEL_SLICE(uint64_t, vm), CHAFFWHEEL_SLICE(const uint8_t, name),
+    CHAFFWHEEL_SLICE(uint64_t, structs), CHAFFWHEEL_SLICE(uint8_t, text), CHAFFWHEEL_SLICE(uint64_t, answer));
 
 /* Begins a function without code, which is then current. Refused 19, 22, 21. */
 uint32_t chaffwheel_begin_function(
-    uint64_t *vm, size_t vm_len,
-    const uint8_t *name, size_t name_len,
-    uint64_t *functions, size_t functions_len,
-    uint8_t *text, size_t text_len,
-    uint64_t *answer, size_t answer_len);
+    CHAFFWHEEL_SLICE(uint64_t, vm), CHAFFWHEEL_SLICE(const uint8_t, name),
+    CHAFFWHEEL_SLICE(uint64_t, functions), CHAFFWHEEL_SLICE(uint8_t, text), CHAFFWHEEL_SLICE(uint64_t, answer));
 
 /* Makes main current. Refused 19. */
-uint32_t chaffwheel_end_function(
-    uint64_t *vm, size_t vm_len,
-    uint64_t *answer, size_t answer_len);
+uint32_t chaffwheel_end_function(CHAFFWHEEL_SLICE(uint64_t, vm), CHAFFWHEEL_SLICE(uint64_t, answer));
 
 /* answer[0] is the newest function of a name. Refused 19, 14. */
 uint32_t chaffwheel_get_function_idx(
-    const uint64_t *vm, size_t vm_len,
-    const uint8_t *name, size_t name_len,
-    const uint64_t *functions, size_t functions_len,
-    const uint8_t *text, size_t text_len,
-    uint64_t *answer, size_t answer_len);
+    CHAFFWHEEL_SLICE(const uint64_t, vm), CHAFFWHEEL_SLICE(const uint8_t, name),
+    CHAFFWHEEL_SLICE(const uint64_t, functions), CHAFFWHEEL_SLICE(const uint8_t, text), CHAFFWHEEL_SLICE(uint64_t, answer));
 
 #endif

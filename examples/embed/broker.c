@@ -1,9 +1,15 @@
 /* A broker that runs a rule over a reading, meets a fault behind the rule's Return, and counts the reading once: docs/EMBEDDING.md.
- * The rule is examples/story.rule: it adds 1 to the last result, returns that, then divides by a constant that is 0 by mistake. */
+ * The rule is examples/story.rule: it adds 1 to the last result, returns that, then divides by a constant that is 0 by mistake.
+ * At the end a rule that answers with a list, and what the broker reads of it. */
 #include <inttypes.h>
 #include <stdio.h>
 #include <string.h>
 #include "machine.h"
+
+/* a refusal ends the function: nothing was done, and the caller is told why */
+#define TRY(call) do { uint32_t no = (call); if (no) return no; } while (0)
+
+enum { LOAD_CONSTANT = 0, DIVIDE = 11, BUILD_LIST = 36, RETURN = 37 }; /* opcodes: docs/RULES.md */
 
 /* What a broker writes down of a run. */
 struct journal {
@@ -13,64 +19,129 @@ struct journal {
     uint32_t place;       /* after a fault: of main's frame, which is the last entry */
 };
 
-/* Constant i of an image whose constants are scalars: a kind byte and 8 bytes each, behind the count. */
-static void bring(uint8_t *image, size_t i, double x)
+static uint64_t bits_of(double x)
 {
     uint64_t bits;
     memcpy(&bits, &x, sizeof bits);
+    return bits;
+}
+
+static double scalar_of(uint64_t bits)
+{
+    double x;
+    memcpy(&x, &bits, sizeof x);
+    return x;
+}
+
+/* Constant i of an image whose constants are scalars: a kind byte and 8 bytes each, behind the count. */
+static void bring(uint8_t *image, size_t i, double x)
+{
+    uint64_t bits = bits_of(x);
     for (size_t k = 0; k < 8; k++)
         image[2 + 9 * i + k] = (uint8_t)(bits >> (8 * k));
 }
 
-static double last_result(const struct machine *m)
+/* The last result, or `otherwise`: the story's rules return scalars, and a machine that is newly loaded has none (7). */
+static double last_scalar(struct chaffwheel_stores *m, double otherwise)
 {
-    double x;
-    memcpy(&x, &m->vm[CHAFFWHEEL_LAST_PAYLOAD], sizeof x); /* this rule returns scalars */
-    return x;
+    return !cw_last_result(m) && m->answer[0] == CHAFFWHEEL_SCALAR ? scalar_of(m->answer[1]) : otherwise;
 }
 
 /* Runs the machine as it stands; `before` is the last result that the rule is given. */
-static struct journal run(struct machine *m, double before, uint64_t units)
+static struct journal run(struct chaffwheel_stores *m, double before, uint64_t units)
 {
     struct journal j = { .before = before, .after = before };
-    j.refused = machine_run(m, units);
+    j.refused = cw_run(m, units);
     if (j.refused)
         return j; /* nothing ran, no store changed */
     j.outcome = m->answer[CHAFFWHEEL_OUTCOME], j.spent = m->answer[CHAFFWHEEL_SPENT];
-    if (m->vm[CHAFFWHEEL_LAST_KIND] == CHAFFWHEEL_SCALAR)
-        j.after = last_result(m);
     if (j.outcome == CHAFFWHEEL_FAULT) {
         uint64_t entries = m->answer[CHAFFWHEEL_PAYLOAD];
         j.fault = m->answer[CHAFFWHEEL_KIND], j.place = m->trace[2 * entries - 1];
     }
+    j.after = last_scalar(m, before); /* the answer is this value's from here on */
     return j;
 }
 
 /* The whole rule, on a machine that is newly loaded: it has no last result, so the broker brings the one to start from, as constant 0. */
-static struct journal whole_rule(struct machine *m, uint8_t *image, size_t len, double before, uint64_t units)
+static struct journal whole_rule(struct chaffwheel_stores *m, uint8_t *image, size_t len, double before, uint64_t units)
 {
     struct journal j = { .before = before, .after = before };
     bring(image, 0, before);
-    j.refused = machine_load(m, image, len);
+    j.refused = cw_load(m, image, len);
     return j.refused ? j : run(m, before, units);
 }
 
-/* The rest of the rule, mended, on the machine that faulted: it is emitted at the end of main, where the machine stands. */
-static struct journal rest_of_rule(struct machine *m, double before, uint64_t units)
+/* The rest of the rule, mended: it is emitted at the end of main, where the machine that faulted stands. */
+static uint32_t emit_rest(struct chaffwheel_stores *m)
 {
-    struct journal j = { .before = before, .after = before };
-    double two = 2;
-    uint64_t bits;
-    memcpy(&bits, &two, sizeof bits);
-    j.refused = machine_scalar(m, bits);
+    TRY(cw_add_scalar(m, bits_of(2)));
     uint16_t homes = (uint16_t)m->answer[0];
-    if (!j.refused)
-        j.refused = machine_op1(m, 0, 1, 15); /* LoadConstant one */
-    if (!j.refused)
-        j.refused = machine_op1(m, 0, homes, 16);
-    if (!j.refused)
-        j.refused = machine_op(m, 11, 17); /* Divide */
+    TRY(cw_add_op1(m, LOAD_CONSTANT, 1, 15)); /* one */
+    TRY(cw_add_op1(m, LOAD_CONSTANT, homes, 16));
+    return cw_add_op(m, DIVIDE, 17);
+}
+
+static struct journal rest_of_rule(struct chaffwheel_stores *m, double before, uint64_t units)
+{
+    struct journal j = { .before = before, .after = before, .refused = emit_rest(m) };
     return j.refused ? j : run(m, before, units);
+}
+
+/* A rule that is emitted: it returns a list of the reading and its unit of measure, and leaves a text on the stack. */
+static uint32_t emit_list_rule(struct chaffwheel_stores *m)
+{
+    const uint8_t unit[] = { 'k', 'W', 'h' };
+    TRY(cw_new(m));
+    TRY(cw_add_scalar(m, bits_of(42)));           /* constant 0 */
+    TRY(cw_add_string(m, unit, sizeof unit));     /* constant 1 */
+    TRY(cw_add_op1(m, LOAD_CONSTANT, 0, 1));
+    TRY(cw_add_op1(m, LOAD_CONSTANT, 1, 1));
+    TRY(cw_add_op1(m, BUILD_LIST, 2, 1));
+    TRY(cw_add_op(m, RETURN, 2));
+    return cw_add_op1(m, LOAD_CONSTANT, 1, 3);
+}
+
+/* Prints any value. An element lies below its header, so this ends whatever the stores hold. */
+static void show_value(struct chaffwheel_stores *m, uint64_t kind, uint64_t payload)
+{
+    uint8_t bytes[256];
+    uint32_t no = 0;
+    if (kind == CHAFFWHEEL_SCALAR)
+        printf("%g", scalar_of(payload));
+    else if (kind == CHAFFWHEEL_BOOLEAN)
+        printf(payload ? "true" : "false");
+    else if (kind == CHAFFWHEEL_STRING || kind == CHAFFWHEEL_REFERENCE) {
+        no = cw_text(m, kind, payload, bytes, sizeof bytes);
+        if (!no)
+            printf("\"%.*s\"", (int)m->answer[0], (const char *)bytes);
+    } else if (!(no = cw_block_header(m, kind, payload))) {
+        uint64_t count = m->answer[0];
+        printf("[");
+        for (uint64_t i = 0; i < count && !(no = cw_element(m, kind, payload, i)); i++) {
+            printf(i ? ", " : "");
+            show_value(m, m->answer[0], m->answer[1]);
+        }
+        printf("]");
+    }
+    if (no)
+        printf("refused %" PRIu32, no);
+}
+
+/* What the list rule leaves, read out: the last result, and a value of the stack. */
+static uint32_t show_list_rule(struct chaffwheel_stores *m)
+{
+    TRY(emit_list_rule(m));
+    TRY(cw_run(m, 100));
+    printf("a rule that answers with a list, and leaves %" PRIu64 " value on the stack\n", m->vm[CHAFFWHEEL_STACK]);
+    TRY(cw_last_result(m));
+    printf("    last result ");
+    show_value(m, m->answer[0], m->answer[1]);
+    TRY(cw_stack_value(m, 0));
+    printf(", the stack's ");
+    show_value(m, m->answer[0], m->answer[1]);
+    printf("\n");
+    return 0;
 }
 
 /* Has the reading counted? A root Return that was completed is never undone. If the last result is another one than before, the run has counted;
@@ -109,7 +180,7 @@ int main(int argc, char **argv)
     size_t len = fread(image, 1, sizeof image, f);
     fclose(f);
 
-    struct machine m;
+    struct chaffwheel_stores m;
     machine_init(&m, 1);
 
     struct journal first = whole_rule(&m, image, len, 41, 1000000);
@@ -128,6 +199,8 @@ int main(int argc, char **argv)
     struct journal again = whole_rule(&m, image, len, 41, 5);
     show("the mended rule with 5 units: it stops before its Return", &again);
 
+    uint32_t refused = show_list_rule(&m);
+
     machine_free(&m);
-    return first.after == 42 && rest.after == 42 && once.after == 42 && twice.after == 43 && !counted(&again, 14) ? 0 : 1;
+    return !refused && first.after == 42 && rest.after == 42 && once.after == 42 && twice.after == 43 && !counted(&again, 14) ? 0 : 1;
 }

@@ -1,18 +1,9 @@
-/* A machine with stores of its own: the runner's sizes times a scale. Shared by broker.c and bench/cost.c. */
+/* A machine with stores from the heap: the runner's sizes times a scale. Shared by broker.c and bench/cost.c. */
 #ifndef MACHINE_H
 #define MACHINE_H
 
 #include <stdlib.h>
-#include "chaffwheel.h"
-
-struct machine {
-    uint64_t vm[CHAFFWHEEL_VM], answer[CHAFFWHEEL_ANSWER];
-    size_t values, cells, frames, entries, code, text; /* places of the stores */
-    uint64_t *constants, *structs, *functions, *stack, *cell, *copy;
-    uint8_t *texts, *main_code, *other_code;
-    uint32_t *main_places, *other_places, *trace;
-    chaffwheel_frame *frame;
-};
+#include "chaffwheel_stores.h"
 
 static inline void *zeros(size_t n, size_t size)
 {
@@ -22,54 +13,24 @@ static inline void *zeros(size_t n, size_t size)
     return p;
 }
 
-static inline void machine_init(struct machine *m, size_t scale)
+/* a store of this many elements */
+#define MAKE(name, n) (m->name##_len = (n), m->name = zeros(m->name##_len, sizeof *m->name))
+
+static inline void machine_init(struct chaffwheel_stores *m, size_t scale)
 {
-    m->values = 1024 * scale, m->cells = 2048 * scale, m->frames = 256 * scale, m->entries = 256 * scale;
-    m->code = 8192 * scale, m->text = 16384 * scale;
-    m->constants = zeros(2 * m->entries, sizeof *m->constants), m->structs = zeros(m->entries, sizeof *m->structs);
-    m->functions = zeros(2 * m->entries, sizeof *m->functions), m->texts = zeros(m->text, 1);
-    m->main_code = zeros(m->code, 1), m->main_places = zeros(m->code, sizeof *m->main_places);
-    m->other_code = zeros(m->code, 1), m->other_places = zeros(m->code, sizeof *m->other_places);
-    m->stack = zeros(2 * m->values, sizeof *m->stack), m->copy = zeros(2 * m->values, sizeof *m->copy);
-    m->cell = zeros(2 * m->cells, sizeof *m->cell);
-    m->frame = zeros(m->frames, sizeof *m->frame), m->trace = zeros(2 * m->frames, sizeof *m->trace);
+    *m = (struct chaffwheel_stores){ .vm = { 0 } };
+    MAKE(constants, 2 * 256 * scale), MAKE(structs, 256 * scale), MAKE(functions, 2 * 256 * scale), MAKE(text, 16384 * scale);
+    MAKE(main_code, 8192 * scale), MAKE(main_places, 8192 * scale), MAKE(other_code, 8192 * scale), MAKE(other_places, 8192 * scale);
+    MAKE(stack, 2 * 1024 * scale), MAKE(cells, 2 * 2048 * scale), MAKE(frames, 256 * scale);
+    MAKE(copy, m->stack_len), MAKE(trace, 2 * m->frames_len);
 }
 
-static inline void machine_free(struct machine *m)
-{
-    free(m->constants), free(m->structs), free(m->functions), free(m->texts), free(m->main_code), free(m->main_places);
-    free(m->other_code), free(m->other_places), free(m->stack), free(m->copy), free(m->cell), free(m->frame), free(m->trace);
-}
+#undef MAKE
 
-static inline uint32_t machine_load(struct machine *m, const uint8_t *image, size_t len)
+static inline void machine_free(struct chaffwheel_stores *m)
 {
-    return chaffwheel_load(image, len, m->vm, CHAFFWHEEL_VM, m->constants, 2 * m->entries, m->structs, m->entries, m->functions,
-        2 * m->entries, m->texts, m->text, m->main_code, m->code, m->main_places, m->code, m->other_code, m->code, m->other_places, m->code,
-        m->frame, m->frames, m->answer, CHAFFWHEEL_ANSWER);
-}
-
-static inline uint32_t machine_run(struct machine *m, uint64_t units)
-{
-    return chaffwheel_run(units, m->vm, CHAFFWHEEL_VM, m->constants, 2 * m->entries, m->functions, 2 * m->entries, m->texts, m->text,
-        m->main_code, m->code, m->main_places, m->code, m->other_code, m->code, m->other_places, m->code, m->stack, 2 * m->values, m->cell,
-        2 * m->cells, m->frame, m->frames, m->copy, 2 * m->values, m->trace, 2 * m->frames, m->answer, CHAFFWHEEL_ANSWER);
-}
-
-static inline uint32_t machine_scalar(struct machine *m, uint64_t bits)
-{
-    return chaffwheel_add_scalar(m->vm, CHAFFWHEEL_VM, bits, m->constants, 2 * m->entries, m->texts, m->text, m->answer, CHAFFWHEEL_ANSWER);
-}
-
-static inline uint32_t machine_op(struct machine *m, uint8_t op, uint32_t place)
-{
-    return chaffwheel_add_op(m->vm, CHAFFWHEEL_VM, op, place, m->functions, 2 * m->entries, m->main_code, m->code, m->main_places, m->code,
-        m->other_code, m->code, m->other_places, m->code, m->answer, CHAFFWHEEL_ANSWER);
-}
-
-static inline uint32_t machine_op1(struct machine *m, uint8_t op, uint16_t a, uint32_t place)
-{
-    return chaffwheel_add_op1(m->vm, CHAFFWHEEL_VM, op, a, place, m->functions, 2 * m->entries, m->main_code, m->code, m->main_places, m->code,
-        m->other_code, m->code, m->other_places, m->code, m->answer, CHAFFWHEEL_ANSWER);
+    free(m->constants), free(m->structs), free(m->functions), free(m->text), free(m->main_code), free(m->main_places), free(m->other_code);
+    free(m->other_places), free(m->stack), free(m->cells), free(m->frames), free(m->copy), free(m->trace);
 }
 
 #endif

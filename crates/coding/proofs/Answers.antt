@@ -7,19 +7,24 @@ use borrow.Author.Tests.{le-leb, lt-leb}
 use lib.Dec.{leb}
 use lib.ListN.{length, set}
 use Rattle.model.specs.declared.Value.{Value}
+use Rattle.model.specs.declared.Header.{Header}
 use Rattle.model.specs.declared.Counts.{Counts}
 use Rattle.model.specs.declared.Vm.{Vm}
 use Rattle.model.specs.declared.Emitted.{Emitted}
 use Rattle.model.specs.declared.Emitted.the-variants as e
 use Rattle.model.specs.declared.Told.{Told}
 use Rattle.model.specs.declared.Told.the-variants as t
+use Rattle.model.specs.declared.Shown.{Shown}
+use Rattle.model.specs.declared.Shown.the-variants as sh
+use Rattle.model.specs.declared.Headed.{Headed}
+use Rattle.model.specs.declared.Headed.the-variants as h
 use Rattle.model.specs.declared.Started.{Started}
 use Rattle.model.specs.declared.Started.the-variants as st
 use Rattle.model.specs.declared.RunResult.{RunResult}
 use Rattle.model.specs.declared.RunResult.the-variants as r
 use Rattle.model.specs.Basics.{written}
-use Rattle.model.specs.Values.{kind, payload}
-use Rattle.coding.specs.Coding.{countWords, vmWords, recordOk, slicesRefusal, outRefusal, runCoded, startedCoded, emittedCoded, toldCoded}
+use Rattle.model.specs.Values.{kind, payload, exactValue}
+use Rattle.coding.specs.Coding.{countWords, vmWords, recordOk, slicesRefusal, valueRefusal, outRefusal, runCoded, startedCoded, emittedCoded, toldCoded, shownCoded, headedCoded}
 
 -- ---- refusals
 
@@ -36,6 +41,15 @@ module _ (w : List ℕ) (n : ℕ) (a : List ℕ) where
     pub no-record : ok ≡ false → 19 ≡ slicesRefusal w n a
     unfolding slicesRefusal
     no-record y = rw (← e, y)
+
+  module _ (k p : ℕ) {ok : Bool} (e : ok ≡ exactValue k p) where
+    pub value-exact : ok ≡ true → {why : ℕ} → why ≡ slicesRefusal w n a → why ≡ valueRefusal w k p n a
+    unfolding valueRefusal
+    value-exact y f = rw (← e, y, f)
+
+    pub value-inexact : ok ≡ false → 19 ≡ valueRefusal w k p n a
+    unfolding valueRefusal
+    value-inexact y = rw (← e, y)
 
   pub out-fits : leb 10 (length w) && leb n (length a) ≡ true → 0 ≡ outRefusal w n a
   unfolding outRefusal
@@ -95,3 +109,21 @@ module _ (w a : List ℕ) where
     pub told-not : {n : ℕ} → x ≡ t.Refused n → record { number = n; vm = w; answer = a } ≡ toldCoded x w a
     unfolding toldCoded
     told-not e = rw e
+
+  module _ {x : Shown} where
+    pub shown-value : {a1 a2 : List ℕ} {v : Value} {k p : ℕ} → x ≡ sh.Value v → k ≡ kind v → p ≡ payload v → a1 ≡ set a 0 k → a2 ≡ set a1 1 p → record { number = 0; vm = w; answer = a2 } ≡ shownCoded x w a
+    unfolding shownCoded written
+    shown-value e ek ep e1 e2 = rw (e, e2, e1, ek, ep)
+
+    pub shown-not : {n : ℕ} → x ≡ sh.Refused n → record { number = n; vm = w; answer = a } ≡ shownCoded x w a
+    unfolding shownCoded
+    shown-not e = rw e
+
+  module _ {x : Headed} where
+    pub headed-is : {a1 a2 a3 : List ℕ} {y : Header} → x ≡ h.Is y → a1 ≡ set a 0 (y .count) → a2 ≡ set a1 1 (y .number) → a3 ≡ set a2 2 (y .depth) → record { number = 0; vm = w; answer = a3 } ≡ headedCoded x w a
+    unfolding headedCoded written
+    headed-is e e1 e2 e3 = rw (e, e3, e2, e1)
+
+    pub headed-not : {n : ℕ} → x ≡ h.Refused n → record { number = n; vm = w; answer = a } ≡ headedCoded x w a
+    unfolding headedCoded
+    headed-not e = rw e

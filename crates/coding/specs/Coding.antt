@@ -13,6 +13,10 @@ use Rattle.model.specs.declared.Last.the-variants.{Nothing, Is}
 use Rattle.model.specs.declared.Frame.{Frame}
 use Rattle.model.specs.declared.Told.{Told}
 use Rattle.model.specs.declared.Told.the-variants as t
+use Rattle.model.specs.declared.Shown.{Shown}
+use Rattle.model.specs.declared.Shown.the-variants as sh
+use Rattle.model.specs.declared.Headed.{Headed}
+use Rattle.model.specs.declared.Headed.the-variants as h
 use Rattle.model.specs.declared.Emitted.{Emitted}
 use Rattle.model.specs.declared.Emitted.the-variants as e
 use Rattle.model.specs.declared.Started.{Started}
@@ -64,11 +68,15 @@ lastExact k a = if eqb k 7 then eqb a 0 else exactValue k a
 unfoldable pub recordOk : List ℕ → Bool
 recordOk w = leb 10 (length w) && lastExact (getD w 8 0) (getD w 9 0)
 
--- ---- refusals of the slices themselves, before the entry's own
+-- ---- refusals of what crosses, before the entry's own
 
 -- 19: no machine's record; 17: fewer than n words for the answer; or 0
 unfoldable pub slicesRefusal : List ℕ → ℕ → List ℕ → ℕ
 slicesRefusal w n a = if recordOk w then (if leb n (length a) then 0 else 17) else 19
+
+-- where the host hands in a value too, as a kind and a payload: 19 where they are not exactly the words of a value, an unknown kind among them
+unfoldable pub valueRefusal : List ℕ → ℕ → ℕ → ℕ → List ℕ → ℕ
+valueRefusal w k p n a = if exactValue k p then slicesRefusal w n a else 19
 
 -- where the record is only written
 unfoldable pub outRefusal : List ℕ → ℕ → List ℕ → ℕ
@@ -82,29 +90,43 @@ pub record Coded : Type 0 where
   pub vm : List ℕ
   pub answer : List ℕ
 
+-- a refusal writes nothing
+abbrev pub refused : ℕ → List ℕ → List ℕ → Coded
+refused n w a = record { number = n; vm = w; answer = a }
+
 -- 1 value, 2 "continue", 3 fault; the units; the value's kind and payload, or the fault's number and the length of its backtrace
 unfoldable pub runCoded : RunResult → List ℕ → List ℕ → Coded
 runCoded (r.Value m v n) w a = record { number = 0; vm = written w 0 (vmWords m); answer = written a 0 (1 ∷ n ∷ kind v ∷ payload v ∷ []) }
 runCoded (r.Continue m n) w a = record { number = 0; vm = written w 0 (vmWords m); answer = written a 0 (2 ∷ n ∷ 0 ∷ 0 ∷ []) }
 runCoded (r.Fault m k n j) w a = record { number = 0; vm = written w 0 (vmWords m); answer = written a 0 (3 ∷ n ∷ k ∷ j ∷ []) }
-runCoded (r.Refused n) w a = record { number = n; vm = w; answer = a }
+runCoded (r.Refused n) w a = refused n w a
 
 -- of refusal 20 the answer is the offset
 unfoldable pub startedCoded : Started → List ℕ → List ℕ → Coded
 startedCoded (st.Done m) w a = record { number = 0; vm = written w 0 (vmWords m); answer = a }
 startedCoded (st.Broken i) w a = record { number = 20; vm = w; answer = written a 0 (i ∷ []) }
-startedCoded (st.Refused n) w a = record { number = n; vm = w; answer = a }
+startedCoded (st.Refused n) w a = refused n w a
 
 -- the counts to the record, and the number that was told
 unfoldable pub emittedCoded : Emitted → List ℕ → List ℕ → Coded
 emittedCoded (e.Done c n) w a = record { number = 0; vm = written w 0 (countWords c); answer = written a 0 (n ∷ []) }
-emittedCoded (e.Refused n) w a = record { number = n; vm = w; answer = a }
+emittedCoded (e.Refused n) w a = refused n w a
 
 unfoldable pub toldCoded : Told → List ℕ → List ℕ → Coded
 toldCoded (t.Number n) w a = record { number = 0; vm = w; answer = written a 0 (n ∷ []) }
-toldCoded (t.Refused n) w a = record { number = n; vm = w; answer = a }
+toldCoded (t.Refused n) w a = refused n w a
 
--- ---- the entries
+-- the kind and the payload of the value
+unfoldable pub shownCoded : Shown → List ℕ → List ℕ → Coded
+shownCoded (sh.Value v) w a = record { number = 0; vm = w; answer = written a 0 (kind v ∷ payload v ∷ []) }
+shownCoded (sh.Refused n) w a = refused n w a
+
+-- the count of elements, the struct number and the depth
+unfoldable pub headedCoded : Headed → List ℕ → List ℕ → Coded
+headedCoded (h.Is x) w a = record { number = 0; vm = w; answer = written a 0 (x .count ∷ x .number ∷ x .depth ∷ []) }
+headedCoded (h.Refused n) w a = refused n w a
+
+-- ---- the entries: refused by what crosses, or the entry's own rule, with its answer in words. `why` is that refusal, 0 where there is none
 
 -- a run: refused by its slices, or the run of the record's machine, with its result in words
 pub record RunThrough (w a : List ℕ) (s : List ℕ → Stores) (l : Lent) (u : ℕ) (c : Coded) (l' : Lent) : Type 0 where
@@ -123,22 +145,22 @@ unfoldable pub startThrough : List ℕ → List ℕ → Stores → List Frame �
 startThrough w a s fs r =
     if eqb (outRefusal w 1 a) 0
     then record { coded = startedCoded (r .answer) w a; stores = r .stores; frames = r .frames }
-    else record { coded = record { number = outRefusal w 1 a; vm = w; answer = a }; stores = s; frames = fs }
+    else record { coded = refused (outRefusal w 1 a) w a; stores = s; frames = fs }
 
 -- an entry that tells a number, with what it writes
 pub record OutThrough : Type 0 where
   pub coded : Coded
   pub out : List ℕ
 
-unfoldable pub outThrough : List ℕ → List ℕ → List ℕ → (Vm → OutRes) → OutThrough
-outThrough w a out rule =
-    if eqb (slicesRefusal w 1 a) 0
+unfoldable pub outThrough : ℕ → List ℕ → List ℕ → List ℕ → (Vm → OutRes) → OutThrough
+outThrough why w a out rule =
+    if eqb why 0
     then record { coded = toldCoded (rule (vmIn w) .answer) w a; out = rule (vmIn w) .out }
-    else record { coded = record { number = slicesRefusal w 1 a; vm = w; answer = a }; out = out }
+    else record { coded = refused why w a; out = out }
 
--- an entry that changes no store but the record and the answer: c is what it does where its slices are long enough
-unfoldable pub through : List ℕ → List ℕ → Coded → Coded
-through w a c = if eqb (slicesRefusal w 1 a) 0 then c else record { number = slicesRefusal w 1 a; vm = w; answer = a }
+-- an entry that changes no store but the record and the answer: c is what it does where it is not refused
+unfoldable pub through : ℕ → List ℕ → List ℕ → Coded → Coded
+through why w a c = if eqb why 0 then c else refused why w a
 
 -- emission: an entry over the record's counts and the program's stores
 pub record EmitThrough : Type 0 where
@@ -149,4 +171,4 @@ unfoldable pub emitThrough : List ℕ → List ℕ → Stores → (Counts → Re
 emitThrough w a s rule =
     if eqb (slicesRefusal w 1 a) 0
     then record { coded = emittedCoded (rule (vmIn w .program) .answer) w a; stores = rule (vmIn w .program) .stores }
-    else record { coded = record { number = slicesRefusal w 1 a; vm = w; answer = a }; stores = s }
+    else record { coded = refused (slicesRefusal w 1 a) w a; stores = s }

@@ -1,8 +1,10 @@
 // A machine's record and the entries' answers as words in lent slices: what crosses to a host in C.
 use model::Counts;
 use model::Emitted;
+use model::Headed;
 use model::Last;
 use model::RunResult;
+use model::Shown;
 use model::Started;
 use model::Told;
 use model::Vm;
@@ -15,7 +17,7 @@ ghost use mathlib.Core.List.{List, [], _∷_};
 ghost use Prim.Native.Nat.{ℕ};
 ghost use lib.ListN.{getD, set};
 ghost use Rattle.model.specs.Basics.{written};
-ghost use Rattle.coding.specs.Coding.{lastOf, lastKind, lastPayload, vmIn, countWords, vmWords, lastExact, recordOk, slicesRefusal, outRefusal, runCoded, startedCoded, emittedCoded, toldCoded};
+ghost use Rattle.coding.specs.Coding.{lastOf, lastKind, lastPayload, vmIn, countWords, vmWords, lastExact, recordOk, slicesRefusal, valueRefusal, outRefusal, runCoded, startedCoded, emittedCoded, toldCoded, shownCoded, headedCoded};
 
 // Word i, 0 past the end.
 fn word(s: &[u64], i: usize) -> u64
@@ -124,7 +126,7 @@ fn record_ok(vm: &[u64]) -> bool
     (10 <= vm.len()) & last_exact(word(vm, 8), word(vm, 9))
 }
 
-// ---- refusals of the slices themselves
+// ---- refusals of what crosses, before the entry's own
 
 // 19: no machine's record; 17: fewer than n words for the answer; or 0.
 pub fn slices_refusal(vm: &[u64], n: usize, answer: &[u64]) -> u32
@@ -135,6 +137,17 @@ pub fn slices_refusal(vm: &[u64], n: usize, answer: &[u64]) -> u32
             return 0;
         }
         return 17;
+    }
+    19
+}
+
+// The same where a value is handed in too: 19 where the words are not exactly a value's.
+pub fn value_refusal(vm: &[u64], kind: u64, payload: u64, n: usize, answer: &[u64]) -> u32
+    ensures { λ r. ⌜ r ≡ valueRefusal (now (vm .entry)) kind payload n (now (answer .entry)) ⌝ }
+{
+    if exact_value(kind, payload) {
+        let why = slices_refusal(vm, n, answer);
+        return why;
     }
     19
 }
@@ -238,5 +251,36 @@ pub fn tell(result: Told, answer: &mut [u64]) -> u32
             0
         }
         Told::Refused(n) => n as u32,
+    }
+}
+
+// What an entry that shows a value answers; vm is any record.
+pub fn tell_shown(result: Shown, answer: &mut [u64]) -> u32
+    ensures { λ r. ⌜ ((w : List ℕ) → record { number = r; vm = w; answer = now (answer .exit) } ≡ shownCoded result w (now (answer .entry))) ⌝ }
+{
+    match result {
+        Shown::Value(v) => {
+            let kind = kind_of(v);
+            let payload = payload_of(v);
+            put(answer, 0, kind);
+            put(answer, 1, payload);
+            0
+        }
+        Shown::Refused(n) => n as u32,
+    }
+}
+
+// What an entry that tells a header answers; vm is any record.
+pub fn tell_header(result: Headed, answer: &mut [u64]) -> u32
+    ensures { λ r. ⌜ ((w : List ℕ) → record { number = r; vm = w; answer = now (answer .exit) } ≡ headedCoded result w (now (answer .entry))) ⌝ }
+{
+    match result {
+        Headed::Is(h) => {
+            put(answer, 0, h.count as u64);
+            put(answer, 1, h.number as u64);
+            put(answer, 2, h.depth as u64);
+            0
+        }
+        Headed::Refused(n) => n as u32,
     }
 }

@@ -50,35 +50,33 @@ module _ (w a : List ℕ) (s : Stores) (fs : List Frame) (res : StartRes) (n : �
 
 -- ---- an entry that tells a number
 
-module _ (w a out : List ℕ) (rule : Vm → OutRes) (n : ℕ) (e : n ≡ slicesRefusal w 1 a) where
-  pub out-through : n ≡ 0 → (m : Vm) → m ≡ vmIn w → (x : Told) (out' : List ℕ) → record { answer = x; out = out' } ≡ rule m → (c : Coded) → c ≡ toldCoded x w a → record { coded = c; out = out' } ≡ outThrough w a out rule
+module _ (w a out : List ℕ) (rule : Vm → OutRes) (n : ℕ) {why : ℕ} (e : n ≡ why) where
+  pub out-through : n ≡ 0 → (m : Vm) → m ≡ vmIn w → (x : Told) (out' : List ℕ) → record { answer = x; out = out' } ≡ rule m → (c : Coded) → c ≡ toldCoded x w a → record { coded = c; out = out' } ≡ outThrough why w a out rule
   unfolding outThrough
-  out-through z m em x out' er c ec = rw (← em, ← er, ec, eq-eqb (slicesRefusal w 1 a) 0 (sym e ∙ z))
+  out-through z m em x out' er c ec = rw (← em, ← er, ec, eq-eqb why 0 (sym e ∙ z))
 
-  pub out-refused : (n ≡ 0 → ⊥) → record { coded = record { number = n; vm = w; answer = a }; out = out } ≡ outThrough w a out rule
+  pub out-refused : (n ≡ 0 → ⊥) → record { coded = record { number = n; vm = w; answer = a }; out = out } ≡ outThrough why w a out rule
   unfolding outThrough
-  out-refused z = rw (ne-eqb (slicesRefusal w 1 a) 0 (λ y. z (e ∙ y)), e)
+  out-refused z = rw (ne-eqb why 0 (λ y. z (e ∙ y)), e)
 
--- ---- emission, and what changes no store but the record and the answer
+-- ---- emission
 
-module _ (w a : List ℕ) (n : ℕ) (e : n ≡ slicesRefusal w 1 a) where
-  module _ (s : Stores) (rule : Counts → Res) where
-    pub emit-through : n ≡ 0 → {m : Vm} → m ≡ vmIn w → {x : Emitted} {s' : Stores} → record { answer = x; stores = s' } ≡ rule (m .program) → {c : Coded} → c ≡ emittedCoded x w a → record { coded = c; stores = s' } ≡ emitThrough w a s rule
-    unfolding emitThrough
-    emit-through z em er ec = rw (← em, ← er, ec, eq-eqb (slicesRefusal w 1 a) 0 (sym e ∙ z))
+module _ (w a : List ℕ) (n : ℕ) (e : n ≡ slicesRefusal w 1 a) (s : Stores) (rule : Counts → Res) where
+  pub emit-through : n ≡ 0 → {m : Vm} → m ≡ vmIn w → {x : Emitted} {s' : Stores} → record { answer = x; stores = s' } ≡ rule (m .program) → {c : Coded} → c ≡ emittedCoded x w a → record { coded = c; stores = s' } ≡ emitThrough w a s rule
+  unfolding emitThrough
+  emit-through z em er ec = rw (← em, ← er, ec, eq-eqb (slicesRefusal w 1 a) 0 (sym e ∙ z))
 
-    pub emit-refused : (n ≡ 0 → ⊥) → record { coded = record { number = n; vm = w; answer = a }; stores = s } ≡ emitThrough w a s rule
-    unfolding emitThrough
-    emit-refused z = rw (ne-eqb (slicesRefusal w 1 a) 0 (λ y. z (e ∙ y)), e)
+  pub emit-refused : (n ≡ 0 → ⊥) → record { coded = record { number = n; vm = w; answer = a }; stores = s } ≡ emitThrough w a s rule
+  unfolding emitThrough
+  emit-refused z = rw (ne-eqb (slicesRefusal w 1 a) 0 (λ y. z (e ∙ y)), e)
 
-  pub emitted-through : n ≡ 0 → {m : Vm} → m ≡ vmIn w → (rule : Counts → Emitted) → {x : Emitted} → x ≡ rule (m .program) → {c : Coded} → c ≡ emittedCoded x w a → c ≡ through w a (emittedCoded (rule (vmIn w .program)) w a)
+-- ---- an entry that changes no store but the record and the answer: its rule of the record's machine, coded
+
+module _ (w a : List ℕ) (n : ℕ) {why : ℕ} (e : n ≡ why) where
+  pub is-through : n ≡ 0 → {m : Vm} → m ≡ vmIn w → {A : Type 0} (rule : Vm → A) (coded : A → List ℕ → List ℕ → Coded) → {x : A} → x ≡ rule m → {c : Coded} → c ≡ coded x w a → c ≡ through why w a (coded (rule (vmIn w)) w a)
   unfolding through
-  emitted-through z em rule er ec = rw (ec, er, em, eq-eqb (slicesRefusal w 1 a) 0 (sym e ∙ z))
+  is-through z em rule coded er ec = rw (ec, er, em, eq-eqb why 0 (sym e ∙ z))
 
-  pub told-through : n ≡ 0 → {m : Vm} → m ≡ vmIn w → (rule : Counts → Told) → {x : Told} → x ≡ rule (m .program) → {c : Coded} → c ≡ toldCoded x w a → c ≡ through w a (toldCoded (rule (vmIn w .program)) w a)
+  pub not-through : (n ≡ 0 → ⊥) → (c : Coded) → record { number = n; vm = w; answer = a } ≡ through why w a c
   unfolding through
-  told-through z em rule er ec = rw (ec, er, em, eq-eqb (slicesRefusal w 1 a) 0 (sym e ∙ z))
-
-  pub not-through : (n ≡ 0 → ⊥) → (c : Coded) → record { number = n; vm = w; answer = a } ≡ through w a c
-  unfolding through
-  not-through z c = rw (ne-eqb (slicesRefusal w 1 a) 0 (λ y. z (e ∙ y)), e)
+  not-through z c = rw (ne-eqb why 0 (λ y. z (e ∙ y)), e)

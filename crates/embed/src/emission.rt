@@ -22,7 +22,7 @@ ghost use Rattle.model.specs.declared.Constant.the-variants as k;
 ghost use Rattle.model.specs.Stores.{Stores};
 ghost use Rattle.model.specs.Emission.{addOpOf, addOp1Of, addOp2Of, addOp3Of, patchOf, currentOffsetOf, addConstantOf, addStructOf, beginFunctionOf, endFunctionOf, functionIdxOf};
 ghost use Rattle.program.specs.Links.{codeLent, bytesLent, constantsLent, structsLent, namesLent};
-ghost use Rattle.coding.specs.Coding.{vmIn, emittedCoded, toldCoded, through, emitThrough};
+ghost use Rattle.coding.specs.Coding.{vmIn, slicesRefusal, emittedCoded, toldCoded, through, emitThrough};
 
 // Appends an opcode to the code of the current function, with the given place.
 #[no_mangle]
@@ -335,7 +335,7 @@ pub extern "C" fn chaffwheel_begin_function(
 // Makes main current.
 #[no_mangle]
 pub extern "C" fn chaffwheel_end_function(vm: &mut [u64], answer: &mut [u64]) -> u32
-    ensures { λ r. ⌜ record { number = r; vm = now (vm .exit); answer = now (answer .exit) } ≡ through (now (vm .entry)) (now (answer .entry)) (emittedCoded (endFunctionOf (vmIn (now (vm .entry)) .program)) (now (vm .entry)) (now (answer .entry))) ⌝ }
+    ensures { λ r. ⌜ record { number = r; vm = now (vm .exit); answer = now (answer .exit) } ≡ through (slicesRefusal (now (vm .entry)) 1 (now (answer .entry))) (now (vm .entry)) (now (answer .entry)) (emittedCoded (endFunctionOf (vmIn (now (vm .entry)) .program)) (now (vm .entry)) (now (answer .entry))) ⌝ }
 {
     let why = slices_refusal(vm, 1, answer);
     if why == 0 {
@@ -355,7 +355,7 @@ pub extern "C" fn chaffwheel_current_offset(
     functions: &[u64],
     answer: &mut [u64],
 ) -> u32
-    ensures { λ r. ⌜ record { number = r; vm = now (vm .entry); answer = now (answer .exit) } ≡ through (now (vm .entry)) (now (answer .entry)) (toldCoded (currentOffsetOf (vmIn (now (vm .entry)) .program) (now (functions .entry))) (now (vm .entry)) (now (answer .entry))) ⌝ }
+    ensures { λ r. ⌜ record { number = r; vm = now (vm .entry); answer = now (answer .exit) } ≡ through (slicesRefusal (now (vm .entry)) 1 (now (answer .entry))) (now (vm .entry)) (now (answer .entry)) (toldCoded (currentOffsetOf (vmIn (now (vm .entry)) .program) (now (functions .entry))) (now (vm .entry)) (now (answer .entry))) ⌝ }
 {
     let why = slices_refusal(vm, 1, answer);
     if why == 0 {
@@ -377,7 +377,7 @@ pub extern "C" fn chaffwheel_get_function_idx(
     text: &[u8],
     answer: &mut [u64],
 ) -> u32
-    ensures { λ r. ⌜ ((rest : Stores) → record { number = r; vm = now (vm .entry); answer = now (answer .exit) } ≡ through (now (vm .entry)) (now (answer .entry)) (toldCoded (functionIdxOf (vmIn (now (vm .entry)) .program) (now (name .entry)) (namesLent rest (now (functions .entry)) (now (text .entry)))) (now (vm .entry)) (now (answer .entry)))) ⌝ }
+    ensures { λ r. ⌜ ((rest : Stores) → record { number = r; vm = now (vm .entry); answer = now (answer .exit) } ≡ through (slicesRefusal (now (vm .entry)) 1 (now (answer .entry))) (now (vm .entry)) (now (answer .entry)) (toldCoded (functionIdxOf (vmIn (now (vm .entry)) .program) (now (name .entry)) (namesLent rest (now (functions .entry)) (now (text .entry)))) (now (vm .entry)) (now (answer .entry)))) ⌝ }
 {
     let why = slices_refusal(vm, 1, answer);
     if why == 0 {

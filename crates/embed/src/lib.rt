@@ -1,5 +1,6 @@
 // The machine's entries for a host in C: numbers and slices alone. `include/chaffwheel.h` declares them, docs/EMBEDDING.md shows their use.
 pub mod emission; // emission.rt: a program is written
+pub mod reading; // reading.rt: a machine is read
 
 use coding::out_refusal;
 use coding::slices_refusal;
@@ -26,7 +27,7 @@ ghost use Rattle.image.specs.Fills.{lent};
 ghost use Rattle.listing.specs.Links.{lent as listed};
 ghost use Rattle.ends.specs.Links.{programLent};
 ghost use Rattle.machine.specs.Links.{runLent};
-ghost use Rattle.coding.specs.Coding.{RunThrough, startThrough, outThrough};
+ghost use Rattle.coding.specs.Coding.{slicesRefusal, RunThrough, startThrough, outThrough};
 
 // A machine over a new program.
 #[no_mangle]
@@ -146,7 +147,7 @@ pub extern "C" fn chaffwheel_backtrace(
     out: &mut [u32],
     answer: &mut [u64],
 ) -> u32
-    ensures { λ r. ⌜ ((structs constants : List ℕ) → record { coded = record { number = r; vm = now (vm .entry); answer = now (answer .exit) }; out = now (out .exit) } ≡ outThrough (now (vm .entry)) (now (answer .entry)) (now (out .entry)) (λ m. backtraceIn m (programLent structs constants (now (functions .entry)) (now (text .entry)) (now (main .entry)) (now («main_places» .entry)) (now (other .entry)) (now («other_places» .entry))) (now (frames .entry)) (now (out .entry)))) ⌝ }
+    ensures { λ r. ⌜ ((structs constants : List ℕ) → record { coded = record { number = r; vm = now (vm .entry); answer = now (answer .exit) }; out = now (out .exit) } ≡ outThrough (slicesRefusal (now (vm .entry)) 1 (now (answer .entry))) (now (vm .entry)) (now (answer .entry)) (now (out .entry)) (λ m. backtraceIn m (programLent structs constants (now (functions .entry)) (now (text .entry)) (now (main .entry)) (now («main_places» .entry)) (now (other .entry)) (now («other_places» .entry))) (now (frames .entry)) (now (out .entry)))) ⌝ }
 {
     let why = slices_refusal(vm, 1, answer);
     if why == 0 {
@@ -183,7 +184,7 @@ pub extern "C" fn chaffwheel_save(
     out: &mut [u8],
     answer: &mut [u64],
 ) -> u32
-    ensures { λ r. ⌜ record { coded = record { number = r; vm = now (vm .entry); answer = now (answer .exit) }; out = now (out .exit) } ≡ outThrough (now (vm .entry)) (now (answer .entry)) (now (out .entry)) (λ (m : Vm). saveOf (m .program) (lent (now (constants .entry)) (now (structs .entry)) (now (functions .entry)) (now (text .entry)) (now (main .entry)) (now («main_places» .entry)) (now (other .entry)) (now («other_places» .entry))) (now (out .entry))) ⌝ }
+    ensures { λ r. ⌜ record { coded = record { number = r; vm = now (vm .entry); answer = now (answer .exit) }; out = now (out .exit) } ≡ outThrough (slicesRefusal (now (vm .entry)) 1 (now (answer .entry))) (now (vm .entry)) (now (answer .entry)) (now (out .entry)) (λ (m : Vm). saveOf (m .program) (lent (now (constants .entry)) (now (structs .entry)) (now (functions .entry)) (now (text .entry)) (now (main .entry)) (now («main_places» .entry)) (now (other .entry)) (now («other_places» .entry))) (now (out .entry))) ⌝ }
 {
     let why = slices_refusal(vm, 1, answer);
     if why == 0 {
@@ -218,7 +219,7 @@ pub extern "C" fn chaffwheel_disassemble<'a>(
     out: &mut [u8],
     answer: &mut [u64],
 ) -> u32
-    ensures { λ r. ⌜ ((rest : Stores) → record { coded = record { number = r; vm = now (vm .entry); answer = now (answer .exit) }; out = now (out .exit) } ≡ outThrough (now (vm .entry)) (now (answer .entry)) (now (out .entry)) (λ (m : Vm). listOf (m .program) (listed rest (now (functions .entry)) (now (text .entry)) (now (main .entry)) (now (other .entry))) (now (out .entry)))) ⌝ }
+    ensures { λ r. ⌜ ((rest : Stores) → record { coded = record { number = r; vm = now (vm .entry); answer = now (answer .exit) }; out = now (out .exit) } ≡ outThrough (slicesRefusal (now (vm .entry)) 1 (now (answer .entry))) (now (vm .entry)) (now (answer .entry)) (now (out .entry)) (λ (m : Vm). listOf (m .program) (listed rest (now (functions .entry)) (now (text .entry)) (now (main .entry)) (now (other .entry))) (now (out .entry)))) ⌝ }
 {
     let why = slices_refusal(vm, 1, answer);
     if why == 0 {

@@ -154,7 +154,7 @@ module _ {M : Type 1} (𝓤 : URA M) (H : Heap 𝓤) (A : Atoms 𝓤) (W : Given
     abbrev Post : Val → SProp 𝓤
     Post = walkOf 𝓤 H A me.ended (stays kinds) (me.clauses 𝓤 H A mem run) .post (passing (xs out answer))
 
-    exits : (r : ℕ) (out′ : List ℕ) (answer′ : List ℕ) → Is u32 r (vint w32 r ∷ []) → length out′ ≡ s8 .count → length answer′ ≡ s9 .count → ((structs constants : List ℕ) → record { coded = record { number = r; vm = vm; answer = answer′ }; out = out′ } ≡ outThrough vm answer out (λ (m : Vm). backtraceIn m (programLent structs constants functions text main mainPlaces other otherPlaces) frames out)) → ent 𝓤 (⋆ 𝓤 H A (‵ (Holds (slices out′ answer′)) ∷ [])) (Post (vint w32 r))
+    exits : (r : ℕ) (out′ : List ℕ) (answer′ : List ℕ) → Is u32 r (vint w32 r ∷ []) → length out′ ≡ s8 .count → length answer′ ≡ s9 .count → ((structs constants : List ℕ) → record { coded = record { number = r; vm = vm; answer = answer′ }; out = out′ } ≡ outThrough (slicesRefusal vm 1 answer) vm answer out (λ (m : Vm). backtraceIn m (programLent structs constants functions text main mainPlaces other otherPlaces) frames out)) → ent 𝓤 (⋆ 𝓤 H A (‵ (Holds (slices out′ answer′)) ∷ [])) (Post (vint w32 r))
     exits r out′ answer′ isr len-out len-answer said =
         qed W (‵ (Holds (slices out′ answer′)) ∷ []) ∵ suffices ! _ (ends-at 𝓤 H A me.ended (stays kinds) (me.clauses 𝓤 H A mem run) W (passing (xs out answer)) (vint w32 r) r (tt, (tt, (tt, (tt, (tt, (tt, (tt, (tt, (out′, (answer′, tt)))))))))) (tt, (tt, (tt, (tt, (tt, (tt, (tt, (tt, (len-out, (len-answer, tt))))))))))) $ says ! said $
         gives ! (xs out′ answer′) tt (frame ! $ owned ! u32 (Is u32) (uint-makes 𝓤 H A W w32) r _ isr $ keep ! (1 ∷ 0 ∷ []) $ done !)

@@ -1,8 +1,9 @@
 -- `emission::chaffwheel_current_offset` meets its contract.
 use borrow.Author.Needs.{needs}
-use Rattle.model.specs.declared.Counts.{Counts}
+use Rattle.model.specs.declared.Vm.{Vm}
 use Rattle.model.specs.Emission.{currentOffsetOf}
-use Rattle.embed.proofs.Through.{not-through, told-through}
+use Rattle.coding.specs.Coding.{toldCoded}
+use Rattle.embed.proofs.Through.{is-through, not-through}
 use Rattle.embed.proofs.emission.chaffwheel_current_offset.Statement.{statement}
 use Rattle.embed.proofs.emission.chaffwheel_current_offset.Tie as tie
 
@@ -22,7 +23,7 @@ same-length : tie.Need-same-length
 same-length c = search needs
 
 returns : tie.Need-returns
-returns c = told-through _ _ _ (c .before .before .before .before .before .before .before .before .slices-refusal .ensures) (c .before .before .before .before .before .before .before .if1 .taken) (c .before .before .before .before .before .before .vm-of .ensures) (λ (x : Counts). currentOffsetOf x (c .before .before .before .before .before .before .before .before .before .before .before .before .before .args .functions .now)) (c .before .before .before .before .current-offset .ensures) (c .before .before .tell .ensures _)
+returns c = is-through _ _ _ (c .before .before .before .before .before .before .before .before .slices-refusal .ensures) (c .before .before .before .before .before .before .before .if1 .taken) (c .before .before .before .before .before .before .vm-of .ensures) (λ (x : Vm). currentOffsetOf (x .program) (c .before .before .before .before .before .before .before .before .before .before .before .before .before .args .functions .now)) toldCoded (c .before .before .before .before .current-offset .ensures) (c .before .before .tell .ensures _)
 
 same-length-2 : tie.Need-same-length-2
 same-length-2 c = search needs

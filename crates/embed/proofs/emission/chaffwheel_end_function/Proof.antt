@@ -1,7 +1,9 @@
 -- `emission::chaffwheel_end_function` meets its contract.
 use borrow.Author.Needs.{needs}
+use Rattle.model.specs.declared.Vm.{Vm}
 use Rattle.model.specs.Emission.{endFunctionOf}
-use Rattle.embed.proofs.Through.{emitted-through, not-through}
+use Rattle.coding.specs.Coding.{emittedCoded}
+use Rattle.embed.proofs.Through.{is-through, not-through}
 use Rattle.embed.proofs.emission.chaffwheel_end_function.Statement.{statement}
 use Rattle.embed.proofs.emission.chaffwheel_end_function.Tie as tie
 
@@ -24,7 +26,7 @@ same-length-2 : tie.Need-same-length-2
 same-length-2 c = search needs
 
 returns : tie.Need-returns
-returns c = emitted-through _ _ _ (c .before .before .before .before .before .before .before .before .before .before .before .before .slices-refusal .ensures) (c .before .before .before .before .before .before .before .before .before .before .before .if1 .taken) (c .before .before .before .before .before .before .before .before .before .vm-of .ensures) endFunctionOf (c .before .before .before .before .before .before .before .end-function .ensures) (c .before .before .before .before .tell-emitted .ensures)
+returns c = is-through _ _ _ (c .before .before .before .before .before .before .before .before .before .before .before .before .slices-refusal .ensures) (c .before .before .before .before .before .before .before .before .before .before .before .if1 .taken) (c .before .before .before .before .before .before .before .before .before .vm-of .ensures) (λ (x : Vm). endFunctionOf (x .program)) emittedCoded (c .before .before .before .before .before .before .before .end-function .ensures) (c .before .before .before .before .tell-emitted .ensures)
 
 same-length-3 : tie.Need-same-length-3
 same-length-3 c = search needs

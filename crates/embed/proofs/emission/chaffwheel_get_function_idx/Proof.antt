@@ -1,9 +1,10 @@
 -- `emission::chaffwheel_get_function_idx` meets its contract.
 use borrow.Author.Needs.{needs}
-use Rattle.model.specs.declared.Counts.{Counts}
+use Rattle.model.specs.declared.Vm.{Vm}
 use Rattle.model.specs.Emission.{functionIdxOf}
 use Rattle.program.specs.Links.{namesLent}
-use Rattle.embed.proofs.Through.{not-through, told-through}
+use Rattle.coding.specs.Coding.{toldCoded}
+use Rattle.embed.proofs.Through.{is-through, not-through}
 use Rattle.embed.proofs.emission.chaffwheel_get_function_idx.Statement.{statement}
 use Rattle.embed.proofs.emission.chaffwheel_get_function_idx.Tie as tie
 
@@ -23,7 +24,7 @@ same-length : tie.Need-same-length
 same-length c = search needs
 
 returns : tie.Need-returns
-returns c = λ rest. told-through _ _ _ (c .before .before .before .before .before .before .before .before .slices-refusal .ensures) (c .before .before .before .before .before .before .before .if1 .taken) (c .before .before .before .before .before .before .vm-of .ensures) (λ (x : Counts). functionIdxOf x (c .before .before .before .before .before .before .before .before .before .before .before .before .before .before .before .args .name .now) (namesLent rest (c .before .before .before .before .before .before .before .before .before .before .before .before .before .before .before .args .functions .now) (c .before .before .before .before .before .before .before .before .before .before .before .before .before .before .before .args .text .now))) (c .before .before .before .before .get-function-idx .ensures rest) (c .before .before .tell .ensures _)
+returns c = λ rest. is-through _ _ _ (c .before .before .before .before .before .before .before .before .slices-refusal .ensures) (c .before .before .before .before .before .before .before .if1 .taken) (c .before .before .before .before .before .before .vm-of .ensures) (λ (x : Vm). functionIdxOf (x .program) (c .before .before .before .before .before .before .before .before .before .before .before .before .before .before .before .args .name .now) (namesLent rest (c .before .before .before .before .before .before .before .before .before .before .before .before .before .before .before .args .functions .now) (c .before .before .before .before .before .before .before .before .before .before .before .before .before .before .before .args .text .now))) toldCoded (c .before .before .before .before .get-function-idx .ensures rest) (c .before .before .tell .ensures _)
 
 same-length-2 : tie.Need-same-length-2
 same-length-2 c = search needs
