@@ -91,7 +91,7 @@ static struct journal rest_of_rule(struct chaffwheel_stores *m, double before, u
 /* A rule that is emitted: it returns a list of the reading and its unit of measure, and leaves a text on the stack. */
 static uint32_t emit_list_rule(struct chaffwheel_stores *m)
 {
-    const uint8_t unit[] = { 'k', 'W', 'h' };
+    const uint8_t unit[] = { 'm', '3' };
     TRY(cw_new(m));
     TRY(cw_add_scalar(m, bits_of(42)));           /* constant 0 */
     TRY(cw_add_string(m, unit, sizeof unit));     /* constant 1 */
