@@ -25,6 +25,18 @@ use Rattle.alike.proofs.Texts.{heap-text, all-text, last-text, meaning-
 text-alike : {t u : List ℕ} {H H' : List Cell} → heapOk (length t) H ≡ true → heapOk (length t) H' ≡ true → Begins t u → (x x' : Value) → Both t H H' x x' → AlikeValue u H H' x x'
 text-alike {t} {u} {H} {H'} e e' g x x' b = rw (g .is) (meaning-text t (g .more) H e x (b .left) ∙ b .alike ∙ sym (meaning-text t (g .more) H' e' x' (b .right)))
 
+-- so machines that mean the same still do where the program has grown
+pub later-alike : {w w' : World} {n : ℕ} {m m' : Machine} → Sane w (begin m 0) → Sane (roomed n w) (begin m' 0) → Begins (w .text) (w' .text) → w' .cellRoom ≡ w .cellRoom → AlikeMachine w n m m' → AlikeMachine w' n m m'
+later-alike {n = n} h h' b e a =
+    let on = text-alike (h .heap) (h' .heap) b in
+    record {
+      stack = values-on on (boths-of (a .stack) (h .placed) (h' .placed));
+      last = last-on on (last-of (a .last) (h .last) (h' .last));
+      frame = a .frame;
+      callers = a .callers;
+      free = rw e (a .free);
+    }
+
 -- ---- a machine beside one in good order
 
 roomed-frame : {w : World} (n : ℕ) {q : Frame} → FrameFits w q → FrameFits (roomed n w) q

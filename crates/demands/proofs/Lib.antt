@@ -11,9 +11,7 @@ pub mod OneRun
 -- `chains-agree`, `past-counts-unseen`, `ask-one`
 pub mod Asks
 pub mod Chains
--- `fault-leaves`, `fault-recovers`
 pub mod Went
-pub mod Recovering
 -- `step-cost`, `fault-fee`, `path-units`, `run-is-steps`, `as-trees`, `run-written`, `steps-within`
 pub mod Paying
 pub mod Growing
@@ -25,3 +23,9 @@ pub mod Refusing
 pub mod Wider
 pub mod Emitted
 pub mod Orderly
+-- `chain-alike`
+pub mod Running
+pub mod Asking
+pub mod Alike
+-- `fault-leaves`, `fault-recovers`
+pub mod Recovering

@@ -95,10 +95,10 @@ module _ (h : Held) where
 -- ---- the end of a function
 
 ends-by : (c d : Counts) (s : Stores) (b : Bool) → c .text ≤ d .text → c .functions ≤ d .functions → Grows c s (record { answer = if b then em.Done d 0 else em.Refused 19; stores = s })
-ends-by c d s true t f = grows-same c s d 0 s t f refl
+ends-by c d s true t f = grows-same c s d 0 s t f refl refl
 ends-by c d s false t f = record { grown = λ q i e. absurd (let z : _≡_ {A = ℕ} 0 1 = cc in let y : ⊥ = omega arith in y) }
 
-end-grows : (c : Counts) (s : Stores) → Grows c s (record { answer = endFunctionOf c; stores = s })
+pub end-grows : (c : Counts) (s : Stores) → Grows c s (record { answer = endFunctionOf c; stores = s })
 unfolding endFunctionOf
 end-grows c s = ends-by c (counts (c .constants) (c .structs) (c .functions) (c .text) 0) s (countsOk c) (omega arith) (omega arith)
 
@@ -113,7 +113,7 @@ module _ (h : Held) (o : InOrder h) where
   })
   emits-by x (em.Refused n) q k g same = subst InOrder (sym (same n refl)) o
 
-  refused-is : (x : Res) (n : ℕ) → x .answer ≡ em.Refused n → refusedBy (emits h x .answer) ≡ some n
+  pub refused-is : (x : Res) (n : ℕ) → x .answer ≡ em.Refused n → refusedBy (emits h x .answer) ≡ some n
   unfolding emits
   refused-is x n e = ap refusedEmitted e
 

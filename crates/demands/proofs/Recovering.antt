@@ -23,6 +23,7 @@ use Rattle.demands.specs.Recovery.{Kept, start, return, Recovers, SetUp,
 use Rattle.demands.proofs.Fixed.{Standing, standing, counted, values-fix, machine-fixes}
 use Rattle.demands.proofs.Chains.{chains-agree}
 use Rattle.demands.proofs.OneRun.{ran-rooms}
+use Rattle.demands.proofs.Alike.{chain-alike}
 use Rattle.demands.proofs.Went.{Went, went}
 
 -- what the mark of a path kept
@@ -103,4 +104,4 @@ fault-recovers {h} {h'} u {n} {spent} {j} p q =
     let x : Recovers (h .vm) (h .stores) (h .lent) u (h' .vm) n spent (entriesIn j 0 (h' .lent .backtrace)) (h' .lent) = fault-leaves (h .vm) (h .stores) (h .lent) u p in
     let so : SetUp (recovered (worldOf (h .vm) (h .stores) (h .lent)) (machineIn (h .vm) (h .lent)) (x .rules .kept)) h h' =
     record { program = x .program; stores = q; rooms = ran-rooms (h .vm) (h .stores) u p; machine = x .leaves; order = rw q (x .order) } in
-    record { leaves = x; later = λ d b cs xs ys e f c k. chains-agree (set-up-agrees so b) c k .answers }
+    record { leaves = x; later = λ a p k t. chain-alike a p k t .says; exact = λ d b cs xs ys e f c k. chains-agree (set-up-agrees so b) c k .answers }

@@ -3,7 +3,7 @@ use mathlib.Core.Path.{_≡_}
 use mathlib.Core.Bool.{true}
 use mathlib.Core.List.{List, [], _∷_}
 use Prim.Native.Nat.{ℕ, _≤_, _<_}
-use lib.ListN.{length}
+use lib.ListN.{length, take}
 use Rattle.model.specs.declared.Counts.{Counts}
 use Rattle.model.specs.Numbers.{Bytes}
 use Rattle.model.specs.Programs.{functionAt}
@@ -23,9 +23,10 @@ unfoldable pub AllBytes : List Call → Type 0
 AllBytes [] = Unit
 AllBytes (c ∷ cs) = ((image : List ℕ) → c ≡ ask (load image) → Bytes image) × AllBytes cs
 
--- a program that grew: no less text, no fewer functions, no code shorter
+-- a program that grew: no less text, and the former text at its front; no fewer functions, no code shorter
 pub record Grew (c : Counts) (s : Stores) (c' : Counts) (s' : Stores) : Type 0 where
   pub text : c .text ≤ c' .text
+  pub front : take (c .text) (s' .text) ≡ take (c .text) (s .text)
   pub functions : c .functions ≤ c' .functions
   pub codes : (i : ℕ) → i < c .functions → size (codeWord (s .functions) i) ≤ size (codeWord (s' .functions) i)
 

@@ -8,6 +8,7 @@ pub mod Trees
 pub mod Units
 -- demand 3: what no answer tells apart, and what a fault leaves
 pub mod Agree
+pub mod Meant
 pub mod Recovery
 -- demand 4: no second answer
 pub mod One

@@ -1,0 +1,249 @@
+-- The other entries, of two machines that mean the same: they say the same, and leave such machines.
+use mathlib.Core.Path.{_≡_, refl, sym, ap, subst, _∙_}
+use mathlib.Core.Bool.{Bool, true, false}
+use mathlib.Core.List.{List, [], _∷_, _++_, reverse}
+use Prim.Native.Nat.{ℕ, suc, _-_, _≤_, _<_}
+use native.Mathlib.Omega.{arith}
+use borrow.Author.Tests.{le-leb, ltb-true}
+use lib.Dec.{leb, ltb}
+use lib.ListN.{length, take, drop, take-append-drop}
+use lib.Seq.{take-take}
+use Rattle.model.specs.declared.Vm.{Vm}
+use Rattle.model.specs.declared.Value.the-variants as v
+use Rattle.model.specs.declared.Counts.{Counts}
+use Rattle.model.specs.declared.Last.{Last}
+use Rattle.model.specs.declared.Frame.{Frame}
+use Rattle.model.specs.declared.Emitted.{Emitted}
+use Rattle.model.specs.declared.Emitted.the-variants as em
+use Rattle.model.specs.declared.Loaded.{Loaded}
+use Rattle.model.specs.declared.Loaded.the-variants as ld
+use Rattle.model.specs.declared.Shown.the-variants as w
+use Rattle.model.specs.Basics.{if_then_else_}
+use Rattle.model.specs.Numbers.{Bytes}
+use Rattle.model.specs.Values.{places, valueAt, vals}
+use Rattle.model.specs.Heap.{Cell, cellsFrom, heapOf}
+use Rattle.model.specs.Trees.{meaning}
+use Rattle.model.specs.Runs.{begin, root}
+use Rattle.model.specs.Stores.{Stores}
+use Rattle.model.specs.Stores as st
+use Rattle.model.specs.Emission.{Res, addOpOf, addOp1Of, addOp2Of, addOp3Of, patchOf, addConstantOf, addStructOf, beginFunctionOf, endFunctionOf}
+use Rattle.model.specs.Machines.{Lent, innermost, callersIn, machineIn, worldOf, backtraceIn, traceOrder, startWith, fresh, newMachineOf, loadMachineOf}
+use Rattle.model.specs.Readers.{lastShown, lastResultOf, valueShown, stackValueOf}
+use Rattle.value.proofs.Stores.{length-vals, vals-slot}
+use Rattle.rules.proofs.Ordered.{order-sane, order-exact}
+use Rattle.rules.specs.Sane.{Sane}
+use Rattle.alike.specs.Alike.{none, nothing, AlikeLast, roomed, AlikeMachine}
+use Rattle.alike.specs.Alike as al
+use Rattle.alike.specs.Answers.{Begins}
+use Rattle.alike.proofs.Values.{Both, Boths, boths-of, length-alike, at-alike}
+use Rattle.alike.proofs.Calls.{later-alike}
+use Rattle.demands.specs.Host.{Held, Ask, new, load, addOp, addOp1, addOp2, addOp3, patch, addConstant, addStruct, beginFunction, endFunction, currentOffset, functionIdx, save, disassemble, backtrace, lastResult, stackValue, blockHeader, element, textBytes, Call, ask, Answer, shown, put, Done, counted, withFrames, emits, starts, looks, done}
+use Rattle.demands.specs.Agree.{Alike, Rooms}
+use Rattle.demands.specs.Kept.{InOrder, Grew}
+use Rattle.demands.specs.Meant.{worldIn, machineOf, AlikeHeld, value, saidIn, handed, says}
+use Rattle.demands.proofs.Fronts.{places-alike}
+use Rattle.demands.proofs.Fixed.{Standing, standing, split}
+use Rattle.demands.proofs.Fixed as fx
+use Rattle.demands.proofs.Asks.{trace-alike}
+use Rattle.demands.proofs.Emitted.{Grows, emit-grows, patch-grows, constant-grows, struct-grows, begin-grows}
+use Rattle.demands.proofs.Refusing.{ask-says}
+use Rattle.demands.proofs.Orderly.{order-kept, end-grows, refused-is}
+use Rattle.demands.proofs.Running.{AlikeCall, sane, beside-sane}
+
+-- ---- a value of the stack
+
+stack-fits : (k : Held) → InOrder k → k .vm .stack ≤ places 2 (k .lent .stack)
+unfolding worldOf st.worldIn machineIn
+stack-fits k o = rw (length-vals (k .vm .stack) (k .lent .stack)) at (order-sane (k .vm) (k .stores) (k .lent) (o .machine) 0 .stack)
+
+stack-told : (k : Held) → InOrder k → (i : ℕ) (b : Bool) → ltb i (k .vm .stack) ≡ b → stackValueOf (k .vm) i (k .lent .stack) ≡ (if b then w.Value (valueAt (k .lent .stack) i) else w.Refused 6)
+unfolding stackValueOf valueShown
+stack-told k o i true e = rw (le-leb _ _ (stack-fits k o), e, order-exact (k .vm) (k .stores) (k .lent) (o .machine) .stack i (ltb-true _ _ e))
+stack-told k o i false e = rw (le-leb _ _ (stack-fits k o), e)
+
+module _ {h d : Held} (a : AlikeHeld h d) where
+  abbrev n : ℕ
+  n = places 2 (d .lent .cells)
+
+  -- ---- emission: the text grows at its end
+
+  text-begins : (c : Counts) (s : Stores) → Grew (h .vm .program) (h .stores) c s → Begins (worldIn h .text) (worldOf (counted (h .vm) (em.Done c 0)) s (h .lent) .text)
+  unfolding worldOf st.worldIn
+  text-begins c s g =
+      let t = h .vm .program .text in
+      let u = take (c .text) (s .text) in
+      record {
+        more = drop t u;
+        is = sym (take-append-drop t u) ∙ ap (λ (x : List ℕ). x ++ drop t u) (take-take t (c .text) (s .text) (g .text) ∙ g .front);
+      }
+
+  emits-by : (x : Res) (e : Emitted) → x .answer ≡ e → Grows (h .vm .program) (h .stores) x → ((i : ℕ) → e ≡ em.Refused i → emits h x .held ≡ h) → InOrder (emits h x .held) → InOrder (emits d x .held)
+      → AlikeHeld (emits h x .held) (emits d x .held)
+  unfolding emits machineIn
+  emits-by x (em.Done c i) q g same o o' = record {
+    program = rw q;
+    stores = refl;
+    rooms = a .rooms;
+    machine = rw q (later-alike (sane a 0) (beside-sane a 0) (text-begins c (x .stores) (g .grown c i q)) (unfold worldOf st.worldIn in refl) (a .machine));
+    order = o;
+    beside = o';
+  }
+  emits-by x (em.Refused i) q g same o o' =
+      let s : x .stores ≡ h .stores = ap (λ (k : Held). k .stores) (same i refl) in
+      record { program = rw q (a .program); stores = refl; rooms = a .rooms; machine = rw (q, s) (a .machine); order = o; beside = o' }
+
+  -- ---- one entry
+
+  abbrev Line : Ask → Type 0
+  Line q = AlikeCall (ask q) (done q h .answer) (done q h .held) (done q d .answer) (done q d .held)
+
+  abbrev Image : Ask → Type 0
+  Image q = (image : List ℕ) → q ≡ load image → Bytes image
+
+  image-of : {q : Ask} → Image q → (image : List ℕ) → ask q ≡ ask (load image) → Bytes image
+  image-of b image e = b image cc
+
+  ordered : (q : Ask) → Image q → InOrder (done q h .held)
+  ordered q b = order-kept (ask q) (done q h .answer) (image-of b) {h = h} {h' = done q h .held} refl (a .order)
+
+  ordered' : (q : Ask) → Image q → InOrder (done q d .held)
+  ordered' q b = order-kept (ask q) (done q d .answer) (image-of b) {h = d} {h' = done q d .held} refl (a .beside)
+
+  emits-line : (q : Ask) (x : Res) → Image q → handed q ≡ false → done q h ≡ emits h x → done q d ≡ emits d x → Grows (h .vm .program) (h .stores) x → Line q
+  unfolding says
+  emits-line q x b e one other g =
+      let same : (i : ℕ) → x .answer ≡ em.Refused i → emits h x .held ≡ h = λ i r. subst (λ (y : Done). y .held ≡ h) one (ask-says h q .kept i (rw one (refused-is h (a .order) x i r)) .0) in
+      record {
+        says = rw (e, one, other) (unfold emits saidIn in refl);
+        held = rw (one, other) (emits-by x (x .answer) refl g same (subst (λ (y : Done). InOrder (y .held)) one (ordered q b)) (subst (λ (y : Done). InOrder (y .held)) other (ordered' q b)));
+      }
+
+  -- ---- a machine that has not run
+
+  frames-same : (fs fs' : List Frame) → h .lent .frames ≡ fs → d .lent .frames ≡ fs' → length fs' ≡ length fs
+  frames-same fs fs' p q = rw (← p, ← q) (a .rooms .frames)
+
+  abbrev with-frames : Held → List Frame → Held
+  with-frames k fs = record { vm = k .vm; stores = h .stores; lent = withFrames fs (k .lent) }
+
+  unstarted : (fs fs' : List Frame) → h .lent .frames ≡ fs → d .lent .frames ≡ fs' → InOrder (with-frames h fs) → InOrder (with-frames d fs') → AlikeHeld (with-frames h fs) (with-frames d fs')
+  unstarted fs fs' p q o o' = record { program = a .program; stores = refl; rooms = rw (← p, ← q) (a .rooms); machine = rw (← p, ← q) (a .machine); order = o; beside = o' }
+
+  starts-by : (q : Ask) → handed q ≡ false → (x : Loaded) (s : Stores) (fs fs' : List Frame) → h .lent .frames ≡ fs → d .lent .frames ≡ fs'
+      → InOrder (starts h (startWith x s (h .stores) fs) .held) → InOrder (starts d (startWith x s (h .stores) fs') .held)
+      → AlikeCall (ask q) (starts h (startWith x s (h .stores) fs) .answer) (starts h (startWith x s (h .stores) fs) .held) (starts d (startWith x s (h .stores) fs') .answer) (starts d (startWith x s (h .stores) fs') .held)
+  unfolding starts startWith fresh says saidIn
+  starts-by k e (ld.Done c) s [] [] p q o o' = record { says = rw e; held = unstarted [] [] p q o o' }
+  starts-by k e (ld.Done c) s [] (r ∷ rs) p q o o' = absurd (let z = frames-same _ _ p q in let y : ⊥ = omega arith in y)
+  starts-by k e (ld.Done c) s (r ∷ rs) [] p q o o' = absurd (let z = frames-same _ _ p q in let y : ⊥ = omega arith in y)
+  starts-by k e (ld.Done c) s (r ∷ rs) (r' ∷ rs') p q o o' = record {
+    says = rw e;
+    held = record {
+      program = refl;
+      stores = refl;
+      rooms = record { stack = a .rooms .stack; cells = a .rooms .cells; frames = frames-same _ _ p q; copy = a .rooms .copy; backtrace = a .rooms .backtrace };
+      machine = unfold machineIn vals heapOf cellsFrom innermost callersIn worldOf st.worldIn in record { stack = none; last = nothing; frame = refl; callers = refl; free = rw (places-alike (d .lent .cells) (h .lent .cells) (a .rooms .cells) 2) };
+      order = o;
+      beside = o';
+    };
+  }
+  starts-by k e (ld.Broken i) s fs fs' p q o o' = record { says = rw e; held = unstarted fs fs' p q o o' }
+  starts-by k e (ld.Refused i) s fs fs' p q o o' = record { says = rw e; held = unstarted fs fs' p q o o' }
+
+  -- ---- entries that only look
+
+  looks-line : (q : Ask) (x y : Answer) → handed q ≡ false → done q h ≡ looks h x → done q d ≡ looks d y → saidIn (worldIn h .text) (machineOf h .heap) x ≡ saidIn (worldIn d .text) (machineOf d .heap) y → Line q
+  unfolding says
+  looks-line q x y e one other g = record { says = rw (e, one, other) (unfold looks in g); held = rw (one, other) (unfold looks in a) }
+
+  own-line : (q : Ask) (x y : Answer) → handed q ≡ true → done q h ≡ looks h x → done q d ≡ looks d y → Line q
+  unfolding says
+  own-line q x y e one other = record { says = rw e; held = rw (one, other) (unfold looks in a) }
+
+  text-same : worldIn d .text ≡ worldIn h .text
+  unfolding worldOf st.worldIn
+  text-same = rw (a .program, a .stores)
+
+  -- the frames are the same
+  here : Standing (h .vm) (h .lent)
+  here = standing (h .vm) (h .stores) (h .lent) (a .order .machine)
+
+  there : Standing (d .vm) (d .lent)
+  there = standing (d .vm) (d .stores) (d .lent) (a .beside .machine)
+
+  frame-count : d .vm .frames ≡ h .vm .frames
+  unfolding machineIn
+  frame-count =
+      sym (fx.counted (d .vm .frames) (d .lent .frames) (there .exact .frames) (there .frames)) ∙ ap (λ (c : List Frame). suc (length c)) (a .machine .callers)
+      ∙ fx.counted (h .vm .frames) (h .lent .frames) (here .exact .frames) (here .frames)
+
+  frame-store : Alike (h .vm .frames) (h .lent .frames) (d .lent .frames)
+  unfolding machineIn
+  frame-store = record {
+    front = split (h .vm .frames) (h .lent .frames) (here .exact .frames) (here .frames)
+        ∙ ap (λ (c : List Frame). reverse c ++ innermost (h .vm .frames) (h .lent .frames) ∷ []) (sym (a .machine .callers))
+        ∙ ap (λ (f : Frame). reverse (callersIn (d .vm .frames) (d .lent .frames)) ++ f ∷ []) (sym (a .machine .frame))
+        ∙ sym (split (d .vm .frames) (d .lent .frames) (there .exact .frames) (there .frames))
+        ∙ ap (λ (k : ℕ). take k (d .lent .frames)) frame-count;
+    room = sym (a .rooms .frames);
+  }
+
+  trace-same : (out : List ℕ) → backtraceIn (h .vm) (h .stores) (h .lent .frames) out ≡ backtraceIn (d .vm) (d .stores) (d .lent .frames) out
+  trace-same out = trace-alike (h .vm) (h .stores) frame-store out ∙ (unfold backtraceIn traceOrder in rw (a .program, a .stores, frame-count))
+
+  -- the last result
+  last-by : {t : List ℕ} {H H' : List Cell} {l l' : Last} → AlikeLast t H H' l l' → saidIn t H (shown (lastShown l)) ≡ saidIn t H' (shown (lastShown l'))
+  unfolding saidIn lastShown
+  last-by nothing = refl
+  last-by (al.is b) = ap value b
+
+  last-said : saidIn (worldIn h .text) (machineOf h .heap) (shown (lastResultOf (h .vm))) ≡ saidIn (worldIn d .text) (machineOf d .heap) (shown (lastResultOf (d .vm)))
+  unfolding lastResultOf machineIn
+  last-said = rw text-same (last-by (a .machine .last))
+
+  -- a value of the stack
+  stacks : Boths (worldIn h .text) (machineOf h .heap) (machineOf d .heap) (machineOf h .stack) (machineOf d .stack)
+  stacks = boths-of (a .machine .stack) (sane a 0 .placed) (beside-sane a 0 .placed)
+
+  stack-count : d .vm .stack ≡ h .vm .stack
+  unfolding machineIn
+  stack-count = sym (length-vals (d .vm .stack) (d .lent .stack)) ∙ sym (length-alike _ _ _ stacks) ∙ length-vals (h .vm .stack) (h .lent .stack)
+
+  slot-means : (i : ℕ) → i < h .vm .stack → meaning (worldIn h .text) (machineOf h .heap) (valueAt (h .lent .stack) i) ≡ meaning (worldIn h .text) (machineOf d .heap) (valueAt (d .lent .stack) i)
+  unfolding machineIn worldOf
+  slot-means i l =
+      let z = length-vals (h .vm .stack) (h .lent .stack) in
+      let b = at-alike _ _ _ stacks (h .vm .stack - suc i) (omega arith) in
+      rw (vals-slot (h .vm .stack) (h .lent .stack) i (v.Boolean false) l, ← stack-count, vals-slot (d .vm .stack) (d .lent .stack) i (v.Boolean false) (rw stack-count l)) at (b .alike)
+
+  slot-said : (i : ℕ) (b : Bool) → ltb i (h .vm .stack) ≡ b
+      → saidIn (worldIn h .text) (machineOf h .heap) (shown (stackValueOf (h .vm) i (h .lent .stack))) ≡ saidIn (worldIn d .text) (machineOf d .heap) (shown (stackValueOf (d .vm) i (d .lent .stack)))
+  unfolding saidIn
+  slot-said i true e = rw (text-same, stack-told h (a .order) i true e, stack-told d (a .beside) i true (rw stack-count e)) (ap value (slot-means i (ltb-true _ _ e)))
+  slot-said i false e = rw (stack-told h (a .order) i false e, stack-told d (a .beside) i false (rw stack-count e))
+
+  -- ---- a line for each
+
+  pub ask-says-alike : (q : Ask) → Image q → Line q
+  unfolding done handed starts newMachineOf loadMachineOf addOpOf addOp1Of addOp2Of addOp3Of saidIn
+  ask-says-alike new b = rw (a .stores) (starts-by new refl _ _ (h .lent .frames) (d .lent .frames) refl refl (ordered new b) (rw (a .stores) at (ordered' new b)))
+  ask-says-alike (load image) b = rw (a .stores) (starts-by (load image) refl _ _ (h .lent .frames) (d .lent .frames) refl refl (ordered (load image) b) (rw (a .stores) at (ordered' (load image) b)))
+  ask-says-alike (addOp op place) b = emits-line _ _ b refl refl (rw (a .program, a .stores)) (emit-grows _ _ _ _ _ (a .order .program))
+  ask-says-alike (addOp1 op x place) b = emits-line _ _ b refl refl (rw (a .program, a .stores)) (emit-grows _ _ _ _ _ (a .order .program))
+  ask-says-alike (addOp2 op x y place) b = emits-line _ _ b refl refl (rw (a .program, a .stores)) (emit-grows _ _ _ _ _ (a .order .program))
+  ask-says-alike (addOp3 op x y z place) b = emits-line _ _ b refl refl (rw (a .program, a .stores)) (emit-grows _ _ _ _ _ (a .order .program))
+  ask-says-alike (patch offset word) b = emits-line _ _ b refl refl (rw (a .program, a .stores)) (patch-grows _ _ _ _)
+  ask-says-alike (addConstant x text) b = emits-line _ _ b refl refl (rw (a .program, a .stores)) (constant-grows _ _ _ _)
+  ask-says-alike (addStruct text) b = emits-line _ _ b refl refl (rw (a .program, a .stores)) (struct-grows _ _ _)
+  ask-says-alike (beginFunction text) b = emits-line _ _ b refl refl (rw (a .program, a .stores)) (begin-grows _ _ _)
+  ask-says-alike endFunction b = emits-line _ _ b refl refl (rw (a .program, a .stores)) (end-grows (h .vm .program) (h .stores))
+  ask-says-alike currentOffset b = looks-line _ _ _ refl refl refl (rw (a .program, a .stores))
+  ask-says-alike (functionIdx text) b = looks-line _ _ _ refl refl refl (rw (a .program, a .stores))
+  ask-says-alike (save out) b = looks-line _ _ _ refl refl refl (rw (a .program, a .stores))
+  ask-says-alike (disassemble out) b = looks-line _ _ _ refl refl refl (rw (a .program, a .stores))
+  ask-says-alike (backtrace out) b = looks-line _ _ _ refl refl refl (rw (trace-same out))
+  ask-says-alike lastResult b = looks-line _ _ _ refl refl refl last-said
+  ask-says-alike (stackValue i) b = looks-line _ _ _ refl refl refl (slot-said i _ refl)
+  ask-says-alike (blockHeader x) b = own-line _ _ _ refl refl refl
+  ask-says-alike (element x i) b = own-line _ _ _ refl refl refl
+  ask-says-alike (textBytes x out) b = own-line _ _ _ refl refl refl

@@ -1,0 +1,146 @@
+-- A run of two machines that mean the same says the same, and leaves such machines.
+use mathlib.Core.Path.{_≡_, refl, sym, ap, subst, _∙_}
+use mathlib.Core.Bool.{Bool, true, false}
+use mathlib.Core.List.{List}
+use Prim.Native.Nat.{ℕ}
+use native.Mathlib.Omega.{arith}
+use lib.ListN.{length}
+use Rattle.model.specs.declared.Vm.{Vm}
+use Rattle.model.specs.Basics.{if_then_else_}
+use Rattle.model.specs.Values.{places}
+use Rattle.model.specs.Steps.{World}
+use Rattle.model.specs.Runs.{Machine, begin, Reply, Ran, runOf}
+use Rattle.model.specs.Stores.{Stores}
+use Rattle.model.specs.Stores as st
+use Rattle.model.specs.Machines.{Lent, frameRoom, machineIn, worldOf, runOrder, tooShort, RunAnswer, refused, runAnswer, answerIn, ranAs, RunPost}
+use Rattle.model.specs.Machines as m
+use Rattle.rules.specs.Ordered.{CodeBytes}
+use Rattle.rules.specs.Sane.{SaneWorld, Sane}
+use Rattle.rules.proofs.Ordered.{order-world, order-sane}
+use Rattle.alike.specs.Alike.{roomed, AlikeMachine}
+use Rattle.alike.specs.Answers.{meantIn, meant, AlikeRan}
+use Rattle.alike.proofs.Runs.{run-alike}
+use Rattle.demands.specs.Host.{Held, Call, run, Answer, ran, RanBy, vmAfter, After}
+use Rattle.demands.specs.Agree.{Rooms}
+use Rattle.demands.specs.Kept.{InOrder}
+use Rattle.demands.specs.Meant.{worldIn, machineOf, AlikeHeld, ended, plain, saidIn, says}
+use Rattle.demands.proofs.Fronts.{places-alike}
+use Rattle.demands.proofs.OneRun.{Seen, went, stayed, seen, ran-rooms}
+
+-- ---- one run
+
+-- it was refused 17, and nothing changed
+record Stays (h : Held) (a : Answer) (h' : Held) : Type 0 where
+  answer : a ≡ ran (refused 17)
+  held : h' ≡ h
+
+-- it is the rules' run
+record Ends (u : ℕ) (h : Held) (a : Answer) (h' : Held) : Type 0 where
+  answer : a ≡ ran (m.ran (h .vm .program) (runOf (worldIn h) (machineOf h) u))
+  machine : machineOf h' ≡ runOf (worldIn h) (machineOf h) u .machine
+  program : h' .vm .program ≡ h .vm .program
+  stores : h' .stores ≡ h .stores
+  rooms : Rooms (h' .lent) (h .lent)
+
+module _ {u : ℕ} {h h' : Held} {a : Answer} (o : InOrder h) (p : RanBy u h a h') where
+  abbrev after : Vm
+  after = vmAfter (h .vm) (p .result)
+
+  judged : (b : Bool) → tooShort (h .lent) ≡ b → answerIn (h' .lent) (p .result) ≡ (if b then refused 17 else m.ran (h .vm .program) (runOf (worldIn h) (machineOf h) u))
+  unfolding runAnswer
+  judged b e = p .post .answer ∙ rw (o .machine, e)
+
+  not-both : {A : Type 0} {c : _} {x : Ran} {n : ℕ} → m.ran c x ≡ refused n → A
+  not-both e = absurd (let z : _≡_ {A = ℕ} 0 1 = cc in let y : ⊥ = omega arith in y)
+
+  stays-by : tooShort (h .lent) ≡ true → Seen (h .vm) (h .stores) (h .lent) (p .result) (h' .lent) → Stays h a h'
+  stays-by e (went y q d) = not-both (sym q ∙ judged true e)
+  stays-by e (stayed n q v l) = record { answer = p .answer ∙ ap ran (judged true e); held = rw (p .vm ∙ v, p .stores, l) }
+
+  stays : tooShort (h .lent) ≡ true → Stays h a h'
+  stays e = stays-by e (seen (h .vm) (h .stores) (h .lent) (p .result) (h' .lent) (p .post .left))
+
+  ends-by : tooShort (h .lent) ≡ false → Seen (h .vm) (h .stores) (h .lent) (p .result) (h' .lent) → Ends u h a h'
+  ends-by e (went y q d) =
+      let z : ranAs after (h' .lent) y ≡ m.ran (h .vm .program) (runOf (worldIn h) (machineOf h) u) = sym q ∙ judged false e in
+      let x : _≡_ {A = Ran} (record { reply = y; machine = machineIn after (h' .lent) }) (runOf (worldIn h) (machineOf h) u) = cc in
+      record {
+        answer = p .answer ∙ ap ran (judged false e);
+        machine = rw (p .vm) (ap (λ (r : Ran). r .machine) x);
+        program = ap (λ (v : Vm). v .program) (p .vm) ∙ cc;
+        stores = p .stores;
+        rooms = ran-rooms (h .vm) (h .stores) u (p .post);
+      }
+  ends-by e (stayed n q v l) = not-both (sym (judged false e) ∙ q)
+
+  ends : tooShort (h .lent) ≡ false → Ends u h a h'
+  ends e = ends-by e (seen (h .vm) (h .stores) (h .lent) (p .result) (h' .lent) (p .post .left))
+
+-- ---- two runs
+
+-- the answers to one call say the same, and what is then held means the same
+pub record AlikeCall (c : Call) (x : Answer) (h : Held) (y : Answer) (d : Held) : Type 0 where
+  pub says : says c h x ≡ says c d y
+  pub held : AlikeHeld h d
+
+same-world : (h h' : Held) → h' .vm .program ≡ h .vm .program → h' .stores ≡ h .stores → Rooms (h' .lent) (h .lent) → worldIn h' ≡ worldIn h
+unfolding worldOf frameRoom
+same-world h h' p s r = rw (p, s, places-alike (h' .lent .stack) (h .lent .stack) (r .stack) 2, places-alike (h' .lent .cells) (h .lent .cells) (r .cells) 2, r .frames)
+
+module _ {h d : Held} (a : AlikeHeld h d) where
+  abbrev n : ℕ
+  n = places 2 (d .lent .cells)
+
+  beside-world : worldIn d ≡ roomed n (worldIn h)
+  unfolding worldOf st.worldIn frameRoom
+  beside-world = rw (a .program, a .stores, places-alike (d .lent .stack) (h .lent .stack) (a .rooms .stack) 2, a .rooms .frames)
+
+  pub sane : (u : ℕ) → Sane (worldIn h) (begin (machineOf h) u)
+  sane u = order-sane (h .vm) (h .stores) (h .lent) (a .order .machine) u
+
+  pub beside-sane : (u : ℕ) → Sane (roomed n (worldIn h)) (begin (machineOf d) u)
+  beside-sane u = subst (λ (x : World). Sane x (begin (machineOf d) u)) beside-world (order-sane (d .vm) (d .stores) (d .lent) (a .beside .machine) u)
+
+  short-same : tooShort (d .lent) ≡ tooShort (h .lent)
+  unfolding tooShort frameRoom
+  short-same =
+      let r = a .rooms in
+      rw (places-alike (d .lent .copy) (h .lent .copy) (r .copy) 2, places-alike (d .lent .stack) (h .lent .stack) (r .stack) 2, places-alike (d .lent .backtrace) (h .lent .backtrace) (r .backtrace) 2, r .frames)
+
+  module _ (u : ℕ) {h' d' : Held} {x y : Answer} (bytes : CodeBytes (h .stores)) (o : InOrder h') (o' : InOrder d') where
+    stays-alike : Stays h x h' → Stays d y d' → AlikeCall (run u) x h' y d'
+    unfolding says saidIn
+    stays-alike p q = record { says = rw (p .answer, q .answer); held = rw (p .held, q .held) a }
+
+    ends-alike : Ends u h x h' → Ends u d y d' → AlikeCall (run u) x h' y d'
+    unfolding says saidIn meant
+    ends-alike p q =
+        let w = worldIn h in
+        let both : AlikeRan w n (runOf w (machineOf h) u) (runOf (roomed n w) (machineOf d) u) = run-alike w n (order-world (h .vm) (h .stores) (h .lent) (a .order .machine) bytes) (machineOf h) (machineOf d) u (sane u) (beside-sane u) (a .machine) in
+        let one = same-world h h' (p .program) (p .stores) (p .rooms) in
+        let other = same-world d d' (q .program) (q .stores) (q .rooms) ∙ beside-world in
+        let m' : machineOf d' ≡ runOf (roomed n w) (machineOf d) u .machine = rw (← beside-world) (q .machine) in
+        record {
+          says = rw (p .answer, q .answer, one, other, p .machine, m', beside-world) (ap ended (both .answer));
+          held = record {
+            program = q .program ∙ a .program ∙ sym (p .program);
+            stores = q .stores ∙ a .stores ∙ sym (p .stores);
+            rooms = let r = q .rooms in let s = a .rooms in let t = p .rooms in record {
+              stack = r .stack ∙ s .stack ∙ sym (t .stack);
+              cells = r .cells ∙ s .cells ∙ sym (t .cells);
+              frames = r .frames ∙ s .frames ∙ sym (t .frames);
+              copy = r .copy ∙ s .copy ∙ sym (t .copy);
+              backtrace = r .backtrace ∙ s .backtrace ∙ sym (t .backtrace);
+            };
+            machine = rw (one, places-alike (d' .lent .cells) (d .lent .cells) (q .rooms .cells) 2, p .machine, m') (both .machine);
+            order = o;
+            beside = o';
+          };
+        }
+
+    pub run-says : RanBy u h x h' → RanBy u d y d' → AlikeCall (run u) x h' y d'
+    run-says p q = by (tooShort (h .lent)) refl
+      where
+        by : (b : Bool) → tooShort (h .lent) ≡ b → AlikeCall (run u) x h' y d'
+        by true e = stays-alike (stays (a .order) p e) (stays (a .beside) q (short-same ∙ e))
+        by false e = ends-alike (ends (a .order) p e) (ends (a .beside) q (short-same ∙ e))

@@ -1,0 +1,108 @@
+-- Demand 3, by meaning: machines that mean the same, wherever their cells lie, and what their answers say.
+use mathlib.Core.Path.{_≡_}
+use mathlib.Core.Bool.{Bool, true, false}
+use mathlib.Core.List.{List, [], _∷_}
+use Prim.Native.Nat.{ℕ}
+use Rattle.model.specs.declared.Shown.the-variants as w
+use Rattle.model.specs.Basics.{if_then_else_}
+use Rattle.model.specs.Numbers.{Bytes}
+use Rattle.model.specs.Values.{places}
+use Rattle.model.specs.Heap.{Cell}
+use Rattle.model.specs.Trees.{Tree, meaning}
+use Rattle.model.specs.Steps.{World}
+use Rattle.model.specs.Runs.{Machine}
+use Rattle.model.specs.Machines.{machineIn, worldOf}
+use Rattle.model.specs.Machines as m
+use Rattle.rules.specs.Ordered.{CodeBytes}
+use Rattle.alike.specs.Alike.{AlikeMachine}
+use Rattle.alike.specs.Answers.{Meant, meantIn}
+use Rattle.demands.specs.Host.{Held, Ask, new, load, addOp, addOp1, addOp2, addOp3, patch, addConstant, addStruct, beginFunction, endFunction, currentOffset, functionIdx, save, disassemble, backtrace, lastResult, stackValue, blockHeader, element, textBytes, Call, run, ask, Answer, ran, emitted, started, told, put, shown, headed, Chain, none, more}
+use Rattle.demands.specs.Agree.{Rooms}
+use Rattle.demands.specs.Kept.{InOrder}
+
+abbrev pub worldIn : Held → World
+worldIn h = worldOf (h .vm) (h .stores) (h .lent)
+
+abbrev pub machineOf : Held → Machine
+machineOf h = machineIn (h .vm) (h .lent)
+
+-- ---- what a host holds: h and d mean the same
+
+pub record AlikeHeld (h d : Held) : Type 0 where
+  -- the same program
+  pub program : d .vm .program ≡ h .vm .program
+  pub stores : d .stores ≡ h .stores
+  -- stack, cells, frames, copy and backtrace stores of the same lengths
+  pub rooms : Rooms (d .lent) (h .lent)
+  -- stack and last result of the same trees, the same frames, as many cells free
+  pub machine : AlikeMachine (worldIn h) (places 2 (d .lent .cells)) (machineOf h) (machineOf d)
+  -- both in good order
+  pub order : InOrder h
+  pub beside : InOrder d
+
+-- ---- what an answer says
+
+pub data Said : Type 0 where
+  -- a run: the tree of its value, or "continue", or the fault with its backtrace; and the units spent
+  ended : Meant → Said
+  -- a value that is told: its tree
+  value : Tree → Said
+  -- all else, as it was answered
+  plain : Answer → Said
+  -- to a reader that was handed a value: a value names cells of one machine, so that the same value is not the same question to another
+  own : Said
+
+-- values are those of the machine that is then held
+unfoldable pub saidIn : List ℕ → List Cell → Answer → Said
+saidIn t H (ran (m.ran c x)) = ended (meantIn t H (x .reply))
+saidIn t H (ran (m.refused n)) = plain (ran (m.refused n))
+saidIn t H (emitted a) = plain (emitted a)
+saidIn t H (started a) = plain (started a)
+saidIn t H (told a) = plain (told a)
+saidIn t H (put out a) = plain (put out a)
+saidIn t H (shown (w.Value x)) = value (meaning t H x)
+saidIn t H (shown (w.Refused n)) = plain (shown (w.Refused n))
+saidIn t H (headed a) = plain (headed a)
+
+-- the readers that are handed a value
+unfoldable pub handed : Ask → Bool
+handed new = false
+handed (load image) = false
+handed (addOp op place) = false
+handed (addOp1 op a place) = false
+handed (addOp2 op a b place) = false
+handed (addOp3 op a b c place) = false
+handed (patch offset word) = false
+handed (addConstant x text) = false
+handed (addStruct text) = false
+handed (beginFunction text) = false
+handed endFunction = false
+handed currentOffset = false
+handed (functionIdx text) = false
+handed (save out) = false
+handed (disassemble out) = false
+handed (backtrace out) = false
+handed lastResult = false
+handed (stackValue i) = false
+handed (blockHeader x) = true
+handed (element x i) = true
+handed (textBytes x out) = true
+
+unfoldable pub says : Call → Held → Answer → Said
+says (run u) h a = saidIn (worldIn h .text) (machineOf h .heap) a
+says (ask q) h a = if handed q then own else saidIn (worldIn h .text) (machineOf h .heap) a
+
+-- what calls one after another say
+unfoldable pub said : {cs : List Call} {h k : Held} {xs : List Answer} → Chain cs h xs k → List Said
+said none = []
+said (more {c = c} {h' = h'} {a = a} p ps) = says c h' a ∷ said ps
+
+-- what the types say: an image is bytes, and so is the code, in every state
+unfoldable pub Typed : {cs : List Call} {h k : Held} {xs : List Answer} → Chain cs h xs k → Type 0
+Typed none = Unit
+Typed (more {c = c} {h = h} p ps) = ((image : List ℕ) → c ≡ ask (load image) → Bytes image) × CodeBytes (h .stores) × Typed ps
+
+-- two chains of the same calls: they say the same, and leave machines that mean the same
+pub record AlikeChains {cs : List Call} {h d e f : Held} {xs ys : List Answer} (p : Chain cs h xs e) (q : Chain cs d ys f) : Type 0 where
+  pub says : said p ≡ said q
+  pub held : AlikeHeld e f
