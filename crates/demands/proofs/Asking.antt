@@ -26,17 +26,18 @@ use Rattle.model.specs.Trees.{meaning}
 use Rattle.model.specs.Runs.{begin, root}
 use Rattle.model.specs.Stores.{Stores}
 use Rattle.model.specs.Stores as st
+use Rattle.model.specs.Orders.{programOk}
 use Rattle.model.specs.Emission.{Res, addOpOf, addOp1Of, addOp2Of, addOp3Of, patchOf, addConstantOf, addStructOf, beginFunctionOf, endFunctionOf}
 use Rattle.model.specs.Machines.{Lent, innermost, callersIn, machineIn, worldOf, backtraceIn, traceOrder, startWith, fresh, newMachineOf, loadMachineOf}
 use Rattle.model.specs.Readers.{lastShown, lastResultOf, valueShown, stackValueOf}
 use Rattle.value.proofs.Stores.{length-vals, vals-slot}
 use Rattle.rules.proofs.Ordered.{order-sane, order-exact}
 use Rattle.rules.specs.Sane.{Sane}
-use Rattle.alike.specs.Alike.{none, nothing, AlikeLast, roomed, AlikeMachine}
+use Rattle.alike.specs.Alike.{none, nothing, AlikeLast}
 use Rattle.alike.specs.Alike as al
 use Rattle.alike.specs.Answers.{Begins}
 use Rattle.alike.proofs.Values.{Both, Boths, boths-of, length-alike, at-alike}
-use Rattle.alike.proofs.Calls.{later-alike}
+use Rattle.alike.proofs.Texts.{later-alike}
 use Rattle.demands.specs.Host.{Held, Ask, new, load, addOp, addOp1, addOp2, addOp3, patch, addConstant, addStruct, beginFunction, endFunction, currentOffset, functionIdx, save, disassemble, backtrace, lastResult, stackValue, blockHeader, element, textBytes, Call, ask, Answer, shown, put, Done, counted, withFrames, emits, starts, looks, done}
 use Rattle.demands.specs.Agree.{Alike, Rooms}
 use Rattle.demands.specs.Kept.{InOrder, Grew}
@@ -48,7 +49,9 @@ use Rattle.demands.proofs.Asks.{trace-alike}
 use Rattle.demands.proofs.Emitted.{Grows, emit-grows, patch-grows, constant-grows, struct-grows, begin-grows}
 use Rattle.demands.proofs.Refusing.{ask-says}
 use Rattle.demands.proofs.Orderly.{order-kept, end-grows, refused-is}
-use Rattle.demands.proofs.Running.{AlikeCall, sane, beside-sane}
+use Rattle.demands.proofs.Beside.{AlikeRes, emit-alike, patch-alike, constant-alike, struct-alike, begin-alike, end-alike, offset-same, index-same, save-same, list-same, trace-same}
+use Rattle.demands.proofs.Made.{AlikeLoaded, new-alike, load-alike}
+use Rattle.demands.proofs.Running.{AlikeCall, ok', same, sane, beside-sane}
 
 -- ---- a value of the stack
 
@@ -61,36 +64,38 @@ unfolding stackValueOf valueShown
 stack-told k o i true e = rw (le-leb _ _ (stack-fits k o), e, order-exact (k .vm) (k .stores) (k .lent) (o .machine) .stack i (ltb-true _ _ e))
 stack-told k o i false e = rw (le-leb _ _ (stack-fits k o), e)
 
+-- ---- emission: the text grows at its end
+
+text-begins : (k : Held) (c : Counts) (s : Stores) → Grew (k .vm .program) (k .stores) c s → Begins (worldIn k .text) (worldOf (counted (k .vm) (em.Done c 0)) s (k .lent) .text)
+unfolding worldOf st.worldIn
+text-begins k c s g =
+    let t = k .vm .program .text in
+    let u = take (c .text) (s .text) in
+    record {
+      more = drop t u;
+      is = sym (take-append-drop t u) ∙ ap (λ (x : List ℕ). x ++ drop t u) (take-take t (c .text) (s .text) (g .text) ∙ g .front);
+    }
+
 module _ {h d : Held} (a : AlikeHeld h d) where
-  abbrev n : ℕ
-  n = places 2 (d .lent .cells)
+  abbrev c : Counts
+  c = h .vm .program
 
-  -- ---- emission: the text grows at its end
-
-  text-begins : (c : Counts) (s : Stores) → Grew (h .vm .program) (h .stores) c s → Begins (worldIn h .text) (worldOf (counted (h .vm) (em.Done c 0)) s (h .lent) .text)
-  unfolding worldOf st.worldIn
-  text-begins c s g =
-      let t = h .vm .program .text in
-      let u = take (c .text) (s .text) in
-      record {
-        more = drop t u;
-        is = sym (take-append-drop t u) ∙ ap (λ (x : List ℕ). x ++ drop t u) (take-take t (c .text) (s .text) (g .text) ∙ g .front);
-      }
-
-  emits-by : (x : Res) (e : Emitted) → x .answer ≡ e → Grows (h .vm .program) (h .stores) x → ((i : ℕ) → e ≡ em.Refused i → emits h x .held ≡ h) → InOrder (emits h x .held) → InOrder (emits d x .held)
-      → AlikeHeld (emits h x .held) (emits d x .held)
+  emits-by : (x x' : Res) (e : Emitted) → x .answer ≡ e → AlikeRes x x' → Grows c (h .stores) x → Grows (d .vm .program) (d .stores) x'
+      → ((i : ℕ) → x .answer ≡ em.Refused i → emits h x .held ≡ h) → ((i : ℕ) → x' .answer ≡ em.Refused i → emits d x' .held ≡ d) → InOrder (emits h x .held) → InOrder (emits d x' .held)
+      → AlikeHeld (emits h x .held) (emits d x' .held)
   unfolding emits machineIn
-  emits-by x (em.Done c i) q g same o o' = record {
-    program = rw q;
-    stores = refl;
-    rooms = a .rooms;
-    machine = rw q (later-alike (sane a 0) (beside-sane a 0) (text-begins c (x .stores) (g .grown c i q)) (unfold worldOf st.worldIn in refl) (a .machine));
-    order = o;
-    beside = o';
-  }
-  emits-by x (em.Refused i) q g same o o' =
-      let s : x .stores ≡ h .stores = ap (λ (k : Held). k .stores) (same i refl) in
-      record { program = rw q (a .program); stores = refl; rooms = a .rooms; machine = rw (q, s) (a .machine); order = o; beside = o' }
+  emits-by x x' (em.Done n i) q l g g' same same' o o' =
+      let q' : x' .answer ≡ em.Done n i = l .answer ∙ q in
+      record {
+        counts = rw (q, q');
+        program = rw (q, q') (l .program n i q);
+        stores = l .rooms;
+        rooms = a .rooms;
+        machine = rw (q, q') (later-alike (sane a 0) (beside-sane a 0) (text-begins h n (x .stores) (g .grown n i q)) (text-begins d n (x' .stores) (g' .grown n i q')) (unfold worldOf st.worldIn in refl) (unfold worldOf st.worldIn in refl) (a .machine));
+        order = o;
+        beside = o';
+      }
+  emits-by x x' (em.Refused i) q l g g' same same' o o' = rw (same i q, same' i (l .answer ∙ q)) a
 
   -- ---- one entry
 
@@ -109,14 +114,17 @@ module _ {h d : Held} (a : AlikeHeld h d) where
   ordered' : (q : Ask) → Image q → InOrder (done q d .held)
   ordered' q b = order-kept (ask q) (done q d .answer) (image-of b) {h = d} {h' = done q d .held} refl (a .beside)
 
-  emits-line : (q : Ask) (x : Res) → Image q → handed q ≡ false → done q h ≡ emits h x → done q d ≡ emits d x → Grows (h .vm .program) (h .stores) x → Line q
+  -- a refusal changes nothing
+  stays : (q : Ask) (k : Held) (x : Res) → InOrder k → done q k ≡ emits k x → (i : ℕ) → x .answer ≡ em.Refused i → emits k x .held ≡ k
+  stays q k x o e i r = subst (λ (y : Done). y .held ≡ k) e (ask-says k q .kept i (rw e (refused-is k o x i r)) .0)
+
+  emits-line : (q : Ask) (x x' : Res) → Image q → handed q ≡ false → done q h ≡ emits h x → done q d ≡ emits d x' → AlikeRes x x' → Grows c (h .stores) x → Grows (d .vm .program) (d .stores) x' → Line q
   unfolding says
-  emits-line q x b e one other g =
-      let same : (i : ℕ) → x .answer ≡ em.Refused i → emits h x .held ≡ h = λ i r. subst (λ (y : Done). y .held ≡ h) one (ask-says h q .kept i (rw one (refused-is h (a .order) x i r)) .0) in
-      record {
-        says = rw (e, one, other) (unfold emits saidIn in refl);
-        held = rw (one, other) (emits-by x (x .answer) refl g same (subst (λ (y : Done). InOrder (y .held)) one (ordered q b)) (subst (λ (y : Done). InOrder (y .held)) other (ordered' q b)));
-      }
+  emits-line q x x' b e one other l g g' = record {
+    says = rw (e, one, other) (unfold emits saidIn in rw (l .answer));
+    held = rw (one, other) (emits-by x x' (x .answer) refl l g g' (stays q h x (a .order) one) (stays q d x' (a .beside) other)
+        (subst (λ (y : Done). InOrder (y .held)) one (ordered q b)) (subst (λ (y : Done). InOrder (y .held)) other (ordered' q b)));
+  }
 
   -- ---- a machine that has not run
 
@@ -124,31 +132,40 @@ module _ {h d : Held} (a : AlikeHeld h d) where
   frames-same fs fs' p q = rw (← p, ← q) (a .rooms .frames)
 
   abbrev with-frames : Held → List Frame → Held
-  with-frames k fs = record { vm = k .vm; stores = h .stores; lent = withFrames fs (k .lent) }
+  with-frames k fs = record { vm = k .vm; stores = k .stores; lent = withFrames fs (k .lent) }
 
-  unstarted : (fs fs' : List Frame) → h .lent .frames ≡ fs → d .lent .frames ≡ fs' → InOrder (with-frames h fs) → InOrder (with-frames d fs') → AlikeHeld (with-frames h fs) (with-frames d fs')
-  unstarted fs fs' p q o o' = record { program = a .program; stores = refl; rooms = rw (← p, ← q) (a .rooms); machine = rw (← p, ← q) (a .machine); order = o; beside = o' }
+  unstarted : (fs fs' : List Frame) → h .lent .frames ≡ fs → d .lent .frames ≡ fs' → AlikeHeld (with-frames h fs) (with-frames d fs')
+  unstarted fs fs' p q = rw (← p, ← q) a
 
-  starts-by : (q : Ask) → handed q ≡ false → (x : Loaded) (s : Stores) (fs fs' : List Frame) → h .lent .frames ≡ fs → d .lent .frames ≡ fs'
-      → InOrder (starts h (startWith x s (h .stores) fs) .held) → InOrder (starts d (startWith x s (h .stores) fs') .held)
-      → AlikeCall (ask q) (starts h (startWith x s (h .stores) fs) .answer) (starts h (startWith x s (h .stores) fs) .held) (starts d (startWith x s (h .stores) fs') .answer) (starts d (startWith x s (h .stores) fs') .held)
+  starts-by : (q : Ask) → handed q ≡ false → (x : Loaded) (t t' : Stores) → AlikeLoaded x x t t' → (fs fs' : List Frame) → h .lent .frames ≡ fs → d .lent .frames ≡ fs'
+      → InOrder (starts h (startWith x t (h .stores) fs) .held) → InOrder (starts d (startWith x t' (d .stores) fs') .held)
+      → AlikeCall (ask q) (starts h (startWith x t (h .stores) fs) .answer) (starts h (startWith x t (h .stores) fs) .held) (starts d (startWith x t' (d .stores) fs') .answer) (starts d (startWith x t' (d .stores) fs') .held)
   unfolding starts startWith fresh says saidIn
-  starts-by k e (ld.Done c) s [] [] p q o o' = record { says = rw e; held = unstarted [] [] p q o o' }
-  starts-by k e (ld.Done c) s [] (r ∷ rs) p q o o' = absurd (let z = frames-same _ _ p q in let y : ⊥ = omega arith in y)
-  starts-by k e (ld.Done c) s (r ∷ rs) [] p q o o' = absurd (let z = frames-same _ _ p q in let y : ⊥ = omega arith in y)
-  starts-by k e (ld.Done c) s (r ∷ rs) (r' ∷ rs') p q o o' = record {
+  starts-by k e (ld.Done n) t t' l [] [] p q o o' = record { says = rw e; held = unstarted [] [] p q }
+  starts-by k e (ld.Done n) t t' l [] (r ∷ rs) p q o o' = absurd (let z = frames-same _ _ p q in let y : ⊥ = omega arith in y)
+  starts-by k e (ld.Done n) t t' l (r ∷ rs) [] p q o o' = absurd (let z = frames-same _ _ p q in let y : ⊥ = omega arith in y)
+  starts-by k e (ld.Done n) t t' l (r ∷ rs) (r' ∷ rs') p q o o' = record {
     says = rw e;
     held = record {
-      program = refl;
-      stores = refl;
+      counts = refl;
+      program = l .program n refl;
+      stores = l .rooms;
       rooms = record { stack = a .rooms .stack; cells = a .rooms .cells; frames = frames-same _ _ p q; copy = a .rooms .copy; backtrace = a .rooms .backtrace };
       machine = unfold machineIn vals heapOf cellsFrom innermost callersIn worldOf st.worldIn in record { stack = none; last = nothing; frame = refl; callers = refl; free = rw (places-alike (d .lent .cells) (h .lent .cells) (a .rooms .cells) 2) };
       order = o;
       beside = o';
     };
   }
-  starts-by k e (ld.Broken i) s fs fs' p q o o' = record { says = rw e; held = unstarted fs fs' p q o o' }
-  starts-by k e (ld.Refused i) s fs fs' p q o o' = record { says = rw e; held = unstarted fs fs' p q o o' }
+  starts-by k e (ld.Broken i) t t' l fs fs' p q o o' = record { says = rw e; held = unstarted fs fs' p q }
+  starts-by k e (ld.Refused i) t t' l fs fs' p q o o' = record { says = rw e; held = unstarted fs fs' p q }
+
+  starts-line : (q : Ask) → handed q ≡ false → {x x' : Loaded} {t t' : Stores} → AlikeLoaded x x' t t'
+      → InOrder (starts h (startWith x t (h .stores) (h .lent .frames)) .held) → InOrder (starts d (startWith x' t' (d .stores) (d .lent .frames)) .held)
+      → AlikeCall (ask q) (starts h (startWith x t (h .stores) (h .lent .frames)) .answer) (starts h (startWith x t (h .stores) (h .lent .frames)) .held)
+      (starts d (startWith x' t' (d .stores) (d .lent .frames)) .answer) (starts d (startWith x' t' (d .stores) (d .lent .frames)) .held)
+  starts-line q e {x} {x'} {t} {t'} l o o' =
+      let again : AlikeLoaded x x t t' = record { answer = refl; rooms = l .rooms; program = l .program } in
+      rw (l .answer) (starts-by q e x t t' again (h .lent .frames) (d .lent .frames) refl refl o (rw (l .answer) at o'))
 
   -- ---- entries that only look
 
@@ -159,10 +176,6 @@ module _ {h d : Held} (a : AlikeHeld h d) where
   own-line : (q : Ask) (x y : Answer) → handed q ≡ true → done q h ≡ looks h x → done q d ≡ looks d y → Line q
   unfolding says
   own-line q x y e one other = record { says = rw e; held = rw (one, other) (unfold looks in a) }
-
-  text-same : worldIn d .text ≡ worldIn h .text
-  unfolding worldOf st.worldIn
-  text-same = rw (a .program, a .stores)
 
   -- the frames are the same
   here : Standing (h .vm) (h .lent)
@@ -188,62 +201,73 @@ module _ {h d : Held} (a : AlikeHeld h d) where
     room = sym (a .rooms .frames);
   }
 
-  trace-same : (out : List ℕ) → backtraceIn (h .vm) (h .stores) (h .lent .frames) out ≡ backtraceIn (d .vm) (d .stores) (d .lent .frames) out
-  trace-same out = trace-alike (h .vm) (h .stores) frame-store out ∙ (unfold backtraceIn traceOrder in rw (a .program, a .stores, frame-count))
+  trace-told : (out : List ℕ) → backtraceIn (h .vm) (h .stores) (h .lent .frames) out ≡ backtraceIn (d .vm) (d .stores) (d .lent .frames) out
+  trace-told out =
+      trace-alike (h .vm) (h .stores) frame-store out ∙ sym (trace-same c (h .stores) (d .stores) (a .order .program) (ok' a) (same a) (a .stores) (h .vm) refl (d .lent .frames) out)
+      ∙ (unfold backtraceIn traceOrder in rw (a .counts, frame-count))
 
   -- the last result
-  last-by : {t : List ℕ} {H H' : List Cell} {l l' : Last} → AlikeLast t H H' l l' → saidIn t H (shown (lastShown l)) ≡ saidIn t H' (shown (lastShown l'))
+  last-by : {t t' : List ℕ} {H H' : List Cell} {l l' : Last} → AlikeLast t t' H H' l l' → saidIn t H (shown (lastShown l)) ≡ saidIn t' H' (shown (lastShown l'))
   unfolding saidIn lastShown
   last-by nothing = refl
   last-by (al.is b) = ap value b
 
   last-said : saidIn (worldIn h .text) (machineOf h .heap) (shown (lastResultOf (h .vm))) ≡ saidIn (worldIn d .text) (machineOf d .heap) (shown (lastResultOf (d .vm)))
   unfolding lastResultOf machineIn
-  last-said = rw text-same (last-by (a .machine .last))
+  last-said = last-by (a .machine .last)
 
   -- a value of the stack
-  stacks : Boths (worldIn h .text) (machineOf h .heap) (machineOf d .heap) (machineOf h .stack) (machineOf d .stack)
+  stacks : Boths (worldIn h .text) (worldIn d .text) (machineOf h .heap) (machineOf d .heap) (machineOf h .stack) (machineOf d .stack)
   stacks = boths-of (a .machine .stack) (sane a 0 .placed) (beside-sane a 0 .placed)
 
   stack-count : d .vm .stack ≡ h .vm .stack
   unfolding machineIn
-  stack-count = sym (length-vals (d .vm .stack) (d .lent .stack)) ∙ sym (length-alike _ _ _ stacks) ∙ length-vals (h .vm .stack) (h .lent .stack)
+  stack-count = sym (length-vals (d .vm .stack) (d .lent .stack)) ∙ sym (length-alike _ _ _ _ stacks) ∙ length-vals (h .vm .stack) (h .lent .stack)
 
-  slot-means : (i : ℕ) → i < h .vm .stack → meaning (worldIn h .text) (machineOf h .heap) (valueAt (h .lent .stack) i) ≡ meaning (worldIn h .text) (machineOf d .heap) (valueAt (d .lent .stack) i)
+  slot-means : (i : ℕ) → i < h .vm .stack → meaning (worldIn h .text) (machineOf h .heap) (valueAt (h .lent .stack) i) ≡ meaning (worldIn d .text) (machineOf d .heap) (valueAt (d .lent .stack) i)
   unfolding machineIn worldOf
   slot-means i l =
       let z = length-vals (h .vm .stack) (h .lent .stack) in
-      let b = at-alike _ _ _ stacks (h .vm .stack - suc i) (omega arith) in
+      let b = at-alike _ _ _ _ stacks (h .vm .stack - suc i) (omega arith) in
       rw (vals-slot (h .vm .stack) (h .lent .stack) i (v.Boolean false) l, ← stack-count, vals-slot (d .vm .stack) (d .lent .stack) i (v.Boolean false) (rw stack-count l)) at (b .alike)
 
   slot-said : (i : ℕ) (b : Bool) → ltb i (h .vm .stack) ≡ b
       → saidIn (worldIn h .text) (machineOf h .heap) (shown (stackValueOf (h .vm) i (h .lent .stack))) ≡ saidIn (worldIn d .text) (machineOf d .heap) (shown (stackValueOf (d .vm) i (d .lent .stack)))
   unfolding saidIn
-  slot-said i true e = rw (text-same, stack-told h (a .order) i true e, stack-told d (a .beside) i true (rw stack-count e)) (ap value (slot-means i (ltb-true _ _ e)))
+  slot-said i true e = rw (stack-told h (a .order) i true e, stack-told d (a .beside) i true (rw stack-count e)) (ap value (slot-means i (ltb-true _ _ e)))
   slot-said i false e = rw (stack-told h (a .order) i false e, stack-told d (a .beside) i false (rw stack-count e))
 
   -- ---- a line for each
 
-  pub ask-says-alike : (q : Ask) → Image q → Line q
-  unfolding done handed starts newMachineOf loadMachineOf addOpOf addOp1Of addOp2Of addOp3Of saidIn
-  ask-says-alike new b = rw (a .stores) (starts-by new refl _ _ (h .lent .frames) (d .lent .frames) refl refl (ordered new b) (rw (a .stores) at (ordered' new b)))
-  ask-says-alike (load image) b = rw (a .stores) (starts-by (load image) refl _ _ (h .lent .frames) (d .lent .frames) refl refl (ordered (load image) b) (rw (a .stores) at (ordered' (load image) b)))
-  ask-says-alike (addOp op place) b = emits-line _ _ b refl refl (rw (a .program, a .stores)) (emit-grows _ _ _ _ _ (a .order .program))
-  ask-says-alike (addOp1 op x place) b = emits-line _ _ b refl refl (rw (a .program, a .stores)) (emit-grows _ _ _ _ _ (a .order .program))
-  ask-says-alike (addOp2 op x y place) b = emits-line _ _ b refl refl (rw (a .program, a .stores)) (emit-grows _ _ _ _ _ (a .order .program))
-  ask-says-alike (addOp3 op x y z place) b = emits-line _ _ b refl refl (rw (a .program, a .stores)) (emit-grows _ _ _ _ _ (a .order .program))
-  ask-says-alike (patch offset word) b = emits-line _ _ b refl refl (rw (a .program, a .stores)) (patch-grows _ _ _ _)
-  ask-says-alike (addConstant x text) b = emits-line _ _ b refl refl (rw (a .program, a .stores)) (constant-grows _ _ _ _)
-  ask-says-alike (addStruct text) b = emits-line _ _ b refl refl (rw (a .program, a .stores)) (struct-grows _ _ _)
-  ask-says-alike (beginFunction text) b = emits-line _ _ b refl refl (rw (a .program, a .stores)) (begin-grows _ _ _)
-  ask-says-alike endFunction b = emits-line _ _ b refl refl (rw (a .program, a .stores)) (end-grows (h .vm .program) (h .stores))
-  ask-says-alike currentOffset b = looks-line _ _ _ refl refl refl (rw (a .program, a .stores))
-  ask-says-alike (functionIdx text) b = looks-line _ _ _ refl refl refl (rw (a .program, a .stores))
-  ask-says-alike (save out) b = looks-line _ _ _ refl refl refl (rw (a .program, a .stores))
-  ask-says-alike (disassemble out) b = looks-line _ _ _ refl refl refl (rw (a .program, a .stores))
-  ask-says-alike (backtrace out) b = looks-line _ _ _ refl refl refl (rw (trace-same out))
-  ask-says-alike lastResult b = looks-line _ _ _ refl refl refl last-said
-  ask-says-alike (stackValue i) b = looks-line _ _ _ refl refl refl (slot-said i _ refl)
-  ask-says-alike (blockHeader x) b = own-line _ _ _ refl refl refl
-  ask-says-alike (element x i) b = own-line _ _ _ refl refl refl
-  ask-says-alike (textBytes x out) b = own-line _ _ _ refl refl refl
+  abbrev s : Stores
+  s = h .stores
+
+  abbrev t : Stores
+  t = d .stores
+
+  ok : programOk c s ≡ true
+  ok = a .order .program
+
+  pub ask-alike : (q : Ask) → Image q → Line q
+  unfolding done handed newMachineOf loadMachineOf addOpOf addOp1Of addOp2Of addOp3Of saidIn
+  ask-alike new b = starts-line new refl (new-alike (h .stores) (d .stores) (a .stores)) (ordered new b) (ordered' new b)
+  ask-alike (load image) b = starts-line (load image) refl (load-alike (h .stores) (d .stores) (a .stores) image (b image refl)) (ordered (load image) b) (ordered' (load image) b)
+  ask-alike (addOp op place) b = emits-line _ _ _ b refl refl refl (rw (a .counts) (emit-alike c s t ok (ok' a) (same a) (a .stores) _ _ _)) (emit-grows _ _ _ _ _ ok) (emit-grows _ _ _ _ _ (a .beside .program))
+  ask-alike (addOp1 op x place) b = emits-line _ _ _ b refl refl refl (rw (a .counts) (emit-alike c s t ok (ok' a) (same a) (a .stores) _ _ _)) (emit-grows _ _ _ _ _ ok) (emit-grows _ _ _ _ _ (a .beside .program))
+  ask-alike (addOp2 op x y place) b = emits-line _ _ _ b refl refl refl (rw (a .counts) (emit-alike c s t ok (ok' a) (same a) (a .stores) _ _ _)) (emit-grows _ _ _ _ _ ok) (emit-grows _ _ _ _ _ (a .beside .program))
+  ask-alike (addOp3 op x y z place) b = emits-line _ _ _ b refl refl refl (rw (a .counts) (emit-alike c s t ok (ok' a) (same a) (a .stores) _ _ _)) (emit-grows _ _ _ _ _ ok) (emit-grows _ _ _ _ _ (a .beside .program))
+  ask-alike (patch offset word) b = emits-line _ _ _ b refl refl refl (rw (a .counts) (patch-alike c s t ok (ok' a) (same a) (a .stores) _ _)) (patch-grows _ _ _ _) (patch-grows _ _ _ _)
+  ask-alike (addConstant x text) b = emits-line _ _ _ b refl refl refl (rw (a .counts) (constant-alike c s t ok (ok' a) (same a) (a .stores) _ _)) (constant-grows _ _ _ _) (constant-grows _ _ _ _)
+  ask-alike (addStruct text) b = emits-line _ _ _ b refl refl refl (rw (a .counts) (struct-alike c s t ok (ok' a) (same a) (a .stores) _)) (struct-grows _ _ _) (struct-grows _ _ _)
+  ask-alike (beginFunction text) b = emits-line _ _ _ b refl refl refl (rw (a .counts) (begin-alike c s t ok (ok' a) (same a) (a .stores) _)) (begin-grows _ _ _) (begin-grows _ _ _)
+  ask-alike endFunction b = emits-line _ _ _ b refl refl refl (rw (a .counts) (end-alike c s t ok (ok' a) (same a) (a .stores))) (end-grows _ _) (end-grows _ _)
+  ask-alike currentOffset b = looks-line _ _ _ refl refl refl (rw (a .counts, offset-same c s t ok (ok' a) (same a) (a .stores)))
+  ask-alike (functionIdx text) b = looks-line _ _ _ refl refl refl (rw (a .counts, index-same c s t ok (ok' a) (same a) (a .stores) text))
+  ask-alike (save out) b = looks-line _ _ _ refl refl refl (rw (a .counts, save-same c s t ok (ok' a) (same a) (a .stores) out))
+  ask-alike (disassemble out) b = looks-line _ _ _ refl refl refl (rw (a .counts, list-same c s t ok (ok' a) (same a) (a .stores) out))
+  ask-alike (backtrace out) b = looks-line _ _ _ refl refl refl (rw (trace-told out))
+  ask-alike lastResult b = looks-line _ _ _ refl refl refl last-said
+  ask-alike (stackValue i) b = looks-line _ _ _ refl refl refl (slot-said i _ refl)
+  ask-alike (blockHeader x) b = own-line _ _ _ refl refl refl
+  ask-alike (element x i) b = own-line _ _ _ refl refl refl
+  ask-alike (textBytes x out) b = own-line _ _ _ refl refl refl

@@ -24,6 +24,9 @@ pub mod Wider
 pub mod Emitted
 pub mod Orderly
 -- `chain-alike`
+pub mod Beside
+pub mod Made
+pub mod Constants
 pub mod Running
 pub mod Asking
 pub mod Alike

@@ -41,7 +41,7 @@ use Rattle.demands.proofs.Refusing.{Says, ask-says, refuses}
 
 -- ---- what is loaded
 
-loaded-done : {P : Type 0} (a : Emitted) (c : Counts) → asLoaded a ≡ ld.Done c → ((n : ℕ) → a ≡ em.Done c n → P) → P
+pub loaded-done : {P : Type 0} (a : Emitted) (c : Counts) → asLoaded a ≡ ld.Done c → ((n : ℕ) → a ≡ em.Done c n → P) → P
 unfolding asLoaded
 loaded-done (em.Done d n) c e f = f n (let z : d ≡ c = cc in rw z)
 loaded-done (em.Refused n) c e f = absurd (let z : _≡_ {A = ℕ} 0 1 = cc in let y : ⊥ = omega arith in y)

@@ -5,26 +5,32 @@ use mathlib.Core.List.{List}
 use Prim.Native.Nat.{ℕ}
 use native.Mathlib.Omega.{arith}
 use lib.ListN.{length}
+use Rattle.model.specs.declared.Counts.{Counts}
 use Rattle.model.specs.declared.Vm.{Vm}
 use Rattle.model.specs.Basics.{if_then_else_}
 use Rattle.model.specs.Values.{places}
 use Rattle.model.specs.Steps.{World}
 use Rattle.model.specs.Runs.{Machine, begin, Reply, Ran, runOf}
-use Rattle.model.specs.Stores.{Stores}
+use Rattle.model.specs.Programs.{Program}
+use Rattle.model.specs.Stores.{programIn}
 use Rattle.model.specs.Stores as st
+use Rattle.model.specs.Orders.{programOk}
 use Rattle.model.specs.Machines.{Lent, frameRoom, machineIn, worldOf, runOrder, tooShort, RunAnswer, refused, runAnswer, answerIn, ranAs, RunPost}
 use Rattle.model.specs.Machines as m
 use Rattle.rules.specs.Ordered.{CodeBytes}
 use Rattle.rules.specs.Sane.{SaneWorld, Sane}
 use Rattle.rules.proofs.Ordered.{order-world, order-sane}
-use Rattle.alike.specs.Alike.{roomed, AlikeMachine}
+use Rattle.program.proofs.Keeping.{good-of}
+use Rattle.alike.specs.Alike.{laidOut, AlikeConstants}
 use Rattle.alike.specs.Answers.{meantIn, meant, AlikeRan}
 use Rattle.alike.proofs.Runs.{run-alike}
 use Rattle.demands.specs.Host.{Held, Call, run, Answer, ran, RanBy, vmAfter, After}
 use Rattle.demands.specs.Agree.{Rooms}
 use Rattle.demands.specs.Kept.{InOrder}
-use Rattle.demands.specs.Meant.{worldIn, machineOf, AlikeHeld, ended, plain, saidIn, says}
+use Rattle.demands.specs.Meant.{worldIn, machineOf, layoutOf, AlikeHeld, ended, plain, saidIn, says}
 use Rattle.demands.proofs.Fronts.{places-alike}
+use Rattle.demands.proofs.Beside.{functions-same}
+use Rattle.demands.proofs.Constants.{constants-mean}
 use Rattle.demands.proofs.OneRun.{Seen, went, stayed, seen, ran-rooms}
 
 -- ---- one run
@@ -88,17 +94,31 @@ unfolding worldOf frameRoom
 same-world h h' p s r = rw (p, s, places-alike (h' .lent .stack) (h .lent .stack) (r .stack) 2, places-alike (h' .lent .cells) (h .lent .cells) (r .cells) 2, r .frames)
 
 module _ {h d : Held} (a : AlikeHeld h d) where
-  abbrev n : ℕ
-  n = places 2 (d .lent .cells)
+  abbrev c : Counts
+  c = h .vm .program
 
-  beside-world : worldIn d ≡ roomed n (worldIn h)
+  -- one program in both stores
+  pub ok' : programOk c (d .stores) ≡ true
+  ok' = rw (a .counts) at (a .beside .program)
+
+  pub same : programIn c (d .stores) ≡ programIn c (h .stores)
+  same = rw (a .counts) at (a .program)
+
+  beside-world : worldIn d ≡ laidOut (layoutOf d) (worldIn h)
   unfolding worldOf st.worldIn frameRoom
-  beside-world = rw (a .program, a .stores, places-alike (d .lent .stack) (h .lent .stack) (a .rooms .stack) 2, a .rooms .frames)
+  beside-world = rw (a .counts, functions-same c (h .stores) (d .stores) (a .order .program) ok' same (a .stores), places-alike (d .lent .stack) (h .lent .stack) (a .rooms .stack) 2, a .rooms .frames)
+
+  constants-same : AlikeConstants (worldIn h) (layoutOf d)
+  unfolding worldOf st.worldIn programIn
+  constants-same =
+      let g = good-of c (h .stores) (a .order .program) in
+      let g' = good-of c (d .stores) ok' in
+      rw (a .counts) (constants-mean c (h .stores .text) (d .stores .text) (h .stores .constants) (d .stores .constants) (g .text) (g' .text) (g .constants) (g' .constants) (ap (λ (p : Program). p .constants) same))
 
   pub sane : (u : ℕ) → Sane (worldIn h) (begin (machineOf h) u)
   sane u = order-sane (h .vm) (h .stores) (h .lent) (a .order .machine) u
 
-  pub beside-sane : (u : ℕ) → Sane (roomed n (worldIn h)) (begin (machineOf d) u)
+  pub beside-sane : (u : ℕ) → Sane (laidOut (layoutOf d) (worldIn h)) (begin (machineOf d) u)
   beside-sane u = subst (λ (x : World). Sane x (begin (machineOf d) u)) beside-world (order-sane (d .vm) (d .stores) (d .lent) (a .beside .machine) u)
 
   short-same : tooShort (d .lent) ≡ tooShort (h .lent)
@@ -107,7 +127,15 @@ module _ {h d : Held} (a : AlikeHeld h d) where
       let r = a .rooms in
       rw (places-alike (d .lent .copy) (h .lent .copy) (r .copy) 2, places-alike (d .lent .stack) (h .lent .stack) (r .stack) 2, places-alike (d .lent .backtrace) (h .lent .backtrace) (r .backtrace) 2, r .frames)
 
-  module _ (u : ℕ) {h' d' : Held} {x y : Answer} (bytes : CodeBytes (h .stores)) (o : InOrder h') (o' : InOrder d') where
+  both-run : (u : ℕ) → CodeBytes (h .stores) → CodeBytes (d .stores) → AlikeRan (worldIn h) (layoutOf d) (runOf (worldIn h) (machineOf h) u) (runOf (worldIn d) (machineOf d) u)
+  both-run u bytes bytes' =
+      let w = worldIn h in
+      let good = order-world (h .vm) (h .stores) (h .lent) (a .order .machine) bytes in
+      let good' = subst SaneWorld beside-world (order-world (d .vm) (d .stores) (d .lent) (a .beside .machine) bytes') in
+      subst (λ (v : World). AlikeRan w (layoutOf d) (runOf w (machineOf h) u) (runOf v (machineOf d) u)) (sym beside-world)
+      (run-alike w (layoutOf d) good good' constants-same (machineOf h) (machineOf d) u (sane u) (beside-sane u) (a .machine))
+
+  module _ (u : ℕ) {h' d' : Held} {x y : Answer} (bytes : CodeBytes (h .stores)) (bytes' : CodeBytes (d .stores)) (o : InOrder h') (o' : InOrder d') where
     stays-alike : Stays h x h' → Stays d y d' → AlikeCall (run u) x h' y d'
     unfolding says saidIn
     stays-alike p q = record { says = rw (p .answer, q .answer); held = rw (p .held, q .held) a }
@@ -115,16 +143,14 @@ module _ {h d : Held} (a : AlikeHeld h d) where
     ends-alike : Ends u h x h' → Ends u d y d' → AlikeCall (run u) x h' y d'
     unfolding says saidIn meant
     ends-alike p q =
-        let w = worldIn h in
-        let both : AlikeRan w n (runOf w (machineOf h) u) (runOf (roomed n w) (machineOf d) u) = run-alike w n (order-world (h .vm) (h .stores) (h .lent) (a .order .machine) bytes) (machineOf h) (machineOf d) u (sane u) (beside-sane u) (a .machine) in
         let one = same-world h h' (p .program) (p .stores) (p .rooms) in
-        let other = same-world d d' (q .program) (q .stores) (q .rooms) ∙ beside-world in
-        let m' : machineOf d' ≡ runOf (roomed n w) (machineOf d) u .machine = rw (← beside-world) (q .machine) in
+        let other = same-world d d' (q .program) (q .stores) (q .rooms) in
         record {
-          says = rw (p .answer, q .answer, one, other, p .machine, m', beside-world) (ap ended (both .answer));
+          says = rw (p .answer, q .answer, one, other, p .machine, q .machine) (ap ended (both-run u bytes bytes' .answer));
           held = record {
-            program = q .program ∙ a .program ∙ sym (p .program);
-            stores = q .stores ∙ a .stores ∙ sym (p .stores);
+            counts = q .program ∙ a .counts ∙ sym (p .program);
+            program = rw (p .program, p .stores, q .program, q .stores) (a .program);
+            stores = rw (p .stores, q .stores) (a .stores);
             rooms = let r = q .rooms in let s = a .rooms in let t = p .rooms in record {
               stack = r .stack ∙ s .stack ∙ sym (t .stack);
               cells = r .cells ∙ s .cells ∙ sym (t .cells);
@@ -132,7 +158,7 @@ module _ {h d : Held} (a : AlikeHeld h d) where
               copy = r .copy ∙ s .copy ∙ sym (t .copy);
               backtrace = r .backtrace ∙ s .backtrace ∙ sym (t .backtrace);
             };
-            machine = rw (one, places-alike (d' .lent .cells) (d .lent .cells) (q .rooms .cells) 2, p .machine, m') (both .machine);
+            machine = rw (one, other, p .machine, q .machine) (both-run u bytes bytes' .machine);
             order = o;
             beside = o';
           };

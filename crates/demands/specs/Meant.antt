@@ -1,20 +1,21 @@
--- Demand 3, by meaning: machines that mean the same, wherever their cells lie, and what their answers say.
+-- Demand 3, by meaning: machines that mean the same, wherever their texts and cells lie, and what their answers say.
 use mathlib.Core.Path.{_≡_}
 use mathlib.Core.Bool.{Bool, true, false}
 use mathlib.Core.List.{List, [], _∷_}
 use Prim.Native.Nat.{ℕ}
+use lib.ListN.{length}
 use Rattle.model.specs.declared.Shown.the-variants as w
 use Rattle.model.specs.Basics.{if_then_else_}
 use Rattle.model.specs.Numbers.{Bytes}
-use Rattle.model.specs.Values.{places}
 use Rattle.model.specs.Heap.{Cell}
 use Rattle.model.specs.Trees.{Tree, meaning}
 use Rattle.model.specs.Steps.{World}
 use Rattle.model.specs.Runs.{Machine}
+use Rattle.model.specs.Stores.{Stores, programIn}
 use Rattle.model.specs.Machines.{machineIn, worldOf}
 use Rattle.model.specs.Machines as m
 use Rattle.rules.specs.Ordered.{CodeBytes}
-use Rattle.alike.specs.Alike.{AlikeMachine}
+use Rattle.alike.specs.Alike.{Layout, AlikeMachine}
 use Rattle.alike.specs.Answers.{Meant, meantIn}
 use Rattle.demands.specs.Host.{Held, Ask, new, load, addOp, addOp1, addOp2, addOp3, patch, addConstant, addStruct, beginFunction, endFunction, currentOffset, functionIdx, save, disassemble, backtrace, lastResult, stackValue, blockHeader, element, textBytes, Call, run, ask, Answer, ran, emitted, started, told, put, shown, headed, Chain, none, more}
 use Rattle.demands.specs.Agree.{Rooms}
@@ -28,14 +29,30 @@ machineOf h = machineIn (h .vm) (h .lent)
 
 -- ---- what a host holds: h and d mean the same
 
+-- program stores of the same lengths
+pub record AsLong (s s' : Stores) : Type 0 where
+  pub constants : length (s .constants) ≡ length (s' .constants)
+  pub structs : length (s .structs) ≡ length (s' .structs)
+  pub functions : length (s .functions) ≡ length (s' .functions)
+  pub text : length (s .text) ≡ length (s' .text)
+  pub main : length (s .main) ≡ length (s' .main)
+  pub mainPlaces : length (s .mainPlaces) ≡ length (s' .mainPlaces)
+  pub other : length (s .other) ≡ length (s' .other)
+  pub otherPlaces : length (s .otherPlaces) ≡ length (s' .otherPlaces)
+
+-- where the texts of h lie, its constants, and the room of its cells
+abbrev pub layoutOf : Held → Layout
+layoutOf h = record { text = worldIn h .text; constants = worldIn h .constants; cellRoom = worldIn h .cellRoom }
+
 pub record AlikeHeld (h d : Held) : Type 0 where
-  -- the same program
-  pub program : d .vm .program ≡ h .vm .program
-  pub stores : d .stores ≡ h .stores
+  -- the same program, wherever its texts lie, with as much room
+  pub counts : d .vm .program ≡ h .vm .program
+  pub program : programIn (d .vm .program) (d .stores) ≡ programIn (h .vm .program) (h .stores)
+  pub stores : AsLong (d .stores) (h .stores)
   -- stack, cells, frames, copy and backtrace stores of the same lengths
   pub rooms : Rooms (d .lent) (h .lent)
   -- stack and last result of the same trees, the same frames, as many cells free
-  pub machine : AlikeMachine (worldIn h) (places 2 (d .lent .cells)) (machineOf h) (machineOf d)
+  pub machine : AlikeMachine (worldIn h) (layoutOf d) (machineOf h) (machineOf d)
   -- both in good order
   pub order : InOrder h
   pub beside : InOrder d
