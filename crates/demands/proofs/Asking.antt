@@ -38,10 +38,10 @@ use Rattle.alike.specs.Alike as al
 use Rattle.alike.specs.Answers.{Begins}
 use Rattle.alike.proofs.Values.{Both, Boths, boths-of, length-alike, at-alike}
 use Rattle.alike.proofs.Texts.{later-alike}
-use Rattle.demands.specs.Host.{Held, Ask, new, load, addOp, addOp1, addOp2, addOp3, patch, addConstant, addStruct, beginFunction, endFunction, currentOffset, functionIdx, save, disassemble, backtrace, lastResult, stackValue, blockHeader, element, textBytes, Call, ask, Answer, shown, put, Done, counted, withFrames, emits, starts, looks, done}
-use Rattle.demands.specs.Agree.{Alike, Rooms}
+use Rattle.demands.specs.Host.{Held, Ask, new, load, addOp, addOp1, addOp2, addOp3, patch, addConstant, addStruct, beginFunction, endFunction, currentOffset, functionIdx, save, disassemble, backtrace, lastResult, stackValue, blockHeader, element, textBytes, Call, ask, Answer, shown, put, Done, counted, withFrames, emits, starts, looks as seen, done}
+use Rattle.demands.specs.Agree.{Alike}
 use Rattle.demands.specs.Kept.{InOrder, Grew}
-use Rattle.demands.specs.Meant.{worldIn, machineOf, AlikeHeld, value, saidIn, handed, says}
+use Rattle.demands.specs.Meant.{worldIn, machineOf, AlikeHeld, value, saidIn, makes, writes, looks, handed, jobOf, isMakes, says}
 use Rattle.demands.proofs.Fronts.{places-alike}
 use Rattle.demands.proofs.Fixed.{Standing, standing, split}
 use Rattle.demands.proofs.Fixed as fx
@@ -76,13 +76,13 @@ text-begins k c s g =
       is = sym (take-append-drop t u) ∙ ap (λ (x : List ℕ). x ++ drop t u) (take-take t (c .text) (s .text) (g .text) ∙ g .front);
     }
 
-module _ {h d : Held} (a : AlikeHeld h d) where
+module _ {r : Bool} {h d : Held} (a : AlikeHeld r h d) where
   abbrev c : Counts
   c = h .vm .program
 
   emits-by : (x x' : Res) (e : Emitted) → x .answer ≡ e → AlikeRes x x' → Grows c (h .stores) x → Grows (d .vm .program) (d .stores) x'
       → ((i : ℕ) → x .answer ≡ em.Refused i → emits h x .held ≡ h) → ((i : ℕ) → x' .answer ≡ em.Refused i → emits d x' .held ≡ d) → InOrder (emits h x .held) → InOrder (emits d x' .held)
-      → AlikeHeld (emits h x .held) (emits d x' .held)
+      → AlikeHeld r (emits h x .held) (emits d x' .held)
   unfolding emits machineIn
   emits-by x x' (em.Done n i) q l g g' same same' o o' =
       let q' : x' .answer ≡ em.Done n i = l .answer ∙ q in
@@ -90,8 +90,12 @@ module _ {h d : Held} (a : AlikeHeld h d) where
         counts = rw (q, q');
         program = rw (q, q') (l .program n i q);
         stores = l .rooms;
-        rooms = a .rooms;
         machine = rw (q, q') (later-alike (sane a 0) (beside-sane a 0) (text-begins h n (x .stores) (g .grown n i q)) (text-begins d n (x' .stores) (g' .grown n i q')) (unfold worldOf st.worldIn in refl) (unfold worldOf st.worldIn in refl) (a .machine));
+        stack = a .stack;
+        frames = a .frames;
+        copy = a .copy;
+        backtrace = a .backtrace;
+        cells = a .cells;
         order = o;
         beside = o';
       }
@@ -100,7 +104,7 @@ module _ {h d : Held} (a : AlikeHeld h d) where
   -- ---- one entry
 
   abbrev Line : Ask → Type 0
-  Line q = AlikeCall (ask q) (done q h .answer) (done q h .held) (done q d .answer) (done q d .held)
+  Line q = AlikeCall r (ask q) (done q h .answer) (done q h .held) (done q d .answer) (done q d .held)
 
   abbrev Image : Ask → Type 0
   Image q = (image : List ℕ) → q ≡ load image → Bytes image
@@ -118,7 +122,7 @@ module _ {h d : Held} (a : AlikeHeld h d) where
   stays : (q : Ask) (k : Held) (x : Res) → InOrder k → done q k ≡ emits k x → (i : ℕ) → x .answer ≡ em.Refused i → emits k x .held ≡ k
   stays q k x o e i r = subst (λ (y : Done). y .held ≡ k) e (ask-says k q .kept i (rw e (refused-is k o x i r)) .0)
 
-  emits-line : (q : Ask) (x x' : Res) → Image q → handed q ≡ false → done q h ≡ emits h x → done q d ≡ emits d x' → AlikeRes x x' → Grows c (h .stores) x → Grows (d .vm .program) (d .stores) x' → Line q
+  emits-line : (q : Ask) (x x' : Res) → Image q → jobOf q ≡ writes → done q h ≡ emits h x → done q d ≡ emits d x' → AlikeRes x x' → Grows c (h .stores) x → Grows (d .vm .program) (d .stores) x' → Line q
   unfolding says
   emits-line q x x' b e one other l g g' = record {
     says = rw (e, one, other) (unfold emits saidIn in rw (l .answer));
@@ -129,53 +133,57 @@ module _ {h d : Held} (a : AlikeHeld h d) where
   -- ---- a machine that has not run
 
   frames-same : (fs fs' : List Frame) → h .lent .frames ≡ fs → d .lent .frames ≡ fs' → length fs' ≡ length fs
-  frames-same fs fs' p q = rw (← p, ← q) (a .rooms .frames)
+  frames-same fs fs' p q = rw (← p, ← q) (a .frames)
 
   abbrev with-frames : Held → List Frame → Held
   with-frames k fs = record { vm = k .vm; stores = k .stores; lent = withFrames fs (k .lent) }
 
-  unstarted : (fs fs' : List Frame) → h .lent .frames ≡ fs → d .lent .frames ≡ fs' → AlikeHeld (with-frames h fs) (with-frames d fs')
+  unstarted : (fs fs' : List Frame) → h .lent .frames ≡ fs → d .lent .frames ≡ fs' → AlikeHeld r (with-frames h fs) (with-frames d fs')
   unstarted fs fs' p q = rw (← p, ← q) a
 
-  starts-by : (q : Ask) → handed q ≡ false → (x : Loaded) (t t' : Stores) → AlikeLoaded x x t t' → (fs fs' : List Frame) → h .lent .frames ≡ fs → d .lent .frames ≡ fs'
+  starts-by : (q : Ask) → jobOf q ≡ makes → length (d .lent .cells) ≡ length (h .lent .cells) → (x : Loaded) (t t' : Stores) → AlikeLoaded x x t t' → (fs fs' : List Frame) → h .lent .frames ≡ fs → d .lent .frames ≡ fs'
       → InOrder (starts h (startWith x t (h .stores) fs) .held) → InOrder (starts d (startWith x t' (d .stores) fs') .held)
-      → AlikeCall (ask q) (starts h (startWith x t (h .stores) fs) .answer) (starts h (startWith x t (h .stores) fs) .held) (starts d (startWith x t' (d .stores) fs') .answer) (starts d (startWith x t' (d .stores) fs') .held)
+      → AlikeCall r (ask q) (starts h (startWith x t (h .stores) fs) .answer) (starts h (startWith x t (h .stores) fs) .held) (starts d (startWith x t' (d .stores) fs') .answer) (starts d (startWith x t' (d .stores) fs') .held)
   unfolding starts startWith fresh says saidIn
-  starts-by k e (ld.Done n) t t' l [] [] p q o o' = record { says = rw e; held = unstarted [] [] p q }
-  starts-by k e (ld.Done n) t t' l [] (r ∷ rs) p q o o' = absurd (let z = frames-same _ _ p q in let y : ⊥ = omega arith in y)
-  starts-by k e (ld.Done n) t t' l (r ∷ rs) [] p q o o' = absurd (let z = frames-same _ _ p q in let y : ⊥ = omega arith in y)
-  starts-by k e (ld.Done n) t t' l (r ∷ rs) (r' ∷ rs') p q o o' = record {
+  starts-by k e long (ld.Done n) t t' l [] [] p q o o' = record { says = rw e; held = unstarted [] [] p q }
+  starts-by k e long (ld.Done n) t t' l [] (r ∷ rs) p q o o' = absurd (let z = frames-same _ _ p q in let y : ⊥ = omega arith in y)
+  starts-by k e long (ld.Done n) t t' l (r ∷ rs) [] p q o o' = absurd (let z = frames-same _ _ p q in let y : ⊥ = omega arith in y)
+  starts-by k e long (ld.Done n) t t' l (r ∷ rs) (r' ∷ rs') p q o o' = record {
     says = rw e;
     held = record {
       counts = refl;
       program = l .program n refl;
       stores = l .rooms;
-      rooms = record { stack = a .rooms .stack; cells = a .rooms .cells; frames = frames-same _ _ p q; copy = a .rooms .copy; backtrace = a .rooms .backtrace };
-      machine = unfold machineIn vals heapOf cellsFrom innermost callersIn worldOf st.worldIn in record { stack = none; last = nothing; frame = refl; callers = refl; free = rw (places-alike (d .lent .cells) (h .lent .cells) (a .rooms .cells) 2) };
+      machine = unfold machineIn vals heapOf cellsFrom innermost callersIn worldOf st.worldIn in record { stack = none; last = nothing; frame = refl; callers = refl; free = rw (places-alike (d .lent .cells) (h .lent .cells) long 2) };
+      stack = a .stack;
+      frames = frames-same _ _ p q;
+      copy = a .copy;
+      backtrace = a .backtrace;
+      cells = λ _. long;
       order = o;
       beside = o';
     };
   }
-  starts-by k e (ld.Broken i) t t' l fs fs' p q o o' = record { says = rw e; held = unstarted fs fs' p q }
-  starts-by k e (ld.Refused i) t t' l fs fs' p q o o' = record { says = rw e; held = unstarted fs fs' p q }
+  starts-by k e long (ld.Broken i) t t' l fs fs' p q o o' = record { says = rw e; held = unstarted fs fs' p q }
+  starts-by k e long (ld.Refused i) t t' l fs fs' p q o o' = record { says = rw e; held = unstarted fs fs' p q }
 
-  starts-line : (q : Ask) → handed q ≡ false → {x x' : Loaded} {t t' : Stores} → AlikeLoaded x x' t t'
+  starts-line : (q : Ask) → jobOf q ≡ makes → length (d .lent .cells) ≡ length (h .lent .cells) → {x x' : Loaded} {t t' : Stores} → AlikeLoaded x x' t t'
       → InOrder (starts h (startWith x t (h .stores) (h .lent .frames)) .held) → InOrder (starts d (startWith x' t' (d .stores) (d .lent .frames)) .held)
-      → AlikeCall (ask q) (starts h (startWith x t (h .stores) (h .lent .frames)) .answer) (starts h (startWith x t (h .stores) (h .lent .frames)) .held)
+      → AlikeCall r (ask q) (starts h (startWith x t (h .stores) (h .lent .frames)) .answer) (starts h (startWith x t (h .stores) (h .lent .frames)) .held)
       (starts d (startWith x' t' (d .stores) (d .lent .frames)) .answer) (starts d (startWith x' t' (d .stores) (d .lent .frames)) .held)
-  starts-line q e {x} {x'} {t} {t'} l o o' =
+  starts-line q e long {x} {x'} {t} {t'} l o o' =
       let again : AlikeLoaded x x t t' = record { answer = refl; rooms = l .rooms; program = l .program } in
-      rw (l .answer) (starts-by q e x t t' again (h .lent .frames) (d .lent .frames) refl refl o (rw (l .answer) at o'))
+      rw (l .answer) (starts-by q e long x t t' again (h .lent .frames) (d .lent .frames) refl refl o (rw (l .answer) at o'))
 
   -- ---- entries that only look
 
-  looks-line : (q : Ask) (x y : Answer) → handed q ≡ false → done q h ≡ looks h x → done q d ≡ looks d y → saidIn (worldIn h .text) (machineOf h .heap) x ≡ saidIn (worldIn d .text) (machineOf d .heap) y → Line q
+  looks-line : (q : Ask) (x y : Answer) → jobOf q ≡ looks → done q h ≡ seen h x → done q d ≡ seen d y → saidIn (worldIn h .text) (machineOf h .heap) x ≡ saidIn (worldIn d .text) (machineOf d .heap) y → Line q
   unfolding says
-  looks-line q x y e one other g = record { says = rw (e, one, other) (unfold looks in g); held = rw (one, other) (unfold looks in a) }
+  looks-line q x y e one other g = record { says = rw (e, one, other) (unfold seen in g); held = rw (one, other) (unfold seen in a) }
 
-  own-line : (q : Ask) (x y : Answer) → handed q ≡ true → done q h ≡ looks h x → done q d ≡ looks d y → Line q
+  own-line : (q : Ask) (x y : Answer) → jobOf q ≡ handed → done q h ≡ seen h x → done q d ≡ seen d y → Line q
   unfolding says
-  own-line q x y e one other = record { says = rw e; held = rw (one, other) (unfold looks in a) }
+  own-line q x y e one other = record { says = rw e; held = rw (one, other) (unfold seen in a) }
 
   -- the frames are the same
   here : Standing (h .vm) (h .lent)
@@ -198,7 +206,7 @@ module _ {h d : Held} (a : AlikeHeld h d) where
         ∙ ap (λ (f : Frame). reverse (callersIn (d .vm .frames) (d .lent .frames)) ++ f ∷ []) (sym (a .machine .frame))
         ∙ sym (split (d .vm .frames) (d .lent .frames) (there .exact .frames) (there .frames))
         ∙ ap (λ (k : ℕ). take k (d .lent .frames)) frame-count;
-    room = sym (a .rooms .frames);
+    room = sym (a .frames);
   }
 
   trace-told : (out : List ℕ) → backtraceIn (h .vm) (h .stores) (h .lent .frames) out ≡ backtraceIn (d .vm) (d .stores) (d .lent .frames) out
@@ -248,26 +256,26 @@ module _ {h d : Held} (a : AlikeHeld h d) where
   ok : programOk c s ≡ true
   ok = a .order .program
 
-  pub ask-alike : (q : Ask) → Image q → Line q
-  unfolding done handed newMachineOf loadMachineOf addOpOf addOp1Of addOp2Of addOp3Of saidIn
-  ask-alike new b = starts-line new refl (new-alike (h .stores) (d .stores) (a .stores)) (ordered new b) (ordered' new b)
-  ask-alike (load image) b = starts-line (load image) refl (load-alike (h .stores) (d .stores) (a .stores) image (b image refl)) (ordered (load image) b) (ordered' (load image) b)
-  ask-alike (addOp op place) b = emits-line _ _ _ b refl refl refl (rw (a .counts) (emit-alike c s t ok (ok' a) (same a) (a .stores) _ _ _)) (emit-grows _ _ _ _ _ ok) (emit-grows _ _ _ _ _ (a .beside .program))
-  ask-alike (addOp1 op x place) b = emits-line _ _ _ b refl refl refl (rw (a .counts) (emit-alike c s t ok (ok' a) (same a) (a .stores) _ _ _)) (emit-grows _ _ _ _ _ ok) (emit-grows _ _ _ _ _ (a .beside .program))
-  ask-alike (addOp2 op x y place) b = emits-line _ _ _ b refl refl refl (rw (a .counts) (emit-alike c s t ok (ok' a) (same a) (a .stores) _ _ _)) (emit-grows _ _ _ _ _ ok) (emit-grows _ _ _ _ _ (a .beside .program))
-  ask-alike (addOp3 op x y z place) b = emits-line _ _ _ b refl refl refl (rw (a .counts) (emit-alike c s t ok (ok' a) (same a) (a .stores) _ _ _)) (emit-grows _ _ _ _ _ ok) (emit-grows _ _ _ _ _ (a .beside .program))
-  ask-alike (patch offset word) b = emits-line _ _ _ b refl refl refl (rw (a .counts) (patch-alike c s t ok (ok' a) (same a) (a .stores) _ _)) (patch-grows _ _ _ _) (patch-grows _ _ _ _)
-  ask-alike (addConstant x text) b = emits-line _ _ _ b refl refl refl (rw (a .counts) (constant-alike c s t ok (ok' a) (same a) (a .stores) _ _)) (constant-grows _ _ _ _) (constant-grows _ _ _ _)
-  ask-alike (addStruct text) b = emits-line _ _ _ b refl refl refl (rw (a .counts) (struct-alike c s t ok (ok' a) (same a) (a .stores) _)) (struct-grows _ _ _) (struct-grows _ _ _)
-  ask-alike (beginFunction text) b = emits-line _ _ _ b refl refl refl (rw (a .counts) (begin-alike c s t ok (ok' a) (same a) (a .stores) _)) (begin-grows _ _ _) (begin-grows _ _ _)
-  ask-alike endFunction b = emits-line _ _ _ b refl refl refl (rw (a .counts) (end-alike c s t ok (ok' a) (same a) (a .stores))) (end-grows _ _) (end-grows _ _)
-  ask-alike currentOffset b = looks-line _ _ _ refl refl refl (rw (a .counts, offset-same c s t ok (ok' a) (same a) (a .stores)))
-  ask-alike (functionIdx text) b = looks-line _ _ _ refl refl refl (rw (a .counts, index-same c s t ok (ok' a) (same a) (a .stores) text))
-  ask-alike (save out) b = looks-line _ _ _ refl refl refl (rw (a .counts, save-same c s t ok (ok' a) (same a) (a .stores) out))
-  ask-alike (disassemble out) b = looks-line _ _ _ refl refl refl (rw (a .counts, list-same c s t ok (ok' a) (same a) (a .stores) out))
-  ask-alike (backtrace out) b = looks-line _ _ _ refl refl refl (rw (trace-told out))
-  ask-alike lastResult b = looks-line _ _ _ refl refl refl last-said
-  ask-alike (stackValue i) b = looks-line _ _ _ refl refl refl (slot-said i _ refl)
-  ask-alike (blockHeader x) b = own-line _ _ _ refl refl refl
-  ask-alike (element x i) b = own-line _ _ _ refl refl refl
-  ask-alike (textBytes x out) b = own-line _ _ _ refl refl refl
+  pub ask-alike : (q : Ask) → Image q → (isMakes (jobOf q) ≡ true → r ≡ true) → Line q
+  unfolding done jobOf newMachineOf loadMachineOf addOpOf addOp1Of addOp2Of addOp3Of saidIn
+  ask-alike new b n = starts-line new refl (a .cells (n refl)) (new-alike (h .stores) (d .stores) (a .stores)) (ordered new b) (ordered' new b)
+  ask-alike (load image) b n = starts-line (load image) refl (a .cells (n refl)) (load-alike (h .stores) (d .stores) (a .stores) image (b image refl)) (ordered (load image) b) (ordered' (load image) b)
+  ask-alike (addOp op place) b n = emits-line _ _ _ b refl refl refl (rw (a .counts) (emit-alike c s t ok (ok' a) (same a) (a .stores) _ _ _)) (emit-grows _ _ _ _ _ ok) (emit-grows _ _ _ _ _ (a .beside .program))
+  ask-alike (addOp1 op x place) b n = emits-line _ _ _ b refl refl refl (rw (a .counts) (emit-alike c s t ok (ok' a) (same a) (a .stores) _ _ _)) (emit-grows _ _ _ _ _ ok) (emit-grows _ _ _ _ _ (a .beside .program))
+  ask-alike (addOp2 op x y place) b n = emits-line _ _ _ b refl refl refl (rw (a .counts) (emit-alike c s t ok (ok' a) (same a) (a .stores) _ _ _)) (emit-grows _ _ _ _ _ ok) (emit-grows _ _ _ _ _ (a .beside .program))
+  ask-alike (addOp3 op x y z place) b n = emits-line _ _ _ b refl refl refl (rw (a .counts) (emit-alike c s t ok (ok' a) (same a) (a .stores) _ _ _)) (emit-grows _ _ _ _ _ ok) (emit-grows _ _ _ _ _ (a .beside .program))
+  ask-alike (patch offset word) b n = emits-line _ _ _ b refl refl refl (rw (a .counts) (patch-alike c s t ok (ok' a) (same a) (a .stores) _ _)) (patch-grows _ _ _ _) (patch-grows _ _ _ _)
+  ask-alike (addConstant x text) b n = emits-line _ _ _ b refl refl refl (rw (a .counts) (constant-alike c s t ok (ok' a) (same a) (a .stores) _ _)) (constant-grows _ _ _ _) (constant-grows _ _ _ _)
+  ask-alike (addStruct text) b n = emits-line _ _ _ b refl refl refl (rw (a .counts) (struct-alike c s t ok (ok' a) (same a) (a .stores) _)) (struct-grows _ _ _) (struct-grows _ _ _)
+  ask-alike (beginFunction text) b n = emits-line _ _ _ b refl refl refl (rw (a .counts) (begin-alike c s t ok (ok' a) (same a) (a .stores) _)) (begin-grows _ _ _) (begin-grows _ _ _)
+  ask-alike endFunction b n = emits-line _ _ _ b refl refl refl (rw (a .counts) (end-alike c s t ok (ok' a) (same a) (a .stores))) (end-grows _ _) (end-grows _ _)
+  ask-alike currentOffset b n = looks-line _ _ _ refl refl refl (rw (a .counts, offset-same c s t ok (ok' a) (same a) (a .stores)))
+  ask-alike (functionIdx text) b n = looks-line _ _ _ refl refl refl (rw (a .counts, index-same c s t ok (ok' a) (same a) (a .stores) text))
+  ask-alike (save out) b n = looks-line _ _ _ refl refl refl (rw (a .counts, save-same c s t ok (ok' a) (same a) (a .stores) out))
+  ask-alike (disassemble out) b n = looks-line _ _ _ refl refl refl (rw (a .counts, list-same c s t ok (ok' a) (same a) (a .stores) out))
+  ask-alike (backtrace out) b n = looks-line _ _ _ refl refl refl (rw (trace-told out))
+  ask-alike lastResult b n = looks-line _ _ _ refl refl refl last-said
+  ask-alike (stackValue i) b n = looks-line _ _ _ refl refl refl (slot-said i _ refl)
+  ask-alike (blockHeader x) b n = own-line _ _ _ refl refl refl
+  ask-alike (element x i) b n = own-line _ _ _ refl refl refl
+  ask-alike (textBytes x out) b n = own-line _ _ _ refl refl refl

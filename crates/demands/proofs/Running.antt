@@ -85,15 +85,15 @@ module _ {u : ℕ} {h h' : Held} {a : Answer} (o : InOrder h) (p : RanBy u h a h
 -- ---- two runs
 
 -- the answers to one call say the same, and what is then held means the same
-pub record AlikeCall (c : Call) (x : Answer) (h : Held) (y : Answer) (d : Held) : Type 0 where
+pub record AlikeCall (r : Bool) (c : Call) (x : Answer) (h : Held) (y : Answer) (d : Held) : Type 0 where
   pub says : says c h x ≡ says c d y
-  pub held : AlikeHeld h d
+  pub held : AlikeHeld r h d
 
 same-world : (h h' : Held) → h' .vm .program ≡ h .vm .program → h' .stores ≡ h .stores → Rooms (h' .lent) (h .lent) → worldIn h' ≡ worldIn h
 unfolding worldOf frameRoom
 same-world h h' p s r = rw (p, s, places-alike (h' .lent .stack) (h .lent .stack) (r .stack) 2, places-alike (h' .lent .cells) (h .lent .cells) (r .cells) 2, r .frames)
 
-module _ {h d : Held} (a : AlikeHeld h d) where
+module _ {r : Bool} {h d : Held} (a : AlikeHeld r h d) where
   abbrev c : Counts
   c = h .vm .program
 
@@ -106,7 +106,7 @@ module _ {h d : Held} (a : AlikeHeld h d) where
 
   beside-world : worldIn d ≡ laidOut (layoutOf d) (worldIn h)
   unfolding worldOf st.worldIn frameRoom
-  beside-world = rw (a .counts, functions-same c (h .stores) (d .stores) (a .order .program) ok' same (a .stores), places-alike (d .lent .stack) (h .lent .stack) (a .rooms .stack) 2, a .rooms .frames)
+  beside-world = rw (a .counts, functions-same c (h .stores) (d .stores) (a .order .program) ok' same (a .stores), places-alike (d .lent .stack) (h .lent .stack) (a .stack) 2, a .frames)
 
   constants-same : AlikeConstants (worldIn h) (layoutOf d)
   unfolding worldOf st.worldIn programIn
@@ -123,9 +123,7 @@ module _ {h d : Held} (a : AlikeHeld h d) where
 
   short-same : tooShort (d .lent) ≡ tooShort (h .lent)
   unfolding tooShort frameRoom
-  short-same =
-      let r = a .rooms in
-      rw (places-alike (d .lent .copy) (h .lent .copy) (r .copy) 2, places-alike (d .lent .stack) (h .lent .stack) (r .stack) 2, places-alike (d .lent .backtrace) (h .lent .backtrace) (r .backtrace) 2, r .frames)
+  short-same = rw (places-alike (d .lent .copy) (h .lent .copy) (a .copy) 2, places-alike (d .lent .stack) (h .lent .stack) (a .stack) 2, places-alike (d .lent .backtrace) (h .lent .backtrace) (a .backtrace) 2, a .frames)
 
   both-run : (u : ℕ) → CodeBytes (h .stores) → CodeBytes (d .stores) → AlikeRan (worldIn h) (layoutOf d) (runOf (worldIn h) (machineOf h) u) (runOf (worldIn d) (machineOf d) u)
   both-run u bytes bytes' =
@@ -136,11 +134,11 @@ module _ {h d : Held} (a : AlikeHeld h d) where
       (run-alike w (layoutOf d) good good' constants-same (machineOf h) (machineOf d) u (sane u) (beside-sane u) (a .machine))
 
   module _ (u : ℕ) {h' d' : Held} {x y : Answer} (bytes : CodeBytes (h .stores)) (bytes' : CodeBytes (d .stores)) (o : InOrder h') (o' : InOrder d') where
-    stays-alike : Stays h x h' → Stays d y d' → AlikeCall (run u) x h' y d'
+    stays-alike : Stays h x h' → Stays d y d' → AlikeCall r (run u) x h' y d'
     unfolding says saidIn
     stays-alike p q = record { says = rw (p .answer, q .answer); held = rw (p .held, q .held) a }
 
-    ends-alike : Ends u h x h' → Ends u d y d' → AlikeCall (run u) x h' y d'
+    ends-alike : Ends u h x h' → Ends u d y d' → AlikeCall r (run u) x h' y d'
     unfolding says saidIn meant
     ends-alike p q =
         let one = same-world h h' (p .program) (p .stores) (p .rooms) in
@@ -151,22 +149,20 @@ module _ {h d : Held} (a : AlikeHeld h d) where
             counts = q .program ∙ a .counts ∙ sym (p .program);
             program = rw (p .program, p .stores, q .program, q .stores) (a .program);
             stores = rw (p .stores, q .stores) (a .stores);
-            rooms = let r = q .rooms in let s = a .rooms in let t = p .rooms in record {
-              stack = r .stack ∙ s .stack ∙ sym (t .stack);
-              cells = r .cells ∙ s .cells ∙ sym (t .cells);
-              frames = r .frames ∙ s .frames ∙ sym (t .frames);
-              copy = r .copy ∙ s .copy ∙ sym (t .copy);
-              backtrace = r .backtrace ∙ s .backtrace ∙ sym (t .backtrace);
-            };
             machine = rw (one, other, p .machine, q .machine) (both-run u bytes bytes' .machine);
+            stack = q .rooms .stack ∙ a .stack ∙ sym (p .rooms .stack);
+            frames = q .rooms .frames ∙ a .frames ∙ sym (p .rooms .frames);
+            copy = q .rooms .copy ∙ a .copy ∙ sym (p .rooms .copy);
+            backtrace = q .rooms .backtrace ∙ a .backtrace ∙ sym (p .rooms .backtrace);
+            cells = λ e. q .rooms .cells ∙ a .cells e ∙ sym (p .rooms .cells);
             order = o;
             beside = o';
           };
         }
 
-    pub run-says : RanBy u h x h' → RanBy u d y d' → AlikeCall (run u) x h' y d'
+    pub run-says : RanBy u h x h' → RanBy u d y d' → AlikeCall r (run u) x h' y d'
     run-says p q = by (tooShort (h .lent)) refl
       where
-        by : (b : Bool) → tooShort (h .lent) ≡ b → AlikeCall (run u) x h' y d'
+        by : (b : Bool) → tooShort (h .lent) ≡ b → AlikeCall r (run u) x h' y d'
         by true e = stays-alike (stays (a .order) p e) (stays (a .beside) q (short-same ∙ e))
         by false e = ends-alike (ends (a .order) p e) (ends (a .beside) q (short-same ∙ e))

@@ -1,11 +1,10 @@
 -- Demand 3, by meaning: machines that mean the same, wherever their texts and cells lie, and what their answers say.
 use mathlib.Core.Path.{_≡_}
-use mathlib.Core.Bool.{Bool, true, false}
+use mathlib.Core.Bool.{Bool, true, false, _||_}
 use mathlib.Core.List.{List, [], _∷_}
 use Prim.Native.Nat.{ℕ}
 use lib.ListN.{length}
 use Rattle.model.specs.declared.Shown.the-variants as w
-use Rattle.model.specs.Basics.{if_then_else_}
 use Rattle.model.specs.Numbers.{Bytes}
 use Rattle.model.specs.Heap.{Cell}
 use Rattle.model.specs.Trees.{Tree, meaning}
@@ -18,7 +17,6 @@ use Rattle.rules.specs.Ordered.{CodeBytes}
 use Rattle.alike.specs.Alike.{Layout, AlikeMachine}
 use Rattle.alike.specs.Answers.{Meant, meantIn}
 use Rattle.demands.specs.Host.{Held, Ask, new, load, addOp, addOp1, addOp2, addOp3, patch, addConstant, addStruct, beginFunction, endFunction, currentOffset, functionIdx, save, disassemble, backtrace, lastResult, stackValue, blockHeader, element, textBytes, Call, run, ask, Answer, ran, emitted, started, told, put, shown, headed, Chain, none, more}
-use Rattle.demands.specs.Agree.{Rooms}
 use Rattle.demands.specs.Kept.{InOrder}
 
 abbrev pub worldIn : Held → World
@@ -44,15 +42,20 @@ pub record AsLong (s s' : Stores) : Type 0 where
 abbrev pub layoutOf : Held → Layout
 layoutOf h = record { text = worldIn h .text; constants = worldIn h .constants; cellRoom = worldIn h .cellRoom }
 
-pub record AlikeHeld (h d : Held) : Type 0 where
+-- `anew`: whether machines may be made anew
+pub record AlikeHeld (anew : Bool) (h d : Held) : Type 0 where
   -- the same program, wherever its texts lie, with as much room
   pub counts : d .vm .program ≡ h .vm .program
   pub program : programIn (d .vm .program) (d .stores) ≡ programIn (h .vm .program) (h .stores)
   pub stores : AsLong (d .stores) (h .stores)
-  -- stack, cells, frames, copy and backtrace stores of the same lengths
-  pub rooms : Rooms (d .lent) (h .lent)
   -- stack and last result of the same trees, the same frames, as many cells free
   pub machine : AlikeMachine (worldIn h) (layoutOf d) (machineOf h) (machineOf d)
+  -- stack, frames, copy and backtrace stores as long; of a machine made anew all cells are free, so the cell stores too
+  pub stack : length (d .lent .stack) ≡ length (h .lent .stack)
+  pub frames : length (d .lent .frames) ≡ length (h .lent .frames)
+  pub copy : length (d .lent .copy) ≡ length (h .lent .copy)
+  pub backtrace : length (d .lent .backtrace) ≡ length (h .lent .backtrace)
+  pub cells : anew ≡ true → length (d .lent .cells) ≡ length (h .lent .cells)
   -- both in good order
   pub order : InOrder h
   pub beside : InOrder d
@@ -81,33 +84,58 @@ saidIn t H (shown (w.Value x)) = value (meaning t H x)
 saidIn t H (shown (w.Refused n)) = plain (shown (w.Refused n))
 saidIn t H (headed a) = plain (headed a)
 
--- the readers that are handed a value
-unfoldable pub handed : Ask → Bool
-handed new = false
-handed (load image) = false
-handed (addOp op place) = false
-handed (addOp1 op a place) = false
-handed (addOp2 op a b place) = false
-handed (addOp3 op a b c place) = false
-handed (patch offset word) = false
-handed (addConstant x text) = false
-handed (addStruct text) = false
-handed (beginFunction text) = false
-handed endFunction = false
-handed currentOffset = false
-handed (functionIdx text) = false
-handed (save out) = false
-handed (disassemble out) = false
-handed (backtrace out) = false
-handed lastResult = false
-handed (stackValue i) = false
-handed (blockHeader x) = true
-handed (element x i) = true
-handed (textBytes x out) = true
+-- what an entry does: it makes a machine anew, writes to the program, or looks; a reader may be handed a value, which names cells of one machine
+pub data Job : Type 0 where
+  makes : Job
+  writes : Job
+  looks : Job
+  handed : Job
+
+unfoldable pub jobOf : Ask → Job
+jobOf new = makes
+jobOf (load image) = makes
+jobOf (addOp op place) = writes
+jobOf (addOp1 op a place) = writes
+jobOf (addOp2 op a b place) = writes
+jobOf (addOp3 op a b c place) = writes
+jobOf (patch offset word) = writes
+jobOf (addConstant x text) = writes
+jobOf (addStruct text) = writes
+jobOf (beginFunction text) = writes
+jobOf endFunction = writes
+jobOf currentOffset = looks
+jobOf (functionIdx text) = looks
+jobOf (save out) = looks
+jobOf (disassemble out) = looks
+jobOf (backtrace out) = looks
+jobOf lastResult = looks
+jobOf (stackValue i) = looks
+jobOf (blockHeader x) = handed
+jobOf (element x i) = handed
+jobOf (textBytes x out) = handed
+
+-- what it says, or that it is its own
+abbrev pub heard : Job → Said → Said
+heard makes x = x
+heard writes x = x
+heard looks x = x
+heard handed x = own
 
 unfoldable pub says : Call → Held → Answer → Said
 says (run u) h a = saidIn (worldIn h .text) (machineOf h .heap) a
-says (ask q) h a = if handed q then own else saidIn (worldIn h .text) (machineOf h .heap) a
+says (ask q) h a = heard (jobOf q) (saidIn (worldIn h .text) (machineOf h .heap) a)
+
+-- whether calls make machines anew
+abbrev pub isMakes : Job → Bool
+isMakes makes = true
+isMakes writes = false
+isMakes looks = false
+isMakes handed = false
+
+unfoldable pub anew : List Call → Bool
+anew [] = false
+anew (run u ∷ cs) = anew cs
+anew (ask q ∷ cs) = isMakes (jobOf q) || anew cs
 
 -- what calls one after another say
 unfoldable pub said : {cs : List Call} {h k : Held} {xs : List Answer} → Chain cs h xs k → List Said
@@ -120,6 +148,6 @@ Typed none = Unit
 Typed (more {c = c} {h = h} p ps) = ((image : List ℕ) → c ≡ ask (load image) → Bytes image) × CodeBytes (h .stores) × Typed ps
 
 -- two chains of the same calls: they say the same, and leave machines that mean the same
-pub record AlikeChains {cs : List Call} {h d e f : Held} {xs ys : List Answer} (p : Chain cs h xs e) (q : Chain cs d ys f) : Type 0 where
+pub record AlikeChains (r : Bool) {cs : List Call} {h d e f : Held} {xs ys : List Answer} (p : Chain cs h xs e) (q : Chain cs d ys f) : Type 0 where
   pub says : said p ≡ said q
-  pub held : AlikeHeld e f
+  pub held : AlikeHeld r e f
