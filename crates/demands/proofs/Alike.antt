@@ -1,22 +1,24 @@
 -- Calls one after another: machines that mean the same say the same, whatever the calls.
-use mathlib.Core.Path.{_≡_, refl, ap}
+use mathlib.Core.Path.{_≡_, refl}
 use mathlib.Core.Bool.{Bool, true, false, _||_}
 use mathlib.Core.List.{List, [], _∷_}
 use Prim.Native.Nat.{ℕ}
 use native.Mathlib.Omega.{arith}
 use Rattle.model.specs.Numbers.{Bytes}
-use Rattle.rules.specs.Ordered.{CodeBytes}
 use Rattle.demands.specs.Host.{Held, load, Call, run, ask, Answer, After, Chain, none, more}
-use Rattle.demands.specs.Meant.{AlikeHeld, jobOf, isMakes, said, anew, Typed, AlikeChains}
+use Rattle.demands.specs.Jobs.{jobOf, isMakes, anew, AllTyped}
+use Rattle.demands.specs.Meant.{AlikeHeld, said, AlikeChains}
 use Rattle.demands.proofs.Orderly.{order-kept}
 use Rattle.demands.proofs.Running.{AlikeCall, run-says}
 use Rattle.demands.proofs.Asking.{ask-alike}
 
-call-alike : {r : Bool} (c : Call) {h d h' d' : Held} {x y : Answer} → AlikeHeld r h d → ((image : List ℕ) → c ≡ ask (load image) → Bytes image) → (anew (c ∷ []) ≡ true → r ≡ true) → CodeBytes (h .stores) → CodeBytes (d .stores)
-    → After c h x h' → After c d y d' → AlikeCall r c x h' y d'
-unfolding anew
-call-alike (run u) {x = x} {y = y} a b n k k' p q = run-says a u k k' (order-kept (run u) x b p (a .order)) (order-kept (run u) y b q (a .beside)) p q
-call-alike (ask i) a b n k k' p q = rw (p, q) at (ask-alike a i (λ image e. b image (ap ask e)) (λ e. n (rw e)))
+call-alike : {r : Bool} (c : Call) {h d h' d' : Held} {x y : Answer} → AlikeHeld r h d → (anew (c ∷ []) ≡ true → r ≡ true) → AllTyped (c ∷ []) → After c h x h' → After c d y d' → AlikeCall r c x h' y d'
+unfolding anew AllTyped
+call-alike (run u) {x = x} {y = y} a n t p q = run-says a u (order-kept (run u) x not-load p (a .fine .order)) (order-kept (run u) y not-load q (a .beside .order)) p q
+  where
+    not-load : (image : List ℕ) → run u ≡ ask (load image) → Bytes image
+    not-load image e = absurd (let z : _≡_ {A = ℕ} 0 1 = cc in let y : ⊥ = omega arith in y)
+call-alike (ask i) a n t p q = rw (p, q) at (ask-alike a i (t .0) (λ e. n (rw e)))
 
 anew-first : (c : Call) (cs : List Call) → anew (c ∷ []) ≡ true → anew (c ∷ cs) ≡ true
 unfolding anew
@@ -36,11 +38,21 @@ anew-rest (ask q) cs e = rest (isMakes (jobOf q)) (anew cs) e
     rest true z e = refl
     rest false z e = e
 
+typed-first : (c : Call) (cs : List Call) → AllTyped (c ∷ cs) → AllTyped (c ∷ [])
+unfolding AllTyped
+typed-first (run u) cs t = tt
+typed-first (ask q) cs t = (t .0, tt)
+
+typed-rest : (c : Call) (cs : List Call) → AllTyped (c ∷ cs) → AllTyped cs
+unfolding AllTyped
+typed-rest (run u) cs t = t
+typed-rest (ask q) cs t = t .1
+
 -- whatever calls come
-pub chain-alike : {r : Bool} {cs : List Call} {h d e f : Held} {xs ys : List Answer} → AlikeHeld r h d → (anew cs ≡ true → r ≡ true) → (p : Chain cs h xs e) (q : Chain cs d ys f) → Typed p → Typed q → AlikeChains r p q
-unfolding said Typed
-chain-alike a n none none t t' = record { says = refl; held = a }
-chain-alike a n (more {c = c} {cs = cs} p ps) (more q qs) t t' =
-    let x = call-alike c a (t .0) (λ e. n (anew-first c cs e)) (t .1) (t' .1) p q in
-    let y = chain-alike (x .held) (λ e. n (anew-rest c cs e)) ps qs (t .2) (t' .2) in
+pub chain-alike : {r : Bool} {cs : List Call} {h d e f : Held} {xs ys : List Answer} → AlikeHeld r h d → (anew cs ≡ true → r ≡ true) → AllTyped cs → (p : Chain cs h xs e) (q : Chain cs d ys f) → AlikeChains r p q
+unfolding said
+chain-alike a n t none none = record { says = refl; held = a }
+chain-alike a n t (more {c = c} {cs = cs} p ps) (more q qs) =
+    let x = call-alike c a (λ e. n (anew-first c cs e)) (typed-first c cs t) p q in
+    let y = chain-alike (x .held) (λ e. n (anew-rest c cs e)) (typed-rest c cs t) ps qs in
     record { says = rw (x .says, y .says); held = y .held }

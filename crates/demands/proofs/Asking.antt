@@ -41,7 +41,8 @@ use Rattle.alike.proofs.Texts.{later-alike}
 use Rattle.demands.specs.Host.{Held, Ask, new, load, addOp, addOp1, addOp2, addOp3, patch, addConstant, addStruct, beginFunction, endFunction, currentOffset, functionIdx, save, disassemble, backtrace, lastResult, stackValue, blockHeader, element, textBytes, Call, ask, Answer, shown, put, Done, counted, withFrames, emits, starts, looks as seen, done}
 use Rattle.demands.specs.Agree.{Alike}
 use Rattle.demands.specs.Kept.{InOrder, Grew}
-use Rattle.demands.specs.Meant.{worldIn, machineOf, AlikeHeld, value, saidIn, makes, writes, looks, handed, jobOf, isMakes, says}
+use Rattle.demands.specs.Meant.{worldIn, machineOf, Fine, AlikeHeld, value, saidIn, says}
+use Rattle.demands.specs.Jobs.{makes, writes, looks, handed, jobOf, isMakes, Typed}
 use Rattle.demands.proofs.Fronts.{places-alike}
 use Rattle.demands.proofs.Fixed.{Standing, standing, split}
 use Rattle.demands.proofs.Fixed as fx
@@ -49,6 +50,7 @@ use Rattle.demands.proofs.Asks.{trace-alike}
 use Rattle.demands.proofs.Emitted.{Grows, emit-grows, patch-grows, constant-grows, struct-grows, begin-grows}
 use Rattle.demands.proofs.Refusing.{ask-says}
 use Rattle.demands.proofs.Orderly.{order-kept, end-grows, refused-is}
+use Rattle.demands.proofs.Bytes.{ask-bytes}
 use Rattle.demands.proofs.Beside.{AlikeRes, emit-alike, patch-alike, constant-alike, struct-alike, begin-alike, end-alike, offset-same, index-same, save-same, list-same, trace-same}
 use Rattle.demands.proofs.Made.{AlikeLoaded, new-alike, load-alike}
 use Rattle.demands.proofs.Running.{AlikeCall, ok', same, sane, beside-sane}
@@ -76,12 +78,17 @@ text-begins k c s g =
       is = sym (take-append-drop t u) ∙ ap (λ (x : List ℕ). x ++ drop t u) (take-take t (c .text) (s .text) (g .text) ∙ g .front);
     }
 
+-- an image is bytes
+image-of : (q : Ask) → Typed (jobOf q) → (image : List ℕ) → ask q ≡ ask (load image) → Bytes image
+unfolding jobOf
+image-of q t image e = subst (λ (p : Ask). Typed (jobOf p)) (let z : q ≡ load image = cc in z) t
+
 module _ {r : Bool} {h d : Held} (a : AlikeHeld r h d) where
   abbrev c : Counts
   c = h .vm .program
 
   emits-by : (x x' : Res) (e : Emitted) → x .answer ≡ e → AlikeRes x x' → Grows c (h .stores) x → Grows (d .vm .program) (d .stores) x'
-      → ((i : ℕ) → x .answer ≡ em.Refused i → emits h x .held ≡ h) → ((i : ℕ) → x' .answer ≡ em.Refused i → emits d x' .held ≡ d) → InOrder (emits h x .held) → InOrder (emits d x' .held)
+      → ((i : ℕ) → x .answer ≡ em.Refused i → emits h x .held ≡ h) → ((i : ℕ) → x' .answer ≡ em.Refused i → emits d x' .held ≡ d) → Fine (emits h x .held) → Fine (emits d x' .held)
       → AlikeHeld r (emits h x .held) (emits d x' .held)
   unfolding emits machineIn
   emits-by x x' (em.Done n i) q l g g' same same' o o' =
@@ -96,7 +103,7 @@ module _ {r : Bool} {h d : Held} (a : AlikeHeld r h d) where
         copy = a .copy;
         backtrace = a .backtrace;
         cells = a .cells;
-        order = o;
+        fine = o;
         beside = o';
       }
   emits-by x x' (em.Refused i) q l g g' same same' o o' = rw (same i q, same' i (l .answer ∙ q)) a
@@ -106,28 +113,26 @@ module _ {r : Bool} {h d : Held} (a : AlikeHeld r h d) where
   abbrev Line : Ask → Type 0
   Line q = AlikeCall r (ask q) (done q h .answer) (done q h .held) (done q d .answer) (done q d .held)
 
-  abbrev Image : Ask → Type 0
-  Image q = (image : List ℕ) → q ≡ load image → Bytes image
+  -- what an entry leaves is in good order, and its code is bytes
+  left : (q : Ask) (k : Held) → Fine k → Typed (jobOf q) → Fine (done q k .held)
+  left q k o t = record { order = order-kept (ask q) (done q k .answer) (image-of q t) {h = k} {h' = done q k .held} refl (o .order); code = ask-bytes q k t (o .code) }
 
-  image-of : {q : Ask} → Image q → (image : List ℕ) → ask q ≡ ask (load image) → Bytes image
-  image-of b image e = b image cc
+  ordered : (q : Ask) → Typed (jobOf q) → Fine (done q h .held)
+  ordered q t = left q h (a .fine) t
 
-  ordered : (q : Ask) → Image q → InOrder (done q h .held)
-  ordered q b = order-kept (ask q) (done q h .answer) (image-of b) {h = h} {h' = done q h .held} refl (a .order)
-
-  ordered' : (q : Ask) → Image q → InOrder (done q d .held)
-  ordered' q b = order-kept (ask q) (done q d .answer) (image-of b) {h = d} {h' = done q d .held} refl (a .beside)
+  ordered' : (q : Ask) → Typed (jobOf q) → Fine (done q d .held)
+  ordered' q t = left q d (a .beside) t
 
   -- a refusal changes nothing
   stays : (q : Ask) (k : Held) (x : Res) → InOrder k → done q k ≡ emits k x → (i : ℕ) → x .answer ≡ em.Refused i → emits k x .held ≡ k
   stays q k x o e i r = subst (λ (y : Done). y .held ≡ k) e (ask-says k q .kept i (rw e (refused-is k o x i r)) .0)
 
-  emits-line : (q : Ask) (x x' : Res) → Image q → jobOf q ≡ writes → done q h ≡ emits h x → done q d ≡ emits d x' → AlikeRes x x' → Grows c (h .stores) x → Grows (d .vm .program) (d .stores) x' → Line q
+  emits-line : (q : Ask) {ws : List ℕ} (x x' : Res) → Typed (jobOf q) → jobOf q ≡ writes ws → done q h ≡ emits h x → done q d ≡ emits d x' → AlikeRes x x' → Grows c (h .stores) x → Grows (d .vm .program) (d .stores) x' → Line q
   unfolding says
   emits-line q x x' b e one other l g g' = record {
     says = rw (e, one, other) (unfold emits saidIn in rw (l .answer));
-    held = rw (one, other) (emits-by x x' (x .answer) refl l g g' (stays q h x (a .order) one) (stays q d x' (a .beside) other)
-        (subst (λ (y : Done). InOrder (y .held)) one (ordered q b)) (subst (λ (y : Done). InOrder (y .held)) other (ordered' q b)));
+    held = rw (one, other) (emits-by x x' (x .answer) refl l g g' (stays q h x (a .fine .order) one) (stays q d x' (a .beside .order) other)
+        (subst (λ (y : Done). Fine (y .held)) one (ordered q b)) (subst (λ (y : Done). Fine (y .held)) other (ordered' q b)));
   }
 
   -- ---- a machine that has not run
@@ -141,8 +146,8 @@ module _ {r : Bool} {h d : Held} (a : AlikeHeld r h d) where
   unstarted : (fs fs' : List Frame) → h .lent .frames ≡ fs → d .lent .frames ≡ fs' → AlikeHeld r (with-frames h fs) (with-frames d fs')
   unstarted fs fs' p q = rw (← p, ← q) a
 
-  starts-by : (q : Ask) → jobOf q ≡ makes → length (d .lent .cells) ≡ length (h .lent .cells) → (x : Loaded) (t t' : Stores) → AlikeLoaded x x t t' → (fs fs' : List Frame) → h .lent .frames ≡ fs → d .lent .frames ≡ fs'
-      → InOrder (starts h (startWith x t (h .stores) fs) .held) → InOrder (starts d (startWith x t' (d .stores) fs') .held)
+  starts-by : (q : Ask) {i : List ℕ} → jobOf q ≡ makes i → length (d .lent .cells) ≡ length (h .lent .cells) → (x : Loaded) (t t' : Stores) → AlikeLoaded x x t t' → (fs fs' : List Frame) → h .lent .frames ≡ fs → d .lent .frames ≡ fs'
+      → Fine (starts h (startWith x t (h .stores) fs) .held) → Fine (starts d (startWith x t' (d .stores) fs') .held)
       → AlikeCall r (ask q) (starts h (startWith x t (h .stores) fs) .answer) (starts h (startWith x t (h .stores) fs) .held) (starts d (startWith x t' (d .stores) fs') .answer) (starts d (startWith x t' (d .stores) fs') .held)
   unfolding starts startWith fresh says saidIn
   starts-by k e long (ld.Done n) t t' l [] [] p q o o' = record { says = rw e; held = unstarted [] [] p q }
@@ -160,15 +165,15 @@ module _ {r : Bool} {h d : Held} (a : AlikeHeld r h d) where
       copy = a .copy;
       backtrace = a .backtrace;
       cells = λ _. long;
-      order = o;
+      fine = o;
       beside = o';
     };
   }
   starts-by k e long (ld.Broken i) t t' l fs fs' p q o o' = record { says = rw e; held = unstarted fs fs' p q }
   starts-by k e long (ld.Refused i) t t' l fs fs' p q o o' = record { says = rw e; held = unstarted fs fs' p q }
 
-  starts-line : (q : Ask) → jobOf q ≡ makes → length (d .lent .cells) ≡ length (h .lent .cells) → {x x' : Loaded} {t t' : Stores} → AlikeLoaded x x' t t'
-      → InOrder (starts h (startWith x t (h .stores) (h .lent .frames)) .held) → InOrder (starts d (startWith x' t' (d .stores) (d .lent .frames)) .held)
+  starts-line : (q : Ask) {i : List ℕ} → jobOf q ≡ makes i → length (d .lent .cells) ≡ length (h .lent .cells) → {x x' : Loaded} {t t' : Stores} → AlikeLoaded x x' t t'
+      → Fine (starts h (startWith x t (h .stores) (h .lent .frames)) .held) → Fine (starts d (startWith x' t' (d .stores) (d .lent .frames)) .held)
       → AlikeCall r (ask q) (starts h (startWith x t (h .stores) (h .lent .frames)) .answer) (starts h (startWith x t (h .stores) (h .lent .frames)) .held)
       (starts d (startWith x' t' (d .stores) (d .lent .frames)) .answer) (starts d (startWith x' t' (d .stores) (d .lent .frames)) .held)
   starts-line q e long {x} {x'} {t} {t'} l o o' =
@@ -187,10 +192,10 @@ module _ {r : Bool} {h d : Held} (a : AlikeHeld r h d) where
 
   -- the frames are the same
   here : Standing (h .vm) (h .lent)
-  here = standing (h .vm) (h .stores) (h .lent) (a .order .machine)
+  here = standing (h .vm) (h .stores) (h .lent) (a .fine .order .machine)
 
   there : Standing (d .vm) (d .lent)
-  there = standing (d .vm) (d .stores) (d .lent) (a .beside .machine)
+  there = standing (d .vm) (d .stores) (d .lent) (a .beside .order .machine)
 
   frame-count : d .vm .frames ≡ h .vm .frames
   unfolding machineIn
@@ -211,7 +216,7 @@ module _ {r : Bool} {h d : Held} (a : AlikeHeld r h d) where
 
   trace-told : (out : List ℕ) → backtraceIn (h .vm) (h .stores) (h .lent .frames) out ≡ backtraceIn (d .vm) (d .stores) (d .lent .frames) out
   trace-told out =
-      trace-alike (h .vm) (h .stores) frame-store out ∙ sym (trace-same c (h .stores) (d .stores) (a .order .program) (ok' a) (same a) (a .stores) (h .vm) refl (d .lent .frames) out)
+      trace-alike (h .vm) (h .stores) frame-store out ∙ sym (trace-same c (h .stores) (d .stores) (a .fine .order .program) (ok' a) (same a) (a .stores) (h .vm) refl (d .lent .frames) out)
       ∙ (unfold backtraceIn traceOrder in rw (a .counts, frame-count))
 
   -- the last result
@@ -242,8 +247,8 @@ module _ {r : Bool} {h d : Held} (a : AlikeHeld r h d) where
   slot-said : (i : ℕ) (b : Bool) → ltb i (h .vm .stack) ≡ b
       → saidIn (worldIn h .text) (machineOf h .heap) (shown (stackValueOf (h .vm) i (h .lent .stack))) ≡ saidIn (worldIn d .text) (machineOf d .heap) (shown (stackValueOf (d .vm) i (d .lent .stack)))
   unfolding saidIn
-  slot-said i true e = rw (stack-told h (a .order) i true e, stack-told d (a .beside) i true (rw stack-count e)) (ap value (slot-means i (ltb-true _ _ e)))
-  slot-said i false e = rw (stack-told h (a .order) i false e, stack-told d (a .beside) i false (rw stack-count e))
+  slot-said i true e = rw (stack-told h (a .fine .order) i true e, stack-told d (a .beside .order) i true (rw stack-count e)) (ap value (slot-means i (ltb-true _ _ e)))
+  slot-said i false e = rw (stack-told h (a .fine .order) i false e, stack-told d (a .beside .order) i false (rw stack-count e))
 
   -- ---- a line for each
 
@@ -254,16 +259,16 @@ module _ {r : Bool} {h d : Held} (a : AlikeHeld r h d) where
   t = d .stores
 
   ok : programOk c s ≡ true
-  ok = a .order .program
+  ok = a .fine .order .program
 
-  pub ask-alike : (q : Ask) → Image q → (isMakes (jobOf q) ≡ true → r ≡ true) → Line q
+  pub ask-alike : (q : Ask) → Typed (jobOf q) → (isMakes (jobOf q) ≡ true → r ≡ true) → Line q
   unfolding done jobOf newMachineOf loadMachineOf addOpOf addOp1Of addOp2Of addOp3Of saidIn
   ask-alike new b n = starts-line new refl (a .cells (n refl)) (new-alike (h .stores) (d .stores) (a .stores)) (ordered new b) (ordered' new b)
-  ask-alike (load image) b n = starts-line (load image) refl (a .cells (n refl)) (load-alike (h .stores) (d .stores) (a .stores) image (b image refl)) (ordered (load image) b) (ordered' (load image) b)
-  ask-alike (addOp op place) b n = emits-line _ _ _ b refl refl refl (rw (a .counts) (emit-alike c s t ok (ok' a) (same a) (a .stores) _ _ _)) (emit-grows _ _ _ _ _ ok) (emit-grows _ _ _ _ _ (a .beside .program))
-  ask-alike (addOp1 op x place) b n = emits-line _ _ _ b refl refl refl (rw (a .counts) (emit-alike c s t ok (ok' a) (same a) (a .stores) _ _ _)) (emit-grows _ _ _ _ _ ok) (emit-grows _ _ _ _ _ (a .beside .program))
-  ask-alike (addOp2 op x y place) b n = emits-line _ _ _ b refl refl refl (rw (a .counts) (emit-alike c s t ok (ok' a) (same a) (a .stores) _ _ _)) (emit-grows _ _ _ _ _ ok) (emit-grows _ _ _ _ _ (a .beside .program))
-  ask-alike (addOp3 op x y z place) b n = emits-line _ _ _ b refl refl refl (rw (a .counts) (emit-alike c s t ok (ok' a) (same a) (a .stores) _ _ _)) (emit-grows _ _ _ _ _ ok) (emit-grows _ _ _ _ _ (a .beside .program))
+  ask-alike (load image) b n = starts-line (load image) refl (a .cells (n refl)) (load-alike (h .stores) (d .stores) (a .stores) image b) (ordered (load image) b) (ordered' (load image) b)
+  ask-alike (addOp op place) b n = emits-line _ _ _ b refl refl refl (rw (a .counts) (emit-alike c s t ok (ok' a) (same a) (a .stores) _ _ _)) (emit-grows _ _ _ _ _ ok) (emit-grows _ _ _ _ _ (a .beside .order .program))
+  ask-alike (addOp1 op x place) b n = emits-line _ _ _ b refl refl refl (rw (a .counts) (emit-alike c s t ok (ok' a) (same a) (a .stores) _ _ _)) (emit-grows _ _ _ _ _ ok) (emit-grows _ _ _ _ _ (a .beside .order .program))
+  ask-alike (addOp2 op x y place) b n = emits-line _ _ _ b refl refl refl (rw (a .counts) (emit-alike c s t ok (ok' a) (same a) (a .stores) _ _ _)) (emit-grows _ _ _ _ _ ok) (emit-grows _ _ _ _ _ (a .beside .order .program))
+  ask-alike (addOp3 op x y z place) b n = emits-line _ _ _ b refl refl refl (rw (a .counts) (emit-alike c s t ok (ok' a) (same a) (a .stores) _ _ _)) (emit-grows _ _ _ _ _ ok) (emit-grows _ _ _ _ _ (a .beside .order .program))
   ask-alike (patch offset word) b n = emits-line _ _ _ b refl refl refl (rw (a .counts) (patch-alike c s t ok (ok' a) (same a) (a .stores) _ _)) (patch-grows _ _ _ _) (patch-grows _ _ _ _)
   ask-alike (addConstant x text) b n = emits-line _ _ _ b refl refl refl (rw (a .counts) (constant-alike c s t ok (ok' a) (same a) (a .stores) _ _)) (constant-grows _ _ _ _) (constant-grows _ _ _ _)
   ask-alike (addStruct text) b n = emits-line _ _ _ b refl refl refl (rw (a .counts) (struct-alike c s t ok (ok' a) (same a) (a .stores) _)) (struct-grows _ _ _) (struct-grows _ _ _)

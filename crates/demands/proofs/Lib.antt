@@ -24,6 +24,7 @@ pub mod Wider
 pub mod Emitted
 pub mod Orderly
 -- `chain-alike`
+pub mod Bytes
 pub mod Beside
 pub mod Made
 pub mod Constants

@@ -104,4 +104,4 @@ fault-recovers {h} {h'} u {n} {spent} {j} p q =
     let x : Recovers (h .vm) (h .stores) (h .lent) u (h' .vm) n spent (entriesIn j 0 (h' .lent .backtrace)) (h' .lent) = fault-leaves (h .vm) (h .stores) (h .lent) u p in
     let so : SetUp (recovered (worldOf (h .vm) (h .stores) (h .lent)) (machineIn (h .vm) (h .lent)) (x .rules .kept)) h h' =
     record { program = x .program; stores = q; rooms = ran-rooms (h .vm) (h .stores) u p; machine = x .leaves; order = rw q (x .order) } in
-    record { leaves = x; later = λ a p k t t'. chain-alike a (λ e. e) p k t t' .says; exact = λ d b cs xs ys e f c k. chains-agree (set-up-agrees so b) c k .answers }
+    record { leaves = x; later = λ a t p k. chain-alike a (λ e. e) t p k .says; exact = λ d b cs xs ys e f c k. chains-agree (set-up-agrees so b) c k .answers }

@@ -17,7 +17,6 @@ use Rattle.model.specs.Stores as st
 use Rattle.model.specs.Orders.{programOk}
 use Rattle.model.specs.Machines.{Lent, frameRoom, machineIn, worldOf, runOrder, tooShort, RunAnswer, refused, runAnswer, answerIn, ranAs, RunPost}
 use Rattle.model.specs.Machines as m
-use Rattle.rules.specs.Ordered.{CodeBytes}
 use Rattle.rules.specs.Sane.{SaneWorld, Sane}
 use Rattle.rules.proofs.Ordered.{order-world, order-sane}
 use Rattle.program.proofs.Keeping.{good-of}
@@ -99,41 +98,41 @@ module _ {r : Bool} {h d : Held} (a : AlikeHeld r h d) where
 
   -- one program in both stores
   pub ok' : programOk c (d .stores) ≡ true
-  ok' = rw (a .counts) at (a .beside .program)
+  ok' = rw (a .counts) at (a .beside .order .program)
 
   pub same : programIn c (d .stores) ≡ programIn c (h .stores)
   same = rw (a .counts) at (a .program)
 
   beside-world : worldIn d ≡ laidOut (layoutOf d) (worldIn h)
   unfolding worldOf st.worldIn frameRoom
-  beside-world = rw (a .counts, functions-same c (h .stores) (d .stores) (a .order .program) ok' same (a .stores), places-alike (d .lent .stack) (h .lent .stack) (a .stack) 2, a .frames)
+  beside-world = rw (a .counts, functions-same c (h .stores) (d .stores) (a .fine .order .program) ok' same (a .stores), places-alike (d .lent .stack) (h .lent .stack) (a .stack) 2, a .frames)
 
   constants-same : AlikeConstants (worldIn h) (layoutOf d)
   unfolding worldOf st.worldIn programIn
   constants-same =
-      let g = good-of c (h .stores) (a .order .program) in
+      let g = good-of c (h .stores) (a .fine .order .program) in
       let g' = good-of c (d .stores) ok' in
       rw (a .counts) (constants-mean c (h .stores .text) (d .stores .text) (h .stores .constants) (d .stores .constants) (g .text) (g' .text) (g .constants) (g' .constants) (ap (λ (p : Program). p .constants) same))
 
   pub sane : (u : ℕ) → Sane (worldIn h) (begin (machineOf h) u)
-  sane u = order-sane (h .vm) (h .stores) (h .lent) (a .order .machine) u
+  sane u = order-sane (h .vm) (h .stores) (h .lent) (a .fine .order .machine) u
 
   pub beside-sane : (u : ℕ) → Sane (laidOut (layoutOf d) (worldIn h)) (begin (machineOf d) u)
-  beside-sane u = subst (λ (x : World). Sane x (begin (machineOf d) u)) beside-world (order-sane (d .vm) (d .stores) (d .lent) (a .beside .machine) u)
+  beside-sane u = subst (λ (x : World). Sane x (begin (machineOf d) u)) beside-world (order-sane (d .vm) (d .stores) (d .lent) (a .beside .order .machine) u)
 
   short-same : tooShort (d .lent) ≡ tooShort (h .lent)
   unfolding tooShort frameRoom
   short-same = rw (places-alike (d .lent .copy) (h .lent .copy) (a .copy) 2, places-alike (d .lent .stack) (h .lent .stack) (a .stack) 2, places-alike (d .lent .backtrace) (h .lent .backtrace) (a .backtrace) 2, a .frames)
 
-  both-run : (u : ℕ) → CodeBytes (h .stores) → CodeBytes (d .stores) → AlikeRan (worldIn h) (layoutOf d) (runOf (worldIn h) (machineOf h) u) (runOf (worldIn d) (machineOf d) u)
-  both-run u bytes bytes' =
+  both-run : (u : ℕ) → AlikeRan (worldIn h) (layoutOf d) (runOf (worldIn h) (machineOf h) u) (runOf (worldIn d) (machineOf d) u)
+  both-run u =
       let w = worldIn h in
-      let good = order-world (h .vm) (h .stores) (h .lent) (a .order .machine) bytes in
-      let good' = subst SaneWorld beside-world (order-world (d .vm) (d .stores) (d .lent) (a .beside .machine) bytes') in
+      let good = order-world (h .vm) (h .stores) (h .lent) (a .fine .order .machine) (a .fine .code) in
+      let good' = subst SaneWorld beside-world (order-world (d .vm) (d .stores) (d .lent) (a .beside .order .machine) (a .beside .code)) in
       subst (λ (v : World). AlikeRan w (layoutOf d) (runOf w (machineOf h) u) (runOf v (machineOf d) u)) (sym beside-world)
       (run-alike w (layoutOf d) good good' constants-same (machineOf h) (machineOf d) u (sane u) (beside-sane u) (a .machine))
 
-  module _ (u : ℕ) {h' d' : Held} {x y : Answer} (bytes : CodeBytes (h .stores)) (bytes' : CodeBytes (d .stores)) (o : InOrder h') (o' : InOrder d') where
+  module _ (u : ℕ) {h' d' : Held} {x y : Answer} (o : InOrder h') (o' : InOrder d') where
     stays-alike : Stays h x h' → Stays d y d' → AlikeCall r (run u) x h' y d'
     unfolding says saidIn
     stays-alike p q = record { says = rw (p .answer, q .answer); held = rw (p .held, q .held) a }
@@ -144,19 +143,19 @@ module _ {r : Bool} {h d : Held} (a : AlikeHeld r h d) where
         let one = same-world h h' (p .program) (p .stores) (p .rooms) in
         let other = same-world d d' (q .program) (q .stores) (q .rooms) in
         record {
-          says = rw (p .answer, q .answer, one, other, p .machine, q .machine) (ap ended (both-run u bytes bytes' .answer));
+          says = rw (p .answer, q .answer, one, other, p .machine, q .machine) (ap ended (both-run u .answer));
           held = record {
             counts = q .program ∙ a .counts ∙ sym (p .program);
             program = rw (p .program, p .stores, q .program, q .stores) (a .program);
             stores = rw (p .stores, q .stores) (a .stores);
-            machine = rw (one, other, p .machine, q .machine) (both-run u bytes bytes' .machine);
+            machine = rw (one, other, p .machine, q .machine) (both-run u .machine);
             stack = q .rooms .stack ∙ a .stack ∙ sym (p .rooms .stack);
             frames = q .rooms .frames ∙ a .frames ∙ sym (p .rooms .frames);
             copy = q .rooms .copy ∙ a .copy ∙ sym (p .rooms .copy);
             backtrace = q .rooms .backtrace ∙ a .backtrace ∙ sym (p .rooms .backtrace);
             cells = λ e. q .rooms .cells ∙ a .cells e ∙ sym (p .rooms .cells);
-            order = o;
-            beside = o';
+            fine = record { order = o; code = rw (p .stores) (a .fine .code) };
+            beside = record { order = o'; code = rw (q .stores) (a .beside .code) };
           };
         }
 
@@ -164,5 +163,5 @@ module _ {r : Bool} {h d : Held} (a : AlikeHeld r h d) where
     run-says p q = by (tooShort (h .lent)) refl
       where
         by : (b : Bool) → tooShort (h .lent) ≡ b → AlikeCall r (run u) x h' y d'
-        by true e = stays-alike (stays (a .order) p e) (stays (a .beside) q (short-same ∙ e))
-        by false e = ends-alike (ends (a .order) p e) (ends (a .beside) q (short-same ∙ e))
+        by true e = stays-alike (stays (a .fine .order) p e) (stays (a .beside .order) q (short-same ∙ e))
+        by false e = ends-alike (ends (a .fine .order) p e) (ends (a .beside .order) q (short-same ∙ e))

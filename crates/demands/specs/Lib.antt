@@ -1,5 +1,6 @@
 -- What the demands speak of: what a host holds, and its calls
 pub mod Host
+pub mod Jobs
 -- demand 1: refusals, and good order through every call
 pub mod Refusals
 pub mod Kept

@@ -1,11 +1,10 @@
 -- Demand 3, by meaning: machines that mean the same, wherever their texts and cells lie, and what their answers say.
 use mathlib.Core.Path.{_≡_}
-use mathlib.Core.Bool.{Bool, true, false, _||_}
+use mathlib.Core.Bool.{Bool, true}
 use mathlib.Core.List.{List, [], _∷_}
 use Prim.Native.Nat.{ℕ}
 use lib.ListN.{length}
 use Rattle.model.specs.declared.Shown.the-variants as w
-use Rattle.model.specs.Numbers.{Bytes}
 use Rattle.model.specs.Heap.{Cell}
 use Rattle.model.specs.Trees.{Tree, meaning}
 use Rattle.model.specs.Steps.{World}
@@ -16,8 +15,9 @@ use Rattle.model.specs.Machines as m
 use Rattle.rules.specs.Ordered.{CodeBytes}
 use Rattle.alike.specs.Alike.{Layout, AlikeMachine}
 use Rattle.alike.specs.Answers.{Meant, meantIn}
-use Rattle.demands.specs.Host.{Held, Ask, new, load, addOp, addOp1, addOp2, addOp3, patch, addConstant, addStruct, beginFunction, endFunction, currentOffset, functionIdx, save, disassemble, backtrace, lastResult, stackValue, blockHeader, element, textBytes, Call, run, ask, Answer, ran, emitted, started, told, put, shown, headed, Chain, none, more}
+use Rattle.demands.specs.Host.{Held, Call, run, ask, Answer, ran, emitted, started, told, put, shown, headed, Chain, none, more}
 use Rattle.demands.specs.Kept.{InOrder}
+use Rattle.demands.specs.Jobs.{Job, makes, writes, looks, handed, jobOf}
 
 abbrev pub worldIn : Held → World
 worldIn h = worldOf (h .vm) (h .stores) (h .lent)
@@ -42,6 +42,11 @@ pub record AsLong (s s' : Stores) : Type 0 where
 abbrev pub layoutOf : Held → Layout
 layoutOf h = record { text = worldIn h .text; constants = worldIn h .constants; cellRoom = worldIn h .cellRoom }
 
+-- in good order, and the code is bytes, as the types say
+pub record Fine (h : Held) : Type 0 where
+  pub order : InOrder h
+  pub code : CodeBytes (h .stores)
+
 -- `anew`: whether machines may be made anew
 pub record AlikeHeld (anew : Bool) (h d : Held) : Type 0 where
   -- the same program, wherever its texts lie, with as much room
@@ -56,9 +61,8 @@ pub record AlikeHeld (anew : Bool) (h d : Held) : Type 0 where
   pub copy : length (d .lent .copy) ≡ length (h .lent .copy)
   pub backtrace : length (d .lent .backtrace) ≡ length (h .lent .backtrace)
   pub cells : anew ≡ true → length (d .lent .cells) ≡ length (h .lent .cells)
-  -- both in good order
-  pub order : InOrder h
-  pub beside : InOrder d
+  pub fine : Fine h
+  pub beside : Fine d
 
 -- ---- what an answer says
 
@@ -84,40 +88,10 @@ saidIn t H (shown (w.Value x)) = value (meaning t H x)
 saidIn t H (shown (w.Refused n)) = plain (shown (w.Refused n))
 saidIn t H (headed a) = plain (headed a)
 
--- what an entry does: it makes a machine anew, writes to the program, or looks; a reader may be handed a value, which names cells of one machine
-pub data Job : Type 0 where
-  makes : Job
-  writes : Job
-  looks : Job
-  handed : Job
-
-unfoldable pub jobOf : Ask → Job
-jobOf new = makes
-jobOf (load image) = makes
-jobOf (addOp op place) = writes
-jobOf (addOp1 op a place) = writes
-jobOf (addOp2 op a b place) = writes
-jobOf (addOp3 op a b c place) = writes
-jobOf (patch offset word) = writes
-jobOf (addConstant x text) = writes
-jobOf (addStruct text) = writes
-jobOf (beginFunction text) = writes
-jobOf endFunction = writes
-jobOf currentOffset = looks
-jobOf (functionIdx text) = looks
-jobOf (save out) = looks
-jobOf (disassemble out) = looks
-jobOf (backtrace out) = looks
-jobOf lastResult = looks
-jobOf (stackValue i) = looks
-jobOf (blockHeader x) = handed
-jobOf (element x i) = handed
-jobOf (textBytes x out) = handed
-
 -- what it says, or that it is its own
 abbrev pub heard : Job → Said → Said
-heard makes x = x
-heard writes x = x
+heard (makes image) x = x
+heard (writes operands) x = x
 heard looks x = x
 heard handed x = own
 
@@ -125,27 +99,10 @@ unfoldable pub says : Call → Held → Answer → Said
 says (run u) h a = saidIn (worldIn h .text) (machineOf h .heap) a
 says (ask q) h a = heard (jobOf q) (saidIn (worldIn h .text) (machineOf h .heap) a)
 
--- whether calls make machines anew
-abbrev pub isMakes : Job → Bool
-isMakes makes = true
-isMakes writes = false
-isMakes looks = false
-isMakes handed = false
-
-unfoldable pub anew : List Call → Bool
-anew [] = false
-anew (run u ∷ cs) = anew cs
-anew (ask q ∷ cs) = isMakes (jobOf q) || anew cs
-
 -- what calls one after another say
 unfoldable pub said : {cs : List Call} {h k : Held} {xs : List Answer} → Chain cs h xs k → List Said
 said none = []
 said (more {c = c} {h' = h'} {a = a} p ps) = says c h' a ∷ said ps
-
--- what the types say: an image is bytes, and so is the code, in every state
-unfoldable pub Typed : {cs : List Call} {h k : Held} {xs : List Answer} → Chain cs h xs k → Type 0
-Typed none = Unit
-Typed (more {c = c} {h = h} p ps) = ((image : List ℕ) → c ≡ ask (load image) → Bytes image) × CodeBytes (h .stores) × Typed ps
 
 -- two chains of the same calls: they say the same, and leave machines that mean the same
 pub record AlikeChains (r : Bool) {cs : List Call} {h d e f : Held} {xs ys : List Answer} (p : Chain cs h xs e) (q : Chain cs d ys f) : Type 0 where

@@ -19,8 +19,9 @@ use Rattle.rules.specs.Sane.{Faults}
 use Rattle.rules.specs.Paths.{Steps}
 use Rattle.rules.specs.Demand.{Quiet, Recovered}
 use Rattle.demands.specs.Host.{Held, Call, Answer, Chain}
+use Rattle.demands.specs.Jobs.{anew, AllTyped}
 use Rattle.demands.specs.Agree.{Alike, Rooms}
-use Rattle.demands.specs.Meant.{AlikeHeld, said, anew, Typed}
+use Rattle.demands.specs.Meant.{AlikeHeld, said}
 
 -- the last result and the cells that are kept of a run from s that was cut in t
 pub data Kept (w : World) (s t : State) : Last → List Cell → Type 0 where
@@ -61,7 +62,7 @@ pub record SetUp (x : Machine) (h d : Held) : Type 0 where
 pub record Demand3 (u : ℕ) (h : Held) (n spent : ℕ) (trace : List Entry) (h' : Held) : Type 0 where
   pub leaves : Recovers (h .vm) (h .stores) (h .lent) u (h' .vm) n spent trace (h' .lent)
   -- whatever calls come then, new code included and the same for both: they say what they say of a machine that was set up in that state with the same free cells
-  pub later : {d : Held} {calls : List Call} → AlikeHeld (anew calls) h' d → {xs ys : List Answer} {e f : Held} (p : Chain calls h' xs e) (q : Chain calls d ys f) → Typed p → Typed q → said p ≡ said q
+  pub later : {d : Held} {calls : List Call} → AlikeHeld (anew calls) h' d → AllTyped calls → {xs ys : List Answer} {e f : Held} (p : Chain calls h' xs e) (q : Chain calls d ys f) → said p ≡ said q
   -- and of one whose words are the same too, the answers are the same words
   pub exact : (d : Held) → SetUp (recovered (worldOf (h .vm) (h .stores) (h .lent)) (machineIn (h .vm) (h .lent)) (leaves .rules .kept)) h d
       → (calls : List Call) (xs ys : List Answer) (e f : Held) → Chain calls h' xs e → Chain calls d ys f → xs ≡ ys
