@@ -16,8 +16,8 @@ use Rattle.model.specs.Trees.{list, struct}
 use Rattle.cells.proofs.Order.{same-test}
 use Rattle.cells.proofs.Frame.{length-new}
 use Rattle.cells.proofs.Meaning.{meaning-kept, new-list, new-struct}
-use Rattle.alike.specs.Alike.{AlikeValue, SameFree}
-use Rattle.alike.proofs.Values.{Both, Boths, every-left, every-right, length-alike, trees-alike, deepest-alike}
+use Rattle.alike.specs.Alike.{AlikeValue, SameFree, Both}
+use Rattle.alike.proofs.Values.{Boths, every-left, every-right, length-alike, trees-alike, deepest-alike}
 
 -- cells behind H and H' that take as much room and change no meaning; a list or struct stands where they begin
 pub record BothGrow (t t' : List ℕ) (n n' : ℕ) (H H' : List Cell) (k : ℕ) (K K' : List Cell) : Type 0 where

@@ -6,3 +6,5 @@ pub mod Steps
 pub mod Runs
 -- a program that has grown: `later-alike`
 pub mod Texts
+-- what a host reads: `lists-alike`, `structs-alike`, `strings-alike`, `references-alike`
+pub mod Blocks

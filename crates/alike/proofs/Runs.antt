@@ -19,9 +19,9 @@ use Rattle.rules.proofs.Adds.{step-adds}
 use Rattle.rules.proofs.Ends.{end-of}
 use Rattle.rules.proofs.Paths.{run-path, marked, mark-grows}
 use Rattle.rules.proofs.Keeps.{step-keeps}
-use Rattle.alike.specs.Alike.{AlikeValue, AlikeLast, nothing, is, Layout, laidOut, AlikeConstants, SameFree, AlikeMachine, AlikeState, AlikeOutcome, goes, returns, faults}
+use Rattle.alike.specs.Alike.{AlikeValue, AlikeLast, nothing, is, Layout, laidOut, AlikeConstants, SameFree, AlikeMachine, AlikeState, AlikeOutcome, goes, returns, faults, Both}
 use Rattle.alike.specs.Answers.{meantIn, meant, AlikeRan}
-use Rattle.alike.proofs.Values.{Both, boths-of, values-on}
+use Rattle.alike.proofs.Values.{boths-of, values-on}
 use Rattle.alike.proofs.Steps.{step-alike}
 
 -- ---- the ends of two runs

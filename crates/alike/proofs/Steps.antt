@@ -28,15 +28,14 @@ use Rattle.model.specs.Equality.{Same, same}
 use Rattle.model.specs.Trees.{treeOf, meaningTo, meaning}
 use Rattle.model.specs.Programs.{functionNamed}
 use Rattle.model.specs.Steps.{World, State, Outcome, went, faulted, withStack, withHeap, withUnits, withFrames, at, position, codeOf, pushing, onFound, constantOf, slotOf, lastOf, loadStep, slotStep, lastStep, negateStep, arithmeticStep, orderingStep, onSame, equalStep, logicStep, notStep, jumpStep, jumpIfFalseStep, enter, callStep, enterNamed, callCallableStep, onBuilt, buildStep, structStep, fieldStep, cut, returnTo, returnStep, execOf, operandsThen, decodedThen, fetched, stepOf}
-use Rattle.cells.proofs.Order.{Placed}
 use Rattle.cells.proofs.Meaning.{meaning-kept}
 use Rattle.rules.specs.Sane.{SaneWorld, Sane}
 use Rattle.rules.proofs.Combinators.{if-each}
 use Rattle.rules.proofs.Does.{Makes, list, struct}
-use Rattle.rules.proofs.Placed.{grows-placed, all-at}
-use Rattle.alike.specs.Alike.{AlikeValue, AlikeValues, Layout, laidOut, AlikeConstants, SameFree, AlikeState, AlikeOutcome, goes, returns, faults}
+use Rattle.rules.proofs.Placed.{grows-placed}
+use Rattle.alike.specs.Alike.{AlikeValue, AlikeValues, Layout, laidOut, AlikeConstants, SameFree, AlikeState, AlikeOutcome, goes, returns, faults, Both}
 use Rattle.alike.specs.Alike as a
-use Rattle.alike.proofs.Values.{Both, Boths, empty, over, BothLast, nothing, is, boths-of, last-of, values-on, last-on, Kinds, scalars, booleans, strings, references, lists, structs, BothFound, got, bad, found-if, kinds, same-alike, length-alike, at-alike, drop-alike, take-alike, turned-alike, field-alike}
+use Rattle.alike.proofs.Values.{Boths, empty, over, BothLast, nothing, is, boths-of, last-of, values-on, last-on, Kinds, scalars, booleans, strings, references, lists, structs, BothFound, got, bad, found-if, kinds, same-alike, length-alike, at-alike, drop-alike, take-alike, turned-alike, field-alike}
 use Rattle.alike.proofs.Builds.{BothGrow, BothBuilt, made, refused, build-alike}
 
 made-alike : {t t' : List ℕ} {n n' : ℕ} {H H' K K' : List Cell} {c : ℕ → Value} {elements : ℕ → List Value → List Value} {k : ℕ} → Makes c elements k → BothGrow t t' n n' H H' k K K' → AlikeValue t t' K K' (c (length H)) (c (length H'))

@@ -17,9 +17,9 @@ use Rattle.model.specs.Runs.{Machine, begin}
 use Rattle.cells.proofs.Order.{every-map, Placed, list-of, struct-of, Good, good-of}
 use Rattle.cells.proofs.Meaning.{within, trees-agree}
 use Rattle.rules.specs.Sane.{Sane}
-use Rattle.alike.specs.Alike.{AlikeValue, Layout, laidOut, AlikeMachine}
+use Rattle.alike.specs.Alike.{AlikeValue, Layout, laidOut, AlikeMachine, Both}
 use Rattle.alike.specs.Answers.{Begins}
-use Rattle.alike.proofs.Values.{Both, boths-of, last-of, values-on, last-on}
+use Rattle.alike.proofs.Values.{boths-of, last-of, values-on, last-on}
 
 module _ (t y : List ℕ) where
   pub text-kept : (o n : ℕ) → o + n ≤ length t → textAt (t ++ y) o n ≡ textAt t o n

@@ -24,7 +24,7 @@ use Rattle.cells.proofs.Order.{Every, nil, cons, every-map, Whole, Placed, list
 use Rattle.cells.proofs.Meaning.{equal-is-trees, lower, meaning-step}
 use Rattle.rules.specs.Sane.{AllPlaced, LastPlaced}
 use Rattle.rules.proofs.Placed.{field-placed}
-use Rattle.alike.specs.Alike.{AlikeValue, AlikeValues, AlikeLast}
+use Rattle.alike.specs.Alike.{AlikeValue, AlikeValues, AlikeLast, Both}
 use Rattle.alike.specs.Alike as a
 
 -- the kind of a tree shows the kind of the value that means it
@@ -60,7 +60,7 @@ module _ (t : List ℕ) (H : List Cell) (g : Good (length t) H) where
 -- ---- [depth] is the tree's
 
 unfoldable mutual
-  treeDepth : Tree → ℕ
+  pub treeDepth : Tree → ℕ
   treeDepth (scalar x) = 0
   treeDepth (boolean x) = 0
   treeDepth (string b) = 0
@@ -68,7 +68,7 @@ unfoldable mutual
   treeDepth (list us) = suc (treesDepth us)
   treeDepth (struct k us) = suc (treesDepth us)
 
-  treesDepth : Trees → ℕ
+  pub treesDepth : Trees → ℕ
   treesDepth none = 0
   treesDepth (more u us) = max (treeDepth u) (treesDepth us)
 
@@ -103,15 +103,10 @@ module _ (t : List ℕ) (H : List Cell) (g : Good (length t) H) where
   depth-to zero x f l = tree-depth zero (λ y h z. absurd (let n : ⊥ = omega arith in n)) x f l
   depth-to (suc d) x f l = tree-depth (suc d) (λ y h z. depth-to d y h (omega arith)) x f l
 
-  deepest-is : {xs : List Value} → Every (Placed (length t) H (length H)) xs → deepest H xs ≡ treesDepth (treesOf (λ x. meaning t H x) xs)
+  pub deepest-is : {xs : List Value} → Every (Placed (length t) H (length H)) xs → deepest H xs ≡ treesDepth (treesOf (λ x. meaning t H x) xs)
   deepest-is f = deepest-trees (every-map (λ x h. depth-to (depthIn H x) x h (omega arith)) f)
 
--- ---- two values, each placed in its heap, that mean the same
-
-pub record Both (t t' : List ℕ) (H H' : List Cell) (x x' : Value) : Type 0 where
-  pub alike : AlikeValue t t' H H' x x'
-  pub left : Placed (length t) H (length H) x
-  pub right : Placed (length t') H' (length H') x'
+-- ---- values, each placed in its heap, that mean the same
 
 pub data Boths (t t' : List ℕ) (H H' : List Cell) : List Value → List Value → Type 0 where
   empty : Boths t t' H H' [] []
@@ -153,14 +148,14 @@ found-if t t' H H' true x x' n f = got (f refl)
 found-if t t' H H' false x x' n f = bad n
 
 -- the elements of two blocks whose trees are the same
-items-count : (m m' : Value → Tree) (H H' : List Cell) (n n' i i' : ℕ) → treesOf m (items n i H) ≡ treesOf m' (items n' i' H') → n ≡ n'
+pub items-count : (m m' : Value → Tree) (H H' : List Cell) (n n' i i' : ℕ) → treesOf m (items n i H) ≡ treesOf m' (items n' i' H') → n ≡ n'
 unfolding items treesOf
 items-count m m' H H' zero zero i i' e = refl
 items-count m m' H H' zero (suc n') i i' e = absurd (let z : _≡_ {A = ℕ} 0 1 = cc in let y : ⊥ = omega arith in y)
 items-count m m' H H' (suc n) zero i i' e = absurd (let z : _≡_ {A = ℕ} 0 1 = cc in let y : ⊥ = omega arith in y)
 items-count m m' H H' (suc n) (suc n') i i' e = ap suc (items-count m m' H H' n n' (suc i) (suc i') cc)
 
-items-at : (m m' : Value → Tree) (H H' : List Cell) (n i i' : ℕ) → treesOf m (items n i H) ≡ treesOf m' (items n i' H') → (a : ℕ) → a < n → m (itemIn H (i + a)) ≡ m' (itemIn H' (i' + a))
+pub items-at : (m m' : Value → Tree) (H H' : List Cell) (n i i' : ℕ) → treesOf m (items n i H) ≡ treesOf m' (items n i' H') → (a : ℕ) → a < n → m (itemIn H (i + a)) ≡ m' (itemIn H' (i' + a))
 unfolding items treesOf
 items-at m m' H H' zero i i' e a l = absurd (let z : ⊥ = omega arith in z)
 items-at m m' H H' (suc n) i i' e zero l = let z : i + 0 ≡ i = omega arith in let y : i' + 0 ≡ i' = omega arith in rw (z, y) cc

@@ -1,5 +1,6 @@
 -- Machines that mean the same: their texts and cells may stand at other places, and other cells may be taken, as long as as many are free.
 use mathlib.Core.Path.{_≡_}
+use mathlib.Core.Bool.{true}
 use mathlib.Core.List.{List, [], _∷_}
 use Prim.Native.Nat.{ℕ, _+_}
 use lib.ListN.{length}
@@ -8,7 +9,7 @@ use Rattle.model.specs.declared.Last.{Last}
 use Rattle.model.specs.declared.Last.the-variants.{Nothing, Is}
 use Rattle.model.specs.declared.Fault.{Fault}
 use Rattle.model.specs.Values.{faultNumber}
-use Rattle.model.specs.Heap.{Cell}
+use Rattle.model.specs.Heap.{Cell, placedBelow}
 use Rattle.model.specs.Trees.{meaning}
 use Rattle.model.specs.Steps.{World, State, Outcome, went, returned, faulted}
 use Rattle.model.specs.Runs.{Machine, machineOf}
@@ -25,6 +26,12 @@ pub data AlikeValues (t t' : List ℕ) (H H' : List Cell) : List Value → List 
 pub data AlikeLast (t t' : List ℕ) (H H' : List Cell) : Last → Last → Type 0 where
   nothing : AlikeLast t t' H H' Nothing Nothing
   is : {x x' : Value} → AlikeValue t t' H H' x x' → AlikeLast t t' H H' (Is x) (Is x')
+
+-- both placed, too
+pub record Both (t t' : List ℕ) (H H' : List Cell) (x x' : Value) : Type 0 where
+  pub alike : AlikeValue t t' H H' x x'
+  pub left : placedBelow (length t) H (length H) x ≡ true
+  pub right : placedBelow (length t') H' (length H') x' ≡ true
 
 -- ---- worlds
 

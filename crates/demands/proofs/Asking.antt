@@ -5,10 +5,9 @@ use mathlib.Core.List.{List, [], _∷_, _++_, reverse}
 use Prim.Native.Nat.{ℕ, suc, _-_, _≤_, _<_}
 use native.Mathlib.Omega.{arith}
 use borrow.Author.Tests.{le-leb, ltb-true}
-use lib.Dec.{leb, ltb}
+use lib.Dec.{ltb}
 use lib.ListN.{length, take, drop, take-append-drop}
 use lib.Seq.{take-take}
-use Rattle.model.specs.declared.Vm.{Vm}
 use Rattle.model.specs.declared.Value.the-variants as v
 use Rattle.model.specs.declared.Counts.{Counts}
 use Rattle.model.specs.declared.Last.{Last}
@@ -23,22 +22,20 @@ use Rattle.model.specs.Numbers.{Bytes}
 use Rattle.model.specs.Values.{places, valueAt, vals}
 use Rattle.model.specs.Heap.{Cell, cellsFrom, heapOf}
 use Rattle.model.specs.Trees.{meaning}
-use Rattle.model.specs.Runs.{begin, root}
 use Rattle.model.specs.Stores.{Stores}
 use Rattle.model.specs.Stores as st
 use Rattle.model.specs.Orders.{programOk}
-use Rattle.model.specs.Emission.{Res, addOpOf, addOp1Of, addOp2Of, addOp3Of, patchOf, addConstantOf, addStructOf, beginFunctionOf, endFunctionOf}
-use Rattle.model.specs.Machines.{Lent, innermost, callersIn, machineIn, worldOf, backtraceIn, traceOrder, startWith, fresh, newMachineOf, loadMachineOf}
+use Rattle.model.specs.Emission.{Res, addOpOf, addOp1Of, addOp2Of, addOp3Of}
+use Rattle.model.specs.Machines.{innermost, callersIn, machineIn, worldOf, backtraceIn, traceOrder, startWith, fresh, newMachineOf, loadMachineOf}
 use Rattle.model.specs.Readers.{lastShown, lastResultOf, valueShown, stackValueOf}
 use Rattle.value.proofs.Stores.{length-vals, vals-slot}
 use Rattle.rules.proofs.Ordered.{order-sane, order-exact}
-use Rattle.rules.specs.Sane.{Sane}
 use Rattle.alike.specs.Alike.{none, nothing, AlikeLast}
 use Rattle.alike.specs.Alike as al
 use Rattle.alike.specs.Answers.{Begins}
-use Rattle.alike.proofs.Values.{Both, Boths, boths-of, length-alike, at-alike}
+use Rattle.alike.proofs.Values.{Boths, boths-of, length-alike, at-alike}
 use Rattle.alike.proofs.Texts.{later-alike}
-use Rattle.demands.specs.Host.{Held, Ask, new, load, addOp, addOp1, addOp2, addOp3, patch, addConstant, addStruct, beginFunction, endFunction, currentOffset, functionIdx, save, disassemble, backtrace, lastResult, stackValue, blockHeader, element, textBytes, Call, ask, Answer, shown, put, Done, counted, withFrames, emits, starts, looks as seen, done}
+use Rattle.demands.specs.Host.{Held, Ask, new, load, addOp, addOp1, addOp2, addOp3, patch, addConstant, addStruct, beginFunction, endFunction, currentOffset, functionIdx, save, disassemble, backtrace, lastResult, stackValue, blockHeader, element, textBytes, ask, Answer, shown, Done, counted, withFrames, emits, starts, looks as seen, done}
 use Rattle.demands.specs.Agree.{Alike}
 use Rattle.demands.specs.Kept.{InOrder, Grew}
 use Rattle.demands.specs.Meant.{worldIn, machineOf, Fine, AlikeHeld, value, saidIn, says}

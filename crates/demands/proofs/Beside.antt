@@ -1,12 +1,12 @@
 -- Two stores with one program, wherever its texts lie: emission answers the same and leaves such stores again.
 use mathlib.Core.Path.{_≡_, refl, sym, ap, _∙_}
-use mathlib.Core.Bool.{Bool, true, false, _&&_}
+use mathlib.Core.Bool.{Bool, true, false}
 use mathlib.Core.List.{List, map}
 use mathlib.Core.Option.{Option, none, some}
 use Prim.Native.Nat.{ℕ, zero, suc, _+_, _*_, _<_}
 use native.Mathlib.Omega.{arith}
 use lib.Dec.{eqb, leb, ltb}
-use lib.ListN.{length, set, take, replicate, length-set}
+use lib.ListN.{length, set, length-set}
 use Rattle.model.specs.declared.Counts.{Counts}
 use Rattle.model.specs.declared.Vm.{Vm}
 use Rattle.model.specs.declared.Frame.{Frame}
@@ -16,7 +16,7 @@ use Rattle.model.specs.declared.Emitted.the-variants.{Done}
 use Rattle.model.specs.Basics.{if_then_else_}
 use Rattle.model.specs.Values.{places, putWords}
 use Rattle.model.specs.Programs.{Program, Function, functionAt, codeLimit, constantLimit, nameLimit}
-use Rattle.model.specs.Stores.{Stores, withConstants, withStructs, withFunctions, withText, start, size, codeWord, codeEnd, codeHere, placesHere, withCode, structsFrom, functionIn, functionsFrom, programIn}
+use Rattle.model.specs.Stores.{Stores, withConstants, withStructs, withFunctions, withText, size, codeWord, codeEnd, codeHere, placesHere, withCode, structsFrom, functionIn, functionsFrom, programIn}
 use Rattle.model.specs.Orders.{codeStart, programOk}
 use Rattle.model.specs.Emission.{Res, done, refuse, oneConstant, oneStruct, oneFunction, written, textRoom, sizeHere, endHere, codeRoom, longer, appended, codeOrder, emitIn, emitOf, patchOrder, patched, patchOf, withConstant, withTextConstant, constantAdded, constantOrder, addConstantOf, structAdded, structFound, structOrder, addStructOf, functionOrder, begun, beginFunctionOf, endFunctionOf, currentOffsetOf, namesFrom, functionIdxOf}
 use Rattle.model.specs.Loading.{saveOf, listOrder, listOf}

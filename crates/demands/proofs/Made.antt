@@ -5,9 +5,7 @@ use mathlib.Core.List.{List}
 use Prim.Native.Nat.{ℕ}
 use native.Mathlib.Omega.{arith}
 use lib.Dec.{leb}
-use lib.ListN.{length}
 use Rattle.model.specs.declared.Counts.{Counts}
-use Rattle.model.specs.declared.Emitted.the-variants as em
 use Rattle.model.specs.declared.Loaded.{Loaded}
 use Rattle.model.specs.declared.Loaded.the-variants as ld
 use Rattle.model.specs.Basics.{if_then_else_}
@@ -16,7 +14,7 @@ use Rattle.model.specs.Values.{places}
 use Rattle.model.specs.Programs.{Program, withinLimits}
 use Rattle.model.specs.Images.{Judged, fine, broken, judge, Sound}
 use Rattle.model.specs.Stores.{Stores, programIn}
-use Rattle.model.specs.Emission.{counts, written, newOf}
+use Rattle.model.specs.Emission.{counts, newOf}
 use Rattle.model.specs.Loading.{LoadRes, laid, countsFor, roomFor, loadJudged, loadOf}
 use Rattle.model.specs.Machines.{asLoaded}
 use Rattle.program.proofs.Naming.{new-reads}

@@ -1,32 +1,29 @@
 -- A run of two machines that mean the same says the same, and leaves such machines.
 use mathlib.Core.Path.{_≡_, refl, sym, ap, subst, _∙_}
 use mathlib.Core.Bool.{Bool, true, false}
-use mathlib.Core.List.{List}
 use Prim.Native.Nat.{ℕ}
 use native.Mathlib.Omega.{arith}
-use lib.ListN.{length}
 use Rattle.model.specs.declared.Counts.{Counts}
 use Rattle.model.specs.declared.Vm.{Vm}
 use Rattle.model.specs.Basics.{if_then_else_}
-use Rattle.model.specs.Values.{places}
 use Rattle.model.specs.Steps.{World}
-use Rattle.model.specs.Runs.{Machine, begin, Reply, Ran, runOf}
+use Rattle.model.specs.Runs.{begin, Ran, runOf}
 use Rattle.model.specs.Programs.{Program}
 use Rattle.model.specs.Stores.{programIn}
 use Rattle.model.specs.Stores as st
 use Rattle.model.specs.Orders.{programOk}
-use Rattle.model.specs.Machines.{Lent, frameRoom, machineIn, worldOf, runOrder, tooShort, RunAnswer, refused, runAnswer, answerIn, ranAs, RunPost}
+use Rattle.model.specs.Machines.{frameRoom, machineIn, worldOf, tooShort, refused, runAnswer, answerIn, ranAs}
 use Rattle.model.specs.Machines as m
 use Rattle.rules.specs.Sane.{SaneWorld, Sane}
 use Rattle.rules.proofs.Ordered.{order-world, order-sane}
 use Rattle.program.proofs.Keeping.{good-of}
 use Rattle.alike.specs.Alike.{laidOut, AlikeConstants}
-use Rattle.alike.specs.Answers.{meantIn, meant, AlikeRan}
+use Rattle.alike.specs.Answers.{meant, AlikeRan}
 use Rattle.alike.proofs.Runs.{run-alike}
-use Rattle.demands.specs.Host.{Held, Call, run, Answer, ran, RanBy, vmAfter, After}
+use Rattle.demands.specs.Host.{Held, Call, run, Answer, ran, RanBy, vmAfter}
 use Rattle.demands.specs.Agree.{Rooms}
 use Rattle.demands.specs.Kept.{InOrder}
-use Rattle.demands.specs.Meant.{worldIn, machineOf, layoutOf, AlikeHeld, ended, plain, saidIn, says}
+use Rattle.demands.specs.Meant.{worldIn, machineOf, layoutOf, AlikeHeld, ended, saidIn, says}
 use Rattle.demands.proofs.Fronts.{places-alike}
 use Rattle.demands.proofs.Beside.{functions-same}
 use Rattle.demands.proofs.Constants.{constants-mean}
