@@ -4,20 +4,16 @@ use mathlib.Core.Bool.{Bool, true, false, _||_}
 use mathlib.Core.List.{List, [], _∷_}
 use Prim.Native.Nat.{ℕ}
 use native.Mathlib.Omega.{arith}
-use Rattle.model.specs.Numbers.{Bytes}
-use Rattle.demands.specs.Host.{Held, load, Call, run, ask, Answer, After, Chain, none, more}
+use Rattle.demands.specs.Host.{Held, Call, run, ask, Answer, After, Chain, none, more}
 use Rattle.demands.specs.Jobs.{jobOf, isMakes, anew, AllTyped}
 use Rattle.demands.specs.Meant.{AlikeHeld, said, AlikeChains}
-use Rattle.demands.proofs.Orderly.{order-kept}
+use Rattle.demands.proofs.Orderly.{typed-first, typed-rest, order-kept}
 use Rattle.demands.proofs.Running.{AlikeCall, run-says}
 use Rattle.demands.proofs.Asking.{ask-alike}
 
 call-alike : {r : Bool} (c : Call) {h d h' d' : Held} {x y : Answer} → AlikeHeld r h d → (anew (c ∷ []) ≡ true → r ≡ true) → AllTyped (c ∷ []) → After c h x h' → After c d y d' → AlikeCall r c x h' y d'
 unfolding anew AllTyped
-call-alike (run u) {x = x} {y = y} a n t p q = run-says a u (order-kept (run u) x not-load p (a .fine .order)) (order-kept (run u) y not-load q (a .beside .order)) p q
-  where
-    not-load : (image : List ℕ) → run u ≡ ask (load image) → Bytes image
-    not-load image e = absurd (let z : _≡_ {A = ℕ} 0 1 = cc in let y : ⊥ = omega arith in y)
+call-alike (run u) {x = x} {y = y} a n t p q = run-says a u (order-kept (run u) x t p (a .fine .order)) (order-kept (run u) y t q (a .beside .order)) p q
 call-alike (ask i) a n t p q = rw (p, q) at (ask-alike a i (t .0) (λ e. n (rw e)))
 
 anew-first : (c : Call) (cs : List Call) → anew (c ∷ []) ≡ true → anew (c ∷ cs) ≡ true
@@ -37,16 +33,6 @@ anew-rest (ask q) cs e = rest (isMakes (jobOf q)) (anew cs) e
     rest : (b z : Bool) → z ≡ true → (b || z) ≡ true
     rest true z e = refl
     rest false z e = e
-
-typed-first : (c : Call) (cs : List Call) → AllTyped (c ∷ cs) → AllTyped (c ∷ [])
-unfolding AllTyped
-typed-first (run u) cs t = tt
-typed-first (ask q) cs t = (t .0, tt)
-
-typed-rest : (c : Call) (cs : List Call) → AllTyped (c ∷ cs) → AllTyped cs
-unfolding AllTyped
-typed-rest (run u) cs t = t
-typed-rest (ask q) cs t = t .1
 
 -- whatever calls come
 pub chain-alike : {r : Bool} {cs : List Call} {h d e f : Held} {xs ys : List Answer} → AlikeHeld r h d → (anew cs ≡ true → r ≡ true) → AllTyped cs → (p : Chain cs h xs e) (q : Chain cs d ys f) → AlikeChains r p q

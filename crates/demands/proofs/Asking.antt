@@ -18,7 +18,6 @@ use Rattle.model.specs.declared.Loaded.{Loaded}
 use Rattle.model.specs.declared.Loaded.the-variants as ld
 use Rattle.model.specs.declared.Shown.the-variants as w
 use Rattle.model.specs.Basics.{if_then_else_}
-use Rattle.model.specs.Numbers.{Bytes}
 use Rattle.model.specs.Values.{places, valueAt, vals}
 use Rattle.model.specs.Heap.{Cell, cellsFrom, heapOf}
 use Rattle.model.specs.Trees.{meaning}
@@ -39,7 +38,7 @@ use Rattle.demands.specs.Host.{Held, Ask, new, load, addOp, addOp1, addO
 use Rattle.demands.specs.Agree.{Alike}
 use Rattle.demands.specs.Kept.{InOrder, Grew}
 use Rattle.demands.specs.Meant.{worldIn, machineOf, Fine, AlikeHeld, value, saidIn, says}
-use Rattle.demands.specs.Jobs.{makes, writes, looks, handed, jobOf, isMakes, Typed}
+use Rattle.demands.specs.Jobs.{makes, writes, looks, handed, jobOf, isMakes, Typed, AllTyped}
 use Rattle.demands.proofs.Fronts.{places-alike}
 use Rattle.demands.proofs.Fixed.{Standing, standing, split}
 use Rattle.demands.proofs.Fixed as fx
@@ -75,11 +74,6 @@ text-begins k c s g =
       is = sym (take-append-drop t u) ∙ ap (λ (x : List ℕ). x ++ drop t u) (take-take t (c .text) (s .text) (g .text) ∙ g .front);
     }
 
--- an image is bytes
-image-of : (q : Ask) → Typed (jobOf q) → (image : List ℕ) → ask q ≡ ask (load image) → Bytes image
-unfolding jobOf
-image-of q t image e = subst (λ (p : Ask). Typed (jobOf p)) (let z : q ≡ load image = cc in z) t
-
 module _ {r : Bool} {h d : Held} (a : AlikeHeld r h d) where
   abbrev c : Counts
   c = h .vm .program
@@ -112,7 +106,7 @@ module _ {r : Bool} {h d : Held} (a : AlikeHeld r h d) where
 
   -- what an entry leaves is in good order, and its code is bytes
   left : (q : Ask) (k : Held) → Fine k → Typed (jobOf q) → Fine (done q k .held)
-  left q k o t = record { order = order-kept (ask q) (done q k .answer) (image-of q t) {h = k} {h' = done q k .held} refl (o .order); code = ask-bytes q k t (o .code) }
+  left q k o t = record { order = order-kept (ask q) (done q k .answer) (unfold AllTyped in (t, tt)) {h = k} {h' = done q k .held} refl (o .order); code = ask-bytes q k t (o .code) }
 
   ordered : (q : Ask) → Typed (jobOf q) → Fine (done q h .held)
   ordered q t = left q h (a .fine) t
