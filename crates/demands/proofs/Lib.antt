@@ -33,3 +33,4 @@ pub mod Asking
 pub mod Alike
 -- `fault-leaves`, `fault-recovers`
 pub mod Recovering
+pub mod Example
