@@ -21,7 +21,7 @@ use Rattle.alike.specs.Alike.{none, more, is}
 use Rattle.demands.specs.Host.{Held, Call, Answer, Chain}
 use Rattle.demands.specs.Jobs.{anew, AllTyped}
 use Rattle.demands.specs.Meant.{Fine, AlikeHeld, said}
-use Rattle.demands.proofs.Alike.{chain-alike}
+use Rattle.demands.proofs.MeantChains.{chain-alike}
 
 -- `<main>` without code, and the string "ab", which lies at i of the text; `<main>` lies at j
 abbrev holds : List ℕ → ℕ → ℕ → List ℕ → ℕ → ℕ → Held

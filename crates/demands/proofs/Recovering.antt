@@ -23,7 +23,7 @@ use Rattle.demands.specs.Recovery.{Kept, start, return, Recovers, SetUp,
 use Rattle.demands.proofs.Fixed.{Standing, standing, counted, values-fix, machine-fixes}
 use Rattle.demands.proofs.Chains.{chains-agree}
 use Rattle.demands.proofs.OneRun.{ran-rooms}
-use Rattle.demands.proofs.Alike.{chain-alike}
+use Rattle.demands.proofs.MeantChains.{chain-alike}
 use Rattle.demands.proofs.Went.{Went, went}
 
 -- what the mark of a path kept

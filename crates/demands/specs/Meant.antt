@@ -47,7 +47,7 @@ pub record Fine (h : Held) : Type 0 where
   pub order : InOrder h
   pub code : CodeBytes (h .stores)
 
--- `anew`: whether machines may be made anew
+-- `anew`: whether machines may be made anew. A new machine has all its cells free; otherwise it is enough that as many are.
 pub record AlikeHeld (anew : Bool) (h d : Held) : Type 0 where
   -- the same program, wherever its texts lie, with as much room
   pub counts : d .vm .program ≡ h .vm .program
@@ -55,7 +55,7 @@ pub record AlikeHeld (anew : Bool) (h d : Held) : Type 0 where
   pub stores : AsLong (d .stores) (h .stores)
   -- stack and last result of the same trees, the same frames, as many cells free
   pub machine : AlikeMachine (worldIn h) (layoutOf d) (machineOf h) (machineOf d)
-  -- stack, frames, copy and backtrace stores as long; of a machine made anew all cells are free, so the cell stores too
+  -- the lent stores as long
   pub stack : length (d .lent .stack) ≡ length (h .lent .stack)
   pub frames : length (d .lent .frames) ≡ length (h .lent .frames)
   pub copy : length (d .lent .copy) ≡ length (h .lent .copy)
@@ -73,7 +73,8 @@ pub data Said : Type 0 where
   value : Tree → Said
   -- all else, as it was answered
   plain : Answer → Said
-  -- to a reader that was handed a value: a value names cells of one machine, so that the same value is not the same question to another
+  -- to a reader that was handed a value: it names cells of one machine, so that the same value is not the same question to another.
+  -- Of values that mean the same, `crates/alike` says that header, elements and text are the same (`AlikeBlock`).
   own : Said
 
 -- values are those of the machine that is then held

@@ -156,8 +156,8 @@ module _ {r : Bool} {h d : Held} (a : AlikeHeld r h d) where
           };
         }
 
-    pub run-says : RanBy u h x h' → RanBy u d y d' → AlikeCall r (run u) x h' y d'
-    run-says p q = by (tooShort (h .lent)) refl
+    pub run-said : RanBy u h x h' → RanBy u d y d' → AlikeCall r (run u) x h' y d'
+    run-said p q = by (tooShort (h .lent)) refl
       where
         by : (b : Bool) → tooShort (h .lent) ≡ b → AlikeCall r (run u) x h' y d'
         by true e = stays-alike (stays (a .fine .order) p e) (stays (a .beside .order) q (short-same ∙ e))
