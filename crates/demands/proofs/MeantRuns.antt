@@ -85,7 +85,7 @@ pub record AlikeCall (r : Bool) (c : Call) (x : Answer) (h : Held) (y : Answer) 
   pub says : says c h x ≡ says c d y
   pub held : AlikeHeld r h d
 
-same-world : (h h' : Held) → h' .vm .program ≡ h .vm .program → h' .stores ≡ h .stores → Rooms (h' .lent) (h .lent) → worldIn h' ≡ worldIn h
+pub same-world : (h h' : Held) → h' .vm .program ≡ h .vm .program → h' .stores ≡ h .stores → Rooms (h' .lent) (h .lent) → worldIn h' ≡ worldIn h
 unfolding worldOf frameRoom
 same-world h h' p s r = rw (p, s, places-alike (h' .lent .stack) (h .lent .stack) (r .stack) 2, places-alike (h' .lent .cells) (h .lent .cells) (r .cells) 2, r .frames)
 
