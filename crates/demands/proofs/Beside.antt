@@ -79,29 +79,36 @@ words-long l l' i i' a a' b b' e = length-words l' i' a' b' ∙ e ∙ sym (lengt
 pub both-done : (d : Counts) (n : ℕ) {t t' : Stores} → AsLong t' t → SameRes (done d n t) (done d n t')
 both-done d n long = record { answer = refl; rooms = long }
 
-module _ (c : Counts) (s s' : Stores) (ok : programOk c s ≡ true) (ok' : programOk c s' ≡ true) (same : programIn c s' ≡ programIn c s) (long : AsLong s' s) where
+-- one program in both stores, in good order
+pub record OneProgram (c : Counts) (s s' : Stores) : Type 0 where
+  pub ok : programOk c s ≡ true
+  pub ok' : programOk c s' ≡ true
+  pub same : programIn c s' ≡ programIn c s
+  pub long : AsLong s' s
+
+module _ {c : Counts} {s s' : Stores} (one : OneProgram c s s') where
   g : Good c s
-  g = good-of c s ok
+  g = good-of c s (one .ok)
 
   g' : Good c s'
-  g' = good-of c s' ok'
+  g' = good-of c s' (one .ok')
 
   refused : (n : ℕ) → SameRes (refuse n s) (refuse n s')
-  refused n = record { answer = refl; rooms = long }
+  refused n = record { answer = refl; rooms = one .long }
 
   pub functions-same : functionsFrom (c .functions) 0 s' ≡ functionsFrom (c .functions) 0 s
   unfolding programIn
-  functions-same = ap (λ (p : Program). p .functions) same
+  functions-same = ap (λ (p : Program). p .functions) (one .same)
 
   pub structs-same : structsFrom (c .structs) 0 (s' .structs) (s' .text) ≡ structsFrom (c .structs) 0 (s .structs) (s .text)
   unfolding programIn
-  structs-same = ap (λ (p : Program). p .structs) same
+  structs-same = ap (λ (p : Program). p .structs) (one .same)
 
   -- ---- the words of the codes are the same
 
   pub size-same : (i : ℕ) → i < c .functions → size (codeWord (s' .functions) i) ≡ size (codeWord (s .functions) i)
   size-same i h =
-      sym (code-size c s' (parts-of c s' (program-runs c s' ok')) i h) ∙ ap (λ (fs : List Function). length (functionAt fs i .code)) functions-same ∙ code-size c s (parts-of c s (program-runs c s ok)) i h
+      sym (code-size c s' (parts-of c s' (program-runs c s' (one .ok'))) i h) ∙ ap (λ (fs : List Function). length (functionAt fs i .code)) functions-same ∙ code-size c s (parts-of c s (program-runs c s (one .ok))) i h
 
   ends-by : (i : ℕ) → i < c .functions → codeStart (s' .functions) i ≡ codeStart (s .functions) i → codeEnd (s' .functions) i ≡ codeEnd (s .functions) i
   unfolding codeEnd
@@ -129,11 +136,11 @@ module _ (c : Counts) (s s' : Stores) (ok : programOk c s ≡ true) (ok' : progr
 
   code-long : length (codeHere c s') ≡ length (codeHere c s)
   unfolding codeHere
-  code-long = either-way (eqb (c .current) 0) (λ t. rw t (long .main)) (λ f. rw f (long .other))
+  code-long = either-way (eqb (c .current) 0) (λ t. rw t (one .long .main)) (λ f. rw f (one .long .other))
 
   places-long : length (placesHere c s') ≡ length (placesHere c s)
   unfolding placesHere
-  places-long = either-way (eqb (c .current) 0) (λ t. rw t (long .mainPlaces)) (λ f. rw f (long .otherPlaces))
+  places-long = either-way (eqb (c .current) 0) (λ t. rw t (one .long .mainPlaces)) (λ f. rw f (one .long .otherPlaces))
 
   code-room : codeRoom c s' ≡ codeRoom c s
   unfolding codeRoom
@@ -141,21 +148,21 @@ module _ (c : Counts) (s s' : Stores) (ok : programOk c s ≡ true) (ok' : progr
 
   text-room : (n : ℕ) → textRoom c s' n ≡ textRoom c s n
   unfolding textRoom
-  text-room n = rw (places-alike (s' .text) (s .text) (long .text) 1)
+  text-room n = rw (places-alike (s' .text) (s .text) (one .long .text) 1)
 
   -- the current function's stores anew
   with-code : (m p m' p' : List ℕ) → length m' ≡ length m → length p' ≡ length p → AsLong (withCode c m' p' s') (withCode c m p s)
   unfolding withCode
   with-code m p m' p' a b =
       either-way (eqb (c .current) 0)
-      (λ t. rw t (record { constants = long .constants; structs = long .structs; functions = long .functions; text = long .text; main = a; mainPlaces = b; other = long .other; otherPlaces = long .otherPlaces }))
-      (λ f. rw f (record { constants = long .constants; structs = long .structs; functions = long .functions; text = long .text; main = long .main; mainPlaces = long .mainPlaces; other = a; otherPlaces = b }))
+      (λ t. rw t (record { constants = one .long .constants; structs = one .long .structs; functions = one .long .functions; text = one .long .text; main = a; mainPlaces = b; other = one .long .other; otherPlaces = one .long .otherPlaces }))
+      (λ f. rw f (record { constants = one .long .constants; structs = one .long .structs; functions = one .long .functions; text = one .long .text; main = one .long .main; mainPlaces = one .long .mainPlaces; other = a; otherPlaces = b }))
 
   -- ---- the entries
 
   longer-long : (n : ℕ) → length (longer c n s') ≡ length (longer c n s)
   unfolding longer
-  longer-long n = set-long (s .functions) (s' .functions) (2 * c .current + 1) (2 * c .current + 1) _ _ (long .functions)
+  longer-long n = set-long (s .functions) (s' .functions) (2 * c .current + 1) (2 * c .current + 1) _ _ (one .long .functions)
 
   appended-same : (bytes : List ℕ) (place : ℕ) → SameRes (appended c bytes place s) (appended c bytes place s')
   unfolding appended
@@ -168,7 +175,7 @@ module _ (c : Counts) (s s' : Stores) (ok : programOk c s ≡ true) (ok' : progr
       (same-if (ltb codeLimit (sizeHere c s + length bytes)) (refused 22) (same-if (ltb (codeRoom c s) (endHere c s + length bytes)) (refused 21) (same-if (leb 38 op) (refused 1) (appended-same bytes place))))
 
   pub emit-alike : (op : ℕ) (bytes : List ℕ) (place : ℕ) → AlikeRes (emitOf c op bytes place s) (emitOf c op bytes place s')
-  emit-alike op bytes place = alike-res (emit-res op bytes place) (emit-reads c op bytes place s ok) (emit-reads c op bytes place s' ok') (rw same)
+  emit-alike op bytes place = alike-res (emit-res op bytes place) (emit-reads c op bytes place s (one .ok)) (emit-reads c op bytes place s' (one .ok')) (rw (one .same))
 
   patched-same : (at a : ℕ) → SameRes (patched c at a s) (patched c at a s')
   unfolding patched
@@ -179,19 +186,19 @@ module _ (c : Counts) (s s' : Stores) (ok : programOk c s ≡ true) (ok' : progr
   patch-res at a = rw (g .counts, g .functions, g .codes, g' .functions, g' .codes, size-here) (same-if (ltb (sizeHere c s) (at + 2)) (refused 23) (patched-same at a))
 
   pub patch-alike : (at a : ℕ) → AlikeRes (patchOf c at a s) (patchOf c at a s')
-  patch-alike at a = alike-res (patch-res at a) (patch-reads c at a s ok) (patch-reads c at a s' ok') (rw same)
+  patch-alike at a = alike-res (patch-res at a) (patch-reads c at a s (one .ok)) (patch-reads c at a s' (one .ok')) (rw (one .same))
 
   -- a text behind the others
   more-text : (lent : List ℕ) → AsLong (withText (written (s' .text) (c .text) lent) s') (withText (written (s .text) (c .text) lent) s)
-  more-text lent = text-long long _ _ (written-long _ _ _ _ _ _ (long .text))
+  more-text lent = text-long (one .long) _ _ (written-long _ _ _ _ _ _ (one .long .text))
 
   text-constant : (kind : ℕ) (lent : List ℕ) → SameRes (withTextConstant c kind lent s) (withTextConstant c kind lent s')
   unfolding withTextConstant
-  text-constant kind lent = rw (text-room (length lent)) (same-if (textRoom c s (length lent)) (both-done (oneConstant (length lent) c) (c .constants) (constants-long (more-text lent) _ _ (words-long _ _ _ _ _ _ _ _ (long .constants)))) (refused 21))
+  text-constant kind lent = rw (text-room (length lent)) (same-if (textRoom c s (length lent)) (both-done (oneConstant (length lent) c) (c .constants) (constants-long (more-text lent) _ _ (words-long _ _ _ _ _ _ _ _ (one .long .constants)))) (refused 21))
 
   plain-constant : (kind payload : ℕ) → SameRes (withConstant c kind payload s) (withConstant c kind payload s')
   unfolding withConstant
-  plain-constant kind payload = both-done (oneConstant 0 c) (c .constants) (constants-long long _ _ (words-long _ _ _ _ _ _ _ _ (long .constants)))
+  plain-constant kind payload = both-done (oneConstant 0 c) (c .constants) (constants-long (one .long) _ _ (words-long _ _ _ _ _ _ _ _ (one .long .constants)))
 
   constant-by : (x : Constant) (lent : List ℕ) → SameRes (constantAdded c x lent s) (constantAdded c x lent s')
   unfolding constantAdded
@@ -203,42 +210,42 @@ module _ (c : Counts) (s s' : Stores) (ok : programOk c s ≡ true) (ok' : progr
   constant-res : (x : Constant) (lent : List ℕ) → SameRes (addConstantOf c x lent s) (addConstantOf c x lent s')
   unfolding addConstantOf constantOrder
   constant-res x lent =
-      rw (g .counts, g .text, g .constants, g' .text, g' .constants, places-alike (s' .constants) (s .constants) (long .constants) 2)
+      rw (g .counts, g .text, g .constants, g' .text, g' .constants, places-alike (s' .constants) (s .constants) (one .long .constants) 2)
       (same-if (leb constantLimit (c .constants)) (refused 22) (same-if (leb (places 2 (s .constants)) (c .constants)) (refused 21) (constant-by x lent)))
 
   pub constant-alike : (x : Constant) (lent : List ℕ) → AlikeRes (addConstantOf c x lent s) (addConstantOf c x lent s')
-  constant-alike x lent = alike-res (constant-res x lent) (add-constant-reads c x lent s ok) (add-constant-reads c x lent s' ok') (rw same)
+  constant-alike x lent = alike-res (constant-res x lent) (add-constant-reads c x lent s (one .ok)) (add-constant-reads c x lent s' (one .ok')) (rw (one .same))
 
   struct-by : (name : List ℕ) (x : Option ℕ) → SameRes (structFound c name s x) (structFound c name s' x)
   unfolding structFound structAdded
-  struct-by name (some i) = both-done c i long
+  struct-by name (some i) = both-done c i (one .long)
   struct-by name none =
-      rw (text-room (length name), places-alike (s' .structs) (s .structs) (long .structs) 1)
+      rw (text-room (length name), places-alike (s' .structs) (s .structs) (one .long .structs) 1)
       (same-if (leb nameLimit (c .structs)) (refused 22) (same-if (leb (places 1 (s .structs)) (c .structs)) (refused 21) (same-if (textRoom c s (length name))
-      (both-done (oneStruct (length name) c) (c .structs) (structs-long (more-text name) _ _ (set-long (s .structs) (s' .structs) (c .structs) (c .structs) _ _ (long .structs)))) (refused 21))))
+      (both-done (oneStruct (length name) c) (c .structs) (structs-long (more-text name) _ _ (set-long (s .structs) (s' .structs) (c .structs) (c .structs) _ _ (one .long .structs)))) (refused 21))))
 
   struct-res : (name : List ℕ) → SameRes (addStructOf c name s) (addStructOf c name s')
   unfolding addStructOf structOrder
   struct-res name = rw (g .counts, g .text, g .structs, g' .text, g' .structs, structs-same) (struct-by name _)
 
   pub struct-alike : (name : List ℕ) → AlikeRes (addStructOf c name s) (addStructOf c name s')
-  struct-alike name = alike-res (struct-res name) (struct-reads c name s ok) (struct-reads c name s' ok') (rw same)
+  struct-alike name = alike-res (struct-res name) (struct-reads c name s (one .ok)) (struct-reads c name s' (one .ok')) (rw (one .same))
 
   begun-same : (name : List ℕ) → SameRes (begun c name s) (begun c name s')
   unfolding begun
-  begun-same name = both-done (oneFunction (length name) c) (c .functions) (functions-long (more-text name) _ _ (words-long _ _ _ _ _ _ _ _ (long .functions)))
+  begun-same name = both-done (oneFunction (length name) c) (c .functions) (functions-long (more-text name) _ _ (words-long _ _ _ _ _ _ _ _ (one .long .functions)))
 
   begin-res : (name : List ℕ) → SameRes (beginFunctionOf c name s) (beginFunctionOf c name s')
   unfolding beginFunctionOf functionOrder
   begin-res name =
-      rw (g .counts, g .text, g .functions, g .main, g' .text, g' .functions, g' .main, text-room (length name), places-alike (s' .functions) (s .functions) (long .functions) 2)
+      rw (g .counts, g .text, g .functions, g .main, g' .text, g' .functions, g' .main, text-room (length name), places-alike (s' .functions) (s .functions) (one .long .functions) 2)
       (same-if (leb nameLimit (c .functions)) (refused 22) (same-if (leb (places 2 (s .functions)) (c .functions)) (refused 21) (same-if (textRoom c s (length name)) (begun-same name) (refused 21))))
 
   pub begin-alike : (name : List ℕ) → AlikeRes (beginFunctionOf c name s) (beginFunctionOf c name s')
-  begin-alike name = alike-res (begin-res name) (begin-reads c name s ok) (begin-reads c name s' ok') (rw same)
+  begin-alike name = alike-res (begin-res name) (begin-reads c name s (one .ok)) (begin-reads c name s' (one .ok')) (rw (one .same))
 
   pub end-alike : AlikeRes (record { answer = endFunctionOf c; stores = s }) (record { answer = endFunctionOf c; stores = s' })
-  end-alike = record { answer = refl; rooms = long; program = λ d i q. end-reads c s' ok' d i q ∙ same ∙ sym (end-reads c s ok d i q) }
+  end-alike = record { answer = refl; rooms = one .long; program = λ d i q. end-reads c s' (one .ok') d i q ∙ one .same ∙ sym (end-reads c s (one .ok) d i q) }
 
   -- ---- entries that only look
 
@@ -257,7 +264,7 @@ module _ (c : Counts) (s s' : Stores) (ok : programOk c s ≡ true) (ok' : progr
 
   pub save-same : (out : List ℕ) → saveOf c s' out ≡ saveOf c s out
   unfolding saveOf
-  save-same out = rw (ok, ok', same)
+  save-same out = rw (one .ok, one .ok', one .same)
 
   list-order : listOrder c s' ≡ listOrder c s
   unfolding listOrder
@@ -265,7 +272,7 @@ module _ (c : Counts) (s s' : Stores) (ok : programOk c s ≡ true) (ok' : progr
 
   pub list-same : (out : List ℕ) → listOf c s' out ≡ listOf c s out
   unfolding listOf
-  list-same out = rw (list-order, same)
+  list-same out = rw (list-order, one .same)
 
   pub trace-same : (m : Vm) → m .program ≡ c → (frames : List Frame) (out : List ℕ) → backtraceIn m s' frames out ≡ backtraceIn m s frames out
   unfolding backtraceIn traceOrder

@@ -47,9 +47,9 @@ use Rattle.demands.proofs.Emitted.{Grows, emit-grows, patch-grows, cons
 use Rattle.demands.proofs.Refusing.{ask-says}
 use Rattle.demands.proofs.Orderly.{order-kept, end-grows, refused-is}
 use Rattle.demands.proofs.Bytes.{ask-bytes}
-use Rattle.demands.proofs.Beside.{AlikeRes, emit-alike, patch-alike, constant-alike, struct-alike, begin-alike, end-alike, offset-same, index-same, save-same, list-same, trace-same}
+use Rattle.demands.proofs.Beside.{AlikeRes, OneProgram, emit-alike, patch-alike, constant-alike, struct-alike, begin-alike, end-alike, offset-same, index-same, save-same, list-same, trace-same}
 use Rattle.demands.proofs.Made.{AlikeLoaded, new-alike, load-alike}
-use Rattle.demands.proofs.MeantRuns.{AlikeCall, ok', same, sane, beside-sane}
+use Rattle.demands.proofs.MeantRuns.{AlikeCall, one-program, sane, beside-sane}
 
 -- ---- a value of the stack
 
@@ -207,7 +207,7 @@ module _ {r : Bool} {h d : Held} (a : AlikeHeld r h d) where
 
   trace-told : (out : List ℕ) → backtraceIn (h .vm) (h .stores) (h .lent .frames) out ≡ backtraceIn (d .vm) (d .stores) (d .lent .frames) out
   trace-told out =
-      trace-alike (h .vm) (h .stores) frame-store out ∙ sym (trace-same c (h .stores) (d .stores) (a .fine .order .program) (ok' a) (same a) (a .stores) (h .vm) refl (d .lent .frames) out)
+      trace-alike (h .vm) (h .stores) frame-store out ∙ sym (trace-same (one-program a) (h .vm) refl (d .lent .frames) out)
       ∙ (unfold backtraceIn traceOrder in rw (a .counts, frame-count))
 
   -- the last result
@@ -243,32 +243,26 @@ module _ {r : Bool} {h d : Held} (a : AlikeHeld r h d) where
 
   -- ---- a line for each
 
-  abbrev s : Stores
-  s = h .stores
-
-  abbrev t : Stores
-  t = d .stores
-
-  ok : programOk c s ≡ true
-  ok = a .fine .order .program
+  one : OneProgram c (h .stores) (d .stores)
+  one = one-program a
 
   pub ask-said : (q : Ask) → Typed (jobOf q) → (isMakes (jobOf q) ≡ true → r ≡ true) → Line q
   unfolding done jobOf newMachineOf loadMachineOf addOpOf addOp1Of addOp2Of addOp3Of saidIn
   ask-said new b n = starts-line new refl (a .cells (n refl)) (new-alike (h .stores) (d .stores) (a .stores)) (ordered new b) (ordered' new b)
   ask-said (load image) b n = starts-line (load image) refl (a .cells (n refl)) (load-alike (h .stores) (d .stores) (a .stores) image b) (ordered (load image) b) (ordered' (load image) b)
-  ask-said (addOp op place) b n = emits-line _ _ _ b refl refl refl (rw (a .counts) (emit-alike c s t ok (ok' a) (same a) (a .stores) _ _ _)) (emit-grows _ _ _ _ _ ok) (emit-grows _ _ _ _ _ (a .beside .order .program))
-  ask-said (addOp1 op x place) b n = emits-line _ _ _ b refl refl refl (rw (a .counts) (emit-alike c s t ok (ok' a) (same a) (a .stores) _ _ _)) (emit-grows _ _ _ _ _ ok) (emit-grows _ _ _ _ _ (a .beside .order .program))
-  ask-said (addOp2 op x y place) b n = emits-line _ _ _ b refl refl refl (rw (a .counts) (emit-alike c s t ok (ok' a) (same a) (a .stores) _ _ _)) (emit-grows _ _ _ _ _ ok) (emit-grows _ _ _ _ _ (a .beside .order .program))
-  ask-said (addOp3 op x y z place) b n = emits-line _ _ _ b refl refl refl (rw (a .counts) (emit-alike c s t ok (ok' a) (same a) (a .stores) _ _ _)) (emit-grows _ _ _ _ _ ok) (emit-grows _ _ _ _ _ (a .beside .order .program))
-  ask-said (patch offset word) b n = emits-line _ _ _ b refl refl refl (rw (a .counts) (patch-alike c s t ok (ok' a) (same a) (a .stores) _ _)) (patch-grows _ _ _ _) (patch-grows _ _ _ _)
-  ask-said (addConstant x text) b n = emits-line _ _ _ b refl refl refl (rw (a .counts) (constant-alike c s t ok (ok' a) (same a) (a .stores) _ _)) (constant-grows _ _ _ _) (constant-grows _ _ _ _)
-  ask-said (addStruct text) b n = emits-line _ _ _ b refl refl refl (rw (a .counts) (struct-alike c s t ok (ok' a) (same a) (a .stores) _)) (struct-grows _ _ _) (struct-grows _ _ _)
-  ask-said (beginFunction text) b n = emits-line _ _ _ b refl refl refl (rw (a .counts) (begin-alike c s t ok (ok' a) (same a) (a .stores) _)) (begin-grows _ _ _) (begin-grows _ _ _)
-  ask-said endFunction b n = emits-line _ _ _ b refl refl refl (rw (a .counts) (end-alike c s t ok (ok' a) (same a) (a .stores))) (end-grows _ _) (end-grows _ _)
-  ask-said currentOffset b n = looks-line _ _ _ refl refl refl (rw (a .counts, offset-same c s t ok (ok' a) (same a) (a .stores)))
-  ask-said (functionIdx text) b n = looks-line _ _ _ refl refl refl (rw (a .counts, index-same c s t ok (ok' a) (same a) (a .stores) text))
-  ask-said (save out) b n = looks-line _ _ _ refl refl refl (rw (a .counts, save-same c s t ok (ok' a) (same a) (a .stores) out))
-  ask-said (disassemble out) b n = looks-line _ _ _ refl refl refl (rw (a .counts, list-same c s t ok (ok' a) (same a) (a .stores) out))
+  ask-said (addOp op place) b n = emits-line _ _ _ b refl refl refl (rw (a .counts) (emit-alike one _ _ _)) (emit-grows _ _ _ _ _ (one .ok)) (emit-grows _ _ _ _ _ (a .beside .order .program))
+  ask-said (addOp1 op x place) b n = emits-line _ _ _ b refl refl refl (rw (a .counts) (emit-alike one _ _ _)) (emit-grows _ _ _ _ _ (one .ok)) (emit-grows _ _ _ _ _ (a .beside .order .program))
+  ask-said (addOp2 op x y place) b n = emits-line _ _ _ b refl refl refl (rw (a .counts) (emit-alike one _ _ _)) (emit-grows _ _ _ _ _ (one .ok)) (emit-grows _ _ _ _ _ (a .beside .order .program))
+  ask-said (addOp3 op x y z place) b n = emits-line _ _ _ b refl refl refl (rw (a .counts) (emit-alike one _ _ _)) (emit-grows _ _ _ _ _ (one .ok)) (emit-grows _ _ _ _ _ (a .beside .order .program))
+  ask-said (patch offset word) b n = emits-line _ _ _ b refl refl refl (rw (a .counts) (patch-alike one _ _)) (patch-grows _ _ _ _) (patch-grows _ _ _ _)
+  ask-said (addConstant x text) b n = emits-line _ _ _ b refl refl refl (rw (a .counts) (constant-alike one _ _)) (constant-grows _ _ _ _) (constant-grows _ _ _ _)
+  ask-said (addStruct text) b n = emits-line _ _ _ b refl refl refl (rw (a .counts) (struct-alike one _)) (struct-grows _ _ _) (struct-grows _ _ _)
+  ask-said (beginFunction text) b n = emits-line _ _ _ b refl refl refl (rw (a .counts) (begin-alike one _)) (begin-grows _ _ _) (begin-grows _ _ _)
+  ask-said endFunction b n = emits-line _ _ _ b refl refl refl (rw (a .counts) (end-alike one)) (end-grows _ _) (end-grows _ _)
+  ask-said currentOffset b n = looks-line _ _ _ refl refl refl (rw (a .counts, offset-same one))
+  ask-said (functionIdx text) b n = looks-line _ _ _ refl refl refl (rw (a .counts, index-same one text))
+  ask-said (save out) b n = looks-line _ _ _ refl refl refl (rw (a .counts, save-same one out))
+  ask-said (disassemble out) b n = looks-line _ _ _ refl refl refl (rw (a .counts, list-same one out))
   ask-said (backtrace out) b n = looks-line _ _ _ refl refl refl (rw (trace-told out))
   ask-said lastResult b n = looks-line _ _ _ refl refl refl last-said
   ask-said (stackValue i) b n = looks-line _ _ _ refl refl refl (slot-said i _ refl)

@@ -65,8 +65,8 @@ last-self t H (Is x) = al.is refl
 machine-self : (w : World) (m : Machine) → AlikeMachine w (record { text = w .text; constants = w .constants; cellRoom = w .cellRoom }) m m
 machine-self w m = record { stack = values-self (w .text) (m .heap) (m .stack); last = last-self (w .text) (m .heap) (m .last); frame = refl; callers = refl; free = refl }
 
-pub same-alike : (r : Bool) {h d : Held} → Fine h → Fine d → d .vm .program ≡ h .vm .program → d .stores ≡ h .stores → Rooms (d .lent) (h .lent) → machineOf d ≡ machineOf h → AlikeHeld r h d
-same-alike r {h} {d} o o' p s l m = record {
+pub self-alike : (r : Bool) {h d : Held} → Fine h → Fine d → d .vm .program ≡ h .vm .program → d .stores ≡ h .stores → Rooms (d .lent) (h .lent) → machineOf d ≡ machineOf h → AlikeHeld r h d
+self-alike r {h} {d} o o' p s l m = record {
   counts = p;
   program = rw (p, s);
   stores = rw s (record { constants = refl; structs = refl; functions = refl; text = refl; main = refl; mainPlaces = refl; other = refl; otherPlaces = refl });

@@ -25,7 +25,7 @@ use Rattle.demands.specs.Agree.{Rooms}
 use Rattle.demands.specs.Kept.{InOrder}
 use Rattle.demands.specs.Meant.{worldIn, machineOf, layoutOf, AlikeHeld, ended, saidIn, says}
 use Rattle.demands.proofs.Fronts.{places-alike}
-use Rattle.demands.proofs.Beside.{functions-same}
+use Rattle.demands.proofs.Beside.{OneProgram, functions-same}
 use Rattle.demands.proofs.Constants.{constants-mean}
 use Rattle.demands.proofs.OneRun.{Seen, went, stayed, seen, ran-rooms}
 
@@ -93,23 +93,19 @@ module _ {r : Bool} {h d : Held} (a : AlikeHeld r h d) where
   abbrev c : Counts
   c = h .vm .program
 
-  -- one program in both stores
-  pub ok' : programOk c (d .stores) ≡ true
-  ok' = rw (a .counts) at (a .beside .order .program)
-
-  pub same : programIn c (d .stores) ≡ programIn c (h .stores)
-  same = rw (a .counts) at (a .program)
+  pub one-program : OneProgram c (h .stores) (d .stores)
+  one-program = record { ok = a .fine .order .program; ok' = rw (a .counts) at (a .beside .order .program); same = rw (a .counts) at (a .program); long = a .stores }
 
   beside-world : worldIn d ≡ laidOut (layoutOf d) (worldIn h)
   unfolding worldOf st.worldIn frameRoom
-  beside-world = rw (a .counts, functions-same c (h .stores) (d .stores) (a .fine .order .program) ok' same (a .stores), places-alike (d .lent .stack) (h .lent .stack) (a .stack) 2, a .frames)
+  beside-world = rw (a .counts, functions-same one-program, places-alike (d .lent .stack) (h .lent .stack) (a .stack) 2, a .frames)
 
   constants-same : AlikeConstants (worldIn h) (layoutOf d)
   unfolding worldOf st.worldIn programIn
   constants-same =
-      let g = good-of c (h .stores) (a .fine .order .program) in
-      let g' = good-of c (d .stores) ok' in
-      rw (a .counts) (constants-mean c (h .stores .text) (d .stores .text) (h .stores .constants) (d .stores .constants) (g .text) (g' .text) (g .constants) (g' .constants) (ap (λ (p : Program). p .constants) same))
+      let g = good-of c (h .stores) (one-program .ok) in
+      let g' = good-of c (d .stores) (one-program .ok') in
+      rw (a .counts) (constants-mean c (h .stores .text) (d .stores .text) (h .stores .constants) (d .stores .constants) (g .text) (g' .text) (g .constants) (g' .constants) (ap (λ (p : Program). p .constants) (one-program .same)))
 
   pub sane : (u : ℕ) → Sane (worldIn h) (begin (machineOf h) u)
   sane u = order-sane (h .vm) (h .stores) (h .lent) (a .fine .order .machine) u

@@ -25,7 +25,7 @@ use Rattle.demands.specs.Recovery.{Kept, start, return, Recovers, SetUp,
 use Rattle.demands.proofs.Fixed.{Standing, standing, counted, values-fix, machine-fixes}
 use Rattle.demands.proofs.Chains.{chains-agree}
 use Rattle.demands.proofs.OneRun.{ran-rooms}
-use Rattle.demands.proofs.MeantChains.{chain-alike, same-alike}
+use Rattle.demands.proofs.MeantChains.{chain-alike, self-alike}
 use Rattle.demands.proofs.Went.{Went, went}
 
 -- what the mark of a path kept
@@ -103,7 +103,7 @@ set-up-agrees {k = k} {d = d} a b =
 
 -- and they mean the same
 pub set-up-alike : (r : Bool) {x : Machine} {h k d : Held} → SetUp x h k → SetUp x h d → Fine k → Fine d → AlikeHeld r k d
-set-up-alike r a b o o' = same-alike r o o' (b .program ∙ sym (a .program)) (b .stores ∙ sym (a .stores)) (rooms-same b a) (b .machine ∙ sym (a .machine))
+set-up-alike r a b o o' = self-alike r o o' (b .program ∙ sym (a .program)) (b .stores ∙ sym (a .stores)) (rooms-same b a) (b .machine ∙ sym (a .machine))
 
 -- DEMAND 3
 pub fault-recovers : {h h' : Held} (u : ℕ) {n spent j : ℕ} → RunPost (h .vm) (h .stores) (h .lent) u (r.Fault (h' .vm) n spent j) (h' .lent) → h' .stores ≡ h .stores
