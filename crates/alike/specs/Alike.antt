@@ -27,7 +27,7 @@ pub data AlikeLast (t t' : List ℕ) (H H' : List Cell) : Last → Last → Type
   nothing : AlikeLast t t' H H' Nothing Nothing
   is : {x x' : Value} → AlikeValue t t' H H' x x' → AlikeLast t t' H H' (Is x) (Is x')
 
--- both placed, too
+-- and each is placed in its heap
 pub record Both (t t' : List ℕ) (H H' : List Cell) (x x' : Value) : Type 0 where
   pub alike : AlikeValue t t' H H' x x'
   pub left : placedBelow (length t) H (length H) x ≡ true

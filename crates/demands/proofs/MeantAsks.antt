@@ -74,6 +74,26 @@ text-begins k c s g =
       is = sym (take-append-drop t u) ∙ ap (λ (x : List ℕ). x ++ drop t u) (take-take t (c .text) (s .text) (g .text) ∙ g .front);
     }
 
+-- ---- one entry
+
+-- what an entry leaves is in good order, and its code is bytes
+left : (q : Ask) (k : Held) → Fine k → Typed (jobOf q) → Fine (done q k .held)
+left q k o t = record { order = order-kept (ask q) (done q k .answer) (unfold AllTyped in (t, tt)) {h = k} {h' = done q k .held} refl (o .order); code = ask-bytes q k t (o .code) }
+
+-- a refusal changes nothing
+stays : (q : Ask) (k : Held) (x : Res) → InOrder k → done q k ≡ emits k x → (i : ℕ) → x .answer ≡ em.Refused i → emits k x .held ≡ k
+stays q k x o e i r = subst (λ (y : Done). y .held ≡ k) e (ask-says k q .kept i (rw e (refused-is k o x i r)) .0)
+
+abbrev with-frames : Held → List Frame → Held
+with-frames k fs = record { vm = k .vm; stores = k .stores; lent = withFrames fs (k .lent) }
+
+-- ---- the last result
+
+last-by : {t t' : List ℕ} {H H' : List Cell} {l l' : Last} → AlikeLast t t' H H' l l' → saidIn t H (shown (lastShown l)) ≡ saidIn t' H' (shown (lastShown l'))
+unfolding saidIn lastShown
+last-by nothing = refl
+last-by (al.is b) = ap value b
+
 module _ {r : Bool} {h d : Held} (a : AlikeHeld r h d) where
   abbrev c : Counts
   c = h .vm .program
@@ -99,40 +119,21 @@ module _ {r : Bool} {h d : Held} (a : AlikeHeld r h d) where
       }
   emits-by x x' (em.Refused i) q l g g' same same' o o' = rw (same i q, same' i (l .answer ∙ q)) a
 
-  -- ---- one entry
-
   abbrev Line : Ask → Type 0
   Line q = AlikeCall r (ask q) (done q h .answer) (done q h .held) (done q d .answer) (done q d .held)
-
-  -- what an entry leaves is in good order, and its code is bytes
-  left : (q : Ask) (k : Held) → Fine k → Typed (jobOf q) → Fine (done q k .held)
-  left q k o t = record { order = order-kept (ask q) (done q k .answer) (unfold AllTyped in (t, tt)) {h = k} {h' = done q k .held} refl (o .order); code = ask-bytes q k t (o .code) }
-
-  ordered : (q : Ask) → Typed (jobOf q) → Fine (done q h .held)
-  ordered q t = left q h (a .fine) t
-
-  ordered' : (q : Ask) → Typed (jobOf q) → Fine (done q d .held)
-  ordered' q t = left q d (a .beside) t
-
-  -- a refusal changes nothing
-  stays : (q : Ask) (k : Held) (x : Res) → InOrder k → done q k ≡ emits k x → (i : ℕ) → x .answer ≡ em.Refused i → emits k x .held ≡ k
-  stays q k x o e i r = subst (λ (y : Done). y .held ≡ k) e (ask-says k q .kept i (rw e (refused-is k o x i r)) .0)
 
   emits-line : (q : Ask) {ws : List ℕ} (x x' : Res) → Typed (jobOf q) → jobOf q ≡ writes ws → done q h ≡ emits h x → done q d ≡ emits d x' → AlikeRes x x' → Grows c (h .stores) x → Grows (d .vm .program) (d .stores) x' → Line q
   unfolding says
   emits-line q x x' b e one other l g g' = record {
     says = rw (e, one, other) (unfold emits saidIn in rw (l .answer));
     held = rw (one, other) (emits-by x x' (x .answer) refl l g g' (stays q h x (a .fine .order) one) (stays q d x' (a .beside .order) other)
-        (subst (λ (y : Done). Fine (y .held)) one (ordered q b)) (subst (λ (y : Done). Fine (y .held)) other (ordered' q b)));
+        (subst (λ (y : Done). Fine (y .held)) one (left q h (a .fine) b)) (subst (λ (y : Done). Fine (y .held)) other (left q d (a .beside) b)));
   }
 
   -- ---- a machine that has not run
 
   frames-same : (fs fs' : List Frame) → h .lent .frames ≡ fs → d .lent .frames ≡ fs' → length fs' ≡ length fs
   frames-same fs fs' p q = rw (← p, ← q) (a .frames)
-
-  abbrev with-frames : Held → List Frame → Held
-  with-frames k fs = record { vm = k .vm; stores = k .stores; lent = withFrames fs (k .lent) }
 
   unstarted : (fs fs' : List Frame) → h .lent .frames ≡ fs → d .lent .frames ≡ fs' → AlikeHeld r (with-frames h fs) (with-frames d fs')
   unstarted fs fs' p q = rw (← p, ← q) a
@@ -211,11 +212,6 @@ module _ {r : Bool} {h d : Held} (a : AlikeHeld r h d) where
       ∙ (unfold backtraceIn traceOrder in rw (a .counts, frame-count))
 
   -- the last result
-  last-by : {t t' : List ℕ} {H H' : List Cell} {l l' : Last} → AlikeLast t t' H H' l l' → saidIn t H (shown (lastShown l)) ≡ saidIn t' H' (shown (lastShown l'))
-  unfolding saidIn lastShown
-  last-by nothing = refl
-  last-by (al.is b) = ap value b
-
   last-said : saidIn (worldIn h .text) (machineOf h .heap) (shown (lastResultOf (h .vm))) ≡ saidIn (worldIn d .text) (machineOf d .heap) (shown (lastResultOf (d .vm)))
   unfolding lastResultOf machineIn
   last-said = last-by (a .machine .last)
@@ -248,8 +244,8 @@ module _ {r : Bool} {h d : Held} (a : AlikeHeld r h d) where
 
   pub ask-said : (q : Ask) → Typed (jobOf q) → (isMakes (jobOf q) ≡ true → r ≡ true) → Line q
   unfolding done jobOf newMachineOf loadMachineOf addOpOf addOp1Of addOp2Of addOp3Of saidIn
-  ask-said new b n = starts-line new refl (a .cells (n refl)) (new-alike (h .stores) (d .stores) (a .stores)) (ordered new b) (ordered' new b)
-  ask-said (load image) b n = starts-line (load image) refl (a .cells (n refl)) (load-alike (h .stores) (d .stores) (a .stores) image b) (ordered (load image) b) (ordered' (load image) b)
+  ask-said new b n = starts-line new refl (a .cells (n refl)) (new-alike (h .stores) (d .stores) (a .stores)) (left new h (a .fine) b) (left new d (a .beside) b)
+  ask-said (load image) b n = starts-line (load image) refl (a .cells (n refl)) (load-alike (h .stores) (d .stores) (a .stores) image b) (left (load image) h (a .fine) b) (left (load image) d (a .beside) b)
   ask-said (addOp op place) b n = emits-line _ _ _ b refl refl refl (rw (a .counts) (emit-alike one _ _ _)) (emit-grows _ _ _ _ _ (one .ok)) (emit-grows _ _ _ _ _ (a .beside .order .program))
   ask-said (addOp1 op x place) b n = emits-line _ _ _ b refl refl refl (rw (a .counts) (emit-alike one _ _ _)) (emit-grows _ _ _ _ _ (one .ok)) (emit-grows _ _ _ _ _ (a .beside .order .program))
   ask-said (addOp2 op x y place) b n = emits-line _ _ _ b refl refl refl (rw (a .counts) (emit-alike one _ _ _)) (emit-grows _ _ _ _ _ (one .ok)) (emit-grows _ _ _ _ _ (a .beside .order .program))
