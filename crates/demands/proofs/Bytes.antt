@@ -1,4 +1,4 @@
--- Code stays bytes, whatever calls come.
+-- Code stays bytes, whatever calls come; so does good order (`fine-kept`).
 use mathlib.Core.Path.{_≡_, refl, sym, subst}
 use mathlib.Core.Bool.{Bool, true, false, _&&_}
 use mathlib.Core.List.{List, [], _∷_, _++_}
@@ -29,8 +29,10 @@ use Rattle.program.proofs.Bools.{either-way}
 use Rattle.image.proofs.Codecs.{bytes-front, bytes-rest}
 use Rattle.image.proofs.Trip.{image-only}
 use Rattle.rules.specs.Ordered.{CodeBytes}
-use Rattle.demands.specs.Host.{Held, Ask, new, load, addOp, addOp1, addOp2, addOp3, patch, addConstant, addStruct, beginFunction, endFunction, currentOffset, functionIdx, save, disassemble, backtrace, lastResult, stackValue, blockHeader, element, textBytes, emits, starts, looks, done}
-use Rattle.demands.specs.Jobs.{jobOf, Below, Typed}
+use Rattle.demands.specs.Host.{Held, Ask, new, load, addOp, addOp1, addOp2, addOp3, patch, addConstant, addStruct, beginFunction, endFunction, currentOffset, functionIdx, save, disassemble, backtrace, lastResult, stackValue, blockHeader, element, textBytes, Call, run, ask, Answer, Done, emits, starts, looks, done, After}
+use Rattle.demands.specs.Jobs.{jobOf, Below, Typed, AllTyped}
+use Rattle.demands.specs.Meant.{Fine}
+use Rattle.demands.proofs.Orderly.{order-kept}
 
 -- ---- a store of bytes
 
@@ -184,7 +186,7 @@ started-bytes (ld.Done c) t s (f ∷ fs) b k = b
 started-bytes (ld.Broken i) t s fs b k = k
 started-bytes (ld.Refused n) t s fs b k = k
 
-pub ask-bytes : (q : Ask) (h : Held) → Typed (jobOf q) → CodeBytes (h .stores) → CodeBytes (done q h .held .stores)
+ask-bytes : (q : Ask) (h : Held) → Typed (jobOf q) → CodeBytes (h .stores) → CodeBytes (done q h .held .stores)
 unfolding jobOf done emits starts looks newMachineOf loadMachineOf addOpOf addOp1Of addOp2Of addOp3Of Below
 ask-bytes new h t b = started-bytes _ _ (h .stores) (h .lent .frames) (new-bytes (h .stores) b) b
 ask-bytes (load image) h t b = started-bytes _ _ (h .stores) (h .lent .frames) (load-bytes image (h .stores) t b) b
@@ -208,3 +210,9 @@ ask-bytes (stackValue i) h t b = b
 ask-bytes (blockHeader x) h t b = b
 ask-bytes (element x i) h t b = b
 ask-bytes (textBytes x out) h t b = b
+
+-- every call keeps good order, and code bytes
+pub fine-kept : (c : Call) (a : Answer) → AllTyped (c ∷ []) → {h h' : Held} → After c h a h' → Fine h → Fine h'
+unfolding AllTyped
+fine-kept (run u) a t p o = record { order = order-kept (run u) a t p (o .order); code = rw (p .stores) (o .code) }
+fine-kept (ask q) a t {h} p o = record { order = order-kept (ask q) a t p (o .order); code = subst (λ (d : Done). CodeBytes (d .held .stores)) p (ask-bytes q h (t .0) (o .code)) }

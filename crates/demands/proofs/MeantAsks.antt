@@ -45,8 +45,8 @@ use Rattle.demands.proofs.Fixed as fx
 use Rattle.demands.proofs.Asks.{trace-alike}
 use Rattle.demands.proofs.Emitted.{Grows, emit-grows, patch-grows, constant-grows, struct-grows, begin-grows}
 use Rattle.demands.proofs.Refusing.{ask-says}
-use Rattle.demands.proofs.Orderly.{order-kept, end-grows, refused-is}
-use Rattle.demands.proofs.Bytes.{ask-bytes}
+use Rattle.demands.proofs.Orderly.{end-grows, refused-is}
+use Rattle.demands.proofs.Bytes.{fine-kept}
 use Rattle.demands.proofs.Beside.{AlikeRes, OneProgram, emit-alike, patch-alike, constant-alike, struct-alike, begin-alike, end-alike, offset-same, index-same, save-same, list-same, trace-same}
 use Rattle.demands.proofs.Made.{AlikeLoaded, new-alike, load-alike}
 use Rattle.demands.proofs.MeantRuns.{AlikeCall, one-program, sane, beside-sane}
@@ -78,7 +78,7 @@ text-begins k c s g =
 
 -- what an entry leaves is in good order, and its code is bytes
 left : (q : Ask) (k : Held) → Fine k → Typed (jobOf q) → Fine (done q k .held)
-left q k o t = record { order = order-kept (ask q) (done q k .answer) (unfold AllTyped in (t, tt)) {h = k} {h' = done q k .held} refl (o .order); code = ask-bytes q k t (o .code) }
+left q k o t = fine-kept (ask q) (done q k .answer) (unfold AllTyped in (t, tt)) refl o
 
 -- a refusal changes nothing
 stays : (q : Ask) (k : Held) (x : Res) → InOrder k → done q k ≡ emits k x → (i : ℕ) → x .answer ≡ em.Refused i → emits k x .held ≡ k

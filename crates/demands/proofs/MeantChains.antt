@@ -16,13 +16,14 @@ use Rattle.demands.specs.Host.{Held, Call, run, ask, Answer, After, Chai
 use Rattle.demands.specs.Agree.{Rooms}
 use Rattle.demands.specs.Jobs.{jobOf, isMakes, anew, AllTyped}
 use Rattle.demands.specs.Meant.{worldIn, machineOf, Fine, AlikeHeld, said, AlikeChains}
-use Rattle.demands.proofs.Orderly.{typed-first, typed-rest, order-kept}
+use Rattle.demands.proofs.Orderly.{typed-first, typed-rest}
+use Rattle.demands.proofs.Bytes.{fine-kept}
 use Rattle.demands.proofs.MeantRuns.{AlikeCall, same-world, run-said}
 use Rattle.demands.proofs.MeantAsks.{ask-said}
 
 call-alike : {r : Bool} (c : Call) {h d h' d' : Held} {x y : Answer} → AlikeHeld r h d → (anew (c ∷ []) ≡ true → r ≡ true) → AllTyped (c ∷ []) → After c h x h' → After c d y d' → AlikeCall r c x h' y d'
 unfolding anew AllTyped
-call-alike (run u) {x = x} {y = y} a n t p q = run-said a u (order-kept (run u) x t p (a .fine .order)) (order-kept (run u) y t q (a .beside .order)) p q
+call-alike (run u) {x = x} {y = y} a n t p q = run-said a u (fine-kept (run u) x t p (a .fine)) (fine-kept (run u) y t q (a .beside)) p q
 call-alike (ask i) a n t p q = rw (p, q) at (ask-said a i (t .0) (λ e. n (rw e)))
 
 anew-first : (c : Call) (cs : List Call) → anew (c ∷ []) ≡ true → anew (c ∷ cs) ≡ true

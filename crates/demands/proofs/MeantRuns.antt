@@ -23,7 +23,7 @@ use Rattle.alike.proofs.Runs.{run-alike}
 use Rattle.demands.specs.Host.{Held, Call, run, Answer, ran, RanBy, vmAfter}
 use Rattle.demands.specs.Agree.{Rooms}
 use Rattle.demands.specs.Kept.{InOrder}
-use Rattle.demands.specs.Meant.{worldIn, machineOf, layoutOf, AlikeHeld, ended, saidIn, says}
+use Rattle.demands.specs.Meant.{worldIn, machineOf, layoutOf, Fine, AlikeHeld, ended, saidIn, says}
 use Rattle.demands.proofs.Fronts.{places-alike}
 use Rattle.demands.proofs.Beside.{OneProgram, functions-same}
 use Rattle.demands.proofs.Constants.{constants-mean}
@@ -125,7 +125,7 @@ module _ {r : Bool} {h d : Held} (a : AlikeHeld r h d) where
       subst (λ (v : World). AlikeRan w (layoutOf d) (runOf w (machineOf h) u) (runOf v (machineOf d) u)) (sym beside-world)
       (run-alike w (layoutOf d) good good' constants-same (machineOf h) (machineOf d) u (sane u) (beside-sane u) (a .machine))
 
-  module _ (u : ℕ) {h' d' : Held} {x y : Answer} (o : InOrder h') (o' : InOrder d') where
+  module _ (u : ℕ) {h' d' : Held} {x y : Answer} (o : Fine h') (o' : Fine d') where
     stays-alike : Stays h x h' → Stays d y d' → AlikeCall r (run u) x h' y d'
     unfolding says saidIn
     stays-alike p q = record { says = rw (p .answer, q .answer); held = rw (p .held, q .held) a }
@@ -147,8 +147,8 @@ module _ {r : Bool} {h d : Held} (a : AlikeHeld r h d) where
             copy = q .rooms .copy ∙ a .copy ∙ sym (p .rooms .copy);
             backtrace = q .rooms .backtrace ∙ a .backtrace ∙ sym (p .rooms .backtrace);
             cells = λ e. q .rooms .cells ∙ a .cells e ∙ sym (p .rooms .cells);
-            fine = record { order = o; code = rw (p .stores) (a .fine .code) };
-            beside = record { order = o'; code = rw (q .stores) (a .beside .code) };
+            fine = o;
+            beside = o';
           };
         }
 
