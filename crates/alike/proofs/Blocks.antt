@@ -1,16 +1,16 @@
 -- What a host reads of two values that mean the same: the same header, elements that mean the same, the same text.
-use mathlib.Core.Path.{_≡_, refl, sym, ap, _∙_}
+use mathlib.Core.Path.{_≡_, sym, ap, _∙_}
 use mathlib.Core.Bool.{true}
 use mathlib.Core.List.{List}
-use Prim.Native.Nat.{ℕ, suc, _+_, _<_}
+use Prim.Native.Nat.{ℕ, suc}
 use native.Mathlib.Omega.{arith}
 use lib.ListN.{length}
 use Rattle.model.specs.declared.Value.the-variants as v
 use Rattle.model.specs.declared.Header.{Header}
 use Rattle.model.specs.Values.{textAt}
-use Rattle.model.specs.Heap.{Cell, itemIn, headIn, elementsIn, heapOk}
+use Rattle.model.specs.Heap.{Cell, headIn, elementsIn, heapOk}
 use Rattle.model.specs.Trees.{treesOf, treeOf, meaningTo, meaning}
-use Rattle.cells.proofs.Order.{Whole, list-of, list-number, struct-of, placed-more, Good, good-of}
+use Rattle.cells.proofs.Order.{Whole, list-of, list-number, struct-of, placed-more, good-of}
 use Rattle.cells.proofs.Meaning.{within, meaning-step}
 use Rattle.alike.specs.Alike.{Both}
 use Rattle.alike.specs.Blocks.{AlikeBlock}

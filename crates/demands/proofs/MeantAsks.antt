@@ -23,7 +23,6 @@ use Rattle.model.specs.Heap.{Cell, cellsFrom, heapOf}
 use Rattle.model.specs.Trees.{meaning}
 use Rattle.model.specs.Stores.{Stores}
 use Rattle.model.specs.Stores as st
-use Rattle.model.specs.Orders.{programOk}
 use Rattle.model.specs.Emission.{Res, addOpOf, addOp1Of, addOp2Of, addOp3Of}
 use Rattle.model.specs.Machines.{innermost, callersIn, machineIn, worldOf, backtraceIn, traceOrder, startWith, fresh, newMachineOf, loadMachineOf}
 use Rattle.model.specs.Readers.{lastShown, lastResultOf, valueShown, stackValueOf}

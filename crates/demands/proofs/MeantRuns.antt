@@ -11,7 +11,6 @@ use Rattle.model.specs.Runs.{begin, Ran, runOf}
 use Rattle.model.specs.Programs.{Program}
 use Rattle.model.specs.Stores.{programIn}
 use Rattle.model.specs.Stores as st
-use Rattle.model.specs.Orders.{programOk}
 use Rattle.model.specs.Machines.{frameRoom, machineIn, worldOf, tooShort, refused, runAnswer, answerIn, ranAs}
 use Rattle.model.specs.Machines as m
 use Rattle.rules.specs.Sane.{SaneWorld, Sane}
