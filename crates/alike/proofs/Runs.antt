@@ -19,36 +19,36 @@ use Rattle.rules.proofs.Adds.{step-adds}
 use Rattle.rules.proofs.Ends.{end-of}
 use Rattle.rules.proofs.Paths.{run-path, marked, mark-grows}
 use Rattle.rules.proofs.Keeps.{step-keeps}
-use Rattle.alike.specs.Alike.{AlikeValue, AlikeLast, nothing, is, roomed, SameFree, AlikeMachine, AlikeState, AlikeOutcome, goes, returns, faults}
+use Rattle.alike.specs.Alike.{AlikeValue, AlikeLast, nothing, is, Layout, laidOut, AlikeConstants, SameFree, AlikeMachine, AlikeState, AlikeOutcome, goes, returns, faults, Both}
 use Rattle.alike.specs.Answers.{meantIn, meant, AlikeRan}
-use Rattle.alike.proofs.Values.{Both, boths-of, values-on}
+use Rattle.alike.proofs.Values.{boths-of, values-on}
 use Rattle.alike.proofs.Steps.{step-alike}
 
 -- ---- the ends of two runs
 
-record AlikeMark (w : World) (n : ℕ) (k k' : Mark) : Type 0 where
-  last : AlikeLast (w .text) (k .heap) (k' .heap) (k .last) (k' .last)
-  free : SameFree (w .cellRoom) n (k .heap) (k' .heap)
+record AlikeMark (w : World) (lay : Layout) (k k' : Mark) : Type 0 where
+  last : AlikeLast (w .text) (lay .text) (k .heap) (k' .heap) (k .last) (k' .last)
+  free : SameFree (w .cellRoom) (lay .cellRoom) (k .heap) (k' .heap)
 
-data AlikeEnded (w : World) (n : ℕ) : Ended → Ended → Type 0 where
-  ends : {l l' : Last} {s s' : State} → AlikeLast (w .text) (s .heap) (s' .heap) l l' → AlikeState w n s s' → AlikeEnded w n (ended l s) (ended l' s')
-  stops : {i i' : Fault} {s s' : State} {k k' : Mark} → faultNumber i ≡ faultNumber i' → AlikeState w n s s' → AlikeMark w n k k' → AlikeEnded w n (stopped i s k) (stopped i' s' k')
+data AlikeEnded (w : World) (lay : Layout) : Ended → Ended → Type 0 where
+  ends : {l l' : Last} {s s' : State} → AlikeLast (w .text) (lay .text) (s .heap) (s' .heap) l l' → AlikeState w lay s s' → AlikeEnded w lay (ended l s) (ended l' s')
+  stops : {i i' : Fault} {s s' : State} {k k' : Mark} → faultNumber i ≡ faultNumber i' → AlikeState w lay s s' → AlikeMark w lay k k' → AlikeEnded w lay (stopped i s k) (stopped i' s' k')
 
 -- the answers so far: none on either side, or the last results
 data Answers (s s' : State) (l l' : Last) : Type 0 where
   not-yet : l ≡ Nothing → l' ≡ Nothing → Answers s s' l l'
   latest : l ≡ s .last → l' ≡ s' .last → Answers s s' l l'
 
-record Running (w : World) (n : ℕ) (l l' : Last) (k k' : Mark) (s s' : State) : Type 0 where
-  alike : AlikeState w n s s'
+record Running (w : World) (lay : Layout) (l l' : Last) (k k' : Mark) (s s' : State) : Type 0 where
+  alike : AlikeState w lay s s'
   left : Sane w s
-  right : Sane (roomed n w) s'
+  right : Sane (laidOut lay w) s'
   answers : Answers s s' l l'
-  marks : AlikeMark w n k k'
+  marks : AlikeMark w lay k k'
 
 -- cells behind both heaps change no meaning
-grown-alike : {t : List ℕ} {H H' K K' : List Cell} → heapOk (length t) H ≡ true → heapOk (length t) H' ≡ true → Grows H K → Grows H' K' → (x x' : Value) → Both t H H' x x' → AlikeValue t K K' x x'
-grown-alike {t} {H} {H'} e e' g g' x x' b = rw (g .is, g' .is) (meaning-kept t H (g .more) e x (b .left) ∙ b .alike ∙ sym (meaning-kept t H' (g' .more) e' x' (b .right)))
+grown-alike : {t t' : List ℕ} {H H' K K' : List Cell} → heapOk (length t) H ≡ true → heapOk (length t') H' ≡ true → Grows H K → Grows H' K' → (x x' : Value) → Both t t' H H' x x' → AlikeValue t t' K K' x x'
+grown-alike {t} {t'} {H} {H'} e e' g g' x x' b = rw (g .is, g' .is) (meaning-kept t H (g .more) e x (b .left) ∙ b .alike ∙ sym (meaning-kept t' H' (g' .more) e' x' (b .right)))
 
 -- the cells of the start are at the front of those that a fault leaves
 stopped-grows : (w : World) (m : Machine) (u : ℕ) {i : Fault} {s : State} {k : Mark} → endOf w (begin m u) ≡ stopped i s k → Grows (m .heap) (k .heap)
@@ -57,12 +57,8 @@ stopped-grows w m u {i} {s} {k} q =
     let r : StoppedBy w Nothing (mark b) b i s k = run-path w Nothing (mark b) b (sym (end-of w b) ∙ q) in
     mark-grows w (marked b) (r .path)
 
--- good order of a world does not ask for the room of cells
-pub roomed-good : {w : World} (n : ℕ) → SaneWorld w → SaneWorld (roomed n w)
-roomed-good n g = record { constants = g .constants; codes = g .codes; bytes = g .bytes }
-
-module _ (w : World) (n : ℕ) (good : SaneWorld w) where
-  answer-alike : {l l' : Last} {s s' : State} → AlikeState w n s s' → Answers s s' l l' → AlikeLast (w .text) (s .heap) (s' .heap) l l'
+module _ (w : World) (lay : Layout) (good : SaneWorld w) (beside-good : SaneWorld (laidOut lay w)) (same-constants : AlikeConstants w lay) where
+  answer-alike : {l l' : Last} {s s' : State} → AlikeState w lay s s' → Answers s s' l l' → AlikeLast (w .text) (lay .text) (s .heap) (s' .heap) l l'
   answer-alike a (not-yet q q') = rw (q, q') nothing
   answer-alike a (latest q q') = rw (q, q') (a .machine .last)
 
@@ -70,14 +66,14 @@ module _ (w : World) (n : ℕ) (good : SaneWorld w) where
   still p p' (not-yet q q') = not-yet q q'
   still p p' (latest q q') = latest (q ∙ sym p) (q' ∙ sym p')
 
-  over-alike : (s s' : State) → AlikeState w n s s' → over w s ≡ over (roomed n w) s'
+  over-alike : (s s' : State) → AlikeState w lay s s' → over w s ≡ over (laidOut lay w) s'
   unfolding over codeOf
   over-alike s s' a = rw (a .machine .frame)
 
   -- two ways to go on that end alike
-  module _ (k k' : Last → Mark → State → Ended) (on : (l l' : Last) (m m' : Mark) (s s' : State) → Running w n l l' m m' s s' → AlikeEnded w n (k l m s) (k' l' m' s')) where
-    next-alike : {l l' : Last} {m m' : Mark} {s s' : State} {x x' : Outcome} → Answers s s' l l' → AlikeMark w n m m' → AlikeOutcome w n x x' → Kept w s x → Kept (roomed n w) s' x'
-        → Adds (s .heap) (s .last) x → Adds (s' .heap) (s' .last) x' → AlikeEnded w n (next k l m x) (next k' l' m' x')
+  module _ (k k' : Last → Mark → State → Ended) (on : (l l' : Last) (m m' : Mark) (s s' : State) → Running w lay l l' m m' s s' → AlikeEnded w lay (k l m s) (k' l' m' s')) where
+    next-alike : {l l' : Last} {m m' : Mark} {s s' : State} {x x' : Outcome} → Answers s s' l l' → AlikeMark w lay m m' → AlikeOutcome w lay x x' → Kept w s x → Kept (laidOut lay w) s' x'
+        → Adds (s .heap) (s .last) x → Adds (s' .heap) (s' .last) x' → AlikeEnded w lay (next k l m x) (next k' l' m' x')
     unfolding next
     next-alike c z (goes a) h h' d d' = on _ _ _ _ _ _ (record { alike = a; left = h; right = h'; answers = still (d .1) (d' .1) c; marks = z })
     next-alike c z (returns b a) h h' d d' = on _ _ _ _ _ _ (record {
@@ -89,43 +85,43 @@ module _ (w : World) (n : ℕ) (good : SaneWorld w) where
     })
     next-alike c z (faults q a) h h' d d' = stops q a z
 
-    turn-alike : (l l' : Last) (m m' : Mark) (s s' : State) → Running w n l l' m m' s s' → (b : Bool) → over w s ≡ b → AlikeEnded w n (turn w k b l m s) (turn (roomed n w) k' b l' m' s')
+    turn-alike : (l l' : Last) (m m' : Mark) (s s' : State) → Running w lay l l' m m' s s' → (b : Bool) → over w s ≡ b → AlikeEnded w lay (turn w k b l m s) (turn (laidOut lay w) k' b l' m' s')
     unfolding turn
     turn-alike l l' m m' s s' r true o = ends (answer-alike (r .alike) (r .answers)) (r .alike)
     turn-alike l l' m m' s s' r false o =
-        next-alike (r .answers) (r .marks) (step-alike w n good s s' (r .left) (r .right) (r .alike)) (step-keeps w s good (r .left) o)
-        (step-keeps (roomed n w) s' (roomed-good n good) (r .right) (sym (over-alike s s' (r .alike)) ∙ o)) (step-adds w s) (step-adds (roomed n w) s')
+        next-alike (r .answers) (r .marks) (step-alike w lay good beside-good same-constants s s' (r .left) (r .right) (r .alike)) (step-keeps w s good (r .left) o)
+        (step-keeps (laidOut lay w) s' beside-good (r .right) (sym (over-alike s s' (r .alike)) ∙ o)) (step-adds w s) (step-adds (laidOut lay w) s')
 
-  turns-alike : (j : ℕ) (l l' : Last) (m m' : Mark) (s s' : State) → Running w n l l' m m' s s' → AlikeEnded w n (runFor w j l m s) (runFor (roomed n w) j l' m' s')
+  turns-alike : (j : ℕ) (l l' : Last) (m m' : Mark) (s s' : State) → Running w lay l l' m m' s s' → AlikeEnded w lay (runFor w j l m s) (runFor (laidOut lay w) j l' m' s')
   unfolding runFor
   turns-alike zero l l' m m' s s' r = stops refl (r .alike) (r .marks)
   turns-alike (suc j) l l' m m' s s' r =
-      rw (← over-alike s s' (r .alike)) (turn-alike (runFor w j) (runFor (roomed n w) j) (turns-alike j) l l' m m' s s' r (over w s) refl)
+      rw (← over-alike s s' (r .alike)) (turn-alike (runFor w j) (runFor (laidOut lay w) j) (turns-alike j) l l' m m' s s' r (over w s) refl)
 
   -- ---- two runs of u units
 
   -- machines do not have units
-  started : {m m' : Machine} (u : ℕ) → AlikeMachine w n m m' → AlikeState w n (begin m u) (begin m' u)
+  started : {m m' : Machine} (u : ℕ) → AlikeMachine w lay m m' → AlikeState w lay (begin m u) (begin m' u)
   started u a = record { machine = a; units = refl }
 
-  module _ (m m' : Machine) (u : ℕ) (h : Sane w (begin m u)) (h' : Sane (roomed n w) (begin m' u)) (a : AlikeMachine w n m m') where
-    end-alike : AlikeEnded w n (endOf w (begin m u)) (endOf (roomed n w) (begin m' u))
+  module _ (m m' : Machine) (u : ℕ) (h : Sane w (begin m u)) (h' : Sane (laidOut lay w) (begin m' u)) (a : AlikeMachine w lay m m') where
+    end-alike : AlikeEnded w lay (endOf w (begin m u)) (endOf (laidOut lay w) (begin m' u))
     unfolding endOf
     end-alike =
         turns-alike (suc u) Nothing Nothing _ _ _ _ (record { alike = started u a; left = h; right = h'; answers = not-yet refl refl; marks = record { last = a .last; free = a .free } })
 
-    answered-alike : {l l' : Last} {H H' : List Cell} (j : ℕ) → AlikeLast (w .text) H H' l l' → meantIn (w .text) H (answered l j) ≡ meantIn (w .text) H' (answered l' j)
+    answered-alike : {l l' : Last} {H H' : List Cell} (j : ℕ) → AlikeLast (w .text) (lay .text) H H' l l' → meantIn (w .text) H (answered l j) ≡ meantIn (lay .text) H' (answered l' j)
     unfolding meantIn answered
     answered-alike j nothing = refl
     answered-alike j (is b) = rw b
 
-    settled-alike : {x x' : Ended} → AlikeEnded w n x x' → endOf w (begin m u) ≡ x → endOf (roomed n w) (begin m' u) ≡ x' → AlikeRan w n (settle w m u x) (settle (roomed n w) m' u x')
+    settled-alike : {x x' : Ended} → AlikeEnded w lay x x' → endOf w (begin m u) ≡ x → endOf (laidOut lay w) (begin m' u) ≡ x' → AlikeRan w lay (settle w m u x) (settle (laidOut lay w) m' u x')
     unfolding settle recovered meant meantIn
     settled-alike (ends b a) q q' = record { answer = rw (a .units) (answered-alike _ b); machine = a .machine }
     settled-alike (stops i b k) q q' = record {
       answer = rw (i, b .units, b .machine .frame, b .machine .callers);
       machine = record {
-        stack = values-on (grown-alike (h .heap) (h' .heap) (stopped-grows w m u q) (stopped-grows (roomed n w) m' u q')) (boths-of (a .stack) (h .placed) (h' .placed));
+        stack = values-on (grown-alike (h .heap) (h' .heap) (stopped-grows w m u q) (stopped-grows (laidOut lay w) m' u q')) (boths-of (a .stack) (h .placed) (h' .placed));
         last = k .last;
         frame = refl;
         callers = refl;
@@ -133,6 +129,6 @@ module _ (w : World) (n : ℕ) (good : SaneWorld w) where
       };
     }
 
-    pub run-alike : AlikeRan w n (runOf w m u) (runOf (roomed n w) m' u)
+    pub run-alike : AlikeRan w lay (runOf w m u) (runOf (laidOut lay w) m' u)
     unfolding runOf
     run-alike = settled-alike end-alike refl refl

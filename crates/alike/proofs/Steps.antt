@@ -28,53 +28,56 @@ use Rattle.model.specs.Equality.{Same, same}
 use Rattle.model.specs.Trees.{treeOf, meaningTo, meaning}
 use Rattle.model.specs.Programs.{functionNamed}
 use Rattle.model.specs.Steps.{World, State, Outcome, went, faulted, withStack, withHeap, withUnits, withFrames, at, position, codeOf, pushing, onFound, constantOf, slotOf, lastOf, loadStep, slotStep, lastStep, negateStep, arithmeticStep, orderingStep, onSame, equalStep, logicStep, notStep, jumpStep, jumpIfFalseStep, enter, callStep, enterNamed, callCallableStep, onBuilt, buildStep, structStep, fieldStep, cut, returnTo, returnStep, execOf, operandsThen, decodedThen, fetched, stepOf}
-use Rattle.cells.proofs.Order.{Placed}
 use Rattle.cells.proofs.Meaning.{meaning-kept}
 use Rattle.rules.specs.Sane.{SaneWorld, Sane}
 use Rattle.rules.proofs.Combinators.{if-each}
 use Rattle.rules.proofs.Does.{Makes, list, struct}
-use Rattle.rules.proofs.Placed.{grows-placed, all-at}
-use Rattle.alike.specs.Alike.{AlikeValue, AlikeValues, roomed, SameFree, AlikeState, AlikeOutcome, goes, returns, faults}
+use Rattle.rules.proofs.Placed.{grows-placed}
+use Rattle.alike.specs.Alike.{AlikeValue, AlikeValues, Layout, laidOut, AlikeConstants, SameFree, AlikeState, AlikeOutcome, goes, returns, faults, Both}
 use Rattle.alike.specs.Alike as a
-use Rattle.alike.proofs.Values.{Both, Boths, empty, over, BothLast, nothing, is, boths-of, last-of, values-on, last-on, Kinds, scalars, booleans, strings, references, lists, structs, BothFound, got, bad, found-if, kinds, same-alike, length-alike, at-alike, drop-alike, take-alike, turned-alike, field-alike}
+use Rattle.alike.proofs.Values.{Boths, empty, over, BothLast, nothing, is, boths-of, last-of, values-on, last-on, Kinds, scalars, booleans, strings, references, lists, structs, BothFound, got, bad, found-if, kinds, same-alike, length-alike, at-alike, drop-alike, take-alike, turned-alike, field-alike}
 use Rattle.alike.proofs.Builds.{BothGrow, BothBuilt, made, refused, build-alike}
 
-made-alike : {t : List ℕ} {n n' : ℕ} {H H' K K' : List Cell} {c : ℕ → Value} {elements : ℕ → List Value → List Value} {k : ℕ} → Makes c elements k → BothGrow t n n' H H' k K K' → AlikeValue t K K' (c (length H)) (c (length H'))
+made-alike : {t t' : List ℕ} {n n' : ℕ} {H H' K K' : List Cell} {c : ℕ → Value} {elements : ℕ → List Value → List Value} {k : ℕ} → Makes c elements k → BothGrow t t' n n' H H' k K K' → AlikeValue t t' K K' (c (length H)) (c (length H'))
 made-alike list g = g .list refl
 made-alike (struct i) g = g .struct
 
-result-alike : {t : List ℕ} {H H' : List Cell} {l l' : Last} → BothLast t H H' l l' → BothFound t H H' (lastOf l) (lastOf l')
+result-alike : {t t' : List ℕ} {H H' : List Cell} {l l' : Last} → BothLast t t' H H' l l' → BothFound t t' H H' (lastOf l) (lastOf l')
 unfolding lastOf
 result-alike nothing = bad _
 result-alike (is b) = got b
+
+no-cells : (t : ℕ) → heapOk t [] ≡ true
+unfolding heapOk blocksFrom
+no-cells t = refl
 
 -- s with another stack, other cells and another last result
 abbrev beside : State → List Value → List Cell → Last → State
 beside s vs H l = record { stack = vs; frame = s .frame; callers = s .callers; heap = H; last = l; units = s .units }
 
 -- they mean the same
-record Beside (w : World) (n : ℕ) (s : State) (vs' : List Value) (H' : List Cell) (l' : Last) : Type 0 where
+record Beside (w : World) (lay : Layout) (s : State) (vs' : List Value) (H' : List Cell) (l' : Last) : Type 0 where
   left : heapOk (length (w .text)) (s .heap) ≡ true
-  right : heapOk (length (w .text)) H' ≡ true
-  stack : Boths (w .text) (s .heap) H' (s .stack) vs'
-  last : BothLast (w .text) (s .heap) H' (s .last) l'
-  free : SameFree (w .cellRoom) n (s .heap) H'
+  right : heapOk (length (lay .text)) H' ≡ true
+  stack : Boths (w .text) (lay .text) (s .heap) H' (s .stack) vs'
+  last : BothLast (w .text) (lay .text) (s .heap) H' (s .last) l'
+  free : SameFree (w .cellRoom) (lay .cellRoom) (s .heap) H'
 
-module _ (w : World) (n : ℕ) (good : SaneWorld w) (s : State) (vs' : List Value) (H' : List Cell) (l' : Last) (sides : Beside w n s vs' H' l') where
+module _ (w : World) (lay : Layout) (good : SaneWorld w) (beside-good : SaneWorld (laidOut lay w)) (same-constants : AlikeConstants w lay) (s : State) (vs' : List Value) (H' : List Cell) (l' : Last) (sides : Beside w lay s vs' H' l') where
   abbrev other : State
   other = beside s vs' H' l'
 
   abbrev R : Outcome → Outcome → Type 0
-  R = AlikeOutcome w n
+  R = AlikeOutcome w lay
 
   abbrev B : Value → Value → Type 0
-  B = Both (w .text) (s .heap) H'
+  B = Both (w .text) (lay .text) (s .heap) H'
 
   abbrev Bs : List Value → List Value → Type 0
-  Bs = Boths (w .text) (s .heap) H'
+  Bs = Boths (w .text) (lay .text) (s .heap) H'
 
   -- other stacks, other frames, other units
-  states : (q : Frame) (cs : List Frame) (u : ℕ) {r r' : List Value} → Bs r r' → AlikeState w n (withStack r (withFrames q cs (withUnits u s))) (withStack r' (withFrames q cs (withUnits u other)))
+  states : (q : Frame) (cs : List Frame) (u : ℕ) {r r' : List Value} → Bs r r' → AlikeState w lay (withStack r (withFrames q cs (withUnits u s))) (withStack r' (withFrames q cs (withUnits u other)))
   states q cs u b = record {
     machine = record { stack = values-on (λ x x' c. c .alike) b; last = last-on (λ x x' c. c .alike) (sides .last); frame = refl; callers = refl; free = sides .free };
     units = refl;
@@ -83,7 +86,7 @@ module _ (w : World) (n : ℕ) (good : SaneWorld w) (s : State) (vs' : List Valu
   stacks : {r r' : List Value} → Bs r r' → R (went (withStack r s)) (went (withStack r' other))
   stacks b = goes (states (s .frame) (s .callers) (s .units) b)
 
-  here : AlikeState w n s other
+  here : AlikeState w lay s other
   here = states (s .frame) (s .callers) (s .units) (sides .stack)
 
   halt : (i : Fault) → R (faulted i s) (faulted i other)
@@ -100,7 +103,7 @@ module _ (w : World) (n : ℕ) (good : SaneWorld w) (s : State) (vs' : List Valu
   unfolding faultNumber
   wrong x x' = faults refl here
 
-  scalar-alike : {x x' : Value} → Kinds (w .text) (s .heap) H' x x' → (k k' : Float → Outcome) {y y' : Outcome} → ((z : Float) → R (k z) (k' z)) → R y y' → R (ifScalar x k y) (ifScalar x' k' y')
+  scalar-alike : {x x' : Value} → Kinds (w .text) (lay .text) (s .heap) H' x x' → (k k' : Float → Outcome) {y y' : Outcome} → ((z : Float) → R (k z) (k' z)) → R y y' → R (ifScalar x k y) (ifScalar x' k' y')
   unfolding ifScalar
   scalar-alike (scalars z) k k' p q = p z
   scalar-alike (booleans z) k k' p q = q
@@ -109,7 +112,7 @@ module _ (w : World) (n : ℕ) (good : SaneWorld w) (s : State) (vs' : List Valu
   scalar-alike lists k k' p q = q
   scalar-alike (structs h) k k' p q = q
 
-  boolean-alike : {x x' : Value} → Kinds (w .text) (s .heap) H' x x' → (k k' : Bool → Outcome) {y y' : Outcome} → ((z : Bool) → R (k z) (k' z)) → R y y' → R (ifBoolean x k y) (ifBoolean x' k' y')
+  boolean-alike : {x x' : Value} → Kinds (w .text) (lay .text) (s .heap) H' x x' → (k k' : Bool → Outcome) {y y' : Outcome} → ((z : Bool) → R (k z) (k' z)) → R y y' → R (ifBoolean x k y) (ifBoolean x' k' y')
   unfolding ifBoolean
   boolean-alike (scalars z) k k' p q = q
   boolean-alike (booleans z) k k' p q = p z
@@ -118,8 +121,8 @@ module _ (w : World) (n : ℕ) (good : SaneWorld w) (s : State) (vs' : List Valu
   boolean-alike lists k k' p q = q
   boolean-alike (structs h) k k' p q = q
 
-  reference-alike : {x x' : Value} → Kinds (w .text) (s .heap) H' x x' → (k : List ℕ → Outcome) (k' : List ℕ → Outcome) {y y' : Outcome} → ((z : List ℕ) → R (k z) (k' z)) → R y y'
-      → R (ifReference x (λ i m. k (textAt (w .text) i m)) y) (ifReference x' (λ i m. k' (textAt (w .text) i m)) y')
+  reference-alike : {x x' : Value} → Kinds (w .text) (lay .text) (s .heap) H' x x' → (k : List ℕ → Outcome) (k' : List ℕ → Outcome) {y y' : Outcome} → ((z : List ℕ) → R (k z) (k' z)) → R y y'
+      → R (ifReference x (λ i m. k (textAt (w .text) i m)) y) (ifReference x' (λ i m. k' (textAt (lay .text) i m)) y')
   unfolding ifReference
   reference-alike (scalars z) k k' p q = q
   reference-alike (booleans z) k k' p q = q
@@ -128,8 +131,8 @@ module _ (w : World) (n : ℕ) (good : SaneWorld w) (s : State) (vs' : List Valu
   reference-alike lists k k' p q = q
   reference-alike (structs h) k k' p q = q
 
-  struct-alike : {x x' : Value} → Kinds (w .text) (s .heap) H' x x' → B x x' → (k k' : Found → Outcome) (i : ℕ) {y y' : Outcome}
-      → ((z z' : Found) → BothFound (w .text) (s .heap) H' z z' → R (k z) (k' z')) → R y y'
+  struct-alike : {x x' : Value} → Kinds (w .text) (lay .text) (s .heap) H' x x' → B x x' → (k k' : Found → Outcome) (i : ℕ) {y y' : Outcome}
+      → ((z z' : Found) → BothFound (w .text) (lay .text) (s .heap) H' z z' → R (k z) (k' z')) → R y y'
       → R (ifStruct x (λ j. k (fieldOf (s .heap) j i)) y) (ifStruct x' (λ j. k' (fieldOf H' j i)) y')
   unfolding ifStruct
   struct-alike (scalars z) b k k' i p q = q
@@ -137,10 +140,10 @@ module _ (w : World) (n : ℕ) (good : SaneWorld w) (s : State) (vs' : List Valu
   struct-alike strings b k k' i p q = q
   struct-alike (references h) b k k' i p q = q
   struct-alike lists b k k' i p q = q
-  struct-alike (structs h) b k k' i p q = p _ _ (field-alike (w .text) (s .heap) H' (sides .left) (sides .right) b h i)
+  struct-alike (structs h) b k k' i p q = p _ _ (field-alike (w .text) (lay .text) (s .heap) H' (sides .left) (sides .right) b h i)
 
-  kind-of : {x x' : Value} → B x x' → Kinds (w .text) (s .heap) H' x x'
-  kind-of b = kinds (w .text) (s .heap) H' (sides .left) (sides .right) b
+  kind-of : {x x' : Value} → B x x' → Kinds (w .text) (lay .text) (s .heap) H' x x'
+  kind-of b = kinds (w .text) (lay .text) (s .heap) H' (sides .left) (sides .right) b
 
   poppingScalar-alike : {r r' : List Value} (k k' : Float → List Value → Outcome) → Bs r r' → ((z : Float) (q q' : List Value) → Bs q q' → R (k z q) (k' z q'))
       → R (poppingScalar r (λ i. faulted i s) k) (poppingScalar r' (λ i. faulted i other) k')
@@ -152,18 +155,18 @@ module _ (w : World) (n : ℕ) (good : SaneWorld w) (s : State) (vs' : List Valu
   unfolding poppingBoolean
   poppingBoolean-alike k k' b p = popping-alike b (λ x x' q q' c bs. boolean-alike (kind-of c) _ _ (λ z. p z q q' bs) (wrong x x'))
 
-  found-alike : {x x' : Found} (k k' : Value → Outcome) → BothFound (w .text) (s .heap) H' x x' → ((z z' : Value) → B z z' → R (k z) (k' z')) → R (onFound x s k) (onFound x' other k')
+  found-alike : {x x' : Found} (k k' : Value → Outcome) → BothFound (w .text) (lay .text) (s .heap) H' x x' → ((z z' : Value) → B z z' → R (k z) (k' z')) → R (onFound x s k) (onFound x' other k')
   unfolding onFound
   found-alike k k' (got b) p = p _ _ b
   found-alike k k' (bad i) p = halt i
 
-  pushing-alike : (q q' : State) (x x' : Value) → length (q .stack) ≡ length (q' .stack) → AlikeState w n q q' → R (went (withStack (x ∷ q .stack) q)) (went (withStack (x' ∷ q' .stack) q'))
-      → R (pushing w x q) (pushing (roomed n w) x' q')
+  pushing-alike : (q q' : State) (x x' : Value) → length (q .stack) ≡ length (q' .stack) → AlikeState w lay q q' → R (went (withStack (x ∷ q .stack) q)) (went (withStack (x' ∷ q' .stack) q'))
+      → R (pushing w x q) (pushing (laidOut lay w) x' q')
   unfolding pushing
   pushing-alike q q' x x' l a p = rw (← l) (if-each R (ltb (length (q .stack)) (w .stackRoom)) (λ h. p) (λ h. faults refl a))
 
-  push : {x x' : Value} → B x x' → R (pushing w x s) (pushing (roomed n w) x' other)
-  push b = pushing-alike s other _ _ (length-alike _ _ _ (sides .stack)) here (stacks (over b (sides .stack)))
+  push : {x x' : Value} → B x x' → R (pushing w x s) (pushing (laidOut lay w) x' other)
+  push b = pushing-alike s other _ _ (length-alike _ _ _ _ (sides .stack)) here (stacks (over b (sides .stack)))
 
   number : (z : Float) → B (v.Scalar z) (v.Scalar z)
   unfolding placedBelow meaning meaningTo treeOf
@@ -178,14 +181,14 @@ module _ (w : World) (n : ℕ) (good : SaneWorld w) (s : State) (vs' : List Valu
   onSame-alike t (same b k) bs =
       if-each R (leb k (s .units)) (λ h. goes (states (s .frame) (s .callers) (s .units - k) (over (truth (t b)) bs))) (λ h. faults refl (states (s .frame) (s .callers) 0 (sides .stack)))
 
-  enter-alike : (i k : ℕ) {r r' : List Value} → Bs r r' → R (enter w i k r s) (enter (roomed n w) i k r' other)
+  enter-alike : (i k : ℕ) {r r' : List Value} → Bs r r' → R (enter w i k r s) (enter (laidOut lay w) i k r' other)
   unfolding enter
   enter-alike i k {r} {r'} b =
-      rw (← length-alike _ _ _ b)
+      rw (← length-alike _ _ _ _ b)
       (if-each R (ltb (length r) k) (λ h. halt f.TooFewValues)
       (λ h. if-each R (leb (w .frameRoom) (suc (length (s .callers)))) (λ h'. halt f.FramesFull) (λ h'. goes (states _ (s .frame ∷ s .callers) (s .units) b))))
 
-  named-alike : (k : ℕ) (x : Option ℕ) {r r' : List Value} → Bs r r' → R (enterNamed w k r s x) (enterNamed (roomed n w) k r' other x)
+  named-alike : (k : ℕ) (x : Option ℕ) {r r' : List Value} → Bs r r' → R (enterNamed w k r s x) (enterNamed (laidOut lay w) k r' other x)
   unfolding enterNamed
   named-alike k none b = halt f.NoFunction
   named-alike k (some i) b = enter-alike i k b
@@ -196,51 +199,53 @@ module _ (w : World) (n : ℕ) (good : SaneWorld w) (s : State) (vs' : List Valu
     machine = record { stack = values-on (λ x x' c. c .alike) bs; last = a.is (b .alike); frame = refl; callers = refl; free = sides .free };
     units = refl;
   })
-  return-alike (c ∷ cs) {r = r} b bs = rw (← length-alike _ _ _ bs) (goes (states c cs (s .units) (over b (drop-alike _ _ _ (length r - s .frame .base) bs))))
+  return-alike (c ∷ cs) {r = r} b bs = rw (← length-alike _ _ _ _ bs) (goes (states c cs (s .units) (over b (drop-alike _ _ _ _ (length r - s .frame .base) bs))))
 
   -- ---- what is found, and what is built
 
-  constant-alike : (i : ℕ) → BothFound (w .text) (s .heap) H' (constantOf (w .constants) i) (constantOf (w .constants) i)
+  constant-alike : (i : ℕ) → BothFound (w .text) (lay .text) (s .heap) H' (constantOf (w .constants) i) (constantOf (lay .constants) i)
   unfolding constantOf
-  constant-alike i = found-if _ _ _ (ltb i (length (w .constants))) _ _ _ (λ h.
-      let t = w .text in
+  constant-alike i =
+      let bare = boths-of same-constants (good .constants) (beside-good .constants) in
+      rw (← length-alike _ _ _ _ bare)
+      (found-if _ _ _ _ (ltb i (length (w .constants))) _ _ _ (λ h.
+      let b = at-alike _ _ _ _ bare i (ltb-true _ _ h) in
       let x = getD (w .constants) i (v.Boolean false) in
-      let none : heapOk (length t) [] ≡ true = unfold heapOk blocksFrom in refl in
-      let p : Placed (length t) [] 0 x = all-at (length t) [] (w .constants) (good .constants) i (ltb-true _ _ h) in
+      let x' = getD (lay .constants) i (v.Boolean false) in
       record {
-        alike = meaning-kept t [] (s .heap) none x p ∙ sym (meaning-kept t [] H' none x p);
-        left = grows-placed (length t) (record { more = s .heap; is = refl }) x p;
-        right = grows-placed (length t) (record { more = H'; is = refl }) x p;
-      })
+        alike = meaning-kept (w .text) [] (s .heap) (no-cells (length (w .text))) x (b .left) ∙ b .alike ∙ sym (meaning-kept (lay .text) [] H' (no-cells (length (lay .text))) x' (b .right));
+        left = grows-placed (length (w .text)) (record { more = s .heap; is = refl }) x (b .left);
+        right = grows-placed (length (lay .text)) (record { more = H'; is = refl }) x' (b .right);
+      }))
 
-  slot-alike : (i : ℕ) → BothFound (w .text) (s .heap) H' (slotOf (s .stack) i) (slotOf vs' i)
+  slot-alike : (i : ℕ) → BothFound (w .text) (lay .text) (s .heap) H' (slotOf (s .stack) i) (slotOf vs' i)
   unfolding slotOf
   slot-alike i =
-      rw (← length-alike _ _ _ (sides .stack))
-      (found-if _ _ _ (ltb i (length (s .stack))) _ _ _ (λ h. let z = ltb-true i (length (s .stack)) h in at-alike _ _ _ (sides .stack) (length (s .stack) - suc i) (omega arith)))
+      rw (← length-alike _ _ _ _ (sides .stack))
+      (found-if _ _ _ _ (ltb i (length (s .stack))) _ _ _ (λ h. let z = ltb-true i (length (s .stack)) h in at-alike _ _ _ _ (sides .stack) (length (s .stack) - suc i) (omega arith)))
 
   elements-alike : {c : ℕ → Value} {elements : ℕ → List Value → List Value} {k : ℕ} → Makes c elements k → (i : ℕ) → Bs (elements i (s .stack)) (elements i vs')
   unfolding listElements structFields
-  elements-alike list i = turned-alike _ _ _ (take-alike _ _ _ i (sides .stack)) empty
-  elements-alike (struct k) i = take-alike _ _ _ i (sides .stack)
+  elements-alike list i = turned-alike _ _ _ _ (take-alike _ _ _ _ i (sides .stack)) empty
+  elements-alike (struct k) i = take-alike _ _ _ _ i (sides .stack)
 
-  built-alike : {c : ℕ → Value} {elements : ℕ → List Value → List Value} {k : ℕ} {x x' : Built} {r r' : List Value} → Makes c elements k → BothBuilt (w .text) (w .cellRoom) n (s .heap) H' k x x' → Bs r r'
-      → R (onBuilt w c r s x) (onBuilt (roomed n w) c r' other x')
+  built-alike : {c : ℕ → Value} {elements : ℕ → List Value → List Value} {k : ℕ} {x x' : Built} {r r' : List Value} → Makes c elements k → BothBuilt (w .text) (lay .text) (w .cellRoom) (lay .cellRoom) (s .heap) H' k x x' → Bs r r'
+      → R (onBuilt w c r s x) (onBuilt (laidOut lay w) c r' other x')
   unfolding onBuilt
   built-alike m (refused i) b = halt i
   built-alike {r = r} {r' = r'} m (made {K = K} {K' = K'} g) b =
       let q = withStack r (withHeap K s) in
       let q' = withStack r' (withHeap K' other) in
-      let after : (x x' : List Value) → AlikeValues (w .text) K K' x x' → AlikeState w n (withStack x q) (withStack x' q') =
+      let after : (x x' : List Value) → AlikeValues (w .text) (lay .text) K K' x x' → AlikeState w lay (withStack x q) (withStack x' q') =
       (λ x x' h. record { machine = record { stack = h; last = last-on (g .old) (sides .last); frame = refl; callers = refl; free = g .free }; units = refl }) in
-      pushing-alike q q' _ _ (length-alike _ _ _ b) (after r r' (values-on (g .old) b)) (goes (after _ _ (a.more (made-alike m g) (values-on (g .old) b))))
+      pushing-alike q q' _ _ (length-alike _ _ _ _ b) (after r r' (values-on (g .old) b)) (goes (after _ _ (a.more (made-alike m g) (values-on (g .old) b))))
 
-  build : {c : ℕ → Value} {elements : ℕ → List Value → List Value} (k i : ℕ) → Makes c elements k → R (buildStep w c elements k i s) (buildStep (roomed n w) c elements k i other)
+  build : {c : ℕ → Value} {elements : ℕ → List Value → List Value} (k i : ℕ) → Makes c elements k → R (buildStep w c elements k i s) (buildStep (laidOut lay w) c elements k i other)
   unfolding buildStep
   build k i m =
-      rw (← length-alike _ _ _ (sides .stack))
+      rw (← length-alike _ _ _ _ (sides .stack))
       (if-each R (ltb (length (s .stack)) i) (λ h. halt f.TooFewValues)
-      (λ h. built-alike m (build-alike (w .text) (w .cellRoom) n (s .heap) H' (sides .left) (sides .right) (sides .free) k (elements-alike m i)) (drop-alike _ _ _ i (sides .stack))))
+      (λ h. built-alike m (build-alike (w .text) (lay .text) (w .cellRoom) (lay .cellRoom) (s .heap) H' (sides .left) (sides .right) (sides .free) k (elements-alike m i)) (drop-alike _ _ _ _ i (sides .stack))))
 
   unless : (x : Bool) (i : ℕ) {r r' : List Value} → Bs r r' → R (went (withStack r (if x then s else at (position s + i) s))) (went (withStack r' (if x then other else at (position s + i) other)))
   unless true i b = stacks b
@@ -248,7 +253,7 @@ module _ (w : World) (n : ℕ) (good : SaneWorld w) (s : State) (vs' : List Valu
 
   -- ---- a line for each opcode
 
-  exec-alike : (p : Op) (i j : ℕ) → R (execOf w p i j s) (execOf (roomed n w) p i j other)
+  exec-alike : (p : Op) (i j : ℕ) → R (execOf w p i j s) (execOf (laidOut lay w) p i j other)
   unfolding execOf loadStep slotStep lastStep negateStep arithmeticStep orderingStep equalStep logicStep notStep jumpStep jumpIfFalseStep callStep callCallableStep structStep fieldStep returnStep
   exec-alike o.LoadConstant i j = found-alike _ _ (constant-alike i) (λ z z' b. push b)
   exec-alike o.GetLocal i j = found-alike _ _ (slot-alike (s .frame .base + i)) (λ z z' b. push b)
@@ -258,8 +263,8 @@ module _ (w : World) (n : ℕ) (good : SaneWorld w) (s : State) (vs' : List Valu
   exec-alike (o.Arithmetic x) i j =
       poppingScalar-alike _ _ (sides .stack) (λ y r r' b. poppingScalar-alike _ _ b (λ z q q' c. if-each R (zeroDivisor x y) (λ h. halt f.ZeroDivisor) (λ h. stacks (over (number _) c))))
   exec-alike (o.Ordering x) i j = poppingScalar-alike _ _ (sides .stack) (λ y r r' b. poppingScalar-alike _ _ b (λ z q q' c. stacks (over (truth _) c)))
-  exec-alike o.Equal i j = popping-alike (sides .stack) (λ y y' r r' c b. popping-alike b (λ x x' q q' d bs. rw (← same-alike _ _ _ (sides .left) (sides .right) d c) (onSame-alike _ _ bs)))
-  exec-alike o.NotEqual i j = popping-alike (sides .stack) (λ y y' r r' c b. popping-alike b (λ x x' q q' d bs. rw (← same-alike _ _ _ (sides .left) (sides .right) d c) (onSame-alike _ _ bs)))
+  exec-alike o.Equal i j = popping-alike (sides .stack) (λ y y' r r' c b. popping-alike b (λ x x' q q' d bs. rw (← same-alike _ _ _ _ (sides .left) (sides .right) d c) (onSame-alike _ _ bs)))
+  exec-alike o.NotEqual i j = popping-alike (sides .stack) (λ y y' r r' c b. popping-alike b (λ x x' q q' d bs. rw (← same-alike _ _ _ _ (sides .left) (sides .right) d c) (onSame-alike _ _ bs)))
   exec-alike o.LogicalAnd i j = poppingBoolean-alike _ _ (sides .stack) (λ y r r' b. poppingBoolean-alike _ _ b (λ z q q' c. stacks (over (truth _) c)))
   exec-alike o.LogicalOr i j = poppingBoolean-alike _ _ (sides .stack) (λ y r r' b. poppingBoolean-alike _ _ b (λ z q q' c. stacks (over (truth _) c)))
   exec-alike o.LogicalNeg i j = poppingBoolean-alike _ _ (sides .stack) (λ y r r' b. stacks (over (truth _) b))
@@ -267,7 +272,7 @@ module _ (w : World) (n : ℕ) (good : SaneWorld w) (s : State) (vs' : List Valu
   exec-alike o.Jump i j = goes (states _ (s .callers) (s .units) (sides .stack))
   exec-alike o.Call i j = if-each R (ltb i (length (w .functions))) (λ h. enter-alike i j (sides .stack)) (λ h. halt f.OutOfRange)
   exec-alike o.CallCallable i j =
-      popping-alike (sides .stack) (λ x x' r r' c b. reference-alike (kind-of c) (λ z. enterNamed w i r s (functionNamed z (w .functions))) (λ z. enterNamed (roomed n w) i r' other (functionNamed z (w .functions)))
+      popping-alike (sides .stack) (λ x x' r r' c b. reference-alike (kind-of c) (λ z. enterNamed w i r s (functionNamed z (w .functions))) (λ z. enterNamed (laidOut lay w) i r' other (functionNamed z (w .functions)))
       (λ z. named-alike i _ b) (wrong x x'))
   exec-alike o.BuildStructInstance i j = if-each R (ltb i (w .structs)) (λ h. build i j (struct i)) (λ h. halt f.OutOfRange)
   exec-alike o.AccessStructField i j =
@@ -278,15 +283,15 @@ module _ (w : World) (n : ℕ) (good : SaneWorld w) (s : State) (vs' : List Valu
 
 -- ---- a step
 
-module _ (w : World) (n : ℕ) (good : SaneWorld w) (vs' : List Value) (H' : List Cell) (l' : Last) where
+module _ (w : World) (lay : Layout) (good : SaneWorld w) (beside-good : SaneWorld (laidOut lay w)) (same-constants : AlikeConstants w lay) (vs' : List Value) (H' : List Cell) (l' : Last) where
   abbrev C : State → Type 0
-  C s = Beside w n s vs' H' l'
+  C s = Beside w lay s vs' H' l'
 
   abbrev Rs : State → (World → State → Outcome) → Type 0
-  Rs s k = AlikeOutcome w n (k w s) (k (roomed n w) (beside s vs' H' l'))
+  Rs s k = AlikeOutcome w lay (k w s) (k (laidOut lay w) (beside s vs' H' l'))
 
   fault-beside : (s : State) → C s → (i : Fault) → Rs s (λ _ q. faulted i q)
-  fault-beside s c i = halt w n good s vs' H' l' c i
+  fault-beside s c i = halt w lay good beside-good same-constants s vs' H' l' c i
 
   -- another position and other units
   moved : (s : State) → C s → (i u : ℕ) → C (at i (withUnits u s))
@@ -295,8 +300,8 @@ module _ (w : World) (n : ℕ) (good : SaneWorld w) (vs' : List Value) (H' : Lis
   operands-alike : (s : State) → C s → (p : Op) (k : ℕ) → Rs s (λ x q. operandsThen x p k q)
   unfolding operandsThen codeOf
   operands-alike s c p k =
-      if-each (AlikeOutcome w n) (leb (position s + 2 * k) (length (codeOf w s)))
-      (λ h. exec-alike w n good (at (position s + 2 * k) s) vs' H' l' (moved s c _ (s .units)) p _ _)
+      if-each (AlikeOutcome w lay) (leb (position s + 2 * k) (length (codeOf w s)))
+      (λ h. exec-alike w lay good beside-good same-constants (at (position s + 2 * k) s) vs' H' l' (moved s c _ (s .units)) p _ _)
       (λ h. fault-beside s c f.CodeEnds)
 
   decoded-alike : (s : State) → C s → (x : Decoded) (k : ℕ) → Rs s (λ y q. decodedThen y x k q)
@@ -308,18 +313,18 @@ module _ (w : World) (n : ℕ) (good : SaneWorld w) (vs' : List Value) (H' : Lis
   step-beside : (s : State) → C s → Rs s stepOf
   unfolding stepOf fetched codeOf
   step-beside s c =
-      if-each (AlikeOutcome w n) (eqb (s .units) 0) (λ h. fault-beside s c f.UnitsSpent)
+      if-each (AlikeOutcome w lay) (eqb (s .units) 0) (λ h. fault-beside s c f.UnitsSpent)
       (λ h. decoded-alike (at (suc (position s)) (withUnits (s .units - 1) s)) (moved s c _ _) _ _)
 
   step-parts : (s : State) → C s → (q : Frame) (cs : List Frame) (u : ℕ) → q ≡ s .frame → cs ≡ s .callers → u ≡ s .units
-      → AlikeOutcome w n (stepOf w s) (stepOf (roomed n w) (record { stack = vs'; frame = q; callers = cs; heap = H'; last = l'; units = u }))
+      → AlikeOutcome w lay (stepOf w s) (stepOf (laidOut lay w) (record { stack = vs'; frame = q; callers = cs; heap = H'; last = l'; units = u }))
   step-parts s c q cs u x y z = rw (x, y, z) (step-beside s c)
 
 -- two machines in good order that mean the same take the same step
-pub step-alike : (w : World) (n : ℕ) → SaneWorld w → (s s' : State) → Sane w s → Sane (roomed n w) s' → AlikeState w n s s' → AlikeOutcome w n (stepOf w s) (stepOf (roomed n w) s')
-step-alike w n good s s' h h' a =
+pub step-alike : (w : World) (lay : Layout) → SaneWorld w → SaneWorld (laidOut lay w) → AlikeConstants w lay → (s s' : State) → Sane w s → Sane (laidOut lay w) s' → AlikeState w lay s s' → AlikeOutcome w lay (stepOf w s) (stepOf (laidOut lay w) s')
+step-alike w lay good beside-good same-constants s s' h h' a =
     let m = a .machine in
-    step-parts w n good (s' .stack) (s' .heap) (s' .last) s
+    step-parts w lay good beside-good same-constants (s' .stack) (s' .heap) (s' .last) s
     (record {
       left = h .heap;
       right = h' .heap;

@@ -1,3 +1,3 @@
 pub mod Alike
 pub mod Answers
-pub mod Lent
+pub mod Blocks

@@ -40,6 +40,24 @@ if-same : {A : Type 0} (b : Bool) (z : A) {x y : A} → (b ≡ true → x ≡ y)
 if-same true z h = h refl
 if-same false z h = refl
 
+-- ---- the backtrace
+
+module _ (m : Vm) (s : Stores) {fs fs' : List Frame} (k : Alike (m .frames) fs fs') where
+  trace-order-alike : traceOrder m s fs ≡ traceOrder m s fs'
+  unfolding traceOrder
+  trace-order-alike = rw (frames-alike k (functionsFrom (m .program .functions) 0 s) mostPlaces)
+
+  has-frame : traceOrder m s fs ≡ true → 1 ≤ m .frames
+  unfolding traceOrder
+  has-frame e =
+      let x = listOrder (m .program) s && insideCodes (m .program) (s .functions) (s .mainPlaces) (s .otherPlaces) in
+      let gs = functionsFrom (m .program .functions) 0 s in
+      some-frame gs mostPlaces (m .frames) fs (and-right x (frameStoreOk gs mostPlaces (m .frames) fs) e)
+
+  pub trace-alike : (out : List ℕ) → backtraceIn m s fs out ≡ backtraceIn m s fs' out
+  unfolding backtraceIn
+  trace-alike out = rw (← trace-order-alike) (if-same (traceOrder m s fs) _ (λ e. rw (innermost-alike k (has-frame e), callers-alike k)))
+
 module _ (m : Vm) (s : Stores) {l l' : Lent} (k : LentAlike m l l') where
   abbrev here : Lent → Held
   here x = record { vm = m; stores = s; lent = x }
@@ -86,21 +104,6 @@ module _ (m : Vm) (s : Stores) {l l' : Lent} (k : LentAlike m l l') where
   looks-alike : {a b : Answer} → a ≡ b → DoneAlike (looks (here l) a) (looks (here l') b)
   unfolding looks
   looks-alike q = record { answer = q; agree = record { vm = refl; stores = refl; lent = k } }
-
-  trace-order-alike : traceOrder m s (l .frames) ≡ traceOrder m s (l' .frames)
-  unfolding traceOrder
-  trace-order-alike = rw (frames-alike (k .frames) (functionsFrom (m .program .functions) 0 s) mostPlaces)
-
-  has-frame : traceOrder m s (l .frames) ≡ true → 1 ≤ m .frames
-  unfolding traceOrder
-  has-frame e =
-      let x = listOrder (m .program) s && insideCodes (m .program) (s .functions) (s .mainPlaces) (s .otherPlaces) in
-      let fs = functionsFrom (m .program .functions) 0 s in
-      some-frame fs mostPlaces (m .frames) (l .frames) (and-right x (frameStoreOk fs mostPlaces (m .frames) (l .frames)) e)
-
-  trace-alike : (out : List ℕ) → backtraceIn m s (l .frames) out ≡ backtraceIn m s (l' .frames) out
-  unfolding backtraceIn
-  trace-alike out = rw (← trace-order-alike) (if-same (traceOrder m s (l .frames)) _ (λ e. rw (innermost-alike (k .frames) (has-frame e), callers-alike (k .frames))))
 
   value-shown : (i : ℕ) → stackValueOf m i (l .stack) ≡ stackValueOf m i (l' .stack)
   unfolding stackValueOf
@@ -156,7 +159,7 @@ module _ (m : Vm) (s : Stores) {l l' : Lent} (k : LentAlike m l l') where
   ask-alike (functionIdx text) = looks-alike refl
   ask-alike (save out) = looks-alike refl
   ask-alike (disassemble out) = looks-alike refl
-  ask-alike (backtrace out) = looks-alike (ap (put out) (trace-alike out))
+  ask-alike (backtrace out) = looks-alike (ap (put out) (trace-alike m s (k .frames) out))
   ask-alike lastResult = looks-alike refl
   ask-alike (stackValue i) = looks-alike (ap shown (value-shown i))
   ask-alike (blockHeader x) = looks-alike (ap headed (header-shown x))

@@ -82,7 +82,7 @@ module _ (n : ℕ) (fs : List Frame) (some : 1 ≤ n) (fits : n ≤ length fs) w
   unfolding callersIn
   counted = simp (length-reverse, length-take) (omega arith)
 
-  split : take n fs ≡ reverse (callersIn n fs) ++ innermost n fs ∷ []
+  pub split : take n fs ≡ reverse (callersIn n fs) ++ innermost n fs ∷ []
   unfolding callersIn innermost
   split = let z : n ≡ suc (n - 1) = omega arith in ap (λ (k : ℕ). take k fs) z ∙ take-suc fs (n - 1) (root 0) (omega arith) ∙ rw (reverse-reverse (take (n - 1) fs))
 

@@ -1,6 +1,6 @@
 -- The theorems. Demand 1: `refuses`, `listing-numbers`, `steps-within`, `new-in-order`, `load-in-order`, `chain-kept`, `run-in-order`.
 -- Demand 2: `run-written`, with `step-cost`, `fault-fee`, `path-units`, `run-is-steps` and `as-trees`.
--- Demand 3: `fault-recovers`, with `fault-leaves`, `chains-agree` and `past-counts-unseen`. Demand 4: `run-one`, `ask-one`.
+-- Demand 3: `fault-recovers`, with `fault-leaves`, `chain-alike`, `chains-agree` and `past-counts-unseen`. Demand 4: `run-one`, `ask-one`.
 
 -- lent stores that are the same below the counts; a machine in good order fixes its words
 pub mod Fronts
@@ -11,9 +11,8 @@ pub mod OneRun
 -- `chains-agree`, `past-counts-unseen`, `ask-one`
 pub mod Asks
 pub mod Chains
--- `fault-leaves`, `fault-recovers`
+-- a run that was not refused is the rules' run
 pub mod Went
-pub mod Recovering
 -- `step-cost`, `fault-fee`, `path-units`, `run-is-steps`, `as-trees`, `run-written`, `steps-within`
 pub mod Paying
 pub mod Growing
@@ -25,3 +24,14 @@ pub mod Refusing
 pub mod Wider
 pub mod Emitted
 pub mod Orderly
+-- code stays bytes; one program wherever its texts lie; `chain-alike`
+pub mod Bytes
+pub mod Beside
+pub mod Made
+pub mod Constants
+pub mod MeantRuns
+pub mod MeantAsks
+pub mod MeantChains
+pub mod Example
+-- `fault-leaves`, `fault-recovers`
+pub mod Recovering

@@ -31,7 +31,8 @@ use Rattle.program.proofs.Naming.{struct-keeps, new-keeps, begin-keeps}
 use Rattle.demands.specs.Host.{Held, Ask, new, load, addOp, addOp1, addOp2, addOp3, patch, addConstant, addStruct, beginFunction, endFunction, currentOffset, functionIdx, save, disassemble, backtrace, lastResult, stackValue, blockHeader, element, textBytes, Call, run, ask, Answer, started, Done, withFrames, emits, starts, looks, done, RanBy, vmAfter, After, Chain, none, more}
 use Rattle.image.proofs.Trip.{image-only, loaded-stands}
 use Rattle.demands.specs.Refusals.{Check, firstOf, checks, refusedEmitted, refusedBy}
-use Rattle.demands.specs.Kept.{InOrder, AllBytes}
+use Rattle.demands.specs.Kept.{InOrder}
+use Rattle.demands.specs.Jobs.{jobOf, Typed, AllTyped}
 use Rattle.demands.proofs.OneRun.{Seen, went, stayed, seen}
 use Rattle.demands.proofs.Went.{Went}
 use Rattle.demands.proofs.Went as w
@@ -41,7 +42,7 @@ use Rattle.demands.proofs.Refusing.{Says, ask-says, refuses}
 
 -- ---- what is loaded
 
-loaded-done : {P : Type 0} (a : Emitted) (c : Counts) → asLoaded a ≡ ld.Done c → ((n : ℕ) → a ≡ em.Done c n → P) → P
+pub loaded-done : {P : Type 0} (a : Emitted) (c : Counts) → asLoaded a ≡ ld.Done c → ((n : ℕ) → a ≡ em.Done c n → P) → P
 unfolding asLoaded
 loaded-done (em.Done d n) c e f = f n (let z : d ≡ c = cc in rw z)
 loaded-done (em.Refused n) c e f = absurd (let z : _≡_ {A = ℕ} 0 1 = cc in let y : ⊥ = omega arith in y)
@@ -95,10 +96,10 @@ module _ (h : Held) where
 -- ---- the end of a function
 
 ends-by : (c d : Counts) (s : Stores) (b : Bool) → c .text ≤ d .text → c .functions ≤ d .functions → Grows c s (record { answer = if b then em.Done d 0 else em.Refused 19; stores = s })
-ends-by c d s true t f = grows-same c s d 0 s t f refl
+ends-by c d s true t f = grows-same c s d 0 s t f refl refl
 ends-by c d s false t f = record { grown = λ q i e. absurd (let z : _≡_ {A = ℕ} 0 1 = cc in let y : ⊥ = omega arith in y) }
 
-end-grows : (c : Counts) (s : Stores) → Grows c s (record { answer = endFunctionOf c; stores = s })
+pub end-grows : (c : Counts) (s : Stores) → Grows c s (record { answer = endFunctionOf c; stores = s })
 unfolding endFunctionOf
 end-grows c s = ends-by c (counts (c .constants) (c .structs) (c .functions) (c .text) 0) s (countsOk c) (omega arith) (omega arith)
 
@@ -113,7 +114,7 @@ module _ (h : Held) (o : InOrder h) where
   })
   emits-by x (em.Refused n) q k g same = subst InOrder (sym (same n refl)) o
 
-  refused-is : (x : Res) (n : ℕ) → x .answer ≡ em.Refused n → refusedBy (emits h x .answer) ≡ some n
+  pub refused-is : (x : Res) (n : ℕ) → x .answer ≡ em.Refused n → refusedBy (emits h x .answer) ≡ some n
   unfolding emits
   refused-is x n e = ap refusedEmitted e
 
@@ -143,10 +144,10 @@ module _ (h : Held) (o : InOrder h) where
   unfolding looks
   looks-kept a = o
 
-  ask-kept : (q : Ask) → ((image : List ℕ) → q ≡ load image → Bytes image) → InOrder (done q h .held)
-  unfolding done addOpOf addOp1Of addOp2Of addOp3Of
+  ask-kept : (q : Ask) → Typed (jobOf q) → InOrder (done q h .held)
+  unfolding done jobOf addOpOf addOp1Of addOp2Of addOp3Of
   ask-kept new b = new-kept
-  ask-kept (load image) b = load-kept image (b image refl)
+  ask-kept (load image) b = load-kept image b
   ask-kept (addOp op place) b = emits-kept _ (emit-keeps _ _ _ _ _ (o .program)) (emit-grows _ _ _ _ _ (o .program)) (ask-says h (addOp op place))
   ask-kept (addOp1 op x place) b = emits-kept _ (emit-keeps _ _ _ _ _ (o .program)) (emit-grows _ _ _ _ _ (o .program)) (ask-says h (addOp1 op x place))
   ask-kept (addOp2 op x y place) b = emits-kept _ (emit-keeps _ _ _ _ _ (o .program)) (emit-grows _ _ _ _ _ (o .program)) (ask-says h (addOp2 op x y place))
@@ -179,16 +180,26 @@ module _ {u : ℕ} {h h' : Held} {a : Answer} (p : RanBy u h a h') (o : InOrder 
   run-kept : InOrder h'
   run-kept = run-by (seen (h .vm) (h .stores) (h .lent) (p .result) (h' .lent) (p .post .left))
 
--- every call keeps good order; an image is bytes
-pub order-kept : (c : Call) (a : Answer) → ((image : List ℕ) → c ≡ ask (load image) → Bytes image) → {h h' : Held} → After c h a h' → InOrder h → InOrder h'
-order-kept (run u) a b p o = run-kept p o
-order-kept (ask q) a b {h} {h'} p o = subst InOrder (ap (λ (d : Done). d .held) p) (ask-kept h o q (λ image e. b image (ap ask e)))
+pub typed-first : (c : Call) (cs : List Call) → AllTyped (c ∷ cs) → AllTyped (c ∷ [])
+unfolding AllTyped
+typed-first (run u) cs t = tt
+typed-first (ask q) cs t = (t .0, tt)
+
+pub typed-rest : (c : Call) (cs : List Call) → AllTyped (c ∷ cs) → AllTyped cs
+unfolding AllTyped
+typed-rest (run u) cs t = t
+typed-rest (ask q) cs t = t .1
+
+-- every call keeps good order
+pub order-kept : (c : Call) (a : Answer) → AllTyped (c ∷ []) → {h h' : Held} → After c h a h' → InOrder h → InOrder h'
+unfolding AllTyped
+order-kept (run u) a t p o = run-kept p o
+order-kept (ask q) a t {h} {h'} p o = subst InOrder (ap (λ (d : Done). d .held) p) (ask-kept h o q (t .0))
 
 -- so do calls one after another
-pub chain-kept : {calls : List Call} {h k : Held} {xs : List Answer} → AllBytes calls → Chain calls h xs k → InOrder h → InOrder k
-unfolding AllBytes
-chain-kept b none o = o
-chain-kept b (more {c = c} {a = a} p ps) o = chain-kept (b .1) ps (order-kept c a (b .0) p o)
+pub chain-kept : {calls : List Call} {h k : Held} {xs : List Answer} → AllTyped calls → Chain calls h xs k → InOrder h → InOrder k
+chain-kept t none o = o
+chain-kept t (more {c = c} {cs = cs} {a = a} p ps) o = chain-kept (typed-rest c cs t) ps (order-kept c a (typed-first c cs t) p o)
 
 -- and then a run is not refused 19
 pub run-in-order : {u : ℕ} {h h' : Held} {a : Answer} → InOrder h → RanBy u h a h' → refusedBy a ≡ some 19 → ⊥

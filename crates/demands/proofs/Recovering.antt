@@ -1,5 +1,6 @@
 -- Demand 3, over lent stores.
 use mathlib.Core.Path.{_≡_, sym, ap, subst, _∙_}
+use mathlib.Core.Bool.{Bool}
 use mathlib.Core.List.{List}
 use Prim.Native.Nat.{ℕ, suc, _*_}
 use lib.ListN.{length}
@@ -18,11 +19,13 @@ use Rattle.rules.proofs.Demands.{run-recovered, recovered-faults}
 use Rattle.rules.proofs.Ordered.{order-world, order-sane}
 use Rattle.value.proofs.Stores.{length-vals}
 use Rattle.demands.specs.Host.{Held}
-use Rattle.demands.specs.Agree.{Alike, Agree}
+use Rattle.demands.specs.Agree.{Alike, Rooms, Agree}
+use Rattle.demands.specs.Meant.{Fine, AlikeHeld}
 use Rattle.demands.specs.Recovery.{Kept, start, return, Recovers, SetUp, Demand3}
 use Rattle.demands.proofs.Fixed.{Standing, standing, counted, values-fix, machine-fixes}
 use Rattle.demands.proofs.Chains.{chains-agree}
 use Rattle.demands.proofs.OneRun.{ran-rooms}
+use Rattle.demands.proofs.MeantChains.{chain-alike, self-alike}
 use Rattle.demands.proofs.Went.{Went, went}
 
 -- what the mark of a path kept
@@ -82,19 +85,25 @@ module _ (m : Vm) (s : Stores) (l : Lent) (u : ℕ) {m' : Vm} {n spent j : ℕ} 
     traced = λ b. recovered-faults (worldOf m s l) (order-world m s l (ran-so .order) b) (order-sane m s l (ran-so .order) u) by-rules;
   }
 
--- two machines in good order that are set up alike agree
+-- two machines that are set up so: lent stores of the same lengths
+rooms-same : {x : Machine} {h k d : Held} → SetUp x h k → SetUp x h d → Rooms (k .lent) (d .lent)
+rooms-same a b = record {
+  stack = a .rooms .stack ∙ sym (b .rooms .stack);
+  cells = a .rooms .cells ∙ sym (b .rooms .cells);
+  frames = a .rooms .frames ∙ sym (b .rooms .frames);
+  copy = a .rooms .copy ∙ sym (b .rooms .copy);
+  backtrace = a .rooms .backtrace ∙ sym (b .rooms .backtrace);
+}
+
+-- they agree
 pub set-up-agrees : {x : Machine} {h k d : Held} → SetUp x h k → SetUp x h d → Agree k d
 set-up-agrees {k = k} {d = d} a b =
-    let f = machine-fixes (k .stores) (d .stores) (a .order) (b .order)
-    (record {
-      stack = a .rooms .stack ∙ sym (b .rooms .stack);
-      cells = a .rooms .cells ∙ sym (b .rooms .cells);
-      frames = a .rooms .frames ∙ sym (b .rooms .frames);
-      copy = a .rooms .copy ∙ sym (b .rooms .copy);
-      backtrace = a .rooms .backtrace ∙ sym (b .rooms .backtrace);
-    })
-    (a .program ∙ sym (b .program)) (a .machine ∙ sym (b .machine)) in
+    let f = machine-fixes (k .stores) (d .stores) (a .order) (b .order) (rooms-same a b) (a .program ∙ sym (b .program)) (a .machine ∙ sym (b .machine)) in
     record { vm = f .vm; stores = a .stores ∙ sym (b .stores); lent = f .lent }
+
+-- and they mean the same
+pub set-up-alike : (r : Bool) {x : Machine} {h k d : Held} → SetUp x h k → SetUp x h d → Fine k → Fine d → AlikeHeld r k d
+set-up-alike r a b o o' = self-alike r o o' (b .program ∙ sym (a .program)) (b .stores ∙ sym (a .stores)) (rooms-same b a) (b .machine ∙ sym (a .machine))
 
 -- DEMAND 3
 pub fault-recovers : {h h' : Held} (u : ℕ) {n spent j : ℕ} → RunPost (h .vm) (h .stores) (h .lent) u (r.Fault (h' .vm) n spent j) (h' .lent) → h' .stores ≡ h .stores
@@ -103,4 +112,4 @@ fault-recovers {h} {h'} u {n} {spent} {j} p q =
     let x : Recovers (h .vm) (h .stores) (h .lent) u (h' .vm) n spent (entriesIn j 0 (h' .lent .backtrace)) (h' .lent) = fault-leaves (h .vm) (h .stores) (h .lent) u p in
     let so : SetUp (recovered (worldOf (h .vm) (h .stores) (h .lent)) (machineIn (h .vm) (h .lent)) (x .rules .kept)) h h' =
     record { program = x .program; stores = q; rooms = ran-rooms (h .vm) (h .stores) u p; machine = x .leaves; order = rw q (x .order) } in
-    record { leaves = x; later = λ d b cs xs ys e f c k. chains-agree (set-up-agrees so b) c k .answers }
+    record { leaves = x; later = λ a t p k. chain-alike a (λ e. e) t p k .says; exact = λ d b cs xs ys e f c k. chains-agree (set-up-agrees so b) c k .answers }

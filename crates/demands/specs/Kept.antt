@@ -1,31 +1,25 @@
 -- Demand 1: every call keeps good order, so that a host that only makes calls never sees a run refused 19.
 use mathlib.Core.Path.{_≡_}
 use mathlib.Core.Bool.{true}
-use mathlib.Core.List.{List, [], _∷_}
 use Prim.Native.Nat.{ℕ, _≤_, _<_}
-use lib.ListN.{length}
+use lib.ListN.{length, take}
 use Rattle.model.specs.declared.Counts.{Counts}
-use Rattle.model.specs.Numbers.{Bytes}
 use Rattle.model.specs.Programs.{functionAt}
 use Rattle.model.specs.Steps.{World}
 use Rattle.model.specs.Stores.{Stores, size, codeWord}
 use Rattle.model.specs.Orders.{programOk}
 use Rattle.model.specs.Machines.{runOrder}
-use Rattle.demands.specs.Host.{Held, load, Call, ask}
+use Rattle.demands.specs.Host.{Held}
 
 -- the whole program and the whole machine
 pub record InOrder (h : Held) : Type 0 where
   pub program : programOk (h .vm .program) (h .stores) ≡ true
   pub machine : runOrder (h .vm) (h .stores) (h .lent) ≡ true
 
--- what the type of an image says: bytes
-unfoldable pub AllBytes : List Call → Type 0
-AllBytes [] = Unit
-AllBytes (c ∷ cs) = ((image : List ℕ) → c ≡ ask (load image) → Bytes image) × AllBytes cs
-
--- a program that grew: no less text, no fewer functions, no code shorter
+-- a program that grew: no less text, and the former text at its front; no fewer functions, no code shorter
 pub record Grew (c : Counts) (s : Stores) (c' : Counts) (s' : Stores) : Type 0 where
   pub text : c .text ≤ c' .text
+  pub front : take (c .text) (s' .text) ≡ take (c .text) (s .text)
   pub functions : c .functions ≤ c' .functions
   pub codes : (i : ℕ) → i < c .functions → size (codeWord (s .functions) i) ≤ size (codeWord (s' .functions) i)
 

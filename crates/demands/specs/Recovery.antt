@@ -19,7 +19,9 @@ use Rattle.rules.specs.Sane.{Faults}
 use Rattle.rules.specs.Paths.{Steps}
 use Rattle.rules.specs.Demand.{Quiet, Recovered}
 use Rattle.demands.specs.Host.{Held, Call, Answer, Chain}
+use Rattle.demands.specs.Jobs.{anew, AllTyped}
 use Rattle.demands.specs.Agree.{Alike, Rooms}
+use Rattle.demands.specs.Meant.{AlikeHeld, said}
 
 -- the last result and the cells that are kept of a run from s that was cut in t
 pub data Kept (w : World) (s t : State) : Last → List Cell → Type 0 where
@@ -48,7 +50,7 @@ pub record Recovers (m : Vm) (s : Stores) (l : Lent) (u : ℕ) (m' : Vm) (n spen
   -- the step that faulted has dropped and added no frame, and its backtrace stands
   pub traced : CodeBytes s → Faults (worldOf m s l) (rules .at) (rules .after)
 
--- a machine set up as x beside h: the same program, stores of the same lengths and so the same free cells, in good order
+-- a machine set up as x beside h in the same words: the same program stores, lent stores of the same lengths and so the same free cells, in good order
 pub record SetUp (x : Machine) (h d : Held) : Type 0 where
   pub program : d .vm .program ≡ h .vm .program
   pub stores : d .stores ≡ h .stores
@@ -59,6 +61,8 @@ pub record SetUp (x : Machine) (h d : Held) : Type 0 where
 -- DEMAND 3, of a run with u units of what a host holds in h, that answered fault n, the units spent and a backtrace, and left h'
 pub record Demand3 (u : ℕ) (h : Held) (n spent : ℕ) (trace : List Entry) (h' : Held) : Type 0 where
   pub leaves : Recovers (h .vm) (h .stores) (h .lent) u (h' .vm) n spent trace (h' .lent)
-  -- whatever calls come then, new code included and the same for both, runs among them: they answer as on a machine set up in that state with the same free cells
-  pub later : (d : Held) → SetUp (recovered (worldOf (h .vm) (h .stores) (h .lent)) (machineIn (h .vm) (h .lent)) (leaves .rules .kept)) h d
+  -- whatever calls come then, new code included and the same for both: they say what they say of any machine d that was set up in that state with the same free cells
+  pub later : {d : Held} {calls : List Call} → AlikeHeld (anew calls) h' d → AllTyped calls → {xs ys : List Answer} {e f : Held} (p : Chain calls h' xs e) (q : Chain calls d ys f) → said p ≡ said q
+  -- and where it was set up in the same words, the answers are the same words
+  pub exact : (d : Held) → SetUp (recovered (worldOf (h .vm) (h .stores) (h .lent)) (machineIn (h .vm) (h .lent)) (leaves .rules .kept)) h d
       → (calls : List Call) (xs ys : List Answer) (e f : Held) → Chain calls h' xs e → Chain calls d ys f → xs ≡ ys
