@@ -60,9 +60,25 @@ short-for (suc f) n =
     let e = longer (decimalFor f (n / 10)) (48 + n % 10) in
     rw (many-for f n g) (omega arith, omega arith))
 
-short : (n : ℕ) → (1 ≤ length (decimal n)) × (length (decimal n) ≤ 20)
+pub short : (n : ℕ) → (1 ≤ length (decimal n)) × (length (decimal n) ≤ 20)
 unfolding decimal
 short n = short-for 19 n
+
+few-for : (f k n : ℕ) → n < limit k → length (decimalFor f n) ≤ suc k
+unfolding decimalFor
+few-for zero k n h = omega arith
+few-for (suc f) zero n h = rw (one-for (suc f) n h) (omega arith)
+few-for (suc f) (suc k) n h =
+    by-lt n 10 (λ l. rw (one-for (suc f) n l) (omega arith))
+    (λ g.
+    let z : length (decimalFor f (n / 10)) ≤ suc k = few-for f k (n / 10) (omega arith) in
+    let e = longer (decimalFor f (n / 10)) (48 + n % 10) in
+    rw (many-for f n g) (omega arith))
+
+-- four digits or more: five where five are enough
+pub five : (n : ℕ) → n < 100000 → length (digitsOrMore 4 n) ≤ 5
+unfolding decimal digitsOrMore
+five n h = let z = few-for 19 4 n h in simp (length-append, length-replicate) (omega arith)
 
 length-one : (n : ℕ) → n < 10 → length (decimal n) ≡ 1
 length-one n h = ap length (decimal-one n h)
