@@ -1,5 +1,6 @@
 -- What the runner prints: what a run of the program that was loaded answers, or why there is none.
 use mathlib.Core.Path.{_≡_, ap, _∙_}
+use mathlib.Core.Bool.{Bool, true, false}
 use mathlib.Core.List.{List, [], _∷_}
 use Prim.Native.Nat.{ℕ, _≤_, _<_, _^_}
 use native.Mathlib.Omega.{arith}
@@ -18,11 +19,12 @@ use Rattle.model.specs.Runs.{root}
 use Rattle.model.specs.Stores.{Stores}
 use Rattle.model.specs.Loading.{loadOf}
 use Rattle.model.specs.Machines.{runAnswer, answerIn, RunPost, fresh, startWith, loadMachineOf}
-use Rattle.model.specs.Reports.{refusedLine, reportOf, emptyStores, emptyLent, startedText, started, runnerText}
+use Rattle.model.specs.Reports.{refusedLine, reportOf, emptyStores, emptyLent, startedText, started, runnerText, listerText}
 use Rattle.image.specs.Fills as whole
 use Rattle.ends.specs.Links.{programLent}
 use Rattle.machine.specs.Links.{runLent}
-use Rattle.report.specs.Links.{Shows, printed, PlayPost}
+use Rattle.report.specs.Links.{Shows, printed, imageText, PlayPost}
+use Rattle.report.proofs.Lists.{image-too-long}
 use Rattle.report.proofs.Shown.{run-shows}
 
 -- ---- the run
@@ -70,7 +72,7 @@ module _ (s : Stores) (out : List ℕ) {r : ℕ} {out' : List ℕ} where
 -- ---- the image
 
 module _ (image out : List ℕ) {r : ℕ} {out' : List ℕ} where
-  pub run-too-long : 16384 < length image → record { count = r; out = out' } ≡ printed (refusedLine 22) out → record { count = r; out = out' } ≡ printed (runnerText image) out
+  run-too-long : 16384 < length image → record { count = r; out = out' } ≡ printed (refusedLine 22) out → record { count = r; out = out' } ≡ printed (runnerText image) out
   unfolding runnerText
   run-too-long h p = rw (lt-ltb 16384 (length image) h) p
 
@@ -78,3 +80,17 @@ module _ (image out : List ℕ) {r : ℕ} {out' : List ℕ} where
       → ((structs : List ℕ) → record { count = r; out = out' } ≡ printed (textOf a (programLent structs cs fs tx mn mp ot op)) out) → record { count = r; out = out' } ≡ printed (runnerText image) out
   unfolding runnerText loadMachineOf programLent
   image-run h a cs ss fs tx mn mp ot op e p = rw (le-ltb 16384 (length image) h, ← e) (p ss)
+
+-- ---- run or listed
+
+module _ (image out : List ℕ) {r : ℕ} {out' : List ℕ} where
+  pub too-long : (runs : Bool) → 16384 < length image → record { count = r; out = out' } ≡ printed (refusedLine 22) out → record { count = r; out = out' } ≡ printed (imageText runs image) out
+  too-long true h p = run-too-long image out h p
+  too-long false h p = image-too-long image out h p
+
+  module _ {runs : Bool} where
+    pub is-run : runs ≡ true → record { count = r; out = out' } ≡ printed (runnerText image) out → record { count = r; out = out' } ≡ printed (imageText runs image) out
+    is-run e p = rw e p
+
+    pub is-listed : runs ≡ false → record { count = r; out = out' } ≡ printed (listerText image) out → record { count = r; out = out' } ≡ printed (imageText runs image) out
+    is-listed e p = rw e p

@@ -29,7 +29,7 @@ ghost use Rattle.model.specs.Machines.{runAnswer, answerIn, fresh, startWith};
 ghost use Rattle.model.specs.Reports.{refusedLine, reportOf, emptyStores, emptyLent, listedText, loadedText, listerText, started, runnerText};
 ghost use Rattle.listing.specs.Links.{lent};
 ghost use Rattle.ends.specs.Links.{programLent};
-ghost use Rattle.report.specs.Links.{Shows, printed, Listable};
+ghost use Rattle.report.specs.Links.{Shows, printed, Listable, imageText};
 
 // A refusal. It is measured first, with no room to write into.
 fn print_refused(n: u8, out: &mut [u8]) -> usize
@@ -97,35 +97,6 @@ fn list_loaded<'a>(
         Loaded::Broken(_) => print_refused(20, out),
         Loaded::Refused(n) => print_refused(n, out),
     }
-}
-
-// The lister: an image of at most 16,384 bytes, loaded into stores of its own and listed.
-pub fn list_image(image: &[u8], out: &mut [u8]) -> usize
-    ensures { λ r. ⌜ record { count = r; out = now (out .exit) } ≡ printed (listerText (now (image .entry))) (now (out .entry)) ⌝ }
-{
-    if 16384 < image.len() {
-        return print_refused(22, out);
-    }
-    let mut constants = [0u64; 512];
-    let mut structs = [0u64; 256];
-    let mut functions = [0u64; 512];
-    let mut text = [0u8; 16384];
-    let mut main = [0u8; 8192];
-    let mut main_places = [0u32; 8192];
-    let mut other = [0u8; 8192];
-    let mut other_places = [0u32; 8192];
-    let loaded = load(
-        image,
-        &mut constants,
-        &mut structs,
-        &mut functions,
-        &mut text,
-        &mut main,
-        &mut main_places,
-        &mut other,
-        &mut other_places,
-    );
-    list_loaded(loaded, &functions, &text, &main, &other, out)
 }
 
 // A machine that has not run.
@@ -209,9 +180,9 @@ fn run_loaded(
     }
 }
 
-// The runner: an image of at most 16,384 bytes, loaded into stores of its own and run with 1,000,000 units.
-pub fn run_image(image: &[u8], out: &mut [u8]) -> usize
-    ensures { λ r. ⌜ record { count = r; out = now (out .exit) } ≡ printed (runnerText (now (image .entry))) (now (out .entry)) ⌝ }
+// An image of at most 16,384 bytes, loaded into stores of its own, and run or listed.
+fn print_image(runs: bool, image: &[u8], out: &mut [u8]) -> usize
+    ensures { λ r. ⌜ record { count = r; out = now (out .exit) } ≡ printed (imageText runs (now (image .entry))) (now (out .entry)) ⌝ }
 {
     if 16384 < image.len() {
         return print_refused(22, out);
@@ -235,15 +206,32 @@ pub fn run_image(image: &[u8], out: &mut [u8]) -> usize
         &mut other,
         &mut other_places,
     );
-    run_loaded(
-        loaded,
-        &constants,
-        &functions,
-        &text,
-        &main,
-        &main_places,
-        &other,
-        &other_places,
-        out,
-    )
+    if runs {
+        return run_loaded(
+            loaded,
+            &constants,
+            &functions,
+            &text,
+            &main,
+            &main_places,
+            &other,
+            &other_places,
+            out,
+        );
+    }
+    list_loaded(loaded, &functions, &text, &main, &other, out)
+}
+
+// The lister.
+pub fn list_image(image: &[u8], out: &mut [u8]) -> usize
+    ensures { λ r. ⌜ record { count = r; out = now (out .exit) } ≡ printed (listerText (now (image .entry))) (now (out .entry)) ⌝ }
+{
+    print_image(false, image, out)
+}
+
+// The runner, with 1,000,000 units.
+pub fn run_image(image: &[u8], out: &mut [u8]) -> usize
+    ensures { λ r. ⌜ record { count = r; out = now (out .exit) } ≡ printed (runnerText (now (image .entry))) (now (out .entry)) ⌝ }
+{
+    print_image(true, image, out)
 }
