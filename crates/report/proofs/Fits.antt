@@ -1,5 +1,5 @@
 -- What the runner and the lister print always fits the stores that they lend: 32,768 and 524,288 bytes.
-use mathlib.Core.Path.{_≡_, refl, sym, ap, subst, _∙_}
+use mathlib.Core.Path.{_≡_, refl, sym, ap, subst}
 use mathlib.Core.Bool.{Bool, true, false}
 use mathlib.Core.List.{List, [], _∷_, _++_}
 use Prim.Native.Nat.{ℕ, zero, suc, _+_, _-_, _*_, _/_, _≤_, _<_}
@@ -17,13 +17,12 @@ use Rattle.model.specs.declared.Decoded.the-variants as d
 use Rattle.model.specs.declared.Loaded.{Loaded}
 use Rattle.model.specs.declared.Loaded.the-variants as l
 use Rattle.model.specs.Basics.{ascii}
-use Rattle.model.specs.Values.{places}
 use Rattle.model.specs.Heap.{Cell, headIn}
 use Rattle.model.specs.Numbers.{Bytes, digits, groupsOf}
-use Rattle.model.specs.Opcodes.{Opcode, opcodeAt}
+use Rattle.model.specs.Opcodes.{opcodeAt}
 use Rattle.model.specs.Programs.{Function, Program, functionAt, withinLimits, wordAt, behind}
 use Rattle.model.specs.Images.{joined, counted, constantImage, textImage, runImage, runsOf, functionImage, imageOf, Judged, fine, broken, judge}
-use Rattle.model.specs.Listings.{decimal, paddedTo, operandsFrom, lineOf, headerLine, Listed, text, unlisted, inFront, knownThen, opcodeThen, lineThen, linesFor, andListed, listingFrom, listingOf}
+use Rattle.model.specs.Listings.{operandsFrom, lineOf, headerLine, Listed, text, unlisted, inFront, knownThen, opcodeThen, lineThen, linesFor, andListed, listingFrom, listingOf}
 use Rattle.model.specs.Runs.{Machine, root, Entry, Reply, value, continue, fault, Ran}
 use Rattle.model.specs.Stores.{Stores, programIn}
 use Rattle.model.specs.Emission.{written}

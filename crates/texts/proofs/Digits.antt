@@ -7,6 +7,7 @@ use native.Mathlib.Omega.{arith}
 use lib.Dec.{ltb}
 use lib.ListN.{length, replicate, length-append, length-replicate}
 use borrow.Author.Tests.{lt-ltb, le-ltb, ltb-true, ltb-false}
+use Rattle.model.specs.Basics.{ascii}
 use Rattle.model.specs.Listings.{decimalFor, decimal, digitsOrMore}
 use Rattle.program.proofs.Bools.{apart, and-left, and-right, either-way}
 use Rattle.texts.specs.Links.{Put}
@@ -170,3 +171,12 @@ module _ (m n : ℕ) (l : m < 2 ^ 64) (k : n < 2 ^ 64) (t : (ltb n 10 && ltb m 1
         let e = w .near in
         let b = both p w in
         is (record { stored = b .stored; next = b .next; near = omega arith }) (sym (like-more m n l k t))
+
+-- ---- a text and a number, and a line of them
+
+module _ (name : List ℕ) (n : ℕ) {s₀ s₁ s₂ : List ℕ} {i₀ i₁ i₂ : ℕ} where
+  pub count-is : Put (length name) name s₀ i₀ s₁ i₁ → Put 20 (like 0 n) s₁ i₁ s₂ i₂ → Put (length name + 20) (name ++ decimal n) s₀ i₀ s₂ i₂
+  count-is p q = both p (is q (plain n))
+
+  pub line-is : Put (length name + 20) (name ++ decimal n) s₀ i₀ s₁ i₁ → Put 1 (ascii "\n") s₁ i₁ s₂ i₂ → Put (length name + 21) (name ++ decimal n ++ ascii "\n") s₀ i₀ s₂ i₂
+  line-is p q = within (both p q) (length name + 21) (omega arith)
