@@ -1,9 +1,11 @@
 -- What the answers are, way by way.
-use mathlib.Core.Path.{_≡_, refl, ap}
+use mathlib.Core.Path.{_≡_, refl, sym, ap, _∙_}
 use mathlib.Core.Bool.{Bool, true, false}
 use mathlib.Core.List.{List, [], _∷_}
-use Prim.Native.Nat.{ℕ, _≤_, _<_}
-use lib.ListN.{length, take, replicate}
+use Prim.Native.Nat.{ℕ, _/_, _≤_, _<_, _^_}
+use native.Mathlib.Omega.{arith}
+use native.Mathlib.Nat.{min-eq-left}
+use lib.ListN.{length, take, replicate, length-replicate}
 use denote.Enum.Declared.{tagOf}
 use types.Run.{OneOf, miss}
 use borrow.Author.Tests.{le-leb, lt-leb}
@@ -15,11 +17,14 @@ use Rattle.model.specs.declared.Loaded.the-variants as l
 use Rattle.model.specs.declared.Told.{Told}
 use Rattle.model.specs.declared.Told.the-variants as t
 use Rattle.model.specs.Equality.{sameBytes}
+use Rattle.model.specs.Values.{places, mostPlaces}
 use Rattle.model.specs.Stores.{Stores}
 use Rattle.model.specs.Loading.{LoadRes, loadOf, saveOf}
 use Rattle.model.specs.Reports.{emptyStores, runnerText, listerText}
-use Rattle.report.specs.Links.{printed}
-use Rattle.compare.specs.Compared.{loadText, readOf, backTo, savingOf, Compared, comparedAt, compareOf, shown, verdictOf}
+use Rattle.report.specs.Links.{Printed, printed}
+use Rattle.report.proofs.Prints.{fits}
+use Rattle.compare.proofs.Lines.{same-line}
+use Rattle.compare.specs.Compared.{loadText, readOf, backTo, savingOf, Compared, comparedAt, compareOf, verdictOf}
 
 pub too-long : (image : List ℕ) (s : Stores) → 16384 < length image → record { answer = l.Refused 22; stores = s } ≡ readOf image s
 unfolding readOf
@@ -65,14 +70,26 @@ all image loading s saved h f g = rw (← h, f, ← g)
 
 -- ---- all of it
 
-pub told : (k : ℕ) (bytes want : List ℕ) {n : ℕ} {out : List ℕ} → record { count = n; out = out } ≡ printed bytes (replicate k 0) → (r : Bool) → r ≡ sameBytes (take n out) want → r ≡ sameBytes (shown k bytes) want
-unfolding shown
-told k bytes want e r h = rw (← e) h
+room-of : (k : ℕ) (s : List ℕ) → length s ≡ k → k < 2 ^ 32 → {n : ℕ} → n ≤ k → n ≤ places 1 s
+unfolding places
+room-of k s e small h =
+    let a : length s / 1 ≤ mostPlaces = omega arith in
+    let b = min-eq-left a in
+    omega arith
+
+-- a text that fits a store of k bytes is printed whole
+pub told : (k : ℕ) (bytes want : List ℕ) → k < 2 ^ 32 → length bytes ≤ k → {n : ℕ} {out : List ℕ} → record { count = n; out = out } ≡ printed bytes (replicate k 0)
+    → (r : Bool) → r ≡ sameBytes (take n out) want → r ≡ sameBytes bytes want
+told k bytes want small h {n} e r g =
+    let z : length {A = ℕ} (replicate k 0) ≡ k = length-replicate k 0 in
+    let f = e ∙ sym (fits bytes (replicate k 0) (room-of k (replicate k 0) z small h)) in
+    let c : n ≡ length bytes = ap (λ (x : Printed). x .count) f in
+    same-line {k = k} {l = bytes} {s = replicate k 0} {n = n} (record { stored = ap (λ (x : Printed). x .out) f; next = omega arith; near = omega arith }) (omega arith) want r g
 
 pub judged : (image loading running listing : List ℕ) {a b ran listed : Bool} {s : Stores} {saved : List ℕ}
     → record { loading = a; saving = b; stores = s; saved = saved } ≡ compareOf image loading
     record { constants = replicate 512 0; structs = replicate 256 0; functions = replicate 512 0; text = replicate 16384 0; main = replicate 8192 0; mainPlaces = replicate 8192 0; other = replicate 8192 0; otherPlaces = replicate 8192 0 } (replicate 16384 0)
-    → ran ≡ sameBytes (shown 32768 (runnerText image)) running → listed ≡ sameBytes (shown 524288 (listerText image)) listing
+    → ran ≡ sameBytes (runnerText image) running → listed ≡ sameBytes (listerText image) listing
     → record { loading = a; saving = b; running = ran; listing = listed } ≡ verdictOf image loading running listing
 unfolding verdictOf emptyStores
 judged image loading running listing h f g =

@@ -1,7 +1,7 @@
 -- Lines put into a store from its start on, and read off again.
 use mathlib.Core.Path.{_≡_, sym, ap, _∙_}
 use mathlib.Core.Bool.{Bool}
-use mathlib.Core.List.{List, [], _∷_}
+use mathlib.Core.List.{List, _++_, append-assoc}
 use Prim.Native.Nat.{ℕ, _+_, _≤_, _<_, min}
 use native.Mathlib.Omega.{arith}
 use native.Mathlib.Nat.{min-eq-left, min-eq-right, min-le-right}
@@ -14,47 +14,36 @@ use Rattle.model.specs.declared.Loaded.{Loaded}
 use Rattle.model.specs.declared.Loaded.the-variants as l
 use Rattle.model.specs.Basics.{ascii}
 use Rattle.model.specs.Equality.{sameBytes}
+use Rattle.model.specs.Listings.{decimal}
 use Rattle.model.specs.Emission.{written}
 use Rattle.model.specs.Reports.{refusedLine}
 use Rattle.program.proofs.Bools.{either-way}
 use Rattle.texts.specs.Links.{Put}
 use Rattle.texts.proofs.Puts.{is, within, both}
-use Rattle.texts.proofs.Digits.{like, plain}
 use Rattle.compare.specs.Compared.{field, breach, loaded, loadText}
 
 -- ---- the pieces of a line
 
-pub field-is : (n : ℕ) {s₀ s₁ s₂ : List ℕ} {i₀ i₁ i₂ : ℕ} → Put 1 (32 ∷ []) s₀ i₀ s₁ i₁ → Put 20 (like 0 n) s₁ i₁ s₂ i₂ → Put 21 (field n) s₀ i₀ s₂ i₂
-unfolding field
-field-is n p q = both p (is q (plain n))
+pub loaded-is : (c : Counts) {s₀ s₁ s₂ s₃ s₄ : List ℕ} {i₀ i₁ i₂ i₃ i₄ : ℕ}
+    → Put 27 (ascii "loaded " ++ decimal (c .constants)) s₀ i₀ s₁ i₁ → Put 21 (ascii " " ++ decimal (c .structs)) s₁ i₁ s₂ i₂
+    → Put 21 (ascii " " ++ decimal (c .functions)) s₂ i₂ s₃ i₃ → Put 22 (ascii " " ++ decimal (c .text) ++ ascii "\n") s₃ i₃ s₄ i₄ → Put 96 (loaded c) s₀ i₀ s₄ i₄
+unfolding loaded field ascii
+loaded-is c p₁ p₂ p₃ p₄ =
+    let front = ascii "loaded" ++ field (c .constants) ++ field (c .structs) ++ field (c .functions) in
+    within (is (both (both (both p₁ p₂) p₃) p₄) (sym (append-assoc front (field (c .text)) (ascii "\n")))) 96 (omega arith)
 
-module _ {s₀ s₁ s₂ s₃ : List ℕ} {i₀ i₁ i₂ i₃ : ℕ} where
-  pub refusal-is : (n : ℕ) → Put 7 (114 ∷ 101 ∷ 102 ∷ 117 ∷ 115 ∷ 101 ∷ 100 ∷ []) s₀ i₀ s₁ i₁ → Put 21 (field n) s₁ i₁ s₂ i₂ → Put 1 (10 ∷ []) s₂ i₂ s₃ i₃ → Put 96 (refusedLine n) s₀ i₀ s₃ i₃
-  unfolding field refusedLine ascii
-  refusal-is n p q r = within (both (both p q) r) 96 (omega arith)
-
-  pub breach-is : (o : ℕ) → Put 10 (114 ∷ 101 ∷ 102 ∷ 117 ∷ 115 ∷ 101 ∷ 100 ∷ 32 ∷ 50 ∷ 48 ∷ []) s₀ i₀ s₁ i₁ → Put 21 (field o) s₁ i₁ s₂ i₂ → Put 1 (10 ∷ []) s₂ i₂ s₃ i₃ → Put 96 (breach o) s₀ i₀ s₃ i₃
-  unfolding breach ascii
-  breach-is o p q r = within (both (both p q) r) 96 (omega arith)
-
-pub loaded-is : (c : Counts) {s₀ s₁ s₂ s₃ s₄ s₅ s₆ : List ℕ} {i₀ i₁ i₂ i₃ i₄ i₅ i₆ : ℕ}
-    → Put 6 (108 ∷ 111 ∷ 97 ∷ 100 ∷ 101 ∷ 100 ∷ []) s₀ i₀ s₁ i₁ → Put 21 (field (c .constants)) s₁ i₁ s₂ i₂ → Put 21 (field (c .structs)) s₂ i₂ s₃ i₃
-    → Put 21 (field (c .functions)) s₃ i₃ s₄ i₄ → Put 21 (field (c .text)) s₄ i₄ s₅ i₅ → Put 1 (10 ∷ []) s₅ i₅ s₆ i₆ → Put 96 (loaded c) s₀ i₀ s₆ i₆
-unfolding loaded ascii
-loaded-is c p₁ p₂ p₃ p₄ p₅ p₆ = within (both (both (both (both (both p₁ p₂) p₃) p₄) p₅) p₆) 96 (omega arith)
-
-module _ {a : Loaded} {k : ℕ} {s s' : List ℕ} {i r : ℕ} where
-  pub line-done : {c : Counts} → a ≡ l.Done c → Put k (loaded c) s i s' r → Put k (loadText a) s i s' r
+module _ {a : Loaded} {s s' : List ℕ} {i r : ℕ} where
+  pub line-done : {c : Counts} → a ≡ l.Done c → Put 96 (loaded c) s i s' r → Put 96 (loadText a) s i s' r
   unfolding loadText
   line-done e p = rw e p
 
-  pub line-broken : {o : ℕ} → a ≡ l.Broken o → Put k (breach o) s i s' r → Put k (loadText a) s i s' r
-  unfolding loadText
-  line-broken e p = rw e p
+  pub line-broken : {o : ℕ} → a ≡ l.Broken o → Put 32 (ascii "refused 20 " ++ decimal o ++ ascii "\n") s i s' r → Put 96 (loadText a) s i s' r
+  unfolding loadText breach field ascii
+  line-broken e p = rw e (within p 96 (omega arith))
 
-  pub line-refused : {n : ℕ} → a ≡ l.Refused n → Put k (refusedLine n) s i s' r → Put k (loadText a) s i s' r
-  unfolding loadText
-  line-refused e p = rw e p
+  pub line-refused : {n : ℕ} → a ≡ l.Refused n → Put 29 (ascii "refused " ++ decimal n ++ ascii "\n") s i s' r → Put 96 (loadText a) s i s' r
+  unfolding loadText refusedLine
+  line-refused e p = rw e (within p 96 (omega arith))
 
 -- ---- reading off
 

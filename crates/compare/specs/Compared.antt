@@ -15,7 +15,6 @@ use Rattle.model.specs.Listings.{decimal}
 use Rattle.model.specs.Stores.{Stores}
 use Rattle.model.specs.Loading.{LoadRes, loadOf, saveOf}
 use Rattle.model.specs.Reports.{refusedLine, emptyStores, runnerText, listerText}
-use Rattle.report.specs.Links.{printed}
 use Rattle.compare.specs.declared.Verdict.{Verdict}
 
 -- ---- texts
@@ -79,15 +78,11 @@ compareOf image loading s saved = comparedAt image loading (readOf image s) save
 
 -- ---- all of it
 
--- what is printed of a text with room for k bytes
-unfoldable pub shown : ℕ → List ℕ → List ℕ
-shown k bytes = take (printed bytes (replicate k 0) .count) (printed bytes (replicate k 0) .out)
-
--- with the runner's stores, and room for every image that is read, its report and its listing
+-- with the runner's stores, and room for every image that is read
 unfoldable pub verdictOf : List ℕ → List ℕ → List ℕ → List ℕ → Verdict
 verdictOf image loading running listing = record {
   loading = compareOf image loading emptyStores (replicate 16384 0) .loading;
   saving = compareOf image loading emptyStores (replicate 16384 0) .saving;
-  running = sameBytes (shown 32768 (runnerText image)) running;
-  listing = sameBytes (shown 524288 (listerText image)) listing;
+  running = sameBytes (runnerText image) running;
+  listing = sameBytes (listerText image) listing;
 }

@@ -8,16 +8,15 @@ use program::words::lesser;
 use program::words::same_bytes;
 use report::list_image;
 use report::run_image;
-use texts::put_text;
-use texts::write_decimal;
+use texts::put_count;
+use texts::put_line;
 ghost use mathlib.Core.Path.{_≡_};
-ghost use Prim.Native.Nat.{_+_, _<_, _^_};
 ghost use lib.ListN.{take};
 ghost use Rattle.model.specs.Equality.{sameBytes};
-ghost use Rattle.model.specs.Reports.{refusedLine, listerText, runnerText};
+ghost use Rattle.model.specs.Reports.{listerText, runnerText};
 ghost use Rattle.image.specs.Fills.{lent};
 ghost use Rattle.texts.specs.Links.{Put};
-ghost use Rattle.compare.specs.Compared.{field, breach, loaded, loadText, readOf, savingOf, compareOf, shown, verdictOf};
+ghost use Rattle.compare.specs.Compared.{loaded, loadText, readOf, savingOf, compareOf, verdictOf};
 
 // Which answers agree.
 pub struct Verdict {
@@ -35,43 +34,14 @@ struct Kept {
 
 // ---- texts
 
-// A space and a number.
-fn put_field(n: usize, out: &mut [u8], at: usize) -> usize
-    requires { ⌜ at + 21 < 2 ^ 64 ⌝ }
-    ensures { λ r. ⌜ Put 21 (field n) (now (out .entry)) at (now (out .exit)) r ⌝ }
-{
-    let number = put_text(b" ", out, at);
-    write_decimal(n, 0, out, number)
-}
-
-// The line of a refusal.
-fn put_refusal(n: u8, out: &mut [u8]) -> usize
-    ensures { λ r. ⌜ Put 96 (refusedLine n) (now (out .entry)) 0 (now (out .exit)) r ⌝ }
-{
-    let number = put_text(b"refused", out, 0);
-    let end = put_field(n as usize, out, number);
-    put_text(b"\n", out, end)
-}
-
-// The line of refusal 20, with its offset.
-fn put_breach(o: usize, out: &mut [u8]) -> usize
-    ensures { λ r. ⌜ Put 96 (breach o) (now (out .entry)) 0 (now (out .exit)) r ⌝ }
-{
-    let offset = put_text(b"refused 20", out, 0);
-    let end = put_field(o, out, offset);
-    put_text(b"\n", out, end)
-}
-
 // The line of a program that was loaded.
 fn put_loaded(c: Counts, out: &mut [u8]) -> usize
     ensures { λ r. ⌜ Put 96 (loaded c) (now (out .entry)) 0 (now (out .exit)) r ⌝ }
 {
-    let constants = put_text(b"loaded", out, 0);
-    let structs = put_field(c.constants, out, constants);
-    let functions = put_field(c.structs, out, structs);
-    let text = put_field(c.functions, out, functions);
-    let end = put_field(c.text, out, text);
-    put_text(b"\n", out, end)
+    let structs = put_count(b"loaded ", c.constants, out, 0);
+    let functions = put_count(b" ", c.structs, out, structs);
+    let text = put_count(b" ", c.functions, out, functions);
+    put_line(b" ", c.text, out, text)
 }
 
 // The line of what loading answered.
@@ -80,8 +50,8 @@ fn put_answer(answer: Loaded, out: &mut [u8]) -> usize
 {
     match answer {
         Loaded::Done(c) => put_loaded(c, out),
-        Loaded::Broken(o) => put_breach(o, out),
-        Loaded::Refused(n) => put_refusal(n, out),
+        Loaded::Broken(o) => put_line(b"refused 20 ", o, out, 0),
+        Loaded::Refused(n) => put_line(b"refused ", n as usize, out, 0),
     }
 }
 
@@ -220,18 +190,18 @@ fn compare(
     }
 }
 
-// Whether this is what the runner prints.
+// Whether this is what the runner prints, which always fits.
 fn runs(image: &[u8], want: &[u8]) -> bool
-    ensures { λ r. ⌜ r ≡ sameBytes (shown 32768 (runnerText (now (image .entry)))) (now (want .entry)) ⌝ }
+    ensures { λ r. ⌜ r ≡ sameBytes (runnerText (now (image .entry))) (now (want .entry)) ⌝ }
 {
     let mut out = [0u8; 32768];
     let n = run_image(image, &mut out);
     same_front(&out, n, want)
 }
 
-// Whether this is what the lister prints.
+// Whether this is what the lister prints, which always fits.
 fn lists(image: &[u8], want: &[u8]) -> bool
-    ensures { λ r. ⌜ r ≡ sameBytes (shown 524288 (listerText (now (image .entry)))) (now (want .entry)) ⌝ }
+    ensures { λ r. ⌜ r ≡ sameBytes (listerText (now (image .entry))) (now (want .entry)) ⌝ }
 {
     let mut out = [0u8; 524288];
     let n = list_image(image, &mut out);

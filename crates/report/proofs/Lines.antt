@@ -32,10 +32,6 @@ module _ {s₀ s₁ : List ℕ} {i₀ i₁ : ℕ} where
   refused-is n p = p
 
   module _ {s₂ : List ℕ} {i₂ : ℕ} where
-    pub line-is : (name : List ℕ) (n : ℕ) → Put (length name + 20) (name ++ decimal n) s₀ i₀ s₁ i₁ → Put 1 (ascii "\n") s₁ i₁ s₂ i₂
-        → Put (length name + 21) (name ++ decimal n ++ ascii "\n") s₀ i₀ s₂ i₂
-    line-is name n p q = within (both p q) (length name + 21) (omega arith)
-
     pub spent-is : (n k : ℕ) → Put 27 (ascii "spent " ++ decimal n ++ ascii "\n") s₀ i₀ s₁ i₁ → Put 27 (ascii "stack " ++ decimal k ++ ascii "\n") s₁ i₁ s₂ i₂
         → Put 54 (ascii "spent " ++ decimal n ++ ascii "\nstack " ++ decimal k ++ ascii "\n") s₀ i₀ s₂ i₂
     unfolding ascii

@@ -150,7 +150,8 @@ fewer a b c d e f g h z =
     and-both (a && b && e && f) g (and-both (a && b && e) f (and-both (a && b) e v (and-right (a && b && c && d) e w)) (and-right (a && b && c && d && e) f x))
     (and-right (a && b && c && d && e && f) g y)
 
-bytes-of : (b : List ℕ) → ((i : ℕ) → getD b i 0 < 256) → Bytes b
+-- what the type of a byte slice says
+pub bytes-of : (b : List ℕ) → ((i : ℕ) → getD b i 0 < 256) → Bytes b
 unfolding Bytes
 bytes-of [] h = tt
 bytes-of (x ∷ b) h = (h 0, bytes-of b (λ i. h (suc i)))

@@ -6,7 +6,7 @@ use Prim.Native.Nat.{ℕ, zero, suc, _+_, _-_, _/_, _%_, _≤_, _<_}
 use native.Mathlib.Omega.{arith}
 use lib.Dec.{eqb}
 use lib.Ieee.{Float, binary64, toBits}
-use lib.ListN.{length, List·getD-eq-default}
+use lib.ListN.{List·getD-eq-default}
 use borrow.Author.Tests.{lt-ltb, le-ltb}
 use Rattle.model.specs.declared.Header.{Header}
 use Rattle.model.specs.declared.Value.{Value}
@@ -19,13 +19,6 @@ use Rattle.model.specs.Reports.{hexDigit, hexFor, booleanText, valueText}
 use Rattle.cells.proofs.Stands.{length-heap, kind-is, head-is}
 use Rattle.texts.specs.Links.{Put}
 use Rattle.texts.proofs.Puts.{is, within, both, nothing}
-use Rattle.texts.proofs.Digits.{like, plain}
-
--- ---- a text and a number
-
-pub count-is : (name : List ℕ) (n : ℕ) {s₀ s₁ s₂ : List ℕ} {i₀ i₁ i₂ : ℕ}
-    → Put (length name) name s₀ i₀ s₁ i₁ → Put 20 (like 0 n) s₁ i₁ s₂ i₂ → Put (length name + 20) (name ++ decimal n) s₀ i₀ s₂ i₂
-count-is name n p q = both p (is q (plain n))
 
 -- ---- hex digits
 

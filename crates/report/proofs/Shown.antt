@@ -74,7 +74,8 @@ module _ (m : Vm) (s : Stores) (l : Lent) (u : ℕ) (bytes : CodeBytes s) where
       let c = room-for-trace long in
       omega arith
 
-  run-trace : (c : Counts) (x : Ran) → ran c x ≡ runAnswer m s l u → (n k : ℕ) (es : List Entry) → x .reply ≡ fault n k es → 2 * length es ≤ length (l .backtrace)
+  -- a fault's backtrace lies inside its store
+  pub run-trace : (c : Counts) (x : Ran) → ran c x ≡ runAnswer m s l u → (n k : ℕ) (es : List Entry) → x .reply ≡ fault n k es → 2 * length es ≤ length (l .backtrace)
   unfolding runAnswer
   run-trace c x e n k es f =
       either-way (runOrder m s l)

@@ -1,6 +1,6 @@
 -- What a report reads, and what a program prints.
 use mathlib.Core.Path.{_≡_}
-use mathlib.Core.Bool.{true}
+use mathlib.Core.Bool.{Bool, true, false}
 use mathlib.Core.List.{List}
 use Prim.Native.Nat.{ℕ, _*_, _≤_, _<_, _^_}
 use lib.Dec.{leb}
@@ -18,6 +18,7 @@ use Rattle.model.specs.Stores.{Stores}
 use Rattle.model.specs.Emission.{written}
 use Rattle.model.specs.Loading.{listOrder}
 use Rattle.model.specs.Machines.{Lent, RunPost}
+use Rattle.model.specs.Reports.{runnerText, listerText}
 
 -- what an answer speaks of lies inside stores of these lengths: the cells of a value, the entries of a backtrace
 abbrev pub Inside : RunResult → ℕ → ℕ → Type 0
@@ -40,6 +41,11 @@ pub record Printed : Type 0 where
 -- a text that fits is put at the front of the store; of one that does not, nothing
 unfoldable pub printed : List ℕ → List ℕ → Printed
 printed bytes out = if leb (length bytes) (places 1 out) then record { count = length bytes; out = written out 0 bytes } else record { count = 0; out = out }
+
+-- what is printed of an image that is run, or listed
+abbrev pub imageText : Bool → List ℕ → List ℕ
+imageText true image = runnerText image
+imageText false image = listerText image
 
 -- a program that was loaded can be listed
 abbrev pub Listable : Loaded → Stores → Type 0

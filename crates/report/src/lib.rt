@@ -18,19 +18,18 @@ use program::words::room;
 ghost use mathlib.Core.Path.{_≡_};
 ghost use mathlib.Core.Bool.{true};
 ghost use mathlib.Core.List.{List};
-ghost use Prim.Native.Nat.{ℕ, _<_, _^_};
-ghost use lib.ListN.{length, replicate};
+ghost use Prim.Native.Nat.{ℕ};
+ghost use lib.ListN.{replicate};
 ghost use Rattle.model.specs.declared.Frame.{Frame};
 ghost use Rattle.model.specs.Listings.{listingOf};
 ghost use Rattle.model.specs.Runs.{root};
 ghost use Rattle.model.specs.Stores.{Stores, programIn};
 ghost use Rattle.model.specs.Loading.{listOrder};
-ghost use Rattle.model.specs.Machines.{runAnswer, answerIn, fresh};
-ghost use Rattle.model.specs.Reports.{refusedLine, reportOf, listedText, loadedText, listerText, runnerText};
+ghost use Rattle.model.specs.Machines.{runAnswer, answerIn, fresh, startWith};
+ghost use Rattle.model.specs.Reports.{refusedLine, reportOf, emptyStores, emptyLent, listedText, loadedText, listerText, started, runnerText};
 ghost use Rattle.listing.specs.Links.{lent};
 ghost use Rattle.ends.specs.Links.{programLent};
-ghost use Rattle.machine.specs.Links.{runLent};
-ghost use Rattle.report.specs.Links.{Shows, printed, Listable};
+ghost use Rattle.report.specs.Links.{Shows, printed, Listable, imageText};
 
 // A refusal. It is measured first, with no room to write into.
 fn print_refused(n: u8, out: &mut [u8]) -> usize
@@ -45,7 +44,7 @@ fn print_refused(n: u8, out: &mut [u8]) -> usize
 }
 
 // What a run answered, with the stores as it left them. Likewise measured first.
-pub fn print_report(r: RunResult, cells: &[u64], backtrace: &[u32], out: &mut [u8]) -> usize
+fn print_report(r: RunResult, cells: &[u64], backtrace: &[u32], out: &mut [u8]) -> usize
     requires { ⌜ Shows r (now cells) (now backtrace) ⌝ }
     ensures { λ n. ⌜ ((stack : List ℕ) (frames : List Frame) (copy : List ℕ) → record { count = n; out = now (out .exit) } ≡ printed (reportOf (answerIn (record { stack = stack; cells = now (cells .entry); frames = frames; copy = copy; backtrace = now (backtrace .entry) }) r)) (now (out .entry))) ⌝ }
 {
@@ -100,35 +99,6 @@ fn list_loaded<'a>(
     }
 }
 
-// The lister: an image of at most 16,384 bytes, loaded into stores of its own and listed.
-pub fn list_image(image: &[u8], out: &mut [u8]) -> usize
-    ensures { λ r. ⌜ record { count = r; out = now (out .exit) } ≡ printed (listerText (now (image .entry))) (now (out .entry)) ⌝ }
-{
-    if 16384 < image.len() {
-        return print_refused(22, out);
-    }
-    let mut constants = [0u64; 512];
-    let mut structs = [0u64; 256];
-    let mut functions = [0u64; 512];
-    let mut text = [0u8; 16384];
-    let mut main = [0u8; 8192];
-    let mut main_places = [0u32; 8192];
-    let mut other = [0u8; 8192];
-    let mut other_places = [0u32; 8192];
-    let loaded = load(
-        image,
-        &mut constants,
-        &mut structs,
-        &mut functions,
-        &mut text,
-        &mut main,
-        &mut main_places,
-        &mut other,
-        &mut other_places,
-    );
-    list_loaded(loaded, &functions, &text, &main, &other, out)
-}
-
 // A machine that has not run.
 fn fresh_vm(c: Counts) -> Vm
     ensures { λ r. ⌜ r ≡ fresh c ⌝ }
@@ -142,8 +112,8 @@ fn fresh_vm(c: Counts) -> Vm
     }
 }
 
-// The report of a program that was loaded and is then run.
-fn run_loaded(
+// The report of a program's run, in stores of its own.
+fn run_program(
     c: Counts,
     constants: &[u64],
     functions: &[u64],
@@ -152,15 +122,14 @@ fn run_loaded(
     main_places: &[u32],
     other: &[u8],
     other_places: &[u32],
-    stack: &mut [u64],
-    cells: &mut [u64],
-    copy: &mut [u64],
-    backtrace: &mut [u32],
     out: &mut [u8],
 ) -> usize
-    requires { ⌜ length (now backtrace) < 2 ^ 32 ⌝ }
-    ensures { λ r. ⌜ ((structs : List ℕ) → record { count = r; out = now (out .exit) } ≡ printed (reportOf (runAnswer (fresh c) (programLent structs (now (constants .entry)) (now (functions .entry)) (now (text .entry)) (now (main .entry)) (now («main_places» .entry)) (now (other .entry)) (now («other_places» .entry))) (runLent (now (stack .entry)) (now (cells .entry)) (replicate 256 (root 0)) (now (copy .entry)) (now (backtrace .entry))) 1000000)) (now (out .entry))) ⌝ }
+    ensures { λ r. ⌜ ((structs : List ℕ) → record { count = r; out = now (out .exit) } ≡ printed (reportOf (runAnswer (fresh c) (programLent structs (now (constants .entry)) (now (functions .entry)) (now (text .entry)) (now (main .entry)) (now («main_places» .entry)) (now (other .entry)) (now («other_places» .entry))) (emptyLent (replicate 256 (root 0))) 1000000)) (now (out .entry))) ⌝ }
 {
+    let mut stack = [0u64; 2048];
+    let mut cells = [0u64; 4096];
+    let mut copy = [0u64; 2048];
+    let mut backtrace = [0u32; 512];
     let m = fresh_vm(c);
     let r = play(
         m,
@@ -172,17 +141,48 @@ fn run_loaded(
         main_places,
         other,
         other_places,
-        stack,
-        cells,
-        copy,
-        backtrace,
+        &mut stack,
+        &mut cells,
+        &mut copy,
+        &mut backtrace,
     );
-    print_report(r, cells, backtrace, out)
+    print_report(r, &cells, &backtrace, out)
 }
 
-// The runner: an image of at most 16,384 bytes, loaded into stores of its own and run with 1,000,000 units.
-pub fn run_image(image: &[u8], out: &mut [u8]) -> usize
-    ensures { λ r. ⌜ record { count = r; out = now (out .exit) } ≡ printed (runnerText (now (image .entry))) (now (out .entry)) ⌝ }
+// The report of what was loaded, or why nothing was.
+fn run_loaded(
+    loaded: Loaded,
+    constants: &[u64],
+    functions: &[u64],
+    text: &[u8],
+    main: &[u8],
+    main_places: &[u32],
+    other: &[u8],
+    other_places: &[u32],
+    out: &mut [u8],
+) -> usize
+    ensures { λ r. ⌜ ((structs : List ℕ) → record { count = r; out = now (out .exit) } ≡ printed (started (startWith loaded (programLent structs (now (constants .entry)) (now (functions .entry)) (now (text .entry)) (now (main .entry)) (now («main_places» .entry)) (now (other .entry)) (now («other_places» .entry))) emptyStores (replicate 256 (root 0)))) (now (out .entry))) ⌝ }
+{
+    match loaded {
+        Loaded::Done(c) => run_program(
+            c,
+            constants,
+            functions,
+            text,
+            main,
+            main_places,
+            other,
+            other_places,
+            out,
+        ),
+        Loaded::Broken(_) => print_refused(20, out),
+        Loaded::Refused(n) => print_refused(n, out),
+    }
+}
+
+// An image of at most 16,384 bytes, loaded into stores of its own, and run or listed.
+fn print_image(runs: bool, image: &[u8], out: &mut [u8]) -> usize
+    ensures { λ r. ⌜ record { count = r; out = now (out .exit) } ≡ printed (imageText runs (now (image .entry))) (now (out .entry)) ⌝ }
 {
     if 16384 < image.len() {
         return print_refused(22, out);
@@ -206,29 +206,32 @@ pub fn run_image(image: &[u8], out: &mut [u8]) -> usize
         &mut other,
         &mut other_places,
     );
-    match loaded {
-        Loaded::Done(c) => {
-            let mut stack = [0u64; 2048];
-            let mut cells = [0u64; 4096];
-            let mut copy = [0u64; 2048];
-            let mut backtrace = [0u32; 512];
-            run_loaded(
-                c,
-                &constants,
-                &functions,
-                &text,
-                &main,
-                &main_places,
-                &other,
-                &other_places,
-                &mut stack,
-                &mut cells,
-                &mut copy,
-                &mut backtrace,
-                out,
-            )
-        }
-        Loaded::Broken(_) => print_refused(20, out),
-        Loaded::Refused(n) => print_refused(n, out),
+    if runs {
+        return run_loaded(
+            loaded,
+            &constants,
+            &functions,
+            &text,
+            &main,
+            &main_places,
+            &other,
+            &other_places,
+            out,
+        );
     }
+    list_loaded(loaded, &functions, &text, &main, &other, out)
+}
+
+// The lister.
+pub fn list_image(image: &[u8], out: &mut [u8]) -> usize
+    ensures { λ r. ⌜ record { count = r; out = now (out .exit) } ≡ printed (listerText (now (image .entry))) (now (out .entry)) ⌝ }
+{
+    print_image(false, image, out)
+}
+
+// The runner, with 1,000,000 units.
+pub fn run_image(image: &[u8], out: &mut [u8]) -> usize
+    ensures { λ r. ⌜ record { count = r; out = now (out .exit) } ≡ printed (runnerText (now (image .entry))) (now (out .entry)) ⌝ }
+{
+    print_image(true, image, out)
 }

@@ -1,9 +1,10 @@
 // A run as the runner prints it.
-use crate::values::put_count;
 use crate::values::put_value;
 use model::RunResult;
 use model::Value;
 use texts::put_byte;
+use texts::put_count;
+use texts::put_line;
 use texts::put_text;
 ghost use mathlib.Core.List.{List, _++_};
 ghost use Prim.Native.Nat.{ℕ, _+_, _*_, _≤_, _<_, _^_};
@@ -16,15 +17,6 @@ ghost use Rattle.model.specs.Machines.{entriesIn, answerIn};
 ghost use Rattle.model.specs.Reports.{valueText, entryLines, refusedLine, reportOf};
 ghost use Rattle.report.specs.Links.{Shows};
 ghost use Rattle.texts.specs.Links.{Put};
-
-// A line: a text and a number.
-fn put_line(name: &[u8], n: usize, out: &mut [u8], at: usize) -> usize
-    requires { ⌜ at + (length (now name) + 21) < 2 ^ 64 ⌝ }
-    ensures { λ r. ⌜ Put (length (now (name .entry)) + 21) (now (name .entry) ++ decimal n ++ ascii "\n") (now (out .entry)) at (now (out .exit)) r ⌝ }
-{
-    let next = put_count(name, n, out, at);
-    put_byte(b'\n', out, next)
-}
 
 // The units spent, and how many values are on the stack.
 fn put_spent(units: u64, stack: usize, out: &mut [u8], at: usize) -> usize

@@ -2,8 +2,8 @@
 use model::Header;
 use model::Value;
 use texts::put_byte;
+use texts::put_count;
 use texts::put_text;
-use texts::write_decimal;
 use value::words;
 ghost use mathlib.Core.Path.{_≡_};
 ghost use mathlib.Core.List.{_++_};
@@ -14,15 +14,6 @@ ghost use Rattle.model.specs.Heap.{heapOf, headIn};
 ghost use Rattle.model.specs.Listings.{decimal};
 ghost use Rattle.model.specs.Reports.{hexDigit, hexFor, valueText};
 ghost use Rattle.texts.specs.Links.{Put};
-
-// A text, and a number behind it.
-pub fn put_count(name: &[u8], n: usize, out: &mut [u8], at: usize) -> usize
-    requires { ⌜ at + (length (now name) + 20) < 2 ^ 64 ⌝ }
-    ensures { λ r. ⌜ Put (length (now (name .entry)) + 20) (now (name .entry) ++ decimal n) (now (out .entry)) at (now (out .exit)) r ⌝ }
-{
-    let next = put_text(name, out, at);
-    write_decimal(n, 0, out, next)
-}
 
 // A digit below 16, as a capital.
 fn hex_digit(d: u64) -> u8

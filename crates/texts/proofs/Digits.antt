@@ -7,6 +7,7 @@ use native.Mathlib.Omega.{arith}
 use lib.Dec.{ltb}
 use lib.ListN.{length, replicate, length-append, length-replicate}
 use borrow.Author.Tests.{lt-ltb, le-ltb, ltb-true, ltb-false}
+use Rattle.model.specs.Basics.{ascii}
 use Rattle.model.specs.Listings.{decimalFor, decimal, digitsOrMore}
 use Rattle.program.proofs.Bools.{apart, and-left, and-right, either-way}
 use Rattle.texts.specs.Links.{Put}
@@ -60,9 +61,25 @@ short-for (suc f) n =
     let e = longer (decimalFor f (n / 10)) (48 + n % 10) in
     rw (many-for f n g) (omega arith, omega arith))
 
-short : (n : ℕ) → (1 ≤ length (decimal n)) × (length (decimal n) ≤ 20)
+pub short : (n : ℕ) → (1 ≤ length (decimal n)) × (length (decimal n) ≤ 20)
 unfolding decimal
 short n = short-for 19 n
+
+few-for : (f k n : ℕ) → n < limit k → length (decimalFor f n) ≤ suc k
+unfolding decimalFor
+few-for zero k n h = omega arith
+few-for (suc f) zero n h = rw (one-for (suc f) n h) (omega arith)
+few-for (suc f) (suc k) n h =
+    by-lt n 10 (λ l. rw (one-for (suc f) n l) (omega arith))
+    (λ g.
+    let z : length (decimalFor f (n / 10)) ≤ suc k = few-for f k (n / 10) (omega arith) in
+    let e = longer (decimalFor f (n / 10)) (48 + n % 10) in
+    rw (many-for f n g) (omega arith))
+
+-- four digits or more: five where five are enough
+pub five : (n : ℕ) → n < 100000 → length (digitsOrMore 4 n) ≤ 5
+unfolding decimal digitsOrMore
+five n h = let z = few-for 19 4 n h in simp (length-append, length-replicate) (omega arith)
 
 length-one : (n : ℕ) → n < 10 → length (decimal n) ≡ 1
 length-one n h = ap length (decimal-one n h)
@@ -154,3 +171,12 @@ module _ (m n : ℕ) (l : m < 2 ^ 64) (k : n < 2 ^ 64) (t : (ltb n 10 && ltb m 1
         let e = w .near in
         let b = both p w in
         is (record { stored = b .stored; next = b .next; near = omega arith }) (sym (like-more m n l k t))
+
+-- ---- a text and a number, and a line of them
+
+module _ (name : List ℕ) (n : ℕ) {s₀ s₁ s₂ : List ℕ} {i₀ i₁ i₂ : ℕ} where
+  pub count-is : Put (length name) name s₀ i₀ s₁ i₁ → Put 20 (like 0 n) s₁ i₁ s₂ i₂ → Put (length name + 20) (name ++ decimal n) s₀ i₀ s₂ i₂
+  count-is p q = both p (is q (plain n))
+
+  pub line-is : Put (length name + 20) (name ++ decimal n) s₀ i₀ s₁ i₁ → Put 1 (ascii "\n") s₁ i₁ s₂ i₂ → Put (length name + 21) (name ++ decimal n ++ ascii "\n") s₀ i₀ s₂ i₂
+  line-is p q = within (both p q) (length name + 21) (omega arith)

@@ -1,5 +1,8 @@
 -- `compare::lists` meets its contract.
 use borrow.Author.Needs.{needs}
+use native.Mathlib.Omega.{arith}
+use Rattle.report.proofs.Lists.{bytes-of}
+use Rattle.report.proofs.Fits.{lister-fits}
 use Rattle.compare.proofs.Answers.{told}
 use Rattle.compare.proofs.lists.Statement.{statement}
 use Rattle.compare.proofs.lists.Tie as tie
@@ -17,7 +20,7 @@ same-front-requires : tie.Need-same-front-requires
 same-front-requires c κs = search needs
 
 returns : tie.Need-returns
-returns c = told _ _ _ (c .before .before .before .list-image .ensures) _ (c .same-front .ensures)
+returns c = told 524288 _ _ (omega arith) (lister-fits _ (bytes-of _ (λ i. omega (arith, c .before .before .before .before .before .before .shared-slice-known .given i)))) (c .before .before .before .list-image .ensures) _ (c .same-front .ensures)
 
 pub lists-spec : {M : Type 1} → statement M
 lists-spec =

@@ -1,50 +1,52 @@
 -- `compare::put_loaded` meets its contract.
 use borrow.Author.Needs.{needs}
+use Rattle.model.specs.Basics.{ascii}
 use Rattle.compare.proofs.Lines.{loaded-is}
 use Rattle.compare.proofs.put_loaded.Statement.{statement}
 use Rattle.compare.proofs.put_loaded.Tie as tie
 
-slice-aggregate-put-text : tie.Need-slice-aggregate-put-text
-slice-aggregate-put-text c = search needs
+slice-aggregate-put-count : tie.Need-slice-aggregate-put-count
+slice-aggregate-put-count c = search needs
 
-put-text-requires : tie.Need-put-text-requires
-put-text-requires c κs = search needs
+put-count-requires : tie.Need-put-count-requires
+put-count-requires c κs = search needs
 
-put-field-requires : tie.Need-put-field-requires
-put-field-requires c κs = search needs
+slice-aggregate-put-count-2 : tie.Need-slice-aggregate-put-count-2
+slice-aggregate-put-count-2 c = search needs
 
-put-field-requires-2 : tie.Need-put-field-requires-2
-put-field-requires-2 c κs = search needs
+put-count-requires-2 : tie.Need-put-count-requires-2
+put-count-requires-2 c κs = search needs
 
-put-field-requires-3 : tie.Need-put-field-requires-3
-put-field-requires-3 c κs = search needs
+slice-aggregate-put-count-3 : tie.Need-slice-aggregate-put-count-3
+slice-aggregate-put-count-3 c = search needs
 
-put-field-requires-4 : tie.Need-put-field-requires-4
-put-field-requires-4 c κs = search needs
+put-count-requires-3 : tie.Need-put-count-requires-3
+put-count-requires-3 c κs = search needs
 
-slice-aggregate-put-text-2 : tie.Need-slice-aggregate-put-text-2
-slice-aggregate-put-text-2 c = search needs
+slice-aggregate-put-line : tie.Need-slice-aggregate-put-line
+slice-aggregate-put-line c = search needs
 
-put-text-requires-2 : tie.Need-put-text-requires-2
-put-text-requires-2 c κs = search needs
+put-line-requires : tie.Need-put-line-requires
+put-line-requires c κs = search needs
 
 same-length : tie.Need-same-length
 same-length c = search needs
 
 returns : tie.Need-returns
-returns c = loaded-is _ (c .before .before .before .before .before .before .before .before .before .before .before .before .before .before .before .before .before .before .before .before .before .before .before .put-text .ensures) (c .before .before .before .before .before .before .before .before .before .before .before .before .before .before .before .before .before .before .before .put-field .ensures) (c .before .before .before .before .before .before .before .before .before .before .before .before .before .before .before .put-field2 .ensures) (c .before .before .before .before .before .before .before .before .before .before .before .put-field3 .ensures) (c .before .before .before .before .before .before .before .put-field4 .ensures) (c .before .before .put-text2 .ensures)
+unfolding ascii
+returns c = loaded-is _ (c .before .before .before .before .before .before .before .before .before .before .before .before .before .before .before .before .before .put-count .ensures) (c .before .before .before .before .before .before .before .before .before .before .before .before .put-count2 .ensures) (c .before .before .before .before .before .before .before .put-count3 .ensures) (c .before .before .put-line .ensures)
 
 pub put-loaded-spec : {M : Type 1} → statement M
 put-loaded-spec =
     tie.close
     (tie.spec
-    slice-aggregate-put-text
-    put-text-requires
-    put-field-requires
-    put-field-requires-2
-    put-field-requires-3
-    put-field-requires-4
-    slice-aggregate-put-text-2
-    put-text-requires-2
+    slice-aggregate-put-count
+    put-count-requires
+    slice-aggregate-put-count-2
+    put-count-requires-2
+    slice-aggregate-put-count-3
+    put-count-requires-3
+    slice-aggregate-put-line
+    put-line-requires
     same-length
     returns)

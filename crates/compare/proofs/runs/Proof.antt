@@ -1,5 +1,8 @@
 -- `compare::runs` meets its contract.
 use borrow.Author.Needs.{needs}
+use native.Mathlib.Omega.{arith}
+use Rattle.report.proofs.Lists.{bytes-of}
+use Rattle.report.proofs.Fits.{runner-fits}
 use Rattle.compare.proofs.Answers.{told}
 use Rattle.compare.proofs.runs.Statement.{statement}
 use Rattle.compare.proofs.runs.Tie as tie
@@ -17,7 +20,7 @@ same-front-requires : tie.Need-same-front-requires
 same-front-requires c κs = search needs
 
 returns : tie.Need-returns
-returns c = told _ _ _ (c .before .before .before .run-image .ensures) _ (c .same-front .ensures)
+returns c = told 32768 _ _ (omega arith) (runner-fits _ (bytes-of _ (λ i. omega (arith, c .before .before .before .before .before .before .shared-slice-known .given i)))) (c .before .before .before .run-image .ensures) _ (c .same-front .ensures)
 
 pub runs-spec : {M : Type 1} → statement M
 runs-spec =

@@ -1,47 +1,58 @@
--- `run_loaded`: what the run answers, printed.
-use native.Mathlib.Omega.{arith}
+-- `run_loaded`: each answer of loading.
 use borrow.Author.Needs.{needs}
-use Rattle.report.proofs.Runner.{can-print, report-printed}
+use Rattle.report.proofs.Runner.{done-run, refused-run, broken-run}
 use Rattle.report.proofs.run_loaded.Statement.{statement}
 use Rattle.report.proofs.run_loaded.Tie as tie
 
-fresh-vm-requires : tie.Need-fresh-vm-requires
-fresh-vm-requires c κs = search needs
+enum-known-loaded : tie.Need-enum-known-loaded
+enum-known-loaded c = search needs
 
-play-requires : tie.Need-play-requires
-play-requires c κs = search needs
+run-program-requires : tie.Need-run-program-requires
+run-program-requires c κs = search needs
 
-print-report-requires : tie.Need-print-report-requires
-print-report-requires c κs = can-print _ _ _ _ _ _ _ _ _ (c .before .before .before .before .before .before .before .before .before .before .before .before .before .before .before .before .fresh-vm .ensures) _ _ _ _ _ _ _ _ _ (c .before .before .before .before .before .before .before .before .before .before .before .play .ensures) (c .before .before .before .before .before .before .before .before .before .before .before .before .before .before .before .before .before .before .before .before .before .before .before .before .before .before .before .before .before .pre) (λ j. omega (arith, c .before .before .before .before .before .before .before .before .before .before .before .before .before .before .before .before .before .before .before .before .before .before .before .before .before .shared-slice-known4 .given j)) (λ j. omega (arith, c .before .before .before .before .before .before .before .before .before .before .before .before .before .before .before .before .before .before .before .before .before .before .before .shared-slice-known6 .given j))
+enum-told : tie.Need-enum-told
+enum-told c = search needs
+
+print-refused-requires : tie.Need-print-refused-requires
+print-refused-requires c κs = search needs
+
+enum-known-loaded-2 : tie.Need-enum-known-loaded-2
+enum-known-loaded-2 c = search needs
+
+print-refused-requires-2 : tie.Need-print-refused-requires-2
+print-refused-requires-2 c κs = search needs
 
 same-length : tie.Need-same-length
 same-length c = search needs
 
+returns : tie.Need-returns
+returns c = λ structs. done-run _ _ (c .before .before .before .before .before .loaded .given .1) (c .before .before .run-program .ensures structs)
+
 same-length-2 : tie.Need-same-length-2
 same-length-2 c = search needs
+
+returns-2 : tie.Need-returns-2
+returns-2 c = λ structs. broken-run _ _ _ (c .before .before .before .before .before .match .keys2) (c .before .before .print-refused .ensures)
 
 same-length-3 : tie.Need-same-length-3
 same-length-3 c = search needs
 
-same-length-4 : tie.Need-same-length-4
-same-length-4 c = search needs
-
-same-length-5 : tie.Need-same-length-5
-same-length-5 c = search needs
-
-returns : tie.Need-returns
-returns c = report-printed _ _ _ _ _ _ _ _ _ (c .before .before .before .before .before .before .before .before .before .before .before .before .before .before .before .before .before .before .before .fresh-vm .ensures) _ _ _ _ _ _ _ _ _ (c .before .before .before .before .before .before .before .before .before .before .before .before .before .before .play .ensures) _ (c .before .before .print-report .ensures)
+returns-3 : tie.Need-returns-3
+returns-3 c = λ structs. refused-run _ _ (c .before .before .before .before .before .loaded2 .given .1) (c .before .before .print-refused2 .ensures)
 
 pub run-loaded-spec : {M : Type 1} → statement M
 run-loaded-spec =
     tie.close
     (tie.spec
-    fresh-vm-requires
-    play-requires
-    print-report-requires
+    enum-known-loaded
+    run-program-requires
+    enum-told
+    print-refused-requires
+    enum-known-loaded-2
+    print-refused-requires-2
     same-length
+    returns
     same-length-2
+    returns-2
     same-length-3
-    same-length-4
-    same-length-5
-    returns)
+    returns-3)

@@ -1,8 +1,8 @@
 -- `put_count`: the text, and the number behind it.
 use borrow.Author.Needs.{needs}
-use Rattle.report.proofs.Pieces.{count-is}
-use Rattle.report.proofs.values.put_count.Statement.{statement}
-use Rattle.report.proofs.values.put_count.Tie as tie
+use Rattle.texts.proofs.Digits.{count-is}
+use Rattle.texts.proofs.put_count.Statement.{statement}
+use Rattle.texts.proofs.put_count.Tie as tie
 
 put-text-requires : tie.Need-put-text-requires
 put-text-requires c κs = search needs

@@ -1,9 +1,9 @@
 -- `put_line`: the text, the number, the newline.
 use borrow.Author.Needs.{needs}
 use Rattle.model.specs.Basics.{ascii}
-use Rattle.report.proofs.Lines.{line-is}
-use Rattle.report.proofs.runs.put_line.Statement.{statement}
-use Rattle.report.proofs.runs.put_line.Tie as tie
+use Rattle.texts.proofs.Digits.{line-is}
+use Rattle.texts.proofs.put_line.Statement.{statement}
+use Rattle.texts.proofs.put_line.Tie as tie
 
 put-count-requires : tie.Need-put-count-requires
 put-count-requires c κs = search needs

@@ -1,0 +1,331 @@
+-- What the runner and the lister print always fits the stores that they lend: 32,768 and 524,288 bytes.
+use mathlib.Core.Path.{_≡_, refl, sym, ap, subst}
+use mathlib.Core.Bool.{Bool, true, false}
+use mathlib.Core.List.{List, [], _∷_, _++_}
+use Prim.Native.Nat.{ℕ, zero, suc, _+_, _-_, _*_, _/_, _≤_, _<_}
+use native.Mathlib.Omega.{arith}
+use lib.Dec.{ltb, leb}
+use lib.Ieee.{binary64, toBits}
+use lib.ListN.{length, getD, set, drop, replicate, length-append, length-replicate}
+use borrow.Author.Tests.{leb-true, ltb-true, ltb-false}
+use Rattle.model.specs.declared.Counts.{Counts}
+use Rattle.model.specs.declared.Vm.{Vm}
+use Rattle.model.specs.declared.Value.{Value}
+use Rattle.model.specs.declared.Value.the-variants as v
+use Rattle.model.specs.declared.Decoded.{Decoded}
+use Rattle.model.specs.declared.Decoded.the-variants as d
+use Rattle.model.specs.declared.Loaded.{Loaded}
+use Rattle.model.specs.declared.Loaded.the-variants as l
+use Rattle.model.specs.Basics.{ascii}
+use Rattle.model.specs.Heap.{Cell, headIn}
+use Rattle.model.specs.Numbers.{Bytes, digits, groupsOf}
+use Rattle.model.specs.Opcodes.{opcodeAt}
+use Rattle.model.specs.Programs.{Function, Program, functionAt, withinLimits, wordAt, behind}
+use Rattle.model.specs.Images.{joined, counted, constantImage, textImage, runImage, runsOf, functionImage, imageOf, Judged, fine, broken, judge}
+use Rattle.model.specs.Listings.{operandsFrom, lineOf, headerLine, Listed, text, unlisted, inFront, knownThen, opcodeThen, lineThen, linesFor, andListed, listingFrom, listingOf}
+use Rattle.model.specs.Runs.{Machine, root, Entry, Reply, value, continue, fault, Ran}
+use Rattle.model.specs.Stores.{Stores, programIn}
+use Rattle.model.specs.Emission.{written}
+use Rattle.model.specs.Loading.{mainOf, othersOf, laid, roomFor, loadJudged, loadOf}
+use Rattle.model.specs.Machines.{Lent, RunAnswer, ran, refused, runAnswer, fresh, startWith, loadMachineOf}
+use Rattle.model.specs.Reports.{hexFor, booleanText, valueText, entryLines, spentLines, replyLines, refusedLine, reportOf, emptyStores, emptyLent, startedText, started, runnerText, listedText, loadedText, listerText}
+use Rattle.rules.specs.Ordered.{CodeBytes}
+use Rattle.program.proofs.Bools.{either-way}
+use Rattle.image.proofs.Codecs.{bytes-front, bytes-rest}
+use Rattle.image.proofs.Trip.{image-only, loaded-as}
+use Rattle.listing.proofs.Names as names
+use Rattle.texts.proofs.Digits.{short, five}
+use Rattle.report.proofs.Shown.{run-trace}
+
+-- ---- bytes
+
+bytes-both : (a b : List ℕ) → Bytes a → Bytes b → Bytes (a ++ b)
+unfolding Bytes
+bytes-both [] b h k = k
+bytes-both (x ∷ a) b h k = (h .0, bytes-both a b (h .1) k)
+
+bytes-set : (s : List ℕ) (i x : ℕ) → x < 256 → Bytes s → Bytes (set s i x)
+unfolding Bytes
+bytes-set [] i x h b = tt
+bytes-set (y ∷ s) zero x h b = (h, b .1)
+bytes-set (y ∷ s) (suc i) x h b = (b .0, bytes-set s i x h (b .1))
+
+bytes-written : (s : List ℕ) (i : ℕ) (l : List ℕ) → Bytes s → Bytes l → Bytes (written s i l)
+unfolding Bytes written
+bytes-written s i [] b h = b
+bytes-written s i (x ∷ l) b h = bytes-written (set s i x) (suc i) l (bytes-set s i x (h .0) b) (h .1)
+
+bytes-zeros : (n : ℕ) → Bytes (replicate n 0)
+unfolding Bytes
+bytes-zeros zero = tt
+bytes-zeros (suc n) = (omega arith, bytes-zeros n)
+
+bytes-at : (s : List ℕ) → Bytes s → (i : ℕ) → getD s i 0 < 256
+unfolding Bytes
+bytes-at [] h i = omega arith
+bytes-at (x ∷ s) h zero = h .0
+bytes-at (x ∷ s) h (suc i) = bytes-at s (h .1) i
+
+-- ---- a function in an image: its code is bytes, and it is longer than its name and code by two bytes at least
+
+some-digits : (n : ℕ) → 1 ≤ length (digits n)
+unfolding digits groupsOf
+some-digits n = either-way (ltb n 128) (λ e. rw e (omega arith)) (λ e. rw e (omega arith))
+
+module _ (f : Function) where
+  long-image : 2 + length (f .name) + length (f .code) ≤ length (functionImage f)
+  unfolding functionImage textImage
+  long-image =
+      let a = some-digits (length (f .name)) in
+      let b = some-digits (length (f .code)) in
+      simp length-append (omega arith)
+
+  code-in : Bytes (functionImage f) → Bytes (f .code)
+  unfolding functionImage
+  code-in h =
+      let front = textImage (f .name) ++ digits (length (f .code)) in
+      let runs = joined runImage (runsOf (f .places)) in
+      bytes-rest front (f .code) (bytes-front (front ++ f .code) runs h)
+
+codes-in : (fs : List Function) → Bytes (joined functionImage fs) → Bytes (joined (λ f. f .code) fs)
+unfolding joined
+codes-in [] h = h
+codes-in (f ∷ fs) h =
+    bytes-both (f .code) (joined (λ f. f .code) fs) (code-in f (bytes-front (functionImage f) (joined functionImage fs) h))
+    (codes-in fs (bytes-rest (functionImage f) (joined functionImage fs) h))
+
+main-in : (fs : List Function) → Bytes (joined functionImage fs) → Bytes (functionAt fs 0 .code)
+unfolding joined functionAt Bytes
+main-in [] h = tt
+main-in (f ∷ fs) h = code-in f (bytes-front (functionImage f) (joined functionImage fs) h)
+
+others-in : (fs : List Function) → Bytes (joined functionImage fs) → Bytes (joined (λ f. f .code) (drop 1 fs))
+unfolding joined
+others-in [] h = h
+others-in (f ∷ fs) h = codes-in fs (bytes-rest (functionImage f) (joined functionImage fs) h)
+
+module _ (p : Program) where
+  abbrev front : List ℕ
+  front = counted constantImage (p .constants) ++ counted textImage (p .structs)
+
+  functions-in : Bytes (imageOf p) → Bytes (joined functionImage (p .functions))
+  unfolding imageOf counted
+  functions-in h = bytes-rest (digits (length (p .functions))) (joined functionImage (p .functions)) (bytes-rest front (counted functionImage (p .functions)) h)
+
+  functions-shorter : length (joined functionImage (p .functions)) ≤ length (imageOf p)
+  unfolding imageOf counted
+  functions-shorter = simp length-append (omega arith)
+
+-- ---- what is loaded of bytes is bytes
+
+module _ (x : Stores) (a : Bytes (x .main)) (b : Bytes (x .other)) where
+  kept-bytes : CodeBytes x
+  kept-bytes = record { main = λ j h. bytes-at (x .main) a j; other = λ j h. bytes-at (x .other) b j }
+
+  laid-bytes : (p : Program) → Bytes (imageOf p) → CodeBytes (laid p x)
+  unfolding laid mainOf othersOf
+  laid-bytes p h =
+      let f = functions-in p h in
+      record {
+        main = λ j h. bytes-at _ (bytes-written (x .main) 0 (functionAt (p .functions) 0 .code) a (main-in (p .functions) f)) j;
+        other = λ j h. bytes-at _ (bytes-written (x .other) 0 (joined (λ f. f .code) (drop 1 (p .functions))) b (others-in (p .functions) f)) j;
+      }
+
+  module _ (image : List ℕ) (h : Bytes image) where
+    judged-bytes : (j : Judged) → judge image ≡ j → CodeBytes (loadJudged j x .stores)
+    unfolding loadJudged
+    judged-bytes (broken i) e = kept-bytes
+    judged-bytes (fine p) e =
+        either-way (withinLimits p)
+        (λ w. either-way (roomFor p x) (λ r. rw (w, r) (laid-bytes p (subst Bytes (image-only image p h e .0) h))) (λ r. rw (w, r) kept-bytes))
+        (λ w. rw w kept-bytes)
+
+    loaded-bytes : CodeBytes (loadOf image x .stores)
+    unfolding loadOf
+    loaded-bytes = judged-bytes (judge image) refl
+
+-- ---- the runner's lines
+
+refused-short : (n : ℕ) → length (refusedLine n) ≤ 29
+unfolding refusedLine ascii
+refused-short n = let a = short n in simp length-append (omega arith)
+
+hex-length : (n w : ℕ) → length (hexFor n w) ≡ n
+unfolding hexFor
+hex-length zero w = refl
+hex-length (suc n) w = let a = hex-length n (w / 16) in simp length-append (omega arith)
+
+value-short : (H : List Cell) (x : Value) → length (valueText H x) ≤ 64
+unfolding valueText booleanText ascii
+value-short H (v.Scalar x) = let a = hex-length 16 (toBits binary64 x) in omega arith
+value-short H (v.Boolean true) = omega arith
+value-short H (v.Boolean false) = omega arith
+value-short H (v.String o n) = let a = short n in omega arith
+value-short H (v.FunctionReference o n) = let a = short n in omega arith
+value-short H (v.List p) = let a = short (headIn H p .count) in omega arith
+value-short H (v.StructInstance p) = let a = short (headIn H p .number) in let b = short (headIn H p .count) in simp length-append (omega arith)
+
+entries-short : (es : List Entry) → length (entryLines es) ≤ 64 * length es
+unfolding entryLines ascii
+entries-short [] = omega arith
+entries-short (e ∷ es) =
+    let a = short (e .function) in
+    let b = short (e .place) in
+    let z = entries-short es in
+    simp length-append (omega arith)
+
+spent-short : (n : ℕ) (m : Machine) → length (spentLines n m) ≤ 54
+unfolding spentLines ascii
+spent-short n m = let a = short n in let b = short (length (m .stack)) in simp length-append (omega arith)
+
+-- a report fits in 128 bytes, and 64 for each entry that its backtrace's store has room for
+module _ (m : Vm) (s : Stores) (bytes : CodeBytes s) (l : Lent) (u : ℕ) where
+  abbrev Short : List ℕ → Type 0
+  Short b = length b ≤ 128 + 32 * length (l .backtrace)
+
+  lines-short : (c : Counts) (x : Ran) → ran c x ≡ runAnswer m s l u → (y : Reply) → x .reply ≡ y → Short (replyLines y (x .machine))
+  unfolding replyLines ascii
+  lines-short c x e (value w n) f = let a = value-short (x .machine .heap) w in let b = spent-short n (x .machine) in simp length-append (omega arith)
+  lines-short c x e (continue n) f = let b = spent-short n (x .machine) in omega arith
+  lines-short c x e (fault k n es) f =
+      let a = short k in
+      let b = spent-short n (x .machine) in
+      let z = entries-short es in
+      let y = run-trace m s l u bytes c x e k n es f in
+      simp length-append (omega arith)
+
+  report-short : (a : RunAnswer) → a ≡ runAnswer m s l u → Short (reportOf a)
+  unfolding reportOf
+  report-short (ran c x) e = lines-short c x e (x .reply) refl
+  report-short (refused n) e = let z = refused-short n in omega arith
+
+-- ---- the lister's lines: 32 bytes at most for each byte of code
+
+operands-short : (n : ℕ) (code : List ℕ) (i : ℕ) → length (operandsFrom n code i) ≤ 21 * n
+unfolding operandsFrom
+operands-short zero code i = omega arith
+operands-short (suc zero) code i = let a = short (wordAt code i) in omega arith
+operands-short (suc (suc n)) code i =
+    let a = short (wordAt code i) in
+    let z = operands-short (suc n) code (i + 2) in
+    simp length-append (omega arith)
+
+-- a listing of at most k bytes, or a refusal
+abbrev Within : ℕ → Listed → Type 0
+Within k (text b) = length b ≤ k
+Within k (unlisted n) = Unit
+
+within-front : (b : List ℕ) (w : Listed) (k n : ℕ) → Within k w → length b + k ≤ n → Within n (inFront b w)
+unfolding inFront
+within-front b (text r) k n h g = simp length-append (omega arith)
+within-front b (unlisted e) k n h g = tt
+
+within-and : (v w : Listed) (j k : ℕ) → Within j v → Within k w → Within (j + k) (andListed v w)
+unfolding andListed
+within-and (text b) w j k h g = within-front b w k (j + k) g (omega arith)
+within-and (unlisted e) w j k h g = tt
+
+module _ (code : List ℕ) (bytes : Bytes code) (small : length code ≤ 16384) where
+  line-short : (i : ℕ) → i < length code → length (lineOf code i (opcodeAt (getD code i 0))) ≤ 32 + 21 * opcodeAt (getD code i 0) .listed
+  unfolding lineOf ascii
+  line-short i h =
+      let a = five i (omega arith) in
+      let b = names.short (getD code i 0) (bytes-at code bytes i) in
+      let c = operands-short (opcodeAt (getD code i 0) .listed) code (suc i) in
+      simp length-append (omega arith)
+
+  module _ (k : ℕ → Listed) (rest : (j : ℕ) → j ≤ length code → Within (32 * (length code - j)) (k j)) (i : ℕ) where
+    known-within : i < length code → Within (32 * (length code - i)) (knownThen k code i (opcodeAt (getD code i 0)))
+    unfolding knownThen behind
+    known-within h =
+        let n = opcodeAt (getD code i 0) .listed in
+        either-way (leb (suc i + 2 * n) (length code))
+        (λ e.
+        let g : suc i + 2 * n ≤ length code = leb-true _ _ e in
+        let z = line-short i h in
+        rw e (within-front (lineOf code i (opcodeAt (getD code i 0))) (k (suc i + 2 * n)) (32 * (length code - (suc i + 2 * n))) _ (rest (suc i + 2 * n) g) (omega arith)))
+        (λ e. rw e tt)
+
+    opcode-within : i < length code → (x : Decoded) → Within (32 * (length code - i)) (opcodeThen k code i (opcodeAt (getD code i 0)) x)
+    unfolding opcodeThen
+    opcode-within h (d.Carried p) = known-within h
+    opcode-within h d.NotCarried = known-within h
+    opcode-within h d.Unknown = tt
+
+    line-within : (b : Bool) → ltb i (length code) ≡ b → Within (32 * (length code - i)) (lineThen k code i b)
+    unfolding lineThen
+    line-within true e = opcode-within (ltb-true _ _ e) (opcodeAt (getD code i 0) .what)
+    line-within false e = omega arith
+
+  lines-within : (f i : ℕ) → i ≤ length code → Within (32 * (length code - i)) (linesFor f code i)
+  unfolding linesFor
+  lines-within zero i h = omega arith
+  lines-within (suc f) i h = line-within (linesFor f code) (lines-within f) i (ltb i (length code)) refl
+
+header-short : (i : ℕ) (name : List ℕ) → length (headerLine i name) ≤ 30 + length name
+unfolding headerLine ascii
+header-short i name = let a = short i in simp length-append (omega arith)
+
+-- 32 bytes at most for each byte of the functions in their image
+listing-within : (i : ℕ) (fs : List Function) → Bytes (joined functionImage fs) → length (joined functionImage fs) ≤ 16384 → Within (32 * length (joined functionImage fs)) (listingFrom i fs)
+unfolding listingFrom joined
+listing-within i [] h g = omega arith
+listing-within i (f ∷ fs) h g =
+    let z : length (functionImage f ++ joined functionImage fs) ≡ length (functionImage f) + length (joined functionImage fs) = length-append (functionImage f) (joined functionImage fs) in
+    let a = long-image f in
+    let b = header-short i (f .name) in
+    let own = lines-within (f .code) (code-in f (bytes-front (functionImage f) (joined functionImage fs) h)) (omega arith) (length (f .code)) 0 (omega arith) in
+    let rest = listing-within (suc i) fs (bytes-rest (functionImage f) (joined functionImage fs) h) (omega arith) in
+    within-front (headerLine i (f .name)) (andListed (linesFor (length (f .code)) (f .code) 0) (listingFrom (suc i) fs)) _ _
+    (within-and (linesFor (length (f .code)) (f .code) 0) (listingFrom (suc i) fs) (32 * (length (f .code) - 0)) (32 * length (joined functionImage fs)) own rest) (omega arith)
+
+within-more : (w : Listed) (j k : ℕ) → Within j w → j ≤ k → Within k w
+within-more (text b) j k h g = omega arith
+within-more (unlisted n) j k h g = tt
+
+listed-short : (w : Listed) → Within 524288 w → length (listedText w) ≤ 524288
+unfolding listedText
+listed-short (text b) h = h
+listed-short (unlisted n) h = let z = refused-short n in omega arith
+
+-- ---- both texts fit
+
+module _ (image : List ℕ) (bytes : Bytes image) where
+  loaded-code : CodeBytes (loadOf image emptyStores .stores)
+  unfolding emptyStores
+  loaded-code = loaded-bytes emptyStores (bytes-zeros 8192) (bytes-zeros 8192) image bytes
+
+  started-fits : (a : Loaded) → length (started (startWith a (loadOf image emptyStores .stores) emptyStores (replicate 256 (root 0)))) ≤ 32768
+  unfolding started startedText startWith
+  started-fits (l.Done c) =
+      let s = loadOf image emptyStores .stores in
+      let lent = emptyLent (replicate 256 (root 0)) in
+      let k : length (lent .backtrace) ≡ 512 = (unfold emptyLent in length-replicate {A = ℕ} 512 0) in
+      let z = report-short (fresh c) s loaded-code lent 1000000 (runAnswer (fresh c) s lent 1000000) refl in
+      omega arith
+  started-fits (l.Broken i) = let z = refused-short 20 in omega arith
+  started-fits (l.Refused n) = let z = refused-short n in omega arith
+
+  loaded-fits : length image ≤ 16384 → (a : Loaded) (s : Stores) → loadOf image emptyStores ≡ record { answer = a; stores = s } → length (loadedText a s) ≤ 524288
+  unfolding loadedText listingOf
+  loaded-fits h (l.Done c) s e =
+      let p = programIn c s in
+      let o : image ≡ imageOf p = loaded-as image emptyStores s c bytes e .0 in
+      let i : length (imageOf p) ≡ length image = ap length (sym o) in
+      let n = functions-shorter p in
+      let z = listing-within 0 (p .functions) (functions-in p (subst Bytes o bytes)) (omega arith) in
+      listed-short (listingFrom 0 (p .functions)) (within-more (listingFrom 0 (p .functions)) _ 524288 z (omega arith))
+  loaded-fits h (l.Broken i) s e = let z = refused-short 20 in omega arith
+  loaded-fits h (l.Refused n) s e = let z = refused-short n in omega arith
+
+  pub runner-fits : length (runnerText image) ≤ 32768
+  unfolding runnerText loadMachineOf
+  runner-fits =
+      either-way (ltb 16384 (length image)) (λ e. rw e (let z = refused-short 22 in omega arith))
+      (λ e. rw e (started-fits (loadOf image emptyStores .answer)))
+
+  pub lister-fits : length (listerText image) ≤ 524288
+  unfolding listerText
+  lister-fits =
+      either-way (ltb 16384 (length image)) (λ e. rw e (let z = refused-short 22 in omega arith))
+      (λ e. rw e (loaded-fits (ltb-false _ _ e) (loadOf image emptyStores .answer) (loadOf image emptyStores .stores) refl))
