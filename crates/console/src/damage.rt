@@ -2,6 +2,7 @@
 use crate::script::Most;
 use crate::script::read_args;
 use crate::script::word;
+use crate::stores;
 use model::Counts;
 use model::Frame;
 use model::Last;
@@ -248,11 +249,11 @@ fn poke_words(
     store: &[u8],
     i: usize,
     n: u64,
-    constants: &mut [u64],
-    structs: &mut [u64],
-    functions: &mut [u64],
-    stack: &mut [u64],
-    cells: &mut [u64],
+    constants: &mut stores::Constants,
+    structs: &mut stores::Structs,
+    functions: &mut stores::Functions,
+    stack: &mut stores::Stack,
+    cells: &mut stores::Cells,
 ) -> bool {
     if same_bytes(store, b"constants") {
         return put_word(constants, i, n);
@@ -276,9 +277,9 @@ fn poke_bytes(
     store: &[u8],
     i: usize,
     n: u64,
-    text: &mut [u8],
-    main: &mut [u8],
-    other: &mut [u8],
+    text: &mut stores::Text,
+    main: &mut stores::Code,
+    other: &mut stores::Code,
 ) -> bool {
     if same_bytes(store, b"text") {
         return put_byte(text, i, n);
@@ -296,8 +297,8 @@ fn poke_places(
     store: &[u8],
     i: usize,
     n: u64,
-    main_places: &mut [u32],
-    other_places: &mut [u32],
+    main_places: &mut stores::Places,
+    other_places: &mut stores::Places,
 ) -> bool {
     if same_bytes(store, b"main_places") {
         return put_place(main_places, i, n);
@@ -311,16 +312,16 @@ fn poke_places(
 // `poke STORE I N`: number I of a store.
 pub fn poke(
     line: &[u8],
-    constants: &mut [u64],
-    structs: &mut [u64],
-    functions: &mut [u64],
-    text: &mut [u8],
-    main: &mut [u8],
-    main_places: &mut [u32],
-    other: &mut [u8],
-    other_places: &mut [u32],
-    stack: &mut [u64],
-    cells: &mut [u64],
+    constants: &mut stores::Constants,
+    structs: &mut stores::Structs,
+    functions: &mut stores::Functions,
+    text: &mut stores::Text,
+    main: &mut stores::Code,
+    main_places: &mut stores::Places,
+    other: &mut stores::Code,
+    other_places: &mut stores::Places,
+    stack: &mut stores::Stack,
+    cells: &mut stores::Cells,
 ) -> bool {
     let store = word(line, 1);
     let a = read_args(

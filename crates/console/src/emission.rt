@@ -7,6 +7,7 @@ use crate::script::read_args;
 use crate::script::read_bytes;
 use crate::script::word;
 use crate::script::words_from;
+use crate::stores;
 use model::Constant;
 use model::Counts;
 use model::Emitted;
@@ -60,11 +61,11 @@ fn unknown() -> Emitted {
 pub fn emit_code(
     c: Counts,
     line: &[u8],
-    functions: &mut [u64],
-    main: &mut [u8],
-    main_places: &mut [u32],
-    other: &mut [u8],
-    other_places: &mut [u32],
+    functions: &mut stores::Functions,
+    main: &mut stores::Code,
+    main_places: &mut stores::Places,
+    other: &mut stores::Code,
+    other_places: &mut stores::Places,
 ) -> Emitted {
     let what = word(line, 0);
     if same_bytes(what, b"op") {
@@ -141,9 +142,9 @@ pub fn emit_code(
 pub fn emit_patch(
     c: Counts,
     line: &[u8],
-    functions: &[u64],
-    main: &mut [u8],
-    other: &mut [u8],
+    functions: &stores::Functions,
+    main: &mut stores::Code,
+    other: &mut stores::Code,
 ) -> Emitted {
     let n = read_args(
         line,
@@ -167,9 +168,9 @@ pub fn emit_patch(
 pub fn emit_constant(
     c: Counts,
     line: &[u8],
-    space: &mut [u8],
-    constants: &mut [u64],
-    text: &mut [u8],
+    space: &mut stores::Space,
+    constants: &mut stores::Constants,
+    text: &mut stores::Text,
 ) -> Emitted {
     let what = word(line, 0);
     if same_bytes(what, b"scalar") {
@@ -212,10 +213,10 @@ pub fn emit_constant(
 pub fn emit_name(
     c: Counts,
     line: &[u8],
-    space: &mut [u8],
-    structs: &mut [u64],
-    functions: &mut [u64],
-    text: &mut [u8],
+    space: &mut stores::Space,
+    structs: &mut stores::Structs,
+    functions: &mut stores::Functions,
+    text: &mut stores::Text,
 ) -> Emitted {
     let what = word(line, 0);
     let b = read_bytes(words_from(line, 1), space);

@@ -1,9 +1,12 @@
 // What is printed: a line for each answer.
 use crate::bridge::Answer;
+use crate::script::cut;
 use model::Emitted;
 use model::Frame;
+use model::Headed;
 use model::Header;
 use model::RunResult;
+use model::Shown;
 use model::Started;
 use model::Told;
 use model::Value;
@@ -42,6 +45,16 @@ pub fn say_word(w: u64) {
 
 pub fn say_byte(b: u8) {
     say_hex(b as u64, 16);
+}
+
+// Bytes in hex, and the end of the line.
+pub fn say_bytes(s: &[u8]) {
+    let mut i = 0;
+    while i < s.len() {
+        say_byte(s[i]);
+        i += 1;
+    }
+    say(b"\n");
 }
 
 // A text, and a number behind it.
@@ -205,6 +218,43 @@ pub fn say_told(t: Told, number: u64) {
         Told::Number(n) => {
             say_count(b"number ", n);
             say(b"\n");
+        }
+        Told::Refused(n) => say_refused(n, number),
+    }
+}
+
+// What a reader answers: a value,
+pub fn say_shown(s: Shown, cells: &[u64], number: u64) {
+    match s {
+        Shown::Value(v) => {
+            say(b"shown ");
+            say_value(v, cells);
+            say(b"\n");
+        }
+        Shown::Refused(n) => say_refused(n, number),
+    }
+}
+
+// a header,
+pub fn say_headed(h: Headed, number: u64) {
+    match h {
+        Headed::Is(h) => {
+            say_count(b"header ", h.count);
+            say_count(b" ", h.number);
+            say_count(b" ", h.depth);
+            say(b"\n");
+        }
+        Headed::Refused(n) => say_refused(n, number),
+    }
+}
+
+// or the bytes of a text, which lie at the front of space.
+pub fn say_text(t: Told, space: &[u8], number: u64) {
+    match t {
+        Told::Number(n) => {
+            say_count(b"text ", n);
+            say(b" ");
+            say_bytes(cut(space, 0, n));
         }
         Told::Refused(n) => say_refused(n, number),
     }

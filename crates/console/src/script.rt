@@ -1,5 +1,7 @@
 // A script's lines, their words, and the numbers and bytes that words say.
-ghost use Prim.Native.Nat.{_≤_};
+use program::words::lesser;
+ghost use mathlib.Core.Path.{_≡_};
+ghost use Prim.Native.Nat.{_*_, _/_, _≤_, min};
 ghost use Rattle.console.specs.Lines.{weight};
 
 // A line: where it starts and ends, its number, whether there is such a line, and how many more there can be.
@@ -141,7 +143,7 @@ fn with_decimal(n: Number, b: u8) -> Number {
     let d = digit(b);
     let is = n.is;
     if d < 10 {
-        if is < 1844674407370955161 {
+        if is <= (0xFFFF_FFFF_FFFF_FFFF - d) / 10 {
             return Number {
                 is: is * 10 + d,
                 good: n.good,
@@ -177,6 +179,16 @@ pub fn decimal(w: &[u8]) -> Number {
         i += 1;
     }
     n
+}
+
+// Words that are one number in decimal.
+fn decimal_alone(words: &[u8]) -> Number {
+    let n = decimal(word(words, 0));
+    let rest = words_from(words, 1);
+    Number {
+        is: n.is,
+        good: n.good & (rest.len() == 0),
+    }
 }
 
 // A word in hex.
@@ -251,6 +263,37 @@ pub fn read_args(line: &[u8], k: usize, end: usize, most: Most) -> Args {
         e: e.is,
         good,
     }
+}
+
+// Of any store so many places count: the room that is lent where a line says none.
+pub fn whole() -> usize {
+    0xFFFF_FFFF
+}
+
+// So many bytes of n, at most all.
+pub fn at_most(room: usize, n: usize) -> usize
+    ensures { λ r. ⌜ (r ≡ min room n) × (r ≤ n) ⌝ }
+{
+    lesser(room, n)
+}
+
+// The words of so many places of two words each, at most n.
+pub fn two_each(room: usize, n: usize) -> usize
+    ensures { λ r. ⌜ (r ≡ 2 * min room (n / 2)) × (r ≤ n) ⌝ }
+{
+    2 * lesser(room, n / 2)
+}
+
+// The room that word k says, the last of the line; that of a whole store where there is no such word.
+pub fn read_room(line: &[u8], k: usize) -> Number {
+    let rest = words_from(line, k);
+    if rest.len() == 0 {
+        return Number {
+            is: whole() as u64,
+            good: true,
+        };
+    }
+    decimal_alone(rest)
 }
 
 // Bytes in hex as they are read: how many there are, the digit that waits for its second (16: none), and whether all is well.
