@@ -1,4 +1,5 @@
 pub mod Weights
+pub mod Alongs
 pub mod Switches
 pub mod Arrays
 pub mod Calls

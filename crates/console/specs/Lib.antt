@@ -1,1 +1,5 @@
 pub mod Lines
+pub mod Words
+pub mod Sums
+pub mod Damage
+pub mod Said

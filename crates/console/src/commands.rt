@@ -16,6 +16,9 @@ use model::Vm;
 use program::code::current_offset;
 use program::functions::get_function_idx;
 use program::words::same_bytes;
+ghost use mathlib.Core.Path.{_≡_};
+ghost use Rattle.console.specs.Said.{noMachine, afterDamage};
+ghost use Rattle.console.specs.Sums.{sumOf};
 
 // How much a call over frames is lent: bytes of the space, which are its image, and places of the copy store and of the backtrace store.
 pub struct Lent {
@@ -321,7 +324,9 @@ fn look<'a>(
 }
 
 // Damage is not answered, unless it is not understood.
-fn damaged(m: Vm, d: damage::Changed, number: u64) -> Vm {
+fn damaged(m: Vm, d: damage::Changed, number: u64) -> Vm
+    ensures { λ r. ⌜ r ≡ afterDamage m d ⌝ }
+{
     if d.good {
         return d.m;
     }
@@ -379,7 +384,9 @@ fn sum(
     copy: &[u64],
     trace: &[u32],
     frames: &[u64],
-) -> u64 {
+) -> u64
+    ensures { λ r. ⌜ r ≡ sumOf m (now (constants .entry)) (now (structs .entry)) (now (functions .entry)) (now (text .entry)) (now (main .entry)) (now («main_places» .entry)) (now (other .entry)) (now («other_places» .entry)) (now (stack .entry)) (now (cells .entry)) (now (copy .entry)) (now (trace .entry)) (now (frames .entry)) ⌝ }
+{
     let a = damage::mixed_counts(0, m);
     let b = damage::mixed_words(a, constants);
     let c = damage::mixed_words(b, structs);
@@ -546,7 +553,9 @@ pub fn obey(
 }
 
 // A machine before any is made: nothing is in good order yet.
-pub fn no_machine() -> Vm {
+pub fn no_machine() -> Vm
+    ensures { λ r. ⌜ r ≡ noMachine ⌝ }
+{
     let program = Counts {
         constants: 0,
         structs: 0,

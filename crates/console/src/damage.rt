@@ -9,27 +9,42 @@ use model::Last;
 use model::Vm;
 use program::words::same_bytes;
 use value::words;
+ghost use mathlib.Core.Path.{_≡_};
+ghost use lib.Dec.{ltb};
+ghost use lib.ListN.{length};
+ghost use Rattle.console.specs.Sums.{halfMixed, mixedWith, mixedAll, mixedLast, mixedCounts};
+ghost use Rattle.console.specs.Damage.{programWith, countWith, putAt, frameIn, frameAt};
 
 // ---- the checksum
 
 // The sum h with the number x behind it: a prime modulus, so that no change of one number goes unseen.
-fn half_mixed(h: u64, x: u64) -> u64 {
+fn half_mixed(h: u64, x: u64) -> u64
+    ensures { λ r. ⌜ r ≡ halfMixed h x ⌝ }
+{
     ((h % 4294967291) * 65599 + x % 4294967291) % 4294967291
 }
 
-pub fn mixed(h: u64, x: u64) -> u64 {
+pub fn mixed(h: u64, x: u64) -> u64
+    ensures { λ r. ⌜ r ≡ mixedWith h x ⌝ }
+{
     half_mixed(half_mixed(h, x / 0x1_0000_0000), x % 0x1_0000_0000)
 }
 
-fn wide(b: u8) -> u64 {
+fn wide(b: u8) -> u64
+    ensures { λ r. ⌜ r ≡ b ⌝ }
+{
     b as u64
 }
 
-fn wide_place(n: u32) -> u64 {
+fn wide_place(n: u32) -> u64
+    ensures { λ r. ⌜ r ≡ n ⌝ }
+{
     n as u64
 }
 
-pub fn mixed_words(h: u64, s: &[u64]) -> u64 {
+pub fn mixed_words(h: u64, s: &[u64]) -> u64
+    ensures { λ r. ⌜ r ≡ mixedAll h (now (s .entry)) ⌝ }
+{
     let mut sum = h;
     let mut i = 0;
     while i < s.len() {
@@ -39,7 +54,9 @@ pub fn mixed_words(h: u64, s: &[u64]) -> u64 {
     sum
 }
 
-pub fn mixed_places(h: u64, s: &[u32]) -> u64 {
+pub fn mixed_places(h: u64, s: &[u32]) -> u64
+    ensures { λ r. ⌜ r ≡ mixedAll h (now (s .entry)) ⌝ }
+{
     let mut sum = h;
     let mut i = 0;
     while i < s.len() {
@@ -49,7 +66,9 @@ pub fn mixed_places(h: u64, s: &[u32]) -> u64 {
     sum
 }
 
-pub fn mixed_bytes(h: u64, s: &[u8]) -> u64 {
+pub fn mixed_bytes(h: u64, s: &[u8]) -> u64
+    ensures { λ r. ⌜ r ≡ mixedAll h (now (s .entry)) ⌝ }
+{
     let mut sum = h;
     let mut i = 0;
     while i < s.len() {
@@ -59,7 +78,9 @@ pub fn mixed_bytes(h: u64, s: &[u8]) -> u64 {
     sum
 }
 
-fn mixed_last(h: u64, last: Last) -> u64 {
+fn mixed_last(h: u64, last: Last) -> u64
+    ensures { λ r. ⌜ r ≡ mixedLast h last ⌝ }
+{
     match last {
         Last::Nothing => mixed(h, 7),
         Last::Is(v) => mixed(mixed(h, words::kind_of(v)), words::payload_of(v)),
@@ -67,7 +88,9 @@ fn mixed_last(h: u64, last: Last) -> u64 {
 }
 
 // The counts and the last result.
-pub fn mixed_counts(h: u64, m: Vm) -> u64 {
+pub fn mixed_counts(h: u64, m: Vm) -> u64
+    ensures { λ r. ⌜ r ≡ mixedCounts h m ⌝ }
+{
     let c = m.program;
     let last = m.last;
     let a = mixed(
@@ -84,7 +107,9 @@ pub fn mixed_counts(h: u64, m: Vm) -> u64 {
 // ---- frames, which rest between calls as three numbers each
 
 // The frame at i; one of zeros where there is none.
-pub fn frame_in(words: &[u64], i: usize) -> Frame {
+pub fn frame_in(words: &[u64], i: usize) -> Frame
+    ensures { λ r. ⌜ r ≡ frameIn (now (words .entry)) i ⌝ }
+{
     if i < words.len() / 3 {
         return Frame {
             function: words[3 * i] as usize,
@@ -99,7 +124,9 @@ pub fn frame_in(words: &[u64], i: usize) -> Frame {
     }
 }
 
-pub fn put_frame(words: &mut [u64], i: usize, f: Frame) {
+pub fn put_frame(words: &mut [u64], i: usize, f: Frame)
+    ensures { λ _. ⌜ now (words .exit) ≡ frameAt (now (words .entry)) i f ⌝ }
+{
     if i < words.len() / 3 {
         let at = 3 * i;
         put_word(words, at, f.function as u64);
@@ -117,7 +144,9 @@ pub struct Changed {
 }
 
 // One of the program's counts.
-fn with_program(m: Vm, name: &[u8], n: usize) -> Changed {
+fn with_program(m: Vm, name: &[u8], n: usize) -> Changed
+    ensures { λ r. ⌜ r ≡ programWith m (m .program) (now (name .entry)) n ⌝ }
+{
     let c = m.program;
     if same_bytes(name, b"constants") {
         let p = Counts { constants: n, ..c };
@@ -157,25 +186,10 @@ fn with_program(m: Vm, name: &[u8], n: usize) -> Changed {
     Changed { m, good: false }
 }
 
-// `count NAME N`: one of the counts.
-pub fn with_count(m: Vm, line: &[u8]) -> Changed {
-    let name = word(line, 1);
-    let a = read_args(
-        line,
-        2,
-        3,
-        Most {
-            a: 0xFFFF_FFFF_FFFF,
-            b: 0,
-            c: 0,
-            d: 0,
-            e: 0,
-        },
-    );
-    if !a.good {
-        return Changed { m, good: false };
-    }
-    let n = a.a as usize;
+// One of the counts.
+fn with_named(m: Vm, name: &[u8], n: usize) -> Changed
+    ensures { λ r. ⌜ r ≡ countWith m (now (name .entry)) n ⌝ }
+{
     if same_bytes(name, b"stack") {
         return Changed {
             m: Vm { stack: n, ..m },
@@ -195,6 +209,26 @@ pub fn with_count(m: Vm, line: &[u8]) -> Changed {
         };
     }
     with_program(m, name, n)
+}
+
+// `count NAME N`.
+pub fn with_count(m: Vm, line: &[u8]) -> Changed {
+    let a = read_args(
+        line,
+        2,
+        3,
+        Most {
+            a: 0xFFFF_FFFF_FFFF,
+            b: 0,
+            c: 0,
+            d: 0,
+            e: 0,
+        },
+    );
+    if a.good {
+        return with_named(m, word(line, 1), a.a as usize);
+    }
+    Changed { m, good: false }
 }
 
 // `result KIND PAYLOAD`: the last result, of a kind below 6.
@@ -221,7 +255,9 @@ pub fn with_result(m: Vm, line: &[u8]) -> Changed {
     Changed { m, good: false }
 }
 
-fn put_word(s: &mut [u64], i: usize, n: u64) -> bool {
+fn put_word(s: &mut [u64], i: usize, n: u64) -> bool
+    ensures { λ r. ⌜ (r ≡ ltb i (length (now (s .entry)))) × (now (s .exit) ≡ putAt (now (s .entry)) i n) ⌝ }
+{
     if i < s.len() {
         s[i] = n;
         return true;

@@ -12,6 +12,8 @@ use model::Told;
 use model::Value;
 use model::Vm;
 use value::words;
+ghost use mathlib.Core.Path.{_≡_};
+ghost use Rattle.console.specs.Said.{afterRun, afterStarted, afterEmitted, afterAnswer};
 
 pub fn say(text: &[u8]) {
     io::write_all(1, text);
@@ -129,7 +131,9 @@ fn say_left(m: Vm, spent: u64) {
     say(b"\n");
 }
 
-fn wide(n: u32) -> usize {
+fn wide(n: u32) -> usize
+    ensures { λ r. ⌜ r ≡ n ⌝ }
+{
     n as usize
 }
 
@@ -151,7 +155,9 @@ fn say_entries(n: usize, trace: &[u32]) {
 }
 
 // A run's answer; the machine is then as it says, or as it was.
-fn say_run(m: Vm, r: RunResult, cells: &[u64], trace: &[u32], number: u64) -> Vm {
+fn say_run(m: Vm, r: RunResult, cells: &[u64], trace: &[u32], number: u64) -> Vm
+    ensures { λ left. ⌜ left ≡ afterRun m r ⌝ }
+{
     match r {
         RunResult::Value(left, v, spent) => {
             say(b"value ");
@@ -179,7 +185,9 @@ fn say_run(m: Vm, r: RunResult, cells: &[u64], trace: &[u32], number: u64) -> Vm
 }
 
 // A machine that is made, or the one that was.
-fn say_started(m: Vm, s: Started, number: u64) -> Vm {
+fn say_started(m: Vm, s: Started, number: u64) -> Vm
+    ensures { λ r. ⌜ r ≡ afterStarted m s ⌝ }
+{
     match s {
         Started::Done(made) => {
             say(b"done\n");
@@ -198,7 +206,9 @@ fn say_started(m: Vm, s: Started, number: u64) -> Vm {
 }
 
 // What emission answers.
-pub fn say_emitted(m: Vm, e: Emitted, number: u64) -> Vm {
+pub fn say_emitted(m: Vm, e: Emitted, number: u64) -> Vm
+    ensures { λ r. ⌜ r ≡ afterEmitted m e ⌝ }
+{
     match e {
         Emitted::Done(c, n) => {
             say_count(b"done ", n);
@@ -261,7 +271,9 @@ pub fn say_text(t: Told, space: &[u8], number: u64) {
 }
 
 // A backtrace, or its refusal; the machine is as it was.
-fn say_trace(m: Vm, t: Told, trace: &[u32], number: u64) -> Vm {
+fn say_trace(m: Vm, t: Told, trace: &[u32], number: u64) -> Vm
+    ensures { λ r. ⌜ r ≡ m ⌝ }
+{
     match t {
         Told::Number(n) => say_entries(n, trace),
         Told::Refused(n) => say_refused(n, number),
@@ -283,7 +295,9 @@ pub fn say_sum(h: u64) {
 }
 
 // What a call over frames answers; the machine as it then is.
-pub fn say_answer(m: Vm, a: Answer, cells: &[u64], trace: &[u32], number: u64) -> Vm {
+pub fn say_answer(m: Vm, a: Answer, cells: &[u64], trace: &[u32], number: u64) -> Vm
+    ensures { λ r. ⌜ r ≡ afterAnswer m a ⌝ }
+{
     match a {
         Answer::Made(s) => say_started(m, s, number),
         Answer::Ran(r) => say_run(m, r, cells, trace, number),

@@ -1,0 +1,79 @@
+-- A line's words, and the numbers that words say.
+use mathlib.Core.Bool.{Bool, true, false, _&&_, not}
+use mathlib.Core.List.{List, [], _∷_}
+use Prim.Native.Nat.{ℕ, zero, suc, _+_, _*_, _-_, _^_}
+use lib.Dec.{ltb, leb, eqb}
+use lib.ListN.{length, take, drop}
+use Rattle.model.specs.Basics.{if_then_else_}
+use Rattle.console.specs.declared.script.Line.{Line}
+use Rattle.console.specs.declared.script.Number.{Number}
+
+-- a function applied along a list, from its first number to its last
+unfoldable pub along : {A : Type 0} → (A → ℕ → A) → A → List ℕ → A
+along f a [] = a
+along f a (x ∷ s) = along f (f a x) s
+
+-- ---- places
+
+-- how many numbers stand before the first that the test takes
+unfoldable pub before : (ℕ → Bool) → List ℕ → ℕ
+before t [] = zero
+before t (x ∷ s) = if t x then zero else suc (before t s)
+
+-- where b is next from a place on, or the end
+unfoldable pub nextOf : List ℕ → ℕ → ℕ → ℕ
+nextOf s b at = at + before (λ x. eqb x b) (drop at s)
+
+-- where a byte that is not a blank is next, or the end
+unfoldable pub nextWord : List ℕ → ℕ → ℕ
+nextWord s at = at + before (λ x. not (eqb x 32)) (drop at s)
+
+-- the bytes from one place to another; none where they are not all there
+unfoldable pub cutOf : List ℕ → ℕ → ℕ → List ℕ
+cutOf s from to = if leb from to then (if leb to (length s) then take (to - from) (drop from s) else []) else []
+
+-- the bytes of a line
+unfoldable pub lineOf : List ℕ → Line → List ℕ
+lineOf s l = cutOf s (l .start) (l .end)
+
+-- where the word stands that is k words behind a place
+unfoldable pub wordAt : List ℕ → ℕ → ℕ → ℕ
+wordAt s zero at = at
+wordAt s (suc k) at = wordAt s k (nextWord s (nextOf s 32 at))
+
+-- the line from its word k on
+unfoldable pub wordsFrom : List ℕ → ℕ → List ℕ
+wordsFrom s k = cutOf s (wordAt s k (nextWord s 0)) (length s)
+
+-- word k of a line; none where it has fewer
+unfoldable pub wordOf : List ℕ → ℕ → List ℕ
+wordOf s k = cutOf (wordsFrom s k) 0 (nextOf (wordsFrom s k) 32 0)
+
+-- ---- numbers
+
+-- what a digit of up to base 16 stands for, in capital letters; 16 where it is none
+unfoldable pub digitOf : ℕ → ℕ
+digitOf b = if ltb b 48 then 16 else (if ltb b 58 then b - 48 else (if ltb b 65 then 16 else (if ltb b 71 then b - 55 else 16)))
+
+unfoldable pub noNumber : Number
+noNumber = record { is = 0; good = false }
+
+-- a digit more, in a base; what is no digit of it, or 2^64 and more, is no number
+unfoldable pub withDigit : ℕ → Number → ℕ → Number
+withDigit base n b = if ltb (digitOf b) base && ltb (n .is * base + digitOf b) (2 ^ 64) then record { is = n .is * base + digitOf b; good = n .good } else noNumber
+
+-- a word of at least one digit
+unfoldable pub begun : List ℕ → Number
+begun [] = noNumber
+begun (b ∷ w) = record { is = 0; good = true }
+
+unfoldable pub numberOf : ℕ → List ℕ → Number
+numberOf base w = along (withDigit base) (begun w) w
+
+-- words that are one number and no more
+unfoldable pub aloneOf : List ℕ → Number
+aloneOf s = record { is = numberOf 10 (wordOf s 0) .is; good = numberOf 10 (wordOf s 0) .good && eqb (length (wordsFrom s 1)) 0 }
+
+-- the room that word k says, the last of the line; that of a whole store where there is no such word
+unfoldable pub roomOf : List ℕ → ℕ → Number
+roomOf s k = if eqb (length (wordsFrom s k)) 0 then record { is = 4294967295; good = true } else aloneOf (wordsFrom s k)
