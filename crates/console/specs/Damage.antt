@@ -1,16 +1,20 @@
 -- What is damaged: one count, or the last result, and nothing else; one number of one store.
-use mathlib.Core.Bool.{Bool, true, false}
+use mathlib.Core.Bool.{Bool, true, false, _&&_}
 use mathlib.Core.List.{List}
-use Prim.Native.Nat.{ℕ, _+_, _*_, _/_}
+use Prim.Native.Nat.{ℕ, _+_, _*_, _/_, _%_}
 use lib.Dec.{ltb}
 use lib.ListN.{length, getD, set}
 use Rattle.model.specs.declared.Vm.{Vm}
 use Rattle.model.specs.declared.Counts.{Counts}
 use Rattle.model.specs.declared.Frame.{Frame}
 use Rattle.model.specs.declared.Last.{Last}
+use Rattle.model.specs.declared.Last.the-variants.{Is}
 use Rattle.model.specs.Basics.{if_then_else_, ascii}
 use Rattle.model.specs.Equality.{sameBytes}
+use Rattle.model.specs.Values.{valueOf}
 use Rattle.console.specs.declared.damage.Changed.{Changed}
+use Rattle.console.specs.declared.script.Args.{Args}
+use Rattle.console.specs.Words.{wordOf, argsOf}
 use Rattle.console.specs.Said.{withProgram}
 
 -- understood, and the machine is then m
@@ -43,9 +47,67 @@ countWith m name n =
 unfoldable pub lastWith : Vm → Last → Vm
 lastWith m l = record { program = m .program; stack = m .stack; frames = m .frames; cells = m .cells; last = l }
 
+-- `count NAME N`
+unfoldable pub countArgs : List ℕ → Args
+countArgs line = argsOf line 2 3 (record { a = 281474976710655; b = 0; c = 0; d = 0; e = 0 })
+
+unfoldable pub countAsked : Vm → List ℕ → Changed
+countAsked m line = if countArgs line .good then countWith m (wordOf line 1) (countArgs line .a) else unchanged m
+
+-- `result KIND PAYLOAD`, of a kind below 6
+unfoldable pub resultArgs : List ℕ → Args
+resultArgs line = argsOf line 1 3 (record { a = 5; b = 18446744073709551615; c = 0; d = 0; e = 0 })
+
+unfoldable pub resultAsked : Vm → List ℕ → Changed
+resultAsked m line = if resultArgs line .good then changed (lastWith m (Is (valueOf (resultArgs line .a) (resultArgs line .b)))) else unchanged m
+
 -- number i of a store is n, where there is such a number
 unfoldable pub putAt : List ℕ → ℕ → ℕ → List ℕ
 putAt s i n = if ltb i (length s) then set s i n else s
+
+pub record PokedWords : Type 0 where
+  pub good : Bool
+  pub constants : List ℕ
+  pub structs : List ℕ
+  pub functions : List ℕ
+  pub stack : List ℕ
+  pub cells : List ℕ
+
+-- number i of the words store of that name is n
+unfoldable pub pokedWords : List ℕ → ℕ → ℕ → List ℕ → List ℕ → List ℕ → List ℕ → List ℕ → PokedWords
+pokedWords name i n constants structs functions stack cells =
+    if sameBytes name (ascii "constants") then record { good = ltb i (length constants); constants = putAt constants i n; structs = structs; functions = functions; stack = stack; cells = cells } else (
+    if sameBytes name (ascii "structs") then record { good = ltb i (length structs); constants = constants; structs = putAt structs i n; functions = functions; stack = stack; cells = cells } else (
+    if sameBytes name (ascii "functions") then record { good = ltb i (length functions); constants = constants; structs = structs; functions = putAt functions i n; stack = stack; cells = cells } else (
+    if sameBytes name (ascii "stack") then record { good = ltb i (length stack); constants = constants; structs = structs; functions = functions; stack = putAt stack i n; cells = cells } else (
+    if sameBytes name (ascii "cells") then record { good = ltb i (length cells); constants = constants; structs = structs; functions = functions; stack = stack; cells = putAt cells i n } else (
+    record { good = false; constants = constants; structs = structs; functions = functions; stack = stack; cells = cells })))))
+
+pub record PokedBytes : Type 0 where
+  pub good : Bool
+  pub text : List ℕ
+  pub main : List ℕ
+  pub other : List ℕ
+
+-- number i of the bytes store of that name is n
+unfoldable pub pokedBytes : List ℕ → ℕ → ℕ → List ℕ → List ℕ → List ℕ → PokedBytes
+pokedBytes name i n text main other =
+    if sameBytes name (ascii "text") then record { good = ltb i (length text) && ltb n 256; text = putAt text i (n % 256); main = main; other = other } else (
+    if sameBytes name (ascii "main") then record { good = ltb i (length main) && ltb n 256; text = text; main = putAt main i (n % 256); other = other } else (
+    if sameBytes name (ascii "other") then record { good = ltb i (length other) && ltb n 256; text = text; main = main; other = putAt other i (n % 256) } else (
+    record { good = false; text = text; main = main; other = other })))
+
+pub record PokedPlaces : Type 0 where
+  pub good : Bool
+  pub mainPlaces : List ℕ
+  pub otherPlaces : List ℕ
+
+-- number i of the places store of that name is n
+unfoldable pub pokedPlaces : List ℕ → ℕ → ℕ → List ℕ → List ℕ → PokedPlaces
+pokedPlaces name i n mainPlaces otherPlaces =
+    if sameBytes name (ascii "main_places") then record { good = ltb i (length mainPlaces) && ltb n 4294967296; mainPlaces = putAt mainPlaces i (n % 4294967296); otherPlaces = otherPlaces } else (
+    if sameBytes name (ascii "other_places") then record { good = ltb i (length otherPlaces) && ltb n 4294967296; mainPlaces = mainPlaces; otherPlaces = putAt otherPlaces i (n % 4294967296) } else (
+    record { good = false; mainPlaces = mainPlaces; otherPlaces = otherPlaces }))
 
 -- the frame that rests at i, in three numbers; one of zeros where there is none
 unfoldable pub frameIn : List ℕ → ℕ → Frame

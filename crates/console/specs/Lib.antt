@@ -3,3 +3,4 @@ pub mod Words
 pub mod Sums
 pub mod Damage
 pub mod Said
+pub mod Asks

@@ -1,6 +1,4 @@
 -- Which machine there is behind an answer: the one that it tells, or the one that was.
-use mathlib.Core.Bool.{Bool}
-use Prim.Native.Nat.{ℕ}
 use Rattle.model.specs.declared.Vm.{Vm}
 use Rattle.model.specs.declared.Counts.{Counts}
 use Rattle.model.specs.declared.Emitted.{Emitted}

@@ -7,6 +7,8 @@ use lib.ListN.{length, take, drop}
 use Rattle.model.specs.Basics.{if_then_else_}
 use Rattle.console.specs.declared.script.Line.{Line}
 use Rattle.console.specs.declared.script.Number.{Number}
+use Rattle.console.specs.declared.script.Args.{Args}
+use Rattle.console.specs.declared.script.Most.{Most}
 
 -- a function applied along a list, from its first number to its last
 unfoldable pub along : {A : Type 0} → (A → ℕ → A) → A → List ℕ → A
@@ -30,7 +32,11 @@ nextWord s at = at + before (λ x. not (eqb x 32)) (drop at s)
 
 -- the bytes from one place to another; none where they are not all there
 unfoldable pub cutOf : List ℕ → ℕ → ℕ → List ℕ
-cutOf s from to = if leb from to then (if leb to (length s) then take (to - from) (drop from s) else []) else []
+cutOf s from to = if ltb to from then [] else (if ltb (length s) to then [] else take (to - from) (drop from s))
+
+-- the first line of a script
+unfoldable pub firstLine : List ℕ → Line
+firstLine s = record { start = 0; end = nextOf s 10 0; number = 1; on = true; left = length s }
 
 -- the bytes of a line
 unfoldable pub lineOf : List ℕ → Line → List ℕ
@@ -60,15 +66,11 @@ noNumber = record { is = 0; good = false }
 
 -- a digit more, in a base; what is no digit of it, or 2^64 and more, is no number
 unfoldable pub withDigit : ℕ → Number → ℕ → Number
-withDigit base n b = if ltb (digitOf b) base && ltb (n .is * base + digitOf b) (2 ^ 64) then record { is = n .is * base + digitOf b; good = n .good } else noNumber
+withDigit base n b = if leb base (digitOf b) then noNumber else (if leb (2 ^ 64) (n .is * base + digitOf b) then noNumber else record { is = n .is * base + digitOf b; good = n .good })
 
 -- a word of at least one digit
-unfoldable pub begun : List ℕ → Number
-begun [] = noNumber
-begun (b ∷ w) = record { is = 0; good = true }
-
 unfoldable pub numberOf : ℕ → List ℕ → Number
-numberOf base w = along (withDigit base) (begun w) w
+numberOf base w = along (withDigit base) (record { is = 0; good = ltb 0 (length w) }) w
 
 -- words that are one number and no more
 unfoldable pub aloneOf : List ℕ → Number
@@ -77,3 +79,21 @@ aloneOf s = record { is = numberOf 10 (wordOf s 0) .is; good = numberOf 10 (word
 -- the room that word k says, the last of the line; that of a whole store where there is no such word
 unfoldable pub roomOf : List ℕ → ℕ → Number
 roomOf s k = if eqb (length (wordsFrom s k)) 0 then record { is = 4294967295; good = true } else aloneOf (wordsFrom s k)
+
+-- ---- the numbers of a command
+
+-- the number that word k of the words before end says, at most so much; 0 from there on
+unfoldable pub argOf : List ℕ → ℕ → ℕ → ℕ → Number
+argOf s k end most = if ltb k end then record { is = numberOf 10 (wordOf s k) .is; good = numberOf 10 (wordOf s k) .good && leb (numberOf 10 (wordOf s k) .is) most } else record { is = 0; good = true }
+
+-- those of the words from k on, before end, where the line then ends
+unfoldable pub argsOf : List ℕ → ℕ → ℕ → Most → Args
+argsOf s k end most =
+    if ltb 100 k then record { a = 0; b = 0; c = 0; d = 0; e = 0; good = false } else record {
+      a = argOf s k end (most .a) .is;
+      b = argOf s (k + 1) end (most .b) .is;
+      c = argOf s (k + 2) end (most .c) .is;
+      d = argOf s (k + 3) end (most .d) .is;
+      e = argOf s (k + 4) end (most .e) .is;
+      good = ((((argOf s k end (most .a) .good && argOf s (k + 1) end (most .b) .good) && argOf s (k + 2) end (most .c) .good) && argOf s (k + 3) end (most .d) .good) && argOf s (k + 4) end (most .e) .good) && eqb (length (wordOf s end)) 0;
+    }

@@ -17,6 +17,7 @@ use program::code::current_offset;
 use program::functions::get_function_idx;
 use program::words::same_bytes;
 ghost use mathlib.Core.Path.{_≡_};
+ghost use Rattle.console.specs.Asks.{lentWhole, askNew, askTrace, askRun, isCode, isConstant, isName, isLook, isRead, isSaid, groupOf};
 ghost use Rattle.console.specs.Said.{noMachine, afterDamage};
 ghost use Rattle.console.specs.Sums.{sumOf};
 
@@ -34,7 +35,9 @@ pub enum Asked {
 }
 
 // A call that is lent the copy store and the backtrace store whole.
-fn lent_whole(image: usize) -> Lent {
+fn lent_whole(image: usize) -> Lent
+    ensures { λ r. ⌜ r ≡ lentWhole image ⌝ }
+{
     let whole = script::whole();
     Lent {
         image,
@@ -44,7 +47,9 @@ fn lent_whole(image: usize) -> Lent {
 }
 
 // `new`.
-fn ask_new(line: &[u8]) -> Asked {
+fn ask_new(line: &[u8]) -> Asked
+    ensures { λ r. ⌜ r ≡ askNew (now (line .entry)) ⌝ }
+{
     let rest = script::words_from(line, 1);
     if rest.len() == 0 {
         return Asked::Frames(Call::New, lent_whole(0));
@@ -53,7 +58,9 @@ fn ask_new(line: &[u8]) -> Asked {
 }
 
 // `trace`, `trace ROOM`.
-fn ask_trace(line: &[u8]) -> Asked {
+fn ask_trace(line: &[u8]) -> Asked
+    ensures { λ r. ⌜ r ≡ askTrace (now (line .entry)) ⌝ }
+{
     let room = script::read_room(line, 1);
     if room.good {
         let lent = Lent {
@@ -67,7 +74,9 @@ fn ask_trace(line: &[u8]) -> Asked {
 }
 
 // `run UNITS`, `run UNITS ROOM`.
-fn ask_run(line: &[u8]) -> Asked {
+fn ask_run(line: &[u8]) -> Asked
+    ensures { λ r. ⌜ r ≡ askRun (now (line .entry)) ⌝ }
+{
     let units = script::decimal(word(line, 1));
     let room = script::read_room(line, 2);
     if units.good & room.good {
@@ -125,32 +134,42 @@ enum Group {
     Unknown,
 }
 
-fn is_code(what: &[u8]) -> bool {
+fn is_code(what: &[u8]) -> bool
+    ensures { λ r. ⌜ r ≡ isCode (now (what .entry)) ⌝ }
+{
     same_bytes(what, b"op")
         | same_bytes(what, b"op1")
         | same_bytes(what, b"op2")
         | same_bytes(what, b"op3")
 }
 
-fn is_constant(what: &[u8]) -> bool {
+fn is_constant(what: &[u8]) -> bool
+    ensures { λ r. ⌜ r ≡ isConstant (now (what .entry)) ⌝ }
+{
     same_bytes(what, b"scalar")
         | same_bytes(what, b"boolean")
         | same_bytes(what, b"string")
         | same_bytes(what, b"reference")
 }
 
-fn is_name(what: &[u8]) -> bool {
+fn is_name(what: &[u8]) -> bool
+    ensures { λ r. ⌜ r ≡ isName (now (what .entry)) ⌝ }
+{
     same_bytes(what, b"struct") | same_bytes(what, b"begin") | same_bytes(what, b"end")
 }
 
-fn is_look(what: &[u8]) -> bool {
+fn is_look(what: &[u8]) -> bool
+    ensures { λ r. ⌜ r ≡ isLook (now (what .entry)) ⌝ }
+{
     same_bytes(what, b"offset")
         | same_bytes(what, b"find")
         | same_bytes(what, b"save")
         | same_bytes(what, b"list")
 }
 
-fn is_read(what: &[u8]) -> bool {
+fn is_read(what: &[u8]) -> bool
+    ensures { λ r. ⌜ r ≡ isRead (now (what .entry)) ⌝ }
+{
     same_bytes(what, b"last")
         | same_bytes(what, b"stack")
         | same_bytes(what, b"header")
@@ -159,14 +178,18 @@ fn is_read(what: &[u8]) -> bool {
 }
 
 // A blank line, or a comment.
-fn is_said(what: &[u8]) -> bool {
+fn is_said(what: &[u8]) -> bool
+    ensures { λ r. ⌜ r ≡ isSaid (now (what .entry)) ⌝ }
+{
     if what.len() == 0 {
         return true;
     }
     what[0] == b'#'
 }
 
-fn group_of(what: &[u8]) -> Group {
+fn group_of(what: &[u8]) -> Group
+    ensures { λ r. ⌜ r ≡ groupOf (now (what .entry)) ⌝ }
+{
     if is_said(what) {
         return Group::Said;
     }

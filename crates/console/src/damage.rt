@@ -10,10 +10,12 @@ use model::Vm;
 use program::words::same_bytes;
 use value::words;
 ghost use mathlib.Core.Path.{_≡_};
+ghost use mathlib.Core.Bool.{_&&_};
+ghost use Prim.Native.Nat.{_%_};
 ghost use lib.Dec.{ltb};
 ghost use lib.ListN.{length};
 ghost use Rattle.console.specs.Sums.{halfMixed, mixedWith, mixedAll, mixedLast, mixedCounts};
-ghost use Rattle.console.specs.Damage.{programWith, countWith, putAt, frameIn, frameAt};
+ghost use Rattle.console.specs.Damage.{programWith, countWith, countAsked, resultAsked, putAt, pokedWords, pokedBytes, pokedPlaces, frameIn, frameAt};
 
 // ---- the checksum
 
@@ -212,7 +214,9 @@ fn with_named(m: Vm, name: &[u8], n: usize) -> Changed
 }
 
 // `count NAME N`.
-pub fn with_count(m: Vm, line: &[u8]) -> Changed {
+pub fn with_count(m: Vm, line: &[u8]) -> Changed
+    ensures { λ r. ⌜ r ≡ countAsked m (now (line .entry)) ⌝ }
+{
     let a = read_args(
         line,
         2,
@@ -232,7 +236,9 @@ pub fn with_count(m: Vm, line: &[u8]) -> Changed {
 }
 
 // `result KIND PAYLOAD`: the last result, of a kind below 6.
-pub fn with_result(m: Vm, line: &[u8]) -> Changed {
+pub fn with_result(m: Vm, line: &[u8]) -> Changed
+    ensures { λ r. ⌜ r ≡ resultAsked m (now (line .entry)) ⌝ }
+{
     let a = read_args(
         line,
         1,
@@ -265,7 +271,9 @@ fn put_word(s: &mut [u64], i: usize, n: u64) -> bool
     false
 }
 
-fn put_byte(s: &mut [u8], i: usize, n: u64) -> bool {
+fn put_byte(s: &mut [u8], i: usize, n: u64) -> bool
+    ensures { λ r. ⌜ (r ≡ (ltb i (length (now (s .entry))) && ltb n 256)) × (now (s .exit) ≡ putAt (now (s .entry)) i (n % 256)) ⌝ }
+{
     if i < s.len() {
         s[i] = (n % 0x100) as u8;
         return n < 0x100;
@@ -273,7 +281,9 @@ fn put_byte(s: &mut [u8], i: usize, n: u64) -> bool {
     false
 }
 
-fn put_place(s: &mut [u32], i: usize, n: u64) -> bool {
+fn put_place(s: &mut [u32], i: usize, n: u64) -> bool
+    ensures { λ r. ⌜ (r ≡ (ltb i (length (now (s .entry))) && ltb n 4294967296)) × (now (s .exit) ≡ putAt (now (s .entry)) i (n % 4294967296)) ⌝ }
+{
     if i < s.len() {
         s[i] = (n % 0x1_0000_0000) as u32;
         return n < 0x1_0000_0000;
@@ -290,7 +300,9 @@ fn poke_words(
     functions: &mut stores::Functions,
     stack: &mut stores::Stack,
     cells: &mut stores::Cells,
-) -> bool {
+) -> bool
+    ensures { λ r. ⌜ record { good = r; constants = now (constants .exit); structs = now (structs .exit); functions = now (functions .exit); stack = now (stack .exit); cells = now (cells .exit) } ≡ pokedWords (now (store .entry)) i n (now (constants .entry)) (now (structs .entry)) (now (functions .entry)) (now (stack .entry)) (now (cells .entry)) ⌝ }
+{
     if same_bytes(store, b"constants") {
         return put_word(constants, i, n);
     }
@@ -316,7 +328,9 @@ fn poke_bytes(
     text: &mut stores::Text,
     main: &mut stores::Code,
     other: &mut stores::Code,
-) -> bool {
+) -> bool
+    ensures { λ r. ⌜ record { good = r; text = now (text .exit); main = now (main .exit); other = now (other .exit) } ≡ pokedBytes (now (store .entry)) i n (now (text .entry)) (now (main .entry)) (now (other .entry)) ⌝ }
+{
     if same_bytes(store, b"text") {
         return put_byte(text, i, n);
     }
@@ -335,7 +349,9 @@ fn poke_places(
     n: u64,
     main_places: &mut stores::Places,
     other_places: &mut stores::Places,
-) -> bool {
+) -> bool
+    ensures { λ r. ⌜ record { good = r; mainPlaces = now («main_places» .exit); otherPlaces = now («other_places» .exit) } ≡ pokedPlaces (now (store .entry)) i n (now («main_places» .entry)) (now («other_places» .entry)) ⌝ }
+{
     if same_bytes(store, b"main_places") {
         return put_place(main_places, i, n);
     }

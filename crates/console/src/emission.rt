@@ -17,21 +17,34 @@ use program::functions::begin_function;
 use program::functions::end_function;
 use program::structs::add_struct_info;
 use program::words::same_bytes;
+ghost use mathlib.Core.Path.{_≡_};
+ghost use Prim.Native.Nat.{_%_};
+ghost use lib.Dec.{ltb};
+ghost use Rattle.model.specs.declared.Emitted.the-variants.{Refused};
+ghost use Rattle.console.specs.Words.{argsOf};
 
-fn byte(n: u64) -> u8 {
+fn byte(n: u64) -> u8
+    ensures { λ r. ⌜ r ≡ n % 256 ⌝ }
+{
     (n % 0x100) as u8
 }
 
-fn operand(n: u64) -> u16 {
+fn operand(n: u64) -> u16
+    ensures { λ r. ⌜ r ≡ n % 65536 ⌝ }
+{
     (n % 0x1_0000) as u16
 }
 
-fn place(n: u64) -> u32 {
+fn place(n: u64) -> u32
+    ensures { λ r. ⌜ r ≡ n % 4294967296 ⌝ }
+{
     (n % 0x1_0000_0000) as u32
 }
 
 // The numbers of an opcode with its operands; the place is the word before end.
-fn op_args(line: &[u8], end: usize) -> Args {
+fn op_args(line: &[u8], end: usize) -> Args
+    ensures { λ r. ⌜ r ≡ argsOf (now (line .entry)) 1 end (record { a = 255; b = 4294967295; c = 4294967295; d = 4294967295; e = 4294967295 }) ⌝ }
+{
     let most = 0xFFFF_FFFF;
     read_args(
         line,
@@ -48,12 +61,16 @@ fn op_args(line: &[u8], end: usize) -> Args {
 }
 
 // A number above an operand's most.
-fn wide(n: u64) -> bool {
+fn wide(n: u64) -> bool
+    ensures { λ r. ⌜ r ≡ ltb 65535 n ⌝ }
+{
     0xFFFF < n
 }
 
 // A line that is not understood.
-fn unknown() -> Emitted {
+fn unknown() -> Emitted
+    ensures { λ r. ⌜ r ≡ Refused 0 ⌝ }
+{
     Emitted::Refused(0)
 }
 

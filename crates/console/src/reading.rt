@@ -13,9 +13,13 @@ use readers::element;
 use readers::last_result;
 use readers::stack_value;
 use readers::text_bytes;
+ghost use mathlib.Core.Path.{_≡_};
+ghost use Rattle.console.specs.Asks.{headerAfter, elementAfter};
 
 // The header of a value that was shown.
-fn header_of(m: Vm, s: Shown, cells: &[u64]) -> Headed {
+fn header_of(m: Vm, s: Shown, cells: &[u64]) -> Headed
+    ensures { λ r. ⌜ r ≡ headerAfter m s (now (cells .entry)) ⌝ }
+{
     match s {
         Shown::Value(v) => block_header(m, v, cells),
         Shown::Refused(n) => Headed::Refused(n),
@@ -23,7 +27,9 @@ fn header_of(m: Vm, s: Shown, cells: &[u64]) -> Headed {
 }
 
 // Element j of a value that was shown.
-fn element_of(m: Vm, s: Shown, j: usize, cells: &[u64]) -> Shown {
+fn element_of(m: Vm, s: Shown, j: usize, cells: &[u64]) -> Shown
+    ensures { λ r. ⌜ r ≡ elementAfter m s j (now (cells .entry)) ⌝ }
+{
     match s {
         Shown::Value(v) => element(m, v, j, cells),
         Shown::Refused(n) => Shown::Refused(n),

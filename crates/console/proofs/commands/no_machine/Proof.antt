@@ -1,4 +1,3 @@
-use borrow.Author.Needs.{needs}
 use mathlib.Core.Path.{refl}
 use Rattle.console.specs.Said.{noMachine}
 use Rattle.console.proofs.commands.no_machine.Statement.{statement}
