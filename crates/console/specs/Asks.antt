@@ -1,9 +1,9 @@
 -- What a line asks.
 use mathlib.Core.Bool.{Bool, true, _&&_, _||_}
 use mathlib.Core.List.{List}
-use Prim.Native.Nat.{ℕ}
+use Prim.Native.Nat.{ℕ, min}
 use lib.Dec.{eqb}
-use lib.ListN.{length, getD}
+use lib.ListN.{length, getD, take}
 use Rattle.model.specs.declared.Vm.{Vm}
 use Rattle.model.specs.declared.Shown.{Shown}
 use Rattle.model.specs.declared.Shown.the-variants as w
@@ -11,14 +11,16 @@ use Rattle.model.specs.declared.Headed.{Headed}
 use Rattle.model.specs.declared.Headed.the-variants as h
 use Rattle.model.specs.Basics.{if_then_else_, ascii}
 use Rattle.model.specs.Equality.{sameBytes}
-use Rattle.model.specs.Readers.{blockHeaderOf, elementOf}
+use Rattle.model.specs.declared.Told.{Told}
+use Rattle.model.specs.declared.Told.the-variants as t
+use Rattle.model.specs.Readers.{blockHeaderOf, elementOf, textBytesOf}
 use Rattle.console.specs.declared.bridge.Call.the-variants as c
 use Rattle.console.specs.declared.commands.Lent.{Lent}
 use Rattle.console.specs.declared.commands.Asked.{Asked}
 use Rattle.console.specs.declared.commands.Asked.the-variants as q
 use Rattle.console.specs.declared.commands.Group.{Group}
 use Rattle.console.specs.declared.commands.Group.the-variants as g
-use Rattle.console.specs.Words.{wordsFrom, wordOf, numberOf, roomOf}
+use Rattle.console.specs.Words.{wordsFrom, wordOf, numberOf, roomOf, hexOf}
 
 -- ---- calls over frames
 
@@ -34,6 +36,22 @@ askTrace line = if roomOf line 1 .good then q.Frames c.Trace (record { image = 0
 
 unfoldable pub askRun : List ℕ → Asked
 askRun line = if numberOf 10 (wordOf line 1) .good && roomOf line 2 .good then q.Frames (c.Run (numberOf 10 (wordOf line 1) .is)) (record { image = 0; copy = roomOf line 2 .is; trace = 4294967295 }) else q.Other
+
+-- what is asked, and the space, which holds the bytes of an image
+pub record Heard : Type 0 where
+  pub asked : Asked
+  pub space : List ℕ
+
+unfoldable pub askLoad : List ℕ → List ℕ → Heard
+askLoad line space = record { asked = if hexOf (wordsFrom line 1) space .read .good then q.Frames c.Load (lentWhole (hexOf (wordsFrom line 1) space .read .size)) else q.Other; space = hexOf (wordsFrom line 1) space .out }
+
+unfoldable pub askOf : List ℕ → List ℕ → Heard
+askOf line space =
+    if sameBytes (wordOf line 0) (ascii "new") then record { asked = askNew line; space = space } else (
+    if sameBytes (wordOf line 0) (ascii "trace") then record { asked = askTrace line; space = space } else (
+    if sameBytes (wordOf line 0) (ascii "run") then record { asked = askRun line; space = space } else (
+    if sameBytes (wordOf line 0) (ascii "image") then askLoad line space else
+    record { asked = q.Other; space = space })))
 
 -- ---- the commands that need no frames, in groups
 
@@ -81,3 +99,8 @@ headerAfter m (w.Refused n) cells = h.Refused n
 unfoldable pub elementAfter : Vm → Shown → ℕ → List ℕ → Shown
 elementAfter m (w.Value x) j cells = elementOf m x j cells
 elementAfter m (w.Refused n) j cells = w.Refused n
+
+-- into so much of the space as there is room for
+unfoldable pub textAfter : Vm → Shown → ℕ → List ℕ → List ℕ → Told
+textAfter m (w.Value x) room text space = textBytesOf m x text (take (min room (length space)) space) .answer
+textAfter m (w.Refused n) room text space = t.Refused n

@@ -109,6 +109,19 @@ pokedPlaces name i n mainPlaces otherPlaces =
     if sameBytes name (ascii "other_places") then record { good = ltb i (length otherPlaces) && ltb n 4294967296; mainPlaces = mainPlaces; otherPlaces = putAt otherPlaces i (n % 4294967296) } else (
     record { good = false; mainPlaces = mainPlaces; otherPlaces = otherPlaces }))
 
+-- `poke STORE I N`
+unfoldable pub pokeArgs : List ℕ → Args
+pokeArgs line = argsOf line 2 4 (record { a = 4294967295; b = 18446744073709551615; c = 0; d = 0; e = 0 })
+
+unfoldable pub wordsAsked : List ℕ → List ℕ → List ℕ → List ℕ → List ℕ → List ℕ → PokedWords
+wordsAsked line constants structs functions stack cells = if pokeArgs line .good then pokedWords (wordOf line 1) (pokeArgs line .a) (pokeArgs line .b) constants structs functions stack cells else record { good = false; constants = constants; structs = structs; functions = functions; stack = stack; cells = cells }
+
+unfoldable pub bytesAsked : List ℕ → List ℕ → List ℕ → List ℕ → PokedBytes
+bytesAsked line text main other = if pokeArgs line .good then pokedBytes (wordOf line 1) (pokeArgs line .a) (pokeArgs line .b) text main other else record { good = false; text = text; main = main; other = other }
+
+unfoldable pub placesAsked : List ℕ → List ℕ → List ℕ → PokedPlaces
+placesAsked line mainPlaces otherPlaces = if pokeArgs line .good then pokedPlaces (wordOf line 1) (pokeArgs line .a) (pokeArgs line .b) mainPlaces otherPlaces else record { good = false; mainPlaces = mainPlaces; otherPlaces = otherPlaces }
+
 -- the frame that rests at i, in three numbers; one of zeros where there is none
 unfoldable pub frameIn : List ℕ → ℕ → Frame
 frameIn s i = if ltb i (length s / 3) then record { function = getD s (3 * i) 0; position = getD s (3 * i + 1) 0; base = getD s (3 * i + 2) 0 } else record { function = 0; position = 0; base = 0 }

@@ -1,14 +1,15 @@
 -- A line's words, and the numbers that words say.
 use mathlib.Core.Bool.{Bool, true, false, _&&_, not}
 use mathlib.Core.List.{List, [], _∷_}
-use Prim.Native.Nat.{ℕ, zero, suc, _+_, _*_, _-_, _^_}
+use Prim.Native.Nat.{ℕ, zero, suc, _+_, _*_, _-_, _%_, _^_}
 use lib.Dec.{ltb, leb, eqb}
-use lib.ListN.{length, take, drop}
+use lib.ListN.{length, take, drop, set}
 use Rattle.model.specs.Basics.{if_then_else_}
 use Rattle.console.specs.declared.script.Line.{Line}
 use Rattle.console.specs.declared.script.Number.{Number}
 use Rattle.console.specs.declared.script.Args.{Args}
 use Rattle.console.specs.declared.script.Most.{Most}
+use Rattle.console.specs.declared.script.Bytes.{Bytes}
 
 -- a function applied along a list, from its first number to its last
 unfoldable pub along : {A : Type 0} → (A → ℕ → A) → A → List ℕ → A
@@ -97,3 +98,31 @@ argsOf s k end most =
       e = argOf s (k + 4) end (most .e) .is;
       good = ((((argOf s k end (most .a) .good && argOf s (k + 1) end (most .b) .good) && argOf s (k + 2) end (most .c) .good) && argOf s (k + 3) end (most .d) .good) && argOf s (k + 4) end (most .e) .good) && eqb (length (wordOf s end)) 0;
     }
+
+-- ---- bytes in hex
+
+-- what was read, and the store that its bytes went to
+pub record Hexed : Type 0 where
+  pub read : Bytes
+  pub out : List ℕ
+
+unfoldable pub broken : Hexed → Hexed
+broken x = record { read = record { size = x .read .size; high = x .read .high; good = false }; out = x .out }
+
+-- a character more: a blank, the first digit of a byte, or the second, with which the byte goes to its place
+unfoldable pub withByte : Hexed → ℕ → Hexed
+withByte x b =
+    if eqb b 32 then x else (
+    if ltb (digitOf b) 16 then (
+    if leb 16 (x .read .high) then record { read = record { size = x .read .size; high = digitOf b; good = x .read .good }; out = x .out } else (
+    if ltb (x .read .size) (length (x .out)) then record { read = record { size = x .read .size + 1; high = 16; good = x .read .good }; out = set (x .out) (x .read .size) ((x .read .high * 16 + digitOf b) % 256) } else
+    broken x)) else
+    broken x)
+
+-- no digit is left over
+unfoldable pub whole : Hexed → Hexed
+whole x = record { read = record { size = x .read .size; high = x .read .high; good = x .read .good && eqb (x .read .high) 16 }; out = x .out }
+
+-- the bytes that words say, two digits to a byte, at the front of a store
+unfoldable pub hexOf : List ℕ → List ℕ → Hexed
+hexOf words out = whole (along withByte (record { read = record { size = 0; high = 16; good = true }; out = out }) words)

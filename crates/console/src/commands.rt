@@ -17,7 +17,7 @@ use program::code::current_offset;
 use program::functions::get_function_idx;
 use program::words::same_bytes;
 ghost use mathlib.Core.Path.{_≡_};
-ghost use Rattle.console.specs.Asks.{lentWhole, askNew, askTrace, askRun, isCode, isConstant, isName, isLook, isRead, isSaid, groupOf};
+ghost use Rattle.console.specs.Asks.{lentWhole, askNew, askTrace, askRun, askLoad, askOf, isCode, isConstant, isName, isLook, isRead, isSaid, groupOf};
 ghost use Rattle.console.specs.Said.{noMachine, afterDamage};
 ghost use Rattle.console.specs.Sums.{sumOf};
 
@@ -91,7 +91,9 @@ fn ask_run(line: &[u8]) -> Asked
 }
 
 // `image HEX`. Its bytes go into space.
-fn ask_load(line: &[u8], space: &mut stores::Space) -> Asked {
+fn ask_load(line: &[u8], space: &mut stores::Space) -> Asked
+    ensures { λ r. ⌜ record { asked = r; space = now (space .exit) } ≡ askLoad (now (line .entry)) (now (space .entry)) ⌝ }
+{
     let b = script::read_bytes(script::words_from(line, 1), space);
     if b.good {
         return Asked::Frames(Call::Load, lent_whole(b.size));
@@ -100,7 +102,9 @@ fn ask_load(line: &[u8], space: &mut stores::Space) -> Asked {
 }
 
 // What a line asks.
-pub fn ask(line: &[u8], space: &mut stores::Space) -> Asked {
+pub fn ask(line: &[u8], space: &mut stores::Space) -> Asked
+    ensures { λ r. ⌜ record { asked = r; space = now (space .exit) } ≡ askOf (now (line .entry)) (now (space .entry)) ⌝ }
+{
     let what = word(line, 0);
     if same_bytes(what, b"new") {
         return ask_new(line);

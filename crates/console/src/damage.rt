@@ -10,12 +10,12 @@ use model::Vm;
 use program::words::same_bytes;
 use value::words;
 ghost use mathlib.Core.Path.{_≡_};
-ghost use mathlib.Core.Bool.{_&&_};
+ghost use mathlib.Core.Bool.{_&&_, _||_};
 ghost use Prim.Native.Nat.{_%_};
 ghost use lib.Dec.{ltb};
 ghost use lib.ListN.{length};
 ghost use Rattle.console.specs.Sums.{halfMixed, mixedWith, mixedAll, mixedLast, mixedCounts};
-ghost use Rattle.console.specs.Damage.{programWith, countWith, countAsked, resultAsked, putAt, pokedWords, pokedBytes, pokedPlaces, frameIn, frameAt};
+ghost use Rattle.console.specs.Damage.{programWith, countWith, countAsked, resultAsked, putAt, pokedWords, pokedBytes, pokedPlaces, wordsAsked, bytesAsked, placesAsked, frameIn, frameAt};
 
 // ---- the checksum
 
@@ -374,7 +374,9 @@ pub fn poke(
     other_places: &mut stores::Places,
     stack: &mut stores::Stack,
     cells: &mut stores::Cells,
-) -> bool {
+) -> bool
+    ensures { λ r. ⌜ (r ≡ ((wordsAsked (now (line .entry)) (now (constants .entry)) (now (structs .entry)) (now (functions .entry)) (now (stack .entry)) (now (cells .entry)) .good || bytesAsked (now (line .entry)) (now (text .entry)) (now (main .entry)) (now (other .entry)) .good) || placesAsked (now (line .entry)) (now («main_places» .entry)) (now («other_places» .entry)) .good)) × (record { good = wordsAsked (now (line .entry)) (now (constants .entry)) (now (structs .entry)) (now (functions .entry)) (now (stack .entry)) (now (cells .entry)) .good; constants = now (constants .exit); structs = now (structs .exit); functions = now (functions .exit); stack = now (stack .exit); cells = now (cells .exit) } ≡ wordsAsked (now (line .entry)) (now (constants .entry)) (now (structs .entry)) (now (functions .entry)) (now (stack .entry)) (now (cells .entry))) × (record { good = bytesAsked (now (line .entry)) (now (text .entry)) (now (main .entry)) (now (other .entry)) .good; text = now (text .exit); main = now (main .exit); other = now (other .exit) } ≡ bytesAsked (now (line .entry)) (now (text .entry)) (now (main .entry)) (now (other .entry))) × (record { good = placesAsked (now (line .entry)) (now («main_places» .entry)) (now («other_places» .entry)) .good; mainPlaces = now («main_places» .exit); otherPlaces = now («other_places» .exit) } ≡ placesAsked (now (line .entry)) (now («main_places» .entry)) (now («other_places» .entry))) ⌝ }
+{
     let store = word(line, 1);
     let a = read_args(
         line,

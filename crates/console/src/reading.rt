@@ -14,7 +14,7 @@ use readers::last_result;
 use readers::stack_value;
 use readers::text_bytes;
 ghost use mathlib.Core.Path.{_≡_};
-ghost use Rattle.console.specs.Asks.{headerAfter, elementAfter};
+ghost use Rattle.console.specs.Asks.{headerAfter, elementAfter, textAfter};
 
 // The header of a value that was shown.
 fn header_of(m: Vm, s: Shown, cells: &[u64]) -> Headed
@@ -37,7 +37,9 @@ fn element_of(m: Vm, s: Shown, j: usize, cells: &[u64]) -> Shown
 }
 
 // The text of a value that was shown, into so much of space as there is room for.
-fn text_of(m: Vm, s: Shown, room: usize, text: &[u8], space: &mut [u8]) -> Told {
+fn text_of(m: Vm, s: Shown, room: usize, text: &[u8], space: &mut [u8]) -> Told
+    ensures { λ r. ⌜ r ≡ textAfter m s room (now (text .entry)) (now (space .entry)) ⌝ }
+{
     match s {
         Shown::Value(v) => {
             let n = script::at_most(room, space.len());

@@ -3,7 +3,7 @@ use program::words::lesser;
 ghost use mathlib.Core.Path.{_≡_};
 ghost use Prim.Native.Nat.{_*_, _/_, _≤_, min};
 ghost use Rattle.console.specs.Lines.{weight};
-ghost use Rattle.console.specs.Words.{nextOf, nextWord, cutOf, firstLine, lineOf, wordsFrom, wordOf, digitOf, noNumber, withDigit, numberOf, aloneOf, roomOf, argOf, argsOf};
+ghost use Rattle.console.specs.Words.{nextOf, nextWord, cutOf, firstLine, lineOf, wordsFrom, wordOf, digitOf, noNumber, withDigit, numberOf, aloneOf, roomOf, argOf, argsOf, withByte, hexOf};
 
 // A line: where it starts and ends, its number, whether there is such a line, and how many more there can be.
 pub struct Line {
@@ -344,7 +344,9 @@ pub struct Bytes {
 }
 
 // One character more, into out.
-fn with_byte(h: Bytes, b: u8, out: &mut [u8]) -> Bytes {
+fn with_byte(h: Bytes, b: u8, out: &mut [u8]) -> Bytes
+    ensures { λ r. ⌜ record { read = r; out = now (out .exit) } ≡ withByte (record { read = h; out = now (out .entry) }) b ⌝ }
+{
     let size = h.size;
     let high = h.high;
     if b == b' ' {
@@ -376,7 +378,9 @@ fn with_byte(h: Bytes, b: u8, out: &mut [u8]) -> Bytes {
 }
 
 // The bytes that words say in hex, two digits to a byte, blanks between where one likes.
-pub fn read_bytes(words: &[u8], out: &mut [u8]) -> Bytes {
+pub fn read_bytes(words: &[u8], out: &mut [u8]) -> Bytes
+    ensures { λ r. ⌜ record { read = r; out = now (out .exit) } ≡ hexOf (now (words .entry)) (now (out .entry)) ⌝ }
+{
     let mut h = Bytes {
         size: 0,
         high: 16,

@@ -1,7 +1,9 @@
 -- `text_of` lends as much of the space as it is asked.
 use borrow.Author.Needs.{needs}
-use mathlib.Core.Path.{sym}
+use mathlib.Core.Path.{sym, ap}
 use lib.Seq.{length-take-le}
+use Rattle.model.specs.Loading.{OutRes}
+use Rattle.console.specs.Asks.{textAfter}
 use Rattle.console.proofs.reading.text_of.Statement.{statement}
 use Rattle.console.proofs.reading.text_of.Tie as tie
 
@@ -27,10 +29,12 @@ same-length : tie.Need-same-length
 same-length c = search needs
 
 returns : tie.Need-returns
-returns c = search needs
+unfolding textAfter
+returns c = rw (c .before .before .before .before .before .before .s .given .1, ← c .before .before .before .before .at-most .ensures .0) (ap (λ (o : OutRes). o .answer) (c .before .before .text-bytes .ensures))
 
 returns-2 : tie.Need-returns-2
-returns-2 c = search needs
+unfolding textAfter
+returns-2 c = rw (c .before .s2 .given .1)
 
 pub text-of-spec : {M : Type 1} → statement M
 text-of-spec = tie.close (tie.spec enum-known-s at-most-requires slice-relend-prefix-text-bytes slice-aggregate-text-bytes text-bytes-requires enum-known-s-2 same-length returns returns-2)
