@@ -4,3 +4,4 @@ pub mod Sums
 pub mod Damage
 pub mod Said
 pub mod Asks
+pub mod Emits

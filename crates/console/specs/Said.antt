@@ -1,4 +1,9 @@
--- Which machine there is behind an answer: the one that it tells, or the one that was.
+-- What is said of a list or struct, and which machine there is behind an answer: the one that it tells, or the one that was.
+use mathlib.Core.List.{List}
+use Prim.Native.Nat.{ℕ, _/_}
+use lib.Dec.{ltb}
+use lib.ListN.{length}
+use Rattle.model.specs.declared.Header.{Header}
 use Rattle.model.specs.declared.Vm.{Vm}
 use Rattle.model.specs.declared.Counts.{Counts}
 use Rattle.model.specs.declared.Emitted.{Emitted}
@@ -9,9 +14,15 @@ use Rattle.model.specs.declared.RunResult.{RunResult}
 use Rattle.model.specs.declared.RunResult.the-variants as x
 use Rattle.model.specs.declared.Last.the-variants.{Nothing}
 use Rattle.model.specs.Basics.{if_then_else_}
+use Rattle.model.specs.Values.{payloadAt}
+use Rattle.model.specs.Heap.{headerOf}
 use Rattle.console.specs.declared.bridge.Answer.{Answer}
 use Rattle.console.specs.declared.bridge.Answer.the-variants as a
 use Rattle.console.specs.declared.damage.Changed.{Changed}
+
+-- the header at cell p, of no elements where there is no such cell
+unfoldable pub headerIn : List ℕ → ℕ → Header
+headerIn cells p = if ltb p (length cells / 2) then headerOf (payloadAt cells p) else record { count = 0; number = 0; depth = 0 }
 
 -- before any is made: nothing is in good order yet
 unfoldable pub noMachine : Vm

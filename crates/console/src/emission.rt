@@ -21,7 +21,9 @@ ghost use mathlib.Core.Path.{_≡_};
 ghost use Prim.Native.Nat.{_%_};
 ghost use lib.Dec.{ltb};
 ghost use Rattle.model.specs.declared.Emitted.the-variants.{Refused};
-ghost use Rattle.console.specs.Words.{argsOf};
+ghost use Rattle.model.specs.Stores.{Stores};
+ghost use Rattle.program.specs.Links.{Is, codeLent, bytesLent, constantsLent};
+ghost use Rattle.console.specs.Emits.{opArgs, codeAsked, patchAsked, constantAsked, nameGiven, nameAsked, allNames};
 
 fn byte(n: u64) -> u8
     ensures { λ r. ⌜ r ≡ n % 256 ⌝ }
@@ -43,7 +45,7 @@ fn place(n: u64) -> u32
 
 // The numbers of an opcode with its operands; the place is the word before end.
 fn op_args(line: &[u8], end: usize) -> Args
-    ensures { λ r. ⌜ r ≡ argsOf (now (line .entry)) 1 end (record { a = 255; b = 4294967295; c = 4294967295; d = 4294967295; e = 4294967295 }) ⌝ }
+    ensures { λ r. ⌜ r ≡ opArgs (now (line .entry)) end ⌝ }
 {
     let most = 0xFFFF_FFFF;
     read_args(
@@ -83,7 +85,9 @@ pub fn emit_code(
     main_places: &mut stores::Places,
     other: &mut stores::Code,
     other_places: &mut stores::Places,
-) -> Emitted {
+) -> Emitted
+    ensures { λ r. ⌜ ((rest : Stores) → Is (codeAsked c (now (line .entry)) (codeLent rest (now (functions .entry)) (now (main .entry)) (now («main_places» .entry)) (now (other .entry)) (now («other_places» .entry)))) r (codeLent rest (now (functions .exit)) (now (main .exit)) (now («main_places» .exit)) (now (other .exit)) (now («other_places» .exit)))) ⌝ }
+{
     let what = word(line, 0);
     if same_bytes(what, b"op") {
         let n = op_args(line, 3);
@@ -162,7 +166,9 @@ pub fn emit_patch(
     functions: &stores::Functions,
     main: &mut stores::Code,
     other: &mut stores::Code,
-) -> Emitted {
+) -> Emitted
+    ensures { λ r. ⌜ ((rest : Stores) → Is (patchAsked c (now (line .entry)) (bytesLent rest (now (functions .entry)) (now (main .entry)) (now (other .entry)))) r (bytesLent rest (now (functions .entry)) (now (main .exit)) (now (other .exit)))) ⌝ }
+{
     let n = read_args(
         line,
         1,
@@ -188,7 +194,9 @@ pub fn emit_constant(
     space: &mut stores::Space,
     constants: &mut stores::Constants,
     text: &mut stores::Text,
-) -> Emitted {
+) -> Emitted
+    ensures { λ r. ⌜ ((rest : Stores) → Is (constantAsked c (now (line .entry)) (now (space .entry)) (constantsLent rest (now (constants .entry)) (now (text .entry)))) r (constantsLent rest (now (constants .exit)) (now (text .exit)))) ⌝ }
+{
     let what = word(line, 0);
     if same_bytes(what, b"scalar") {
         let n = hex(words_from(line, 1));
@@ -226,6 +234,29 @@ pub fn emit_constant(
     unknown()
 }
 
+// A name that is given.
+fn named(
+    c: Counts,
+    what: &[u8],
+    name: &[u8],
+    structs: &mut stores::Structs,
+    functions: &mut stores::Functions,
+    text: &mut stores::Text,
+) -> Emitted
+    ensures { λ r. ⌜ ((rest : Stores) → Is (nameGiven c (now (what .entry)) (now (name .entry)) (allNames rest (now (structs .entry)) (now (functions .entry)) (now (text .entry)))) r (allNames rest (now (structs .exit)) (now (functions .exit)) (now (text .exit)))) ⌝ }
+{
+    if same_bytes(what, b"struct") {
+        return add_struct_info(c, name, structs, text);
+    }
+    if same_bytes(what, b"begin") {
+        return begin_function(c, name, functions, text);
+    }
+    if name.len() == 0 {
+        return end_function(c);
+    }
+    unknown()
+}
+
 // `struct HEX`, `begin HEX`, `end`.
 pub fn emit_name(
     c: Counts,
@@ -234,20 +265,13 @@ pub fn emit_name(
     structs: &mut stores::Structs,
     functions: &mut stores::Functions,
     text: &mut stores::Text,
-) -> Emitted {
+) -> Emitted
+    ensures { λ r. ⌜ ((rest : Stores) → Is (nameAsked c (now (line .entry)) (now (space .entry)) (allNames rest (now (structs .entry)) (now (functions .entry)) (now (text .entry)))) r (allNames rest (now (structs .exit)) (now (functions .exit)) (now (text .exit)))) ⌝ }
+{
     let what = word(line, 0);
     let b = read_bytes(words_from(line, 1), space);
     if b.good {
-        let name = cut(space, 0, b.size);
-        if same_bytes(what, b"struct") {
-            return add_struct_info(c, name, structs, text);
-        }
-        if same_bytes(what, b"begin") {
-            return begin_function(c, name, functions, text);
-        }
-        if name.len() == 0 {
-            return end_function(c);
-        }
+        return named(c, what, cut(space, 0, b.size), structs, functions, text);
     }
     unknown()
 }

@@ -13,7 +13,7 @@ use model::Value;
 use model::Vm;
 use value::words;
 ghost use mathlib.Core.Path.{_≡_};
-ghost use Rattle.console.specs.Said.{afterRun, afterStarted, afterEmitted, afterAnswer};
+ghost use Rattle.console.specs.Said.{headerIn, afterRun, afterStarted, afterEmitted, afterAnswer};
 
 pub fn say(text: &[u8]) {
     io::write_all(1, text);
@@ -84,7 +84,9 @@ pub fn say_refused(n: u8, number: u64) {
 }
 
 // The header at cell p; one of no elements where there is no such cell.
-fn header_at(cells: &[u64], p: usize) -> Header {
+fn header_at(cells: &[u64], p: usize) -> Header
+    ensures { λ r. ⌜ r ≡ headerIn (now (cells .entry)) p ⌝ }
+{
     if p < cells.len() / 2 {
         return words::read_header(cells, p);
     }
