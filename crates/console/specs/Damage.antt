@@ -65,6 +65,7 @@ resultAsked m line = if resultArgs line .good then changed (lastWith m (Is (valu
 unfoldable pub putAt : List ℕ → ℕ → ℕ → List ℕ
 putAt s i n = if ltb i (length s) then set s i n else s
 
+-- a store of words that was poked, where it was understood, and the others as they were; and likewise below
 pub record PokedWords : Type 0 where
   pub good : Bool
   pub constants : List ℕ
@@ -73,7 +74,7 @@ pub record PokedWords : Type 0 where
   pub stack : List ℕ
   pub cells : List ℕ
 
--- number i of the words store of that name is n
+-- number i of the store of words of that name is n
 unfoldable pub pokedWords : List ℕ → ℕ → ℕ → List ℕ → List ℕ → List ℕ → List ℕ → List ℕ → PokedWords
 pokedWords name i n constants structs functions stack cells =
     if sameBytes name (ascii "constants") then record { good = ltb i (length constants); constants = putAt constants i n; structs = structs; functions = functions; stack = stack; cells = cells } else (
@@ -89,7 +90,7 @@ pub record PokedBytes : Type 0 where
   pub main : List ℕ
   pub other : List ℕ
 
--- number i of the bytes store of that name is n
+-- number i of the store of bytes of that name is n
 unfoldable pub pokedBytes : List ℕ → ℕ → ℕ → List ℕ → List ℕ → List ℕ → PokedBytes
 pokedBytes name i n text main other =
     if sameBytes name (ascii "text") then record { good = ltb i (length text) && ltb n 256; text = putAt text i (n % 256); main = main; other = other } else (
@@ -102,7 +103,7 @@ pub record PokedPlaces : Type 0 where
   pub mainPlaces : List ℕ
   pub otherPlaces : List ℕ
 
--- number i of the places store of that name is n
+-- number i of the store of places of that name is n
 unfoldable pub pokedPlaces : List ℕ → ℕ → ℕ → List ℕ → List ℕ → PokedPlaces
 pokedPlaces name i n mainPlaces otherPlaces =
     if sameBytes name (ascii "main_places") then record { good = ltb i (length mainPlaces) && ltb n 4294967296; mainPlaces = putAt mainPlaces i (n % 4294967296); otherPlaces = otherPlaces } else (

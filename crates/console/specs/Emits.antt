@@ -1,5 +1,5 @@
 -- What a line that emits answers, and the stores then: those of the entry that it names, at the numbers that it says.
-use mathlib.Core.Bool.{Bool, not, _||_}
+use mathlib.Core.Bool.{not, _||_}
 use mathlib.Core.List.{List, []}
 use Prim.Native.Nat.{ℕ, _%_}
 use lib.Dec.{ltb, eqb}
