@@ -15,13 +15,13 @@ use mir.Raw.{raw as rawTy}
 use mir.Syntax.{Ty, tyArray, named, Name, Local, local, Place, Opd as Operand, Body, seq, call}
 use mir.Val.{Val}
 use base.Logic.{ent, sep, via, monoL, id⊢}
-use base.Fml.{GName, Fml, fsep, fat, froom, fdies, flft, flent, fres}
+use base.Fml.{GName, Fml, fsep, fat, froom, fdies, flent, fres}
 use prog.Wp.{Heap, Env, Calls, Loops}
 use ghost.Atoms.{Atoms, sem}
 use contract.Monad.{fact}
 use sound.WpLaws.{FmC}
 use types.Kit as Kit
-use types.Kit.{Goal, Soaks, Given, Item, ‵, raw, mean, _⊛_, later, Post, runs, lands, Seq, Step, step, _$_, move, use1, use2, use3, drop, split, join, pick, rewrite, fsplit, fjoin, fpick, fpack, feqL, feqI, await}
+use types.Kit.{Goal, Soaks, Given, Item, ‵, raw, mean, _⊛_, later, Post, runs, lands, Seq, _$_, move, use1, use2, use3, drop, split, join, pick, rewrite, fsplit, fjoin, fpick, fpack, feqL, await}
 use types.Run.{Opds}
 use types.Tokens.{lft-new, lft-end}
 use types.SemTy.{cells as rowCells, Arr}
@@ -38,8 +38,8 @@ use denote.Steps.{only, peeks, heard, nothing}
 use denote.Triple.Statement.{Contract, Triple}
 use denote.Triple.Call.{calls-from}
 use Rattle.frames.proofs.Lends.{at-list, Has}
-use Rattle.frames.proofs.Locals.{Blocks, envAt, Locals, cells, Of, these}
-use Rattle.frames.proofs.Slices.{Arg, Names, Lists, Lens, Holds, Toks, Owns, Fits, Kept, Ends, Made, lent, after, values, made-lent, gives, lends, backs}
+use Rattle.frames.proofs.Locals.{Blocks, Locals, cells, Of, these}
+use Rattle.frames.proofs.Slices.{Arg, Names, Lists, Lens, Holds, Toks, Owns, Fits, Kept, Ends, Made, lent, after, made-lent, gives, lends, backs}
 
 -- ---- the locals one by one
 

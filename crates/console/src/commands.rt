@@ -2,11 +2,12 @@
 use crate::bridge::Call;
 use crate::damage;
 use crate::emission;
+use crate::reading;
 use crate::say;
 use crate::script;
-use crate::script::Line;
 use crate::script::Most;
 use crate::script::word;
+use crate::stores;
 use model::Counts;
 use model::Frame;
 use model::Last;
@@ -15,37 +16,107 @@ use model::Vm;
 use program::code::current_offset;
 use program::functions::get_function_idx;
 use program::words::same_bytes;
+ghost use mathlib.Core.Path.{_≡_};
+ghost use Rattle.console.specs.Asks.{lentWhole, askNew, askTrace, askRun, askLoad, askOf, isCode, isConstant, isName, isLook, isRead, isSaid, groupOf};
+ghost use Rattle.console.specs.Said.{noMachine, afterDamage};
+ghost use Rattle.console.specs.Sums.{sumOf};
 
-// What a line asks: a call over frames, with an image of so many bytes; or something else.
+// How much a call over frames is lent: bytes of the space, which are its image, and places of the copy store and of the backtrace store.
+pub struct Lent {
+    pub image: usize,
+    pub copy: usize,
+    pub trace: usize,
+}
+
+// What a line asks: a call over frames, or something else.
 pub enum Asked {
-    Frames(Call, usize),
+    Frames(Call, Lent),
     Other,
 }
 
-// What line l asks. An image's bytes go into space.
-pub fn ask(l: Line, text: &[u8], space: &mut [u8]) -> Asked {
-    let line = script::bytes_of(text, l);
-    let what = word(line, 0);
-    let only = script::words_from(line, 1);
-    let alone = only.len() == 0;
-    if same_bytes(what, b"new") & alone {
-        return Asked::Frames(Call::New, 0);
+// A call that is lent the copy store and the backtrace store whole.
+fn lent_whole(image: usize) -> Lent
+    ensures { λ r. ⌜ r ≡ lentWhole image ⌝ }
+{
+    let whole = script::whole();
+    Lent {
+        image,
+        copy: whole,
+        trace: whole,
     }
-    if same_bytes(what, b"trace") & alone {
-        return Asked::Frames(Call::Trace, 0);
+}
+
+// `new`.
+fn ask_new(line: &[u8]) -> Asked
+    ensures { λ r. ⌜ r ≡ askNew (now (line .entry)) ⌝ }
+{
+    let rest = script::words_from(line, 1);
+    if rest.len() == 0 {
+        return Asked::Frames(Call::New, lent_whole(0));
+    }
+    Asked::Other
+}
+
+// `trace`, `trace ROOM`.
+fn ask_trace(line: &[u8]) -> Asked
+    ensures { λ r. ⌜ r ≡ askTrace (now (line .entry)) ⌝ }
+{
+    let room = script::read_room(line, 1);
+    if room.good {
+        let lent = Lent {
+            image: 0,
+            copy: script::whole(),
+            trace: room.is as usize,
+        };
+        return Asked::Frames(Call::Trace, lent);
+    }
+    Asked::Other
+}
+
+// `run UNITS`, `run UNITS ROOM`.
+fn ask_run(line: &[u8]) -> Asked
+    ensures { λ r. ⌜ r ≡ askRun (now (line .entry)) ⌝ }
+{
+    let units = script::decimal(word(line, 1));
+    let room = script::read_room(line, 2);
+    if units.good & room.good {
+        let lent = Lent {
+            image: 0,
+            copy: room.is as usize,
+            trace: script::whole(),
+        };
+        return Asked::Frames(Call::Run(units.is), lent);
+    }
+    Asked::Other
+}
+
+// `image HEX`. Its bytes go into space.
+fn ask_load(line: &[u8], space: &mut stores::Space) -> Asked
+    ensures { λ r. ⌜ record { asked = r; space = now (space .exit) } ≡ askLoad (now (line .entry)) (now (space .entry)) ⌝ }
+{
+    let b = script::read_bytes(script::words_from(line, 1), space);
+    if b.good {
+        return Asked::Frames(Call::Load, lent_whole(b.size));
+    }
+    Asked::Other
+}
+
+// What a line asks.
+pub fn ask(line: &[u8], space: &mut stores::Space) -> Asked
+    ensures { λ r. ⌜ record { asked = r; space = now (space .exit) } ≡ askOf (now (line .entry)) (now (space .entry)) ⌝ }
+{
+    let what = word(line, 0);
+    if same_bytes(what, b"new") {
+        return ask_new(line);
+    }
+    if same_bytes(what, b"trace") {
+        return ask_trace(line);
     }
     if same_bytes(what, b"run") {
-        let n = script::decimal(only);
-        if n.good {
-            return Asked::Frames(Call::Run(n.is), 0);
-        }
-        return Asked::Other;
+        return ask_run(line);
     }
     if same_bytes(what, b"image") {
-        let b = script::read_bytes(only, space);
-        if b.good {
-            return Asked::Frames(Call::Load, b.size);
-        }
+        return ask_load(line, space);
     }
     Asked::Other
 }
@@ -57,6 +128,7 @@ enum Group {
     Constant,
     Name,
     Look,
+    Read,
     Count,
     Result,
     Poke,
@@ -66,40 +138,62 @@ enum Group {
     Unknown,
 }
 
-fn is_code(what: &[u8]) -> bool {
+fn is_code(what: &[u8]) -> bool
+    ensures { λ r. ⌜ r ≡ isCode (now (what .entry)) ⌝ }
+{
     same_bytes(what, b"op")
         | same_bytes(what, b"op1")
         | same_bytes(what, b"op2")
         | same_bytes(what, b"op3")
 }
 
-fn is_constant(what: &[u8]) -> bool {
+fn is_constant(what: &[u8]) -> bool
+    ensures { λ r. ⌜ r ≡ isConstant (now (what .entry)) ⌝ }
+{
     same_bytes(what, b"scalar")
         | same_bytes(what, b"boolean")
         | same_bytes(what, b"string")
         | same_bytes(what, b"reference")
 }
 
-fn is_name(what: &[u8]) -> bool {
+fn is_name(what: &[u8]) -> bool
+    ensures { λ r. ⌜ r ≡ isName (now (what .entry)) ⌝ }
+{
     same_bytes(what, b"struct") | same_bytes(what, b"begin") | same_bytes(what, b"end")
 }
 
-fn is_look(what: &[u8]) -> bool {
+fn is_look(what: &[u8]) -> bool
+    ensures { λ r. ⌜ r ≡ isLook (now (what .entry)) ⌝ }
+{
     same_bytes(what, b"offset")
         | same_bytes(what, b"find")
         | same_bytes(what, b"save")
         | same_bytes(what, b"list")
 }
 
+fn is_read(what: &[u8]) -> bool
+    ensures { λ r. ⌜ r ≡ isRead (now (what .entry)) ⌝ }
+{
+    same_bytes(what, b"last")
+        | same_bytes(what, b"stack")
+        | same_bytes(what, b"header")
+        | same_bytes(what, b"element")
+        | same_bytes(what, b"text")
+}
+
 // A blank line, or a comment.
-fn is_said(what: &[u8]) -> bool {
+fn is_said(what: &[u8]) -> bool
+    ensures { λ r. ⌜ r ≡ isSaid (now (what .entry)) ⌝ }
+{
     if what.len() == 0 {
         return true;
     }
     what[0] == b'#'
 }
 
-fn group_of(what: &[u8]) -> Group {
+fn group_of(what: &[u8]) -> Group
+    ensures { λ r. ⌜ r ≡ groupOf (now (what .entry)) ⌝ }
+{
     if is_said(what) {
         return Group::Said;
     }
@@ -114,6 +208,9 @@ fn group_of(what: &[u8]) -> Group {
     }
     if is_look(what) {
         return Group::Look;
+    }
+    if is_read(what) {
+        return Group::Read;
     }
     if same_bytes(what, b"patch") {
         return Group::Patch;
@@ -142,16 +239,6 @@ fn echo(line: &[u8]) {
         say::say(script::words_from(line, 1));
         say::say(b"\n");
     }
-}
-
-// Bytes in hex.
-fn say_bytes(s: &[u8]) {
-    let mut i = 0;
-    while i < s.len() {
-        say::say_byte(s[i]);
-        i += 1;
-    }
-    say::say(b"\n");
 }
 
 // `save`: the image, in hex.
@@ -184,7 +271,7 @@ fn save(
         Told::Number(n) => {
             say::say_count(b"image ", n);
             say::say(b" ");
-            say_bytes(script::cut(space, 0, n));
+            say::say_bytes(script::cut(space, 0, n));
         }
         Told::Refused(n) => say::say_refused(n, number),
     }
@@ -207,7 +294,7 @@ fn list<'a>(
     }
 }
 
-// `offset`, `find HEX`, `save`, `list`.
+// `offset`, `find HEX`, `save`, `list`, the last two with the ROOM of the space that they are lent.
 fn look<'a>(
     c: Counts,
     line: &[u8],
@@ -227,6 +314,23 @@ fn look<'a>(
         say::say_told(current_offset(c, functions), number);
         return;
     }
+    if same_bytes(what, b"find") {
+        let b = script::read_bytes(script::words_from(line, 1), space);
+        if b.good {
+            let name = script::cut(space, 0, b.size);
+            say::say_told(get_function_idx(c, name, functions, text), number);
+            return;
+        }
+        say::say_unknown(number);
+        return;
+    }
+    let room = script::read_room(line, 1);
+    if !room.good {
+        say::say_unknown(number);
+        return;
+    }
+    let n = script::at_most(room.is as usize, space.len());
+    let lent = &mut space[..n];
     if same_bytes(what, b"save") {
         save(
             c,
@@ -238,26 +342,18 @@ fn look<'a>(
             main_places,
             other,
             other_places,
-            space,
+            lent,
             number,
         );
         return;
     }
-    if same_bytes(what, b"list") {
-        list(c, functions, text, main, other, space, number);
-        return;
-    }
-    let b = script::read_bytes(script::words_from(line, 1), space);
-    if b.good {
-        let name = script::cut(space, 0, b.size);
-        say::say_told(get_function_idx(c, name, functions, text), number);
-        return;
-    }
-    say::say_unknown(number);
+    list(c, functions, text, main, other, lent, number);
 }
 
 // Damage is not answered, unless it is not understood.
-fn damaged(m: Vm, d: damage::Changed, number: u64) -> Vm {
+fn damaged(m: Vm, d: damage::Changed, number: u64) -> Vm
+    ensures { λ r. ⌜ r ≡ afterDamage m d ⌝ }
+{
     if d.good {
         return d.m;
     }
@@ -315,7 +411,9 @@ fn sum(
     copy: &[u64],
     trace: &[u32],
     frames: &[u64],
-) -> u64 {
+) -> u64
+    ensures { λ r. ⌜ r ≡ sumOf m (now (constants .entry)) (now (structs .entry)) (now (functions .entry)) (now (text .entry)) (now (main .entry)) (now («main_places» .entry)) (now (other .entry)) (now («other_places» .entry)) (now (stack .entry)) (now (cells .entry)) (now (copy .entry)) (now (trace .entry)) (now (frames .entry)) ⌝ }
+{
     let a = damage::mixed_counts(0, m);
     let b = damage::mixed_words(a, constants);
     let c = damage::mixed_words(b, structs);
@@ -338,15 +436,15 @@ fn emit(
     group: Group,
     line: &[u8],
     number: u64,
-    space: &mut [u8],
-    constants: &mut [u64],
-    structs: &mut [u64],
-    functions: &mut [u64],
-    text: &mut [u8],
-    main: &mut [u8],
-    main_places: &mut [u32],
-    other: &mut [u8],
-    other_places: &mut [u32],
+    space: &mut stores::Space,
+    constants: &mut stores::Constants,
+    structs: &mut stores::Structs,
+    functions: &mut stores::Functions,
+    text: &mut stores::Text,
+    main: &mut stores::Code,
+    main_places: &mut stores::Places,
+    other: &mut stores::Code,
+    other_places: &mut stores::Places,
 ) -> Vm {
     let c = m.program;
     match group {
@@ -372,25 +470,23 @@ fn emit(
 // A line that needs no frames; the machine as it then is.
 pub fn obey(
     m: Vm,
-    l: Line,
-    script: &[u8],
-    space: &mut [u8],
-    constants: &mut [u64],
-    structs: &mut [u64],
-    functions: &mut [u64],
-    text: &mut [u8],
-    main: &mut [u8],
-    main_places: &mut [u32],
-    other: &mut [u8],
-    other_places: &mut [u32],
-    stack: &mut [u64],
-    cells: &mut [u64],
-    copy: &[u64],
-    trace: &[u32],
-    frames: &mut [u64],
+    line: &[u8],
+    number: u64,
+    space: &mut stores::Space,
+    constants: &mut stores::Constants,
+    structs: &mut stores::Structs,
+    functions: &mut stores::Functions,
+    text: &mut stores::Text,
+    main: &mut stores::Code,
+    main_places: &mut stores::Places,
+    other: &mut stores::Code,
+    other_places: &mut stores::Places,
+    stack: &mut stores::Stack,
+    cells: &mut stores::Cells,
+    copy: &stores::Stack,
+    trace: &stores::Trace,
+    frames: &mut stores::Frames,
 ) -> Vm {
-    let line = script::bytes_of(script, l);
-    let number = l.number;
     let group = group_of(word(line, 0));
     match group {
         Group::Look => {
@@ -408,6 +504,10 @@ pub fn obey(
                 other,
                 other_places,
             );
+            m
+        }
+        Group::Read => {
+            reading::read(m, line, number, space, text, stack, cells);
             m
         }
         Group::Count => damaged(m, damage::with_count(m, line), number),
@@ -480,7 +580,9 @@ pub fn obey(
 }
 
 // A machine before any is made: nothing is in good order yet.
-pub fn no_machine() -> Vm {
+pub fn no_machine() -> Vm
+    ensures { λ r. ⌜ r ≡ noMachine ⌝ }
+{
     let program = Counts {
         constants: 0,
         structs: 0,

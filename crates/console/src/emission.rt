@@ -7,6 +7,7 @@ use crate::script::read_args;
 use crate::script::read_bytes;
 use crate::script::word;
 use crate::script::words_from;
+use crate::stores;
 use model::Constant;
 use model::Counts;
 use model::Emitted;
@@ -16,21 +17,36 @@ use program::functions::begin_function;
 use program::functions::end_function;
 use program::structs::add_struct_info;
 use program::words::same_bytes;
+ghost use mathlib.Core.Path.{_≡_};
+ghost use Prim.Native.Nat.{_%_};
+ghost use lib.Dec.{ltb};
+ghost use Rattle.model.specs.declared.Emitted.the-variants.{Refused};
+ghost use Rattle.model.specs.Stores.{Stores};
+ghost use Rattle.program.specs.Links.{Is, codeLent, bytesLent, constantsLent};
+ghost use Rattle.console.specs.Emits.{opArgs, codeAsked, patchAsked, constantAsked, nameGiven, nameAsked, allNames};
 
-fn byte(n: u64) -> u8 {
+fn byte(n: u64) -> u8
+    ensures { λ r. ⌜ r ≡ n % 256 ⌝ }
+{
     (n % 0x100) as u8
 }
 
-fn operand(n: u64) -> u16 {
+fn operand(n: u64) -> u16
+    ensures { λ r. ⌜ r ≡ n % 65536 ⌝ }
+{
     (n % 0x1_0000) as u16
 }
 
-fn place(n: u64) -> u32 {
+fn place(n: u64) -> u32
+    ensures { λ r. ⌜ r ≡ n % 4294967296 ⌝ }
+{
     (n % 0x1_0000_0000) as u32
 }
 
 // The numbers of an opcode with its operands; the place is the word before end.
-fn op_args(line: &[u8], end: usize) -> Args {
+fn op_args(line: &[u8], end: usize) -> Args
+    ensures { λ r. ⌜ r ≡ opArgs (now (line .entry)) end ⌝ }
+{
     let most = 0xFFFF_FFFF;
     read_args(
         line,
@@ -47,12 +63,16 @@ fn op_args(line: &[u8], end: usize) -> Args {
 }
 
 // A number above an operand's most.
-fn wide(n: u64) -> bool {
+fn wide(n: u64) -> bool
+    ensures { λ r. ⌜ r ≡ ltb 65535 n ⌝ }
+{
     0xFFFF < n
 }
 
 // A line that is not understood.
-fn unknown() -> Emitted {
+fn unknown() -> Emitted
+    ensures { λ r. ⌜ r ≡ Refused 0 ⌝ }
+{
     Emitted::Refused(0)
 }
 
@@ -60,12 +80,14 @@ fn unknown() -> Emitted {
 pub fn emit_code(
     c: Counts,
     line: &[u8],
-    functions: &mut [u64],
-    main: &mut [u8],
-    main_places: &mut [u32],
-    other: &mut [u8],
-    other_places: &mut [u32],
-) -> Emitted {
+    functions: &mut stores::Functions,
+    main: &mut stores::Code,
+    main_places: &mut stores::Places,
+    other: &mut stores::Code,
+    other_places: &mut stores::Places,
+) -> Emitted
+    ensures { λ r. ⌜ ((rest : Stores) → Is (codeAsked c (now (line .entry)) (codeLent rest (now (functions .entry)) (now (main .entry)) (now («main_places» .entry)) (now (other .entry)) (now («other_places» .entry)))) r (codeLent rest (now (functions .exit)) (now (main .exit)) (now («main_places» .exit)) (now (other .exit)) (now («other_places» .exit)))) ⌝ }
+{
     let what = word(line, 0);
     if same_bytes(what, b"op") {
         let n = op_args(line, 3);
@@ -141,10 +163,12 @@ pub fn emit_code(
 pub fn emit_patch(
     c: Counts,
     line: &[u8],
-    functions: &[u64],
-    main: &mut [u8],
-    other: &mut [u8],
-) -> Emitted {
+    functions: &stores::Functions,
+    main: &mut stores::Code,
+    other: &mut stores::Code,
+) -> Emitted
+    ensures { λ r. ⌜ ((rest : Stores) → Is (patchAsked c (now (line .entry)) (bytesLent rest (now (functions .entry)) (now (main .entry)) (now (other .entry)))) r (bytesLent rest (now (functions .entry)) (now (main .exit)) (now (other .exit)))) ⌝ }
+{
     let n = read_args(
         line,
         1,
@@ -167,10 +191,12 @@ pub fn emit_patch(
 pub fn emit_constant(
     c: Counts,
     line: &[u8],
-    space: &mut [u8],
-    constants: &mut [u64],
-    text: &mut [u8],
-) -> Emitted {
+    space: &mut stores::Space,
+    constants: &mut stores::Constants,
+    text: &mut stores::Text,
+) -> Emitted
+    ensures { λ r. ⌜ ((rest : Stores) → Is (constantAsked c (now (line .entry)) (now (space .entry)) (constantsLent rest (now (constants .entry)) (now (text .entry)))) r (constantsLent rest (now (constants .exit)) (now (text .exit)))) ⌝ }
+{
     let what = word(line, 0);
     if same_bytes(what, b"scalar") {
         let n = hex(words_from(line, 1));
@@ -208,28 +234,44 @@ pub fn emit_constant(
     unknown()
 }
 
+// A name that is given.
+fn named(
+    c: Counts,
+    what: &[u8],
+    name: &[u8],
+    structs: &mut stores::Structs,
+    functions: &mut stores::Functions,
+    text: &mut stores::Text,
+) -> Emitted
+    ensures { λ r. ⌜ ((rest : Stores) → Is (nameGiven c (now (what .entry)) (now (name .entry)) (allNames rest (now (structs .entry)) (now (functions .entry)) (now (text .entry)))) r (allNames rest (now (structs .exit)) (now (functions .exit)) (now (text .exit)))) ⌝ }
+{
+    if same_bytes(what, b"struct") {
+        return add_struct_info(c, name, structs, text);
+    }
+    if same_bytes(what, b"begin") {
+        return begin_function(c, name, functions, text);
+    }
+    if name.len() == 0 {
+        return end_function(c);
+    }
+    unknown()
+}
+
 // `struct HEX`, `begin HEX`, `end`.
 pub fn emit_name(
     c: Counts,
     line: &[u8],
-    space: &mut [u8],
-    structs: &mut [u64],
-    functions: &mut [u64],
-    text: &mut [u8],
-) -> Emitted {
+    space: &mut stores::Space,
+    structs: &mut stores::Structs,
+    functions: &mut stores::Functions,
+    text: &mut stores::Text,
+) -> Emitted
+    ensures { λ r. ⌜ ((rest : Stores) → Is (nameAsked c (now (line .entry)) (now (space .entry)) (allNames rest (now (structs .entry)) (now (functions .entry)) (now (text .entry)))) r (allNames rest (now (structs .exit)) (now (functions .exit)) (now (text .exit)))) ⌝ }
+{
     let what = word(line, 0);
     let b = read_bytes(words_from(line, 1), space);
     if b.good {
-        let name = cut(space, 0, b.size);
-        if same_bytes(what, b"struct") {
-            return add_struct_info(c, name, structs, text);
-        }
-        if same_bytes(what, b"begin") {
-            return begin_function(c, name, functions, text);
-        }
-        if name.len() == 0 {
-            return end_function(c);
-        }
+        return named(c, what, cut(space, 0, b.size), structs, functions, text);
     }
     unknown()
 }

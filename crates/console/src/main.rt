@@ -1,50 +1,59 @@
 // Makes host calls from a script on standard input, through the public entries, and prints each answer. The script's own comments say what its
 // commands are.
+mod stores; // stores.rt: how large each store is
 mod script; // script.rt: lines, words, numbers
 mod say; // say.rt: what is printed
 mod emission; // emission.rt: the commands that emit
 mod damage; // damage.rt: the commands that damage, and the checksum
 mod bridge; // bridge.rt: the calls over frames
+mod reading; // reading.rt: the commands that read a machine
 mod commands; // commands.rt: what a line asks, and all that needs no frames
 
 use crate::bridge::Call;
 use crate::bridge::with_frames;
 use crate::commands::Asked;
+use crate::commands::Lent;
 use crate::commands::ask;
 use crate::commands::no_machine;
 use crate::commands::obey;
 use crate::say::say_answer;
 use crate::script::Line;
+use crate::script::bytes_of;
 use crate::script::cut;
 use crate::script::first_line;
 use crate::script::next_line;
+use crate::script::two_each;
 use model::Vm;
 
-// A call over frames; n bytes of space are its image.
+// A call over frames, lent as much of the space, the copy store and the backtrace store as it asks; the machine as it then is.
 fn over_frames(
     m: Vm,
     call: Call,
-    n: usize,
+    lent: Lent,
     number: u64,
-    space: &[u8],
-    constants: &mut [u64],
-    structs: &mut [u64],
-    functions: &mut [u64],
-    text: &mut [u8],
-    main: &mut [u8],
-    main_places: &mut [u32],
-    other: &mut [u8],
-    other_places: &mut [u32],
-    stack: &mut [u64],
-    cells: &mut [u64],
+    space: &stores::Space,
+    constants: &mut stores::Constants,
+    structs: &mut stores::Structs,
+    functions: &mut stores::Functions,
+    text: &mut stores::Text,
+    main: &mut stores::Code,
+    main_places: &mut stores::Places,
+    other: &mut stores::Code,
+    other_places: &mut stores::Places,
+    stack: &mut stores::Stack,
+    cells: &mut stores::Cells,
     copy: &mut [u64],
     trace: &mut [u32],
-    frames: &mut [u64],
+    frames: &mut stores::Frames,
 ) -> Vm {
+    let words = two_each(lent.copy, copy.len());
+    let entries = two_each(lent.trace, trace.len());
+    let lent_copy = &mut copy[..words];
+    let lent_trace = &mut trace[..entries];
     let answer = with_frames(
         m,
         call,
-        cut(space, 0, n),
+        cut(space, 0, lent.image),
         constants,
         structs,
         functions,
@@ -55,39 +64,40 @@ fn over_frames(
         other_places,
         stack,
         cells,
-        copy,
-        trace,
+        lent_copy,
+        lent_trace,
         frames,
     );
     say_answer(m, answer, cells, trace, number)
 }
 
-// What is asked; the machine as it then is.
-fn answer(
+// One line; the machine as it then is.
+fn turn(
     m: Vm,
     l: Line,
-    asked: Asked,
     script: &[u8],
-    space: &mut [u8],
-    constants: &mut [u64],
-    structs: &mut [u64],
-    functions: &mut [u64],
-    text: &mut [u8],
-    main: &mut [u8],
-    main_places: &mut [u32],
-    other: &mut [u8],
-    other_places: &mut [u32],
-    stack: &mut [u64],
-    cells: &mut [u64],
-    copy: &mut [u64],
-    trace: &mut [u32],
-    frames: &mut [u64],
+    space: &mut stores::Space,
+    constants: &mut stores::Constants,
+    structs: &mut stores::Structs,
+    functions: &mut stores::Functions,
+    text: &mut stores::Text,
+    main: &mut stores::Code,
+    main_places: &mut stores::Places,
+    other: &mut stores::Code,
+    other_places: &mut stores::Places,
+    stack: &mut stores::Stack,
+    cells: &mut stores::Cells,
+    copy: &mut stores::Stack,
+    trace: &mut stores::Trace,
+    frames: &mut stores::Frames,
 ) -> Vm {
+    let line = bytes_of(script, l);
+    let asked = ask(line, space);
     match asked {
-        Asked::Frames(call, n) => over_frames(
+        Asked::Frames(call, lent) => over_frames(
             m,
             call,
-            n,
+            lent,
             l.number,
             space,
             constants,
@@ -106,8 +116,8 @@ fn answer(
         ),
         Asked::Other => obey(
             m,
-            l,
-            script,
+            line,
+            l.number,
             space,
             constants,
             structs,
@@ -126,66 +136,23 @@ fn answer(
     }
 }
 
-// One line; the machine as it then is.
-fn turn(
-    m: Vm,
-    l: Line,
-    script: &[u8],
-    space: &mut [u8],
-    constants: &mut [u64],
-    structs: &mut [u64],
-    functions: &mut [u64],
-    text: &mut [u8],
-    main: &mut [u8],
-    main_places: &mut [u32],
-    other: &mut [u8],
-    other_places: &mut [u32],
-    stack: &mut [u64],
-    cells: &mut [u64],
-    copy: &mut [u64],
-    trace: &mut [u32],
-    frames: &mut [u64],
-) -> Vm {
-    let asked = ask(l, script, space);
-    answer(
-        m,
-        l,
-        asked,
-        script,
-        space,
-        constants,
-        structs,
-        functions,
-        text,
-        main,
-        main_places,
-        other,
-        other_places,
-        stack,
-        cells,
-        copy,
-        trace,
-        frames,
-    )
-}
-
 // The script, line by line.
 fn play(
     script: &[u8],
-    space: &mut [u8],
-    constants: &mut [u64],
-    structs: &mut [u64],
-    functions: &mut [u64],
-    text: &mut [u8],
-    main: &mut [u8],
-    main_places: &mut [u32],
-    other: &mut [u8],
-    other_places: &mut [u32],
-    stack: &mut [u64],
-    cells: &mut [u64],
-    copy: &mut [u64],
-    trace: &mut [u32],
-    frames: &mut [u64],
+    space: &mut stores::Space,
+    constants: &mut stores::Constants,
+    structs: &mut stores::Structs,
+    functions: &mut stores::Functions,
+    text: &mut stores::Text,
+    main: &mut stores::Code,
+    main_places: &mut stores::Places,
+    other: &mut stores::Code,
+    other_places: &mut stores::Places,
+    stack: &mut stores::Stack,
+    cells: &mut stores::Cells,
+    copy: &mut stores::Stack,
+    trace: &mut stores::Trace,
+    frames: &mut stores::Frames,
 ) {
     let mut m = no_machine();
     let mut l = first_line(script);
@@ -213,7 +180,6 @@ fn play(
     }
 }
 
-// The stores are as large as the runner's.
 fn main() {
     let mut input = io::large_buffer();
     let n = io::read_full(0, &mut input);

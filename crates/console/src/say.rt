@@ -1,14 +1,19 @@
 // What is printed: a line for each answer.
 use crate::bridge::Answer;
+use crate::script::cut;
 use model::Emitted;
 use model::Frame;
+use model::Headed;
 use model::Header;
 use model::RunResult;
+use model::Shown;
 use model::Started;
 use model::Told;
 use model::Value;
 use model::Vm;
 use value::words;
+ghost use mathlib.Core.Path.{_≡_};
+ghost use Rattle.console.specs.Said.{headerIn, afterRun, afterStarted, afterEmitted, afterAnswer};
 
 pub fn say(text: &[u8]) {
     io::write_all(1, text);
@@ -44,6 +49,16 @@ pub fn say_byte(b: u8) {
     say_hex(b as u64, 16);
 }
 
+// Bytes in hex, and the end of the line.
+pub fn say_bytes(s: &[u8]) {
+    let mut i = 0;
+    while i < s.len() {
+        say_byte(s[i]);
+        i += 1;
+    }
+    say(b"\n");
+}
+
 // A text, and a number behind it.
 pub fn say_count(text: &[u8], n: usize) {
     say(text);
@@ -69,7 +84,9 @@ pub fn say_refused(n: u8, number: u64) {
 }
 
 // The header at cell p; one of no elements where there is no such cell.
-fn header_at(cells: &[u64], p: usize) -> Header {
+fn header_at(cells: &[u64], p: usize) -> Header
+    ensures { λ r. ⌜ r ≡ headerIn (now (cells .entry)) p ⌝ }
+{
     if p < cells.len() / 2 {
         return words::read_header(cells, p);
     }
@@ -116,7 +133,9 @@ fn say_left(m: Vm, spent: u64) {
     say(b"\n");
 }
 
-fn wide(n: u32) -> usize {
+fn wide(n: u32) -> usize
+    ensures { λ r. ⌜ r ≡ n ⌝ }
+{
     n as usize
 }
 
@@ -138,7 +157,9 @@ fn say_entries(n: usize, trace: &[u32]) {
 }
 
 // A run's answer; the machine is then as it says, or as it was.
-fn say_run(m: Vm, r: RunResult, cells: &[u64], trace: &[u32], number: u64) -> Vm {
+fn say_run(m: Vm, r: RunResult, cells: &[u64], trace: &[u32], number: u64) -> Vm
+    ensures { λ left. ⌜ left ≡ afterRun m r ⌝ }
+{
     match r {
         RunResult::Value(left, v, spent) => {
             say(b"value ");
@@ -166,7 +187,9 @@ fn say_run(m: Vm, r: RunResult, cells: &[u64], trace: &[u32], number: u64) -> Vm
 }
 
 // A machine that is made, or the one that was.
-fn say_started(m: Vm, s: Started, number: u64) -> Vm {
+fn say_started(m: Vm, s: Started, number: u64) -> Vm
+    ensures { λ r. ⌜ r ≡ afterStarted m s ⌝ }
+{
     match s {
         Started::Done(made) => {
             say(b"done\n");
@@ -185,7 +208,9 @@ fn say_started(m: Vm, s: Started, number: u64) -> Vm {
 }
 
 // What emission answers.
-pub fn say_emitted(m: Vm, e: Emitted, number: u64) -> Vm {
+pub fn say_emitted(m: Vm, e: Emitted, number: u64) -> Vm
+    ensures { λ r. ⌜ r ≡ afterEmitted m e ⌝ }
+{
     match e {
         Emitted::Done(c, n) => {
             say_count(b"done ", n);
@@ -210,8 +235,47 @@ pub fn say_told(t: Told, number: u64) {
     }
 }
 
+// What a reader answers: a value,
+pub fn say_shown(s: Shown, cells: &[u64], number: u64) {
+    match s {
+        Shown::Value(v) => {
+            say(b"shown ");
+            say_value(v, cells);
+            say(b"\n");
+        }
+        Shown::Refused(n) => say_refused(n, number),
+    }
+}
+
+// a header,
+pub fn say_headed(h: Headed, number: u64) {
+    match h {
+        Headed::Is(h) => {
+            say_count(b"header ", h.count);
+            say_count(b" ", h.number);
+            say_count(b" ", h.depth);
+            say(b"\n");
+        }
+        Headed::Refused(n) => say_refused(n, number),
+    }
+}
+
+// or the bytes of a text, which lie at the front of space.
+pub fn say_text(t: Told, space: &[u8], number: u64) {
+    match t {
+        Told::Number(n) => {
+            say_count(b"text ", n);
+            say(b" ");
+            say_bytes(cut(space, 0, n));
+        }
+        Told::Refused(n) => say_refused(n, number),
+    }
+}
+
 // A backtrace, or its refusal; the machine is as it was.
-fn say_trace(m: Vm, t: Told, trace: &[u32], number: u64) -> Vm {
+fn say_trace(m: Vm, t: Told, trace: &[u32], number: u64) -> Vm
+    ensures { λ r. ⌜ r ≡ m ⌝ }
+{
     match t {
         Told::Number(n) => say_entries(n, trace),
         Told::Refused(n) => say_refused(n, number),
@@ -233,7 +297,9 @@ pub fn say_sum(h: u64) {
 }
 
 // What a call over frames answers; the machine as it then is.
-pub fn say_answer(m: Vm, a: Answer, cells: &[u64], trace: &[u32], number: u64) -> Vm {
+pub fn say_answer(m: Vm, a: Answer, cells: &[u64], trace: &[u32], number: u64) -> Vm
+    ensures { λ r. ⌜ r ≡ afterAnswer m a ⌝ }
+{
     match a {
         Answer::Made(s) => say_started(m, s, number),
         Answer::Ran(r) => say_run(m, r, cells, trace, number),

@@ -1,6 +1,9 @@
 // A script's lines, their words, and the numbers and bytes that words say.
-ghost use Prim.Native.Nat.{_≤_};
+use program::words::lesser;
+ghost use mathlib.Core.Path.{_≡_};
+ghost use Prim.Native.Nat.{_*_, _/_, _≤_, min};
 ghost use Rattle.console.specs.Lines.{weight};
+ghost use Rattle.console.specs.Words.{nextOf, nextWord, cutOf, firstLine, lineOf, wordsFrom, wordOf, digitOf, noNumber, withDigit, numberOf, aloneOf, roomOf, argOf, argsOf, withByte, hexOf};
 
 // A line: where it starts and ends, its number, whether there is such a line, and how many more there can be.
 pub struct Line {
@@ -12,7 +15,9 @@ pub struct Line {
 }
 
 // Where the byte b is next, or the end.
-fn next_of(s: &[u8], b: u8, at: usize) -> usize {
+fn next_of(s: &[u8], b: u8, at: usize) -> usize
+    ensures { λ r. ⌜ r ≡ nextOf (now (s .entry)) b at ⌝ }
+{
     let mut i = at;
     while i < s.len() {
         if s[i] == b {
@@ -24,7 +29,9 @@ fn next_of(s: &[u8], b: u8, at: usize) -> usize {
 }
 
 // Where a byte that is not a blank is next, or the end.
-fn next_word(s: &[u8], at: usize) -> usize {
+fn next_word(s: &[u8], at: usize) -> usize
+    ensures { λ r. ⌜ r ≡ nextWord (now (s .entry)) at ⌝ }
+{
     let mut i = at;
     while i < s.len() {
         if s[i] != b' ' {
@@ -36,16 +43,21 @@ fn next_word(s: &[u8], at: usize) -> usize {
 }
 
 // The bytes from one place to another; none where they are not all there.
-pub fn cut(s: &[u8], from: usize, to: usize) -> &[u8] {
-    if from <= to {
-        if to <= s.len() {
-            return &s[from..to];
-        }
+pub fn cut(s: &[u8], from: usize, to: usize) -> &[u8]
+    ensures { λ r. ⌜ now r ≡ cutOf (now (s .entry)) from to ⌝ }
+{
+    if to < from {
+        return &s[..0];
     }
-    &s[..0]
+    if s.len() < to {
+        return &s[..0];
+    }
+    &s[from..to]
 }
 
-pub fn first_line(script: &[u8]) -> Line {
+pub fn first_line(script: &[u8]) -> Line
+    ensures { λ r. ⌜ r ≡ firstLine (now (script .entry)) ⌝ }
+{
     Line {
         start: 0,
         end: next_of(script, b'\n', 0),
@@ -88,12 +100,16 @@ pub fn next_line(l: Line, script: &[u8]) -> Line
     }
 }
 
-pub fn bytes_of(script: &[u8], l: Line) -> &[u8] {
+pub fn bytes_of(script: &[u8], l: Line) -> &[u8]
+    ensures { λ r. ⌜ now r ≡ lineOf (now (script .entry)) l ⌝ }
+{
     cut(script, l.start, l.end)
 }
 
 // The line from its word k on.
-pub fn words_from(line: &[u8], k: usize) -> &[u8] {
+pub fn words_from(line: &[u8], k: usize) -> &[u8]
+    ensures { λ r. ⌜ now r ≡ wordsFrom (now (line .entry)) k ⌝ }
+{
     let mut at = next_word(line, 0);
     let mut left = k;
     while left > 0 {
@@ -104,7 +120,9 @@ pub fn words_from(line: &[u8], k: usize) -> &[u8] {
 }
 
 // Word k of a line; none where it has fewer.
-pub fn word(line: &[u8], k: usize) -> &[u8] {
+pub fn word(line: &[u8], k: usize) -> &[u8]
+    ensures { λ r. ⌜ now r ≡ wordOf (now (line .entry)) k ⌝ }
+{
     let rest = words_from(line, k);
     cut(rest, 0, next_of(rest, b' ', 0))
 }
@@ -116,7 +134,9 @@ pub struct Number {
 }
 
 // What a digit of up to base 16 stands for; 16 where it is none.
-fn digit(b: u8) -> u64 {
+fn digit(b: u8) -> u64
+    ensures { λ r. ⌜ r ≡ digitOf b ⌝ }
+{
     let d = b as u64;
     if d < 48 {
         return 16;
@@ -133,40 +153,50 @@ fn digit(b: u8) -> u64 {
     16
 }
 
-fn no_number() -> Number {
+fn no_number() -> Number
+    ensures { λ r. ⌜ r ≡ noNumber ⌝ }
+{
     Number { is: 0, good: false }
 }
 
-fn with_decimal(n: Number, b: u8) -> Number {
+fn with_decimal(n: Number, b: u8) -> Number
+    ensures { λ r. ⌜ r ≡ withDigit 10 n b ⌝ }
+{
     let d = digit(b);
     let is = n.is;
-    if d < 10 {
-        if is < 1844674407370955161 {
-            return Number {
-                is: is * 10 + d,
-                good: n.good,
-            };
-        }
+    if 10 <= d {
+        return no_number();
     }
-    no_number()
+    if (0xFFFF_FFFF_FFFF_FFFF - d) / 10 < is {
+        return no_number();
+    }
+    Number {
+        is: is * 10 + d,
+        good: n.good,
+    }
 }
 
-fn with_hex(n: Number, b: u8) -> Number {
+fn with_hex(n: Number, b: u8) -> Number
+    ensures { λ r. ⌜ r ≡ withDigit 16 n b ⌝ }
+{
     let d = digit(b);
     let is = n.is;
-    if d < 16 {
-        if is < 0x1000_0000_0000_0000 {
-            return Number {
-                is: is * 16 + d,
-                good: n.good,
-            };
-        }
+    if 16 <= d {
+        return no_number();
     }
-    no_number()
+    if 0x1000_0000_0000_0000 <= is {
+        return no_number();
+    }
+    Number {
+        is: is * 16 + d,
+        good: n.good,
+    }
 }
 
 // A word in decimal.
-pub fn decimal(w: &[u8]) -> Number {
+pub fn decimal(w: &[u8]) -> Number
+    ensures { λ r. ⌜ r ≡ numberOf 10 (now (w .entry)) ⌝ }
+{
     let mut n = Number {
         is: 0,
         good: w.len() > 0,
@@ -179,8 +209,22 @@ pub fn decimal(w: &[u8]) -> Number {
     n
 }
 
+// Words that are one number in decimal.
+fn decimal_alone(words: &[u8]) -> Number
+    ensures { λ r. ⌜ r ≡ aloneOf (now (words .entry)) ⌝ }
+{
+    let n = decimal(word(words, 0));
+    let rest = words_from(words, 1);
+    Number {
+        is: n.is,
+        good: n.good & (rest.len() == 0),
+    }
+}
+
 // A word in hex.
-pub fn hex(w: &[u8]) -> Number {
+pub fn hex(w: &[u8]) -> Number
+    ensures { λ r. ⌜ r ≡ numberOf 16 (now (w .entry)) ⌝ }
+{
     let mut n = Number {
         is: 0,
         good: w.len() > 0,
@@ -213,7 +257,9 @@ pub struct Most {
 }
 
 // The number that word k of the words before end says; 0 from there on.
-fn arg(line: &[u8], k: usize, end: usize, most: u64) -> Number {
+fn arg(line: &[u8], k: usize, end: usize, most: u64) -> Number
+    ensures { λ r. ⌜ r ≡ argOf (now (line .entry)) k end most ⌝ }
+{
     if k < end {
         let n = decimal(word(line, k));
         return Number {
@@ -225,7 +271,9 @@ fn arg(line: &[u8], k: usize, end: usize, most: u64) -> Number {
 }
 
 // The numbers of the words from k on, before end.
-pub fn read_args(line: &[u8], k: usize, end: usize, most: Most) -> Args {
+pub fn read_args(line: &[u8], k: usize, end: usize, most: Most) -> Args
+    ensures { λ r. ⌜ r ≡ argsOf (now (line .entry)) k end most ⌝ }
+{
     if 100 < k {
         return Args {
             a: 0,
@@ -253,6 +301,41 @@ pub fn read_args(line: &[u8], k: usize, end: usize, most: Most) -> Args {
     }
 }
 
+// Of any store so many places count: the room that is lent where a line says none.
+pub fn whole() -> usize
+    ensures { λ r. ⌜ r ≡ 4294967295 ⌝ }
+{
+    0xFFFF_FFFF
+}
+
+// So many bytes of n, at most all.
+pub fn at_most(room: usize, n: usize) -> usize
+    ensures { λ r. ⌜ (r ≡ min room n) × (r ≤ n) ⌝ }
+{
+    lesser(room, n)
+}
+
+// The words of so many places of two words each, at most n.
+pub fn two_each(room: usize, n: usize) -> usize
+    ensures { λ r. ⌜ (r ≡ 2 * min room (n / 2)) × (r ≤ n) ⌝ }
+{
+    2 * lesser(room, n / 2)
+}
+
+// The room that word k says, the last of the line; that of a whole store where there is no such word.
+pub fn read_room(line: &[u8], k: usize) -> Number
+    ensures { λ r. ⌜ r ≡ roomOf (now (line .entry)) k ⌝ }
+{
+    let rest = words_from(line, k);
+    if rest.len() == 0 {
+        return Number {
+            is: whole() as u64,
+            good: true,
+        };
+    }
+    decimal_alone(rest)
+}
+
 // Bytes in hex as they are read: how many there are, the digit that waits for its second (16: none), and whether all is well.
 pub struct Bytes {
     pub size: usize,
@@ -261,7 +344,9 @@ pub struct Bytes {
 }
 
 // One character more, into out.
-fn with_byte(h: Bytes, b: u8, out: &mut [u8]) -> Bytes {
+fn with_byte(h: Bytes, b: u8, out: &mut [u8]) -> Bytes
+    ensures { λ r. ⌜ record { read = r; out = now (out .exit) } ≡ withByte (record { read = h; out = now (out .entry) }) b ⌝ }
+{
     let size = h.size;
     let high = h.high;
     if b == b' ' {
@@ -293,7 +378,9 @@ fn with_byte(h: Bytes, b: u8, out: &mut [u8]) -> Bytes {
 }
 
 // The bytes that words say in hex, two digits to a byte, blanks between where one likes.
-pub fn read_bytes(words: &[u8], out: &mut [u8]) -> Bytes {
+pub fn read_bytes(words: &[u8], out: &mut [u8]) -> Bytes
+    ensures { λ r. ⌜ record { read = r; out = now (out .exit) } ≡ hexOf (now (words .entry)) (now (out .entry)) ⌝ }
+{
     let mut h = Bytes {
         size: 0,
         high: 16,

@@ -1,10 +1,8 @@
 -- `act` meets its contract: a walk of its MIR, by hand. The frames are laid, the entry is called, and the frames are kept.
 -- Assumes nothing.
-use Rattle.frames.proofs.Walk.{_≡_, refl, true, false, List, [], _∷_, Option, none, some, ℕ, _<_, _^_, length, T, URA, w64, Val, WT, hasTy, vunit, vint, vptr, SProp, ent, id⊢, Memory, Routine, Heap, Tables, WpFn, Atoms, Lfts, Shares, Fun, givenOf, tables, tablesOf, FmC, fmOf}
+use Rattle.frames.proofs.Walk.{_≡_, refl, true, false, List, [], _∷_, Option, none, some, ℕ, length, URA, w64, Val, vunit, vint, vptr, SProp, ent, id⊢, Memory, Routine, Heap, Tables, WpFn, Atoms, Lfts, Shares, Fun, givenOf, tables, tablesOf, FmC, fmOf}
 use Rattle.frames.proofs.Walk.{Given, Sq, ‵, ⋆, runs, atRet, _$_, _∵_, !, qed, by, keep, suffices, frame, done, agg, addr, of-opd, Is, Nothing, uint-makes, u8, u32, u64, now, Room, owned, onEntry, tripleOf, Contract, Triple, cited, says, walkOf, ends-at}
 use Rattle.frames.proofs.Walk.{Blocks, envAt, Locals, of, ofs, behind, sets, lands-in, enters, leaves, Sl, sl, sval, Arg, val, shr, mut, peek, Holds, Toks, Owns, lfts, shares, denots, valss, values, passing, lent, takes, gives, Rule, call-with, unasked, unneeded, calls-on, tag-of, payload-of, Kind, own, shared, unique, stays, Passed, Known, closed}
-use denote.Struct.Laws as LL
-use denote.Enum.Laws as EL
 use Rattle.model.specs.declared.Vm.{Vm}
 use Rattle.model.specs.declared.Frame.{Frame}
 use Rattle.model.specs.declared.Started.{Started}

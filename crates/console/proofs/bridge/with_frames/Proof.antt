@@ -1,8 +1,8 @@
 -- `with_frames` meets its contract: a walk of its MIR, by hand. The frames are a local array, lent to `act` for a lifetime of the call.
 -- Assumes nothing.
-use Rattle.frames.proofs.Walk.{_≡_, refl, sym, List, [], _∷_, Option, none, some, ℕ, length, URA, w64, Val, vint, vptr, SProp, ent, id⊢, Memory, Routine, Heap, Tables, WpFn, Atoms, Lfts, Shares, Fun, fullShare, givenOf, tables, tablesOf, FmC, fmOf}
-use Rattle.frames.proofs.Walk.{Given, ‵, ⋆, _$_, _∵_, !, qed, by, move, keep, drop, fsplit, fjoin, suffices, frame, done, agg, addr, of-opd, stop, from, load, Is, u8, u32, u64, now, Room, owned, nothing, onEntry, tripleOf, Contract, Triple, cited, says, shows, walkOf, ends-at}
-use Rattle.frames.proofs.Walk.{Blocks, envAt, Locals, of, ofs, behind, sets, lands-in, enters, leaves, Sl, sl, sval, Arg, val, shr, mut, Holds, Toks, Owns, Lists, Lens, lfts, shares, denots, valss, values, passing, lent, takes, gives, splits, joins, unasked, unneeded, Kind, own, shared, unique, stays, Passed, Known, closed}
+use Rattle.frames.proofs.Walk.{_≡_, refl, List, [], _∷_, Option, none, some, ℕ, length, URA, Val, vptr, SProp, ent, id⊢, Memory, Routine, Heap, Tables, WpFn, Atoms, Lfts, Shares, Fun, fullShare, givenOf, tables, tablesOf, fmOf}
+use Rattle.frames.proofs.Walk.{Given, ‵, ⋆, _$_, _∵_, !, qed, by, move, keep, drop, fsplit, fjoin, suffices, frame, done, agg, addr, stop, from, load, Is, u8, u32, u64, now, Room, owned, nothing, onEntry, tripleOf, Contract, Triple, cited, says, shows, walkOf, ends-at}
+use Rattle.frames.proofs.Walk.{Blocks, of, ofs, behind, sets, lands-in, enters, leaves, Sl, sl, sval, Arg, val, shr, mut, Holds, Toks, Owns, Lists, lfts, shares, denots, valss, values, passing, lent, takes, gives, splits, joins, unasked, unneeded, Kind, own, shared, unique, stays, Passed, Known, closed}
 use lib.Dec.{lit<}
 use lib.ListN.{replicate}
 use base.Fml.{GName}

@@ -2,8 +2,8 @@ use Prim.Native.Nat.{_-_}
 use borrow.Author.Needs.{needs}
 use lib.ListN.{length}
 use native.Mathlib.Omega.{arith}
-use Rattle.console.proofs.commands.say_bytes.Statement.{statement}
-use Rattle.console.proofs.commands.say_bytes.Tie as tie
+use Rattle.console.proofs.say.say_bytes.Statement.{statement}
+use Rattle.console.proofs.say.say_bytes.Tie as tie
 
 abbrev Inv-loop : tie.InvT-loop
 Inv-loop s i₀ t3 i = Unit {0}

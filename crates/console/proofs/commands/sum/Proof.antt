@@ -1,0 +1,53 @@
+use borrow.Author.Needs.{needs}
+use Rattle.console.specs.Sums.{sumOf}
+use Rattle.console.proofs.commands.sum.Statement.{statement}
+use Rattle.console.proofs.commands.sum.Tie as tie
+
+mixed-counts-requires : tie.Need-mixed-counts-requires
+mixed-counts-requires c κs = search needs
+
+mixed-words-requires : tie.Need-mixed-words-requires
+mixed-words-requires c κs = search needs
+
+mixed-words-requires-2 : tie.Need-mixed-words-requires-2
+mixed-words-requires-2 c κs = search needs
+
+mixed-words-requires-3 : tie.Need-mixed-words-requires-3
+mixed-words-requires-3 c κs = search needs
+
+mixed-bytes-requires : tie.Need-mixed-bytes-requires
+mixed-bytes-requires c κs = search needs
+
+mixed-bytes-requires-2 : tie.Need-mixed-bytes-requires-2
+mixed-bytes-requires-2 c κs = search needs
+
+mixed-places-requires : tie.Need-mixed-places-requires
+mixed-places-requires c κs = search needs
+
+mixed-bytes-requires-3 : tie.Need-mixed-bytes-requires-3
+mixed-bytes-requires-3 c κs = search needs
+
+mixed-places-requires-2 : tie.Need-mixed-places-requires-2
+mixed-places-requires-2 c κs = search needs
+
+mixed-words-requires-4 : tie.Need-mixed-words-requires-4
+mixed-words-requires-4 c κs = search needs
+
+mixed-words-requires-5 : tie.Need-mixed-words-requires-5
+mixed-words-requires-5 c κs = search needs
+
+mixed-words-requires-6 : tie.Need-mixed-words-requires-6
+mixed-words-requires-6 c κs = search needs
+
+mixed-places-requires-3 : tie.Need-mixed-places-requires-3
+mixed-places-requires-3 c κs = search needs
+
+mixed-words-requires-7 : tie.Need-mixed-words-requires-7
+mixed-words-requires-7 c κs = search needs
+
+returns : tie.Need-returns
+unfolding sumOf
+returns c = rw (c .mixed-words7 .ensures, c .before .mixed-places3 .ensures, c .before .before .mixed-words6 .ensures, c .before .before .before .mixed-words5 .ensures, c .before .before .before .before .mixed-words4 .ensures, c .before .before .before .before .before .mixed-places2 .ensures, c .before .before .before .before .before .before .mixed-bytes3 .ensures, c .before .before .before .before .before .before .before .mixed-places .ensures, c .before .before .before .before .before .before .before .before .mixed-bytes2 .ensures, c .before .before .before .before .before .before .before .before .before .mixed-bytes .ensures, c .before .before .before .before .before .before .before .before .before .before .mixed-words3 .ensures, c .before .before .before .before .before .before .before .before .before .before .before .mixed-words2 .ensures, c .before .before .before .before .before .before .before .before .before .before .before .before .mixed-words .ensures, c .before .before .before .before .before .before .before .before .before .before .before .before .before .mixed-counts .ensures)
+
+pub sum-spec : {M : Type 1} → statement M
+sum-spec = tie.close (tie.spec mixed-counts-requires mixed-words-requires mixed-words-requires-2 mixed-words-requires-3 mixed-bytes-requires mixed-bytes-requires-2 mixed-places-requires mixed-bytes-requires-3 mixed-places-requires-2 mixed-words-requires-4 mixed-words-requires-5 mixed-words-requires-6 mixed-places-requires-3 mixed-words-requires-7 returns)

@@ -1,0 +1,157 @@
+use borrow.Author.Needs.{needs}
+use Rattle.model.specs.Basics.{ascii}
+use Rattle.console.specs.Emits.{notKnown, withOp, withOp1, withOp2, withOp3, codeAsked}
+use Rattle.console.proofs.emission.emit_code.Statement.{statement}
+use Rattle.console.proofs.emission.emit_code.Tie as tie
+
+word-requires : tie.Need-word-requires
+word-requires c κs = search needs
+
+slice-aggregate-same-bytes : tie.Need-slice-aggregate-same-bytes
+slice-aggregate-same-bytes c = search needs
+
+same-bytes-requires : tie.Need-same-bytes-requires
+same-bytes-requires c κs = search needs
+
+op-args-requires : tie.Need-op-args-requires
+op-args-requires c κs = search needs
+
+byte-requires : tie.Need-byte-requires
+byte-requires c κs = search needs
+
+place-requires : tie.Need-place-requires
+place-requires c κs = search needs
+
+add-op-requires : tie.Need-add-op-requires
+add-op-requires c κs = search needs
+
+returns : tie.Need-returns
+unfolding ascii withOp codeAsked
+returns c = λ rest. rw (← c .before .before .before .before .before .before .before .before .before .before .before .before .before .word .ensures, ← c .before .before .before .before .before .before .before .before .before .before .before .same-bytes .ensures, c .before .before .before .before .before .before .before .before .before .before .if1 .taken, ← c .before .before .before .before .before .before .before .before .before .op-args .ensures, c .before .before .before .before .before .before .before .before .if2 .taken, ← c .before .before .before .before .before .before .before .byte .ensures, ← c .before .before .before .before .before .before .place .ensures) (c .add-op .ensures rest)
+
+unknown-requires : tie.Need-unknown-requires
+unknown-requires c κs = search needs
+
+returns-2 : tie.Need-returns-2
+unfolding ascii notKnown withOp codeAsked
+returns-2 c = λ rest. record { means = rw (← c .before .before .before .before .before .before .word .ensures, ← c .before .before .before .before .same-bytes .ensures, c .before .before .before .if1 .taken, ← c .before .before .op-args .ensures, c .before .if2 .left, c .unknown .ensures) }
+
+slice-aggregate-same-bytes-2 : tie.Need-slice-aggregate-same-bytes-2
+slice-aggregate-same-bytes-2 c = search needs
+
+same-bytes-requires-2 : tie.Need-same-bytes-requires-2
+same-bytes-requires-2 c κs = search needs
+
+op-args-requires-2 : tie.Need-op-args-requires-2
+op-args-requires-2 c κs = search needs
+
+wide-requires : tie.Need-wide-requires
+wide-requires c κs = search needs
+
+unknown-requires-2 : tie.Need-unknown-requires-2
+unknown-requires-2 c κs = search needs
+
+returns-3 : tie.Need-returns-3
+unfolding ascii notKnown withOp1 codeAsked
+returns-3 c = λ rest. record { means = rw (← c .before .before .before .before .before .before .before .before .before .before .before .word .ensures, ← c .before .before .before .before .before .before .before .before .before .same-bytes .ensures, c .before .before .before .before .before .before .before .before .if1 .left, ← c .before .before .before .before .before .before .same-bytes2 .ensures, c .before .before .before .before .before .if3 .taken, ← c .before .before .before .before .op-args2 .ensures, ← c .before .before .wide .ensures, c .before .if4 .taken, c .unknown2 .ensures) }
+
+byte-requires-2 : tie.Need-byte-requires-2
+byte-requires-2 c κs = search needs
+
+operand-requires : tie.Need-operand-requires
+operand-requires c κs = search needs
+
+place-requires-2 : tie.Need-place-requires-2
+place-requires-2 c κs = search needs
+
+add-op1-requires : tie.Need-add-op1-requires
+add-op1-requires c κs = search needs
+
+returns-4 : tie.Need-returns-4
+unfolding ascii withOp1 codeAsked
+returns-4 c = λ rest. rw (← c .before .before .before .before .before .before .before .before .before .before .before .before .before .before .before .before .before .before .before .word .ensures, ← c .before .before .before .before .before .before .before .before .before .before .before .before .before .before .before .before .before .same-bytes .ensures, c .before .before .before .before .before .before .before .before .before .before .before .before .before .before .before .before .if1 .left, ← c .before .before .before .before .before .before .before .before .before .before .before .before .before .before .same-bytes2 .ensures, c .before .before .before .before .before .before .before .before .before .before .before .before .before .if3 .taken, ← c .before .before .before .before .before .before .before .before .before .before .before .before .op-args2 .ensures, ← c .before .before .before .before .before .before .before .before .before .before .wide .ensures, c .before .before .before .before .before .before .before .before .before .if4 .left, ← c .before .before .before .before .before .before .before .before .byte2 .ensures, ← c .before .before .before .before .before .before .before .operand .ensures, ← c .before .before .before .before .before .before .place2 .ensures) (c .add-op1 .ensures rest)
+
+slice-aggregate-same-bytes-3 : tie.Need-slice-aggregate-same-bytes-3
+slice-aggregate-same-bytes-3 c = search needs
+
+same-bytes-requires-3 : tie.Need-same-bytes-requires-3
+same-bytes-requires-3 c κs = search needs
+
+op-args-requires-3 : tie.Need-op-args-requires-3
+op-args-requires-3 c κs = search needs
+
+wide-requires-2 : tie.Need-wide-requires-2
+wide-requires-2 c κs = search needs
+
+wide-requires-3 : tie.Need-wide-requires-3
+wide-requires-3 c κs = search needs
+
+unknown-requires-3 : tie.Need-unknown-requires-3
+unknown-requires-3 c κs = search needs
+
+returns-5 : tie.Need-returns-5
+unfolding ascii notKnown withOp2 codeAsked
+returns-5 c = λ rest. record { means = rw (← c .before .before .before .before .before .before .before .before .before .before .before .before .before .before .before .word .ensures, ← c .before .before .before .before .before .before .before .before .before .before .before .before .before .same-bytes .ensures, c .before .before .before .before .before .before .before .before .before .before .before .before .if1 .left, ← c .before .before .before .before .before .before .before .before .before .before .same-bytes2 .ensures, c .before .before .before .before .before .before .before .before .before .if3 .left, ← c .before .before .before .before .before .before .before .same-bytes3 .ensures, c .before .before .before .before .before .before .if5 .taken, ← c .before .before .before .before .before .op-args3 .ensures, ← c .before .before .before .wide2 .ensures, ← c .before .before .wide3 .ensures, c .before .if6 .taken, c .unknown3 .ensures) }
+
+byte-requires-3 : tie.Need-byte-requires-3
+byte-requires-3 c κs = search needs
+
+operand-requires-2 : tie.Need-operand-requires-2
+operand-requires-2 c κs = search needs
+
+operand-requires-3 : tie.Need-operand-requires-3
+operand-requires-3 c κs = search needs
+
+place-requires-3 : tie.Need-place-requires-3
+place-requires-3 c κs = search needs
+
+add-op2-requires : tie.Need-add-op2-requires
+add-op2-requires c κs = search needs
+
+returns-6 : tie.Need-returns-6
+unfolding ascii withOp2 codeAsked
+returns-6 c = λ rest. rw (← c .before .before .before .before .before .before .before .before .before .before .before .before .before .before .before .before .before .before .before .before .before .before .before .before .word .ensures, ← c .before .before .before .before .before .before .before .before .before .before .before .before .before .before .before .before .before .before .before .before .before .before .same-bytes .ensures, c .before .before .before .before .before .before .before .before .before .before .before .before .before .before .before .before .before .before .before .before .before .if1 .left, ← c .before .before .before .before .before .before .before .before .before .before .before .before .before .before .before .before .before .before .before .same-bytes2 .ensures, c .before .before .before .before .before .before .before .before .before .before .before .before .before .before .before .before .before .before .if3 .left, ← c .before .before .before .before .before .before .before .before .before .before .before .before .before .before .before .before .same-bytes3 .ensures, c .before .before .before .before .before .before .before .before .before .before .before .before .before .before .before .if5 .taken, ← c .before .before .before .before .before .before .before .before .before .before .before .before .before .before .op-args3 .ensures, ← c .before .before .before .before .before .before .before .before .before .before .before .before .wide2 .ensures, ← c .before .before .before .before .before .before .before .before .before .before .before .wide3 .ensures, c .before .before .before .before .before .before .before .before .before .before .if6 .left, ← c .before .before .before .before .before .before .before .before .before .byte3 .ensures, ← c .before .before .before .before .before .before .before .before .operand2 .ensures, ← c .before .before .before .before .before .before .before .operand3 .ensures, ← c .before .before .before .before .before .before .place3 .ensures) (c .add-op2 .ensures rest)
+
+op-args-requires-4 : tie.Need-op-args-requires-4
+op-args-requires-4 c κs = search needs
+
+wide-requires-4 : tie.Need-wide-requires-4
+wide-requires-4 c κs = search needs
+
+wide-requires-5 : tie.Need-wide-requires-5
+wide-requires-5 c κs = search needs
+
+wide-requires-6 : tie.Need-wide-requires-6
+wide-requires-6 c κs = search needs
+
+unknown-requires-4 : tie.Need-unknown-requires-4
+unknown-requires-4 c κs = search needs
+
+returns-7 : tie.Need-returns-7
+unfolding ascii notKnown withOp3 codeAsked
+returns-7 c = λ rest. record { means = rw (← c .before .before .before .before .before .before .before .before .before .before .before .before .before .before .before .before .word .ensures, ← c .before .before .before .before .before .before .before .before .before .before .before .before .before .before .same-bytes .ensures, c .before .before .before .before .before .before .before .before .before .before .before .before .before .if1 .left, ← c .before .before .before .before .before .before .before .before .before .before .before .same-bytes2 .ensures, c .before .before .before .before .before .before .before .before .before .before .if3 .left, ← c .before .before .before .before .before .before .before .before .same-bytes3 .ensures, c .before .before .before .before .before .before .before .if5 .left, ← c .before .before .before .before .before .before .op-args4 .ensures, ← c .before .before .before .before .wide4 .ensures, ← c .before .before .before .wide5 .ensures, ← c .before .before .wide6 .ensures, c .before .if7 .taken, c .unknown4 .ensures) }
+
+byte-requires-4 : tie.Need-byte-requires-4
+byte-requires-4 c κs = search needs
+
+operand-requires-4 : tie.Need-operand-requires-4
+operand-requires-4 c κs = search needs
+
+operand-requires-5 : tie.Need-operand-requires-5
+operand-requires-5 c κs = search needs
+
+operand-requires-6 : tie.Need-operand-requires-6
+operand-requires-6 c κs = search needs
+
+place-requires-4 : tie.Need-place-requires-4
+place-requires-4 c κs = search needs
+
+add-op3-requires : tie.Need-add-op3-requires
+add-op3-requires c κs = search needs
+
+returns-8 : tie.Need-returns-8
+unfolding ascii withOp3 codeAsked
+returns-8 c = λ rest. rw (← c .before .before .before .before .before .before .before .before .before .before .before .before .before .before .before .before .before .before .before .before .before .before .before .before .before .before .word .ensures, ← c .before .before .before .before .before .before .before .before .before .before .before .before .before .before .before .before .before .before .before .before .before .before .before .before .same-bytes .ensures, c .before .before .before .before .before .before .before .before .before .before .before .before .before .before .before .before .before .before .before .before .before .before .before .if1 .left, ← c .before .before .before .before .before .before .before .before .before .before .before .before .before .before .before .before .before .before .before .before .before .same-bytes2 .ensures, c .before .before .before .before .before .before .before .before .before .before .before .before .before .before .before .before .before .before .before .before .if3 .left, ← c .before .before .before .before .before .before .before .before .before .before .before .before .before .before .before .before .before .before .same-bytes3 .ensures, c .before .before .before .before .before .before .before .before .before .before .before .before .before .before .before .before .before .if5 .left, ← c .before .before .before .before .before .before .before .before .before .before .before .before .before .before .before .before .op-args4 .ensures, ← c .before .before .before .before .before .before .before .before .before .before .before .before .before .before .wide4 .ensures, ← c .before .before .before .before .before .before .before .before .before .before .before .before .before .wide5 .ensures, ← c .before .before .before .before .before .before .before .before .before .before .before .before .wide6 .ensures, c .before .before .before .before .before .before .before .before .before .before .before .if7 .left, ← c .before .before .before .before .before .before .before .before .before .before .byte4 .ensures, ← c .before .before .before .before .before .before .before .before .before .operand4 .ensures, ← c .before .before .before .before .before .before .before .before .operand5 .ensures, ← c .before .before .before .before .before .before .before .operand6 .ensures, ← c .before .before .before .before .before .before .place4 .ensures) (c .add-op3 .ensures rest)
+
+pub emit-code-spec : {M : Type 1} → statement M
+emit-code-spec = tie.close (tie.spec word-requires slice-aggregate-same-bytes same-bytes-requires op-args-requires byte-requires place-requires add-op-requires returns unknown-requires returns-2 slice-aggregate-same-bytes-2 same-bytes-requires-2 op-args-requires-2 wide-requires unknown-requires-2 returns-3 byte-requires-2 operand-requires place-requires-2 add-op1-requires returns-4 slice-aggregate-same-bytes-3 same-bytes-requires-3 op-args-requires-3 wide-requires-2 wide-requires-3 unknown-requires-3 returns-5 byte-requires-3 operand-requires-2 operand-requires-3 place-requires-3 add-op2-requires returns-6 op-args-requires-4 wide-requires-4 wide-requires-5 wide-requires-6 unknown-requires-4 returns-7 byte-requires-4 operand-requires-4 operand-requires-5 operand-requires-6 place-requires-4 add-op3-requires returns-8)

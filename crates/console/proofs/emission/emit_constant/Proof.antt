@@ -1,0 +1,102 @@
+use borrow.Author.Needs.{needs}
+use Rattle.model.specs.Basics.{ascii}
+use Rattle.console.specs.Emits.{notKnown, booleanArgs, saidBytes, constantAsked}
+use Rattle.console.proofs.emission.emit_constant.Statement.{statement}
+use Rattle.console.proofs.emission.emit_constant.Tie as tie
+
+word-requires : tie.Need-word-requires
+word-requires c κs = search needs
+
+slice-aggregate-same-bytes : tie.Need-slice-aggregate-same-bytes
+slice-aggregate-same-bytes c = search needs
+
+same-bytes-requires : tie.Need-same-bytes-requires
+same-bytes-requires c κs = search needs
+
+words-from-requires : tie.Need-words-from-requires
+words-from-requires c κs = search needs
+
+hex-requires : tie.Need-hex-requires
+hex-requires c κs = search needs
+
+slice-aggregate-add-constant : tie.Need-slice-aggregate-add-constant
+slice-aggregate-add-constant c = search needs
+
+add-constant-requires : tie.Need-add-constant-requires
+add-constant-requires c κs = search needs
+
+returns : tie.Need-returns
+unfolding ascii booleanArgs saidBytes constantAsked
+returns c = λ rest. rw (← c .before .before .before .before .before .before .before .before .before .before .word .ensures, ← c .before .before .before .before .before .before .before .before .same-bytes .ensures, c .before .before .before .before .before .before .before .if1 .taken, ← c .before .before .before .before .before .before .words-from .ensures, ← c .before .before .before .before .before .hex .ensures, c .before .before .before .before .if2 .taken) (c .add-constant .ensures rest)
+
+unknown-requires : tie.Need-unknown-requires
+unknown-requires c κs = search needs
+
+returns-2 : tie.Need-returns-2
+unfolding ascii notKnown booleanArgs saidBytes constantAsked
+returns-2 c = λ rest. record { means = rw (← c .before .before .before .before .before .before .before .word .ensures, ← c .before .before .before .before .before .same-bytes .ensures, c .before .before .before .before .if1 .taken, ← c .before .before .before .words-from .ensures, ← c .before .before .hex .ensures, c .before .if2 .left, c .unknown .ensures) }
+
+slice-aggregate-same-bytes-2 : tie.Need-slice-aggregate-same-bytes-2
+slice-aggregate-same-bytes-2 c = search needs
+
+same-bytes-requires-2 : tie.Need-same-bytes-requires-2
+same-bytes-requires-2 c κs = search needs
+
+read-args-requires : tie.Need-read-args-requires
+read-args-requires c κs = search needs
+
+slice-aggregate-add-constant-2 : tie.Need-slice-aggregate-add-constant-2
+slice-aggregate-add-constant-2 c = search needs
+
+add-constant-requires-2 : tie.Need-add-constant-requires-2
+add-constant-requires-2 c κs = search needs
+
+returns-3 : tie.Need-returns-3
+unfolding ascii booleanArgs saidBytes constantAsked
+returns-3 c = λ rest. rw (← c .before .before .before .before .before .before .before .before .before .before .before .before .before .word .ensures, ← c .before .before .before .before .before .before .before .before .before .before .before .same-bytes .ensures, c .before .before .before .before .before .before .before .before .before .before .if1 .left, ← c .before .before .before .before .before .before .before .before .same-bytes2 .ensures, c .before .before .before .before .before .before .before .if3 .taken, ← c .before .before .before .before .before .before .read-args .ensures, c .before .before .before .before .before .if4 .taken) (c .add-constant2 .ensures rest)
+
+unknown-requires-2 : tie.Need-unknown-requires-2
+unknown-requires-2 c κs = search needs
+
+returns-4 : tie.Need-returns-4
+unfolding ascii notKnown booleanArgs saidBytes constantAsked
+returns-4 c = λ rest. record { means = rw (← c .before .before .before .before .before .before .before .before .before .word .ensures, ← c .before .before .before .before .before .before .before .same-bytes .ensures, c .before .before .before .before .before .before .if1 .left, ← c .before .before .before .before .same-bytes2 .ensures, c .before .before .before .if3 .taken, ← c .before .before .read-args .ensures, c .before .if4 .left, c .unknown2 .ensures) }
+
+words-from-requires-2 : tie.Need-words-from-requires-2
+words-from-requires-2 c κs = search needs
+
+read-bytes-requires : tie.Need-read-bytes-requires
+read-bytes-requires c κs = search needs
+
+cut-requires : tie.Need-cut-requires
+cut-requires c κs = search needs
+
+slice-aggregate-same-bytes-3 : tie.Need-slice-aggregate-same-bytes-3
+slice-aggregate-same-bytes-3 c = search needs
+
+same-bytes-requires-3 : tie.Need-same-bytes-requires-3
+same-bytes-requires-3 c κs = search needs
+
+add-constant-requires-3 : tie.Need-add-constant-requires-3
+add-constant-requires-3 c κs = search needs
+
+returns-5 : tie.Need-returns-5
+unfolding ascii booleanArgs saidBytes constantAsked
+returns-5 c = λ rest. rw (← c .before .before .before .before .before .before .before .before .before .before .before .before .before .before .before .before .before .before .before .word .ensures, ← c .before .before .before .before .before .before .before .before .before .before .before .before .before .before .before .before .before .same-bytes .ensures, c .before .before .before .before .before .before .before .before .before .before .before .before .before .before .before .before .if1 .left, ← c .before .before .before .before .before .before .before .before .before .before .before .before .before .before .same-bytes2 .ensures, c .before .before .before .before .before .before .before .before .before .before .before .before .before .if3 .left, ← c .before .before .before .before .before .before .before .before .before .before .before .before .words-from2 .ensures, ← c .before .before .before .before .before .before .before .before .before .before .read-bytes .ensures, c .before .before .before .before .before .before .before .before .before .if5 .taken, ← c .before .before .before .before .before .before .cut .ensures, ← c .before .before .before .before .same-bytes3 .ensures, c .before .before .before .if6 .taken) (c .add-constant3 .ensures rest)
+
+add-constant-requires-4 : tie.Need-add-constant-requires-4
+add-constant-requires-4 c κs = search needs
+
+returns-6 : tie.Need-returns-6
+unfolding ascii booleanArgs saidBytes constantAsked
+returns-6 c = λ rest. rw (← c .before .before .before .before .before .before .before .before .before .before .before .before .before .before .before .before .before .before .before .word .ensures, ← c .before .before .before .before .before .before .before .before .before .before .before .before .before .before .before .before .before .same-bytes .ensures, c .before .before .before .before .before .before .before .before .before .before .before .before .before .before .before .before .if1 .left, ← c .before .before .before .before .before .before .before .before .before .before .before .before .before .before .same-bytes2 .ensures, c .before .before .before .before .before .before .before .before .before .before .before .before .before .if3 .left, ← c .before .before .before .before .before .before .before .before .before .before .before .before .words-from2 .ensures, ← c .before .before .before .before .before .before .before .before .before .before .read-bytes .ensures, c .before .before .before .before .before .before .before .before .before .if5 .taken, ← c .before .before .before .before .before .before .cut .ensures, ← c .before .before .before .before .same-bytes3 .ensures, c .before .before .before .if6 .left) (c .add-constant4 .ensures rest)
+
+unknown-requires-3 : tie.Need-unknown-requires-3
+unknown-requires-3 c κs = search needs
+
+returns-7 : tie.Need-returns-7
+unfolding ascii notKnown booleanArgs saidBytes constantAsked
+returns-7 c = λ rest. record { means = rw (← c .before .before .before .before .before .before .before .before .before .before .before .word .ensures, ← c .before .before .before .before .before .before .before .before .before .same-bytes .ensures, c .before .before .before .before .before .before .before .before .if1 .left, ← c .before .before .before .before .before .before .same-bytes2 .ensures, c .before .before .before .before .before .if3 .left, ← c .before .before .before .before .words-from2 .ensures, ← c .before .before .read-bytes .ensures, c .before .if5 .left, c .unknown3 .ensures) }
+
+pub emit-constant-spec : {M : Type 1} → statement M
+emit-constant-spec = tie.close (tie.spec word-requires slice-aggregate-same-bytes same-bytes-requires words-from-requires hex-requires slice-aggregate-add-constant add-constant-requires returns unknown-requires returns-2 slice-aggregate-same-bytes-2 same-bytes-requires-2 read-args-requires slice-aggregate-add-constant-2 add-constant-requires-2 returns-3 unknown-requires-2 returns-4 words-from-requires-2 read-bytes-requires cut-requires slice-aggregate-same-bytes-3 same-bytes-requires-3 add-constant-requires-3 returns-5 add-constant-requires-4 returns-6 unknown-requires-3 returns-7)

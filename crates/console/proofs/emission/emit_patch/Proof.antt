@@ -1,0 +1,30 @@
+use borrow.Author.Needs.{needs}
+use Rattle.console.specs.Emits.{notKnown, patchArgs, patchAsked}
+use Rattle.console.proofs.emission.emit_patch.Statement.{statement}
+use Rattle.console.proofs.emission.emit_patch.Tie as tie
+
+read-args-requires : tie.Need-read-args-requires
+read-args-requires c κs = search needs
+
+operand-requires : tie.Need-operand-requires
+operand-requires c κs = search needs
+
+operand-requires-2 : tie.Need-operand-requires-2
+operand-requires-2 c κs = search needs
+
+patch-u16-value-at-requires : tie.Need-patch-u16-value-at-requires
+patch-u16-value-at-requires c κs = search needs
+
+returns : tie.Need-returns
+unfolding patchArgs patchAsked
+returns c = λ rest. rw (← c .before .before .before .before .before .before .before .read-args .ensures, c .before .before .before .before .before .before .if1 .taken, ← c .before .before .before .before .before .operand .ensures, ← c .before .before .before .before .operand2 .ensures) (c .patch-u16-value-at .ensures rest)
+
+unknown-requires : tie.Need-unknown-requires
+unknown-requires c κs = search needs
+
+returns-2 : tie.Need-returns-2
+unfolding notKnown patchArgs patchAsked
+returns-2 c = λ rest. record { means = rw (← c .before .before .read-args .ensures, c .before .if1 .left, c .unknown .ensures) }
+
+pub emit-patch-spec : {M : Type 1} → statement M
+emit-patch-spec = tie.close (tie.spec read-args-requires operand-requires operand-requires-2 patch-u16-value-at-requires returns unknown-requires returns-2)

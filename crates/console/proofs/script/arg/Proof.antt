@@ -1,0 +1,22 @@
+use borrow.Author.Needs.{needs}
+use borrow.Author.Tests.{lt-ltb, le-ltb}
+use Rattle.console.specs.Words.{argOf}
+use Rattle.console.proofs.script.arg.Statement.{statement}
+use Rattle.console.proofs.script.arg.Tie as tie
+
+word-requires : tie.Need-word-requires
+word-requires c κs = search needs
+
+decimal-requires : tie.Need-decimal-requires
+decimal-requires c κs = search needs
+
+returns : tie.Need-returns
+unfolding argOf
+returns c = rw (lt-ltb _ _ (c .before .before .before .before .if1 .taken), c .before .before .decimal .ensures, c .before .before .before .word .ensures)
+
+returns-2 : tie.Need-returns-2
+unfolding argOf
+returns-2 c = rw (le-ltb _ _ (c .if1 .left))
+
+pub arg-spec : {M : Type 1} → statement M
+arg-spec = tie.close (tie.spec word-requires decimal-requires returns returns-2)

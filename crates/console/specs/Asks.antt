@@ -1,0 +1,106 @@
+-- What a line asks.
+use mathlib.Core.Bool.{Bool, true, _&&_, _||_}
+use mathlib.Core.List.{List}
+use Prim.Native.Nat.{ℕ, min}
+use lib.Dec.{eqb}
+use lib.ListN.{length, getD, take}
+use Rattle.model.specs.declared.Vm.{Vm}
+use Rattle.model.specs.declared.Shown.{Shown}
+use Rattle.model.specs.declared.Shown.the-variants as w
+use Rattle.model.specs.declared.Headed.{Headed}
+use Rattle.model.specs.declared.Headed.the-variants as h
+use Rattle.model.specs.Basics.{if_then_else_, ascii}
+use Rattle.model.specs.Equality.{sameBytes}
+use Rattle.model.specs.declared.Told.{Told}
+use Rattle.model.specs.declared.Told.the-variants as t
+use Rattle.model.specs.Readers.{blockHeaderOf, elementOf, textBytesOf}
+use Rattle.console.specs.declared.bridge.Call.the-variants as c
+use Rattle.console.specs.declared.commands.Lent.{Lent}
+use Rattle.console.specs.declared.commands.Asked.{Asked}
+use Rattle.console.specs.declared.commands.Asked.the-variants as q
+use Rattle.console.specs.declared.commands.Group.{Group}
+use Rattle.console.specs.declared.commands.Group.the-variants as g
+use Rattle.console.specs.Words.{wordsFrom, wordOf, numberOf, roomOf, hexOf}
+
+-- ---- calls over frames
+
+-- copy and backtrace store whole
+unfoldable pub lentWhole : ℕ → Lent
+lentWhole n = record { image = n; copy = 4294967295; trace = 4294967295 }
+
+unfoldable pub askNew : List ℕ → Asked
+askNew line = if eqb (length (wordsFrom line 1)) 0 then q.Frames c.New (lentWhole 0) else q.Other
+
+unfoldable pub askTrace : List ℕ → Asked
+askTrace line = if roomOf line 1 .good then q.Frames c.Trace (record { image = 0; copy = 4294967295; trace = roomOf line 1 .is }) else q.Other
+
+unfoldable pub askRun : List ℕ → Asked
+askRun line = if numberOf 10 (wordOf line 1) .good && roomOf line 2 .good then q.Frames (c.Run (numberOf 10 (wordOf line 1) .is)) (record { image = 0; copy = roomOf line 2 .is; trace = 4294967295 }) else q.Other
+
+-- what is asked, and the space, which holds the bytes of an image
+pub record Heard : Type 0 where
+  pub asked : Asked
+  pub space : List ℕ
+
+unfoldable pub askLoad : List ℕ → List ℕ → Heard
+askLoad line space = record { asked = if hexOf (wordsFrom line 1) space .read .good then q.Frames c.Load (lentWhole (hexOf (wordsFrom line 1) space .read .size)) else q.Other; space = hexOf (wordsFrom line 1) space .out }
+
+unfoldable pub askOf : List ℕ → List ℕ → Heard
+askOf line space =
+    if sameBytes (wordOf line 0) (ascii "new") then record { asked = askNew line; space = space } else (
+    if sameBytes (wordOf line 0) (ascii "trace") then record { asked = askTrace line; space = space } else (
+    if sameBytes (wordOf line 0) (ascii "run") then record { asked = askRun line; space = space } else (
+    if sameBytes (wordOf line 0) (ascii "image") then askLoad line space else
+    record { asked = q.Other; space = space })))
+
+-- ---- the commands that need no frames, in groups
+
+unfoldable pub isCode : List ℕ → Bool
+isCode what = ((sameBytes what (ascii "op") || sameBytes what (ascii "op1")) || sameBytes what (ascii "op2")) || sameBytes what (ascii "op3")
+
+unfoldable pub isConstant : List ℕ → Bool
+isConstant what = ((sameBytes what (ascii "scalar") || sameBytes what (ascii "boolean")) || sameBytes what (ascii "string")) || sameBytes what (ascii "reference")
+
+unfoldable pub isName : List ℕ → Bool
+isName what = (sameBytes what (ascii "struct") || sameBytes what (ascii "begin")) || sameBytes what (ascii "end")
+
+unfoldable pub isLook : List ℕ → Bool
+isLook what = ((sameBytes what (ascii "offset") || sameBytes what (ascii "find")) || sameBytes what (ascii "save")) || sameBytes what (ascii "list")
+
+unfoldable pub isRead : List ℕ → Bool
+isRead what = (((sameBytes what (ascii "last") || sameBytes what (ascii "stack")) || sameBytes what (ascii "header")) || sameBytes what (ascii "element")) || sameBytes what (ascii "text")
+
+-- a blank line, or a comment
+unfoldable pub isSaid : List ℕ → Bool
+isSaid what = if eqb (length what) 0 then true else eqb (getD what 0 0) 35
+
+unfoldable pub groupOf : List ℕ → Group
+groupOf what =
+    if isSaid what then g.Said else (
+    if isCode what then g.Code else (
+    if isConstant what then g.Constant else (
+    if isName what then g.Name else (
+    if isLook what then g.Look else (
+    if isRead what then g.Read else (
+    if sameBytes what (ascii "patch") then g.Patch else (
+    if sameBytes what (ascii "count") then g.Count else (
+    if sameBytes what (ascii "result") then g.Result else (
+    if sameBytes what (ascii "poke") then g.Poke else (
+    if sameBytes what (ascii "frame") then g.Frame else (
+    if sameBytes what (ascii "sum") then g.Sum else
+    g.Unknown)))))))))))
+
+-- ---- readers of a value that was shown; its refusal where it was not
+
+unfoldable pub headerAfter : Vm → Shown → List ℕ → Headed
+headerAfter m (w.Value x) cells = blockHeaderOf m x cells
+headerAfter m (w.Refused n) cells = h.Refused n
+
+unfoldable pub elementAfter : Vm → Shown → ℕ → List ℕ → Shown
+elementAfter m (w.Value x) j cells = elementOf m x j cells
+elementAfter m (w.Refused n) j cells = w.Refused n
+
+-- into so much of the space as there is room for
+unfoldable pub textAfter : Vm → Shown → ℕ → List ℕ → List ℕ → Told
+textAfter m (w.Value x) room text space = textBytesOf m x text (take (min room (length space)) space) .answer
+textAfter m (w.Refused n) room text space = t.Refused n

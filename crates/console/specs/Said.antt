@@ -1,0 +1,58 @@
+-- What is said of a list or struct, and which machine there is behind an answer: the one that it tells, or the one that was.
+use mathlib.Core.List.{List}
+use Prim.Native.Nat.{ℕ, _/_}
+use lib.Dec.{ltb}
+use lib.ListN.{length}
+use Rattle.model.specs.declared.Header.{Header}
+use Rattle.model.specs.declared.Vm.{Vm}
+use Rattle.model.specs.declared.Counts.{Counts}
+use Rattle.model.specs.declared.Emitted.{Emitted}
+use Rattle.model.specs.declared.Emitted.the-variants as e
+use Rattle.model.specs.declared.Started.{Started}
+use Rattle.model.specs.declared.Started.the-variants as s
+use Rattle.model.specs.declared.RunResult.{RunResult}
+use Rattle.model.specs.declared.RunResult.the-variants as x
+use Rattle.model.specs.declared.Last.the-variants.{Nothing}
+use Rattle.model.specs.Basics.{if_then_else_}
+use Rattle.model.specs.Values.{payloadAt}
+use Rattle.model.specs.Heap.{headerOf}
+use Rattle.console.specs.declared.bridge.Answer.{Answer}
+use Rattle.console.specs.declared.bridge.Answer.the-variants as a
+use Rattle.console.specs.declared.damage.Changed.{Changed}
+
+-- the header at cell p, of no elements where there is no such cell
+unfoldable pub headerIn : List ℕ → ℕ → Header
+headerIn cells p = if ltb p (length cells / 2) then headerOf (payloadAt cells p) else record { count = 0; number = 0; depth = 0 }
+
+-- before any is made: nothing is in good order yet
+unfoldable pub noMachine : Vm
+noMachine = record { program = record { constants = 0; structs = 0; functions = 0; text = 0; current = 0 }; stack = 0; frames = 0; cells = 0; last = Nothing }
+
+-- a machine with other counts of its program
+unfoldable pub withProgram : Vm → Counts → Vm
+withProgram m c = record { program = c; stack = m .stack; frames = m .frames; cells = m .cells; last = m .last }
+
+unfoldable pub afterEmitted : Vm → Emitted → Vm
+afterEmitted m (e.Done c n) = withProgram m c
+afterEmitted m (e.Refused n) = m
+
+unfoldable pub afterStarted : Vm → Started → Vm
+afterStarted m (s.Done made) = made
+afterStarted m (s.Broken at) = m
+afterStarted m (s.Refused n) = m
+
+unfoldable pub afterRun : Vm → RunResult → Vm
+afterRun m (x.Value left v spent) = left
+afterRun m (x.Continue left spent) = left
+afterRun m (x.Fault left n spent entries) = left
+afterRun m (x.Refused n) = m
+
+-- a backtrace leaves the machine as it was
+unfoldable pub afterAnswer : Vm → Answer → Vm
+afterAnswer m (a.Made r) = afterStarted m r
+afterAnswer m (a.Ran r) = afterRun m r
+afterAnswer m (a.Traced t) = m
+
+-- damage that was understood
+unfoldable pub afterDamage : Vm → Changed → Vm
+afterDamage m d = if d .good then d .m else m
