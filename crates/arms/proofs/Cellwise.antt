@@ -1,16 +1,13 @@
 -- What an arm ensures that is lent the cells, for each way out of an arm: equality, lists and structs.
 use mathlib.Core.Path.{_≡_, refl, sym, _∙_}
 use mathlib.Core.Bool.{Bool, true, false, not}
-use mathlib.Core.List.{List, [], _∷_}
+use mathlib.Core.List.{List, _∷_}
 use Prim.Native.Nat.{ℕ, zero, suc, _-_, _*_, _≤_, _<_}
 use native.Mathlib.Omega.{arith}
 use borrow.Author.Tests.{lt-ltb, le-ltb}
-use denote.Enum.Declared.{tagOf}
-use types.Run.{OneOf, miss}
 use lib.Dec.{leb}
 use lib.ListN.{length}
 use lib.Seq.{take-append-le}
-use Rattle.model.proofs.Value.{the-type}
 use Rattle.model.specs.declared.Value.{Value}
 use Rattle.model.specs.declared.Value.the-variants as v
 use Rattle.model.specs.declared.Fault.{Fault}
@@ -189,18 +186,6 @@ module _ (text : List ℕ) {k : Fixed} {g : Going} {s x : List ℕ} (b : Blocks 
 is-struct : {A : Type 0} {y : Value} {p : ℕ} → y ≡ v.StructInstance p → (j : ℕ → A) (d : A) → ifStruct y j d ≡ j p
 unfolding ifStruct
 is-struct e j d = rw e
-
-abbrev others : List ℕ
-others = 0 ∷ 1 ∷ 2 ∷ 3 ∷ 4 ∷ []
-
-pub no-struct : {A : Type 0} (y : Value) → OneOf others (tagOf the-type y) → (j : ℕ → A) (d : A) → ifStruct y j d ≡ d
-unfolding ifStruct
-no-struct (v.Scalar x) h j d = refl
-no-struct (v.Boolean x) h j d = refl
-no-struct (v.String o n) h j d = refl
-no-struct (v.FunctionReference o n) h j d = refl
-no-struct (v.List p) h j d = refl
-no-struct (v.StructInstance p) h j d = absurd (miss others 5 tt h)
 
 reads : (a : ℕ) → One (fieldStep a) ifStruct (λ p r u. onFound (fieldOf (u .heap) p a) u (λ y. went (withStack (y ∷ r) u)))
 unfolding fieldStep

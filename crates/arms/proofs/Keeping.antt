@@ -1,5 +1,5 @@
 -- A stack in exact words stays exact, and within its room, when values are dropped and one is written on top of the rest.
-use mathlib.Core.Path.{_≡_, refl}
+use mathlib.Core.Path.{_≡_}
 use mathlib.Core.Bool.{Bool, true}
 use mathlib.Core.List.{List}
 use Prim.Native.Nat.{ℕ, zero, suc, _+_, _*_, _≤_, _<_}
@@ -10,30 +10,16 @@ use Rattle.model.specs.Basics.{everyFrom}
 use Rattle.model.specs.Values.{kind, payload, kindAt, payloadAt, exactValue}
 use Rattle.model.specs.Heap.{item, putCell}
 use Rattle.value.specs.Links.{Written}
+use Rattle.program.proofs.Every.{passed, pass-all}
 use Rattle.value.proofs.Coding.{and-left, and-right, words-exact}
 use Rattle.value.proofs.Stores.{kind-same, payload-same, kind-other, payload-other, written-length}
 use Rattle.arms.specs.declared.Fixed.{Fixed}
 use Rattle.arms.specs.declared.Going.{Going}
 use Rattle.arms.specs.Links.{exactStack, Within}
 
--- ---- a test that holds at each of n numbers
+-- ---- a test that holds at each of n numbers, and at one more
 
 module _ (t : ℕ → Bool) where
-  pub every-at : (n i : ℕ) → everyFrom n i t ≡ true → (j : ℕ) → j < n → t (i + j) ≡ true
-  unfolding everyFrom
-  every-at zero i e j h = absurd (let z : ⊥ = omega arith in z)
-  every-at (suc n) i e zero h = let z : i + 0 ≡ i = omega arith in rw z (and-left _ _ e)
-  every-at (suc n) i e (suc j) h =
-      let z : i + suc j ≡ suc i + j = omega arith in
-      rw z (every-at n (suc i) (and-right (t i) _ e) j (omega arith))
-
-  pub every-all : (n i : ℕ) → ((j : ℕ) → j < n → t (i + j) ≡ true) → everyFrom n i t ≡ true
-  unfolding everyFrom
-  every-all zero i h = refl
-  every-all (suc n) i h =
-      let a : t i ≡ true = let z : i + 0 ≡ i = omega arith in rw z at (h 0 (omega arith)) in
-      rw (a, every-all n (suc i) (λ j b. let z : i + suc j ≡ suc i + j = omega arith in rw z at (h (suc j) (omega arith))))
-
   pub every-more : (n i : ℕ) → everyFrom n i t ≡ true → t (i + n) ≡ true → everyFrom (suc n) i t ≡ true
   unfolding everyFrom
   every-more zero i e h = let a : t i ≡ true = let z : i + 0 ≡ i = omega arith in rw z at h in rw a
@@ -46,11 +32,11 @@ module _ (t : ℕ → Bool) where
 module _ (n : ℕ) (s : List ℕ) where
   pub exact-at : exactStack n s ≡ true → (j : ℕ) → j < n → exactValue (kindAt s j) (payloadAt s j) ≡ true
   unfolding exactStack
-  exact-at e j h = let z : 0 + j ≡ j = omega arith in rw z at (every-at _ n 0 e j h)
+  exact-at = passed n _
 
   pub exact-all : ((j : ℕ) → j < n → exactValue (kindAt s j) (payloadAt s j) ≡ true) → exactStack n s ≡ true
   unfolding exactStack
-  exact-all h = every-all _ n 0 (λ j b. let z : 0 + j ≡ j = omega arith in rw z (h j b))
+  exact-all h = pass-all n 0 _ (λ j b. let z : 0 + j ≡ j = omega arith in rw z (h j b))
 
 pub exact-fewer : (n : ℕ) (s : List ℕ) → exactStack n s ≡ true → (m : ℕ) → m ≤ n → exactStack m s ≡ true
 exact-fewer n s e m h = exact-all m s (λ j b. exact-at n s e j (omega arith))

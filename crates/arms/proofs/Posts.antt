@@ -39,7 +39,9 @@ use Rattle.arms.specs.declared.Answer.{Answer}
 use Rattle.arms.specs.declared.Answer.the-variants.{Went, Returned, Call, Back, Stopped}
 use Rattle.arms.specs.Links.{stateOf, outcomeOf, Within, Suits, ArmPost}
 use Rattle.arms.proofs.Keeping.{place, fewer, topped}
-use Rattle.arms.proofs.Rules.{no-top, top, no-scalars, scalars, two-scalars, no-booleans, booleans, two-booleans, last-words, cut-vals, is-reference, told-none, told-some}
+use Rattle.program.proofs.Searching.{told-none, told-some}
+use Rattle.value.proofs.Lasts.{last-words}
+use Rattle.arms.proofs.Rules.{no-top, top, no-scalars, scalars, two-scalars, no-booleans, booleans, two-booleans, cut-vals, is-reference}
 
 -- the machine with n values on its stack, at position i, and with the last result in the words a and b
 abbrev pub withWords : ℕ → ℕ → ℕ → ℕ → Going → Going
@@ -250,11 +252,11 @@ module _ {k : Fixed} {g : Going} {s : List ℕ} (w : Within k g s) {r : Found} (
 
   pub no-name : {t : ℕ} → q ≡ Refused t → ArmPost (callCallableStep u n) k g s (Stopped g f.NoFunction) s
   unfolding enterNamed
-  no-name z = refused w (λ x cs c. by-name x cs ∙ rw (told-none d z))
+  no-name z = refused w (λ x cs c. by-name x cs ∙ rw (told-none _ _ _ d z))
 
   pub calls-name : {i : ℕ} {a : Answer} → q ≡ Number i → ArmPost (enter u i n (vals (g .sp - 1) s)) k g s a s → ArmPost (callCallableStep u n) k g s a s
   unfolding enterNamed
-  calls-name z b = same-rule (λ x cs. by-name x cs ∙ rw (told-some d z)) b
+  calls-name z b = same-rule (λ x cs. by-name x cs ∙ rw (told-some _ _ _ d z)) b
 
 -- ---- two operands
 

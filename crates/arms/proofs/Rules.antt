@@ -1,18 +1,13 @@
 -- What the rules come to, by what was popped or looked up.
 use mathlib.Core.Path.{_≡_, refl, _∙_}
 use mathlib.Core.Bool.{Bool, true, false}
-use mathlib.Core.List.{List, [], _∷_}
-use mathlib.Core.Option.{Option, none as no, some}
+use mathlib.Core.List.{List}
 use Prim.Native.Nat.{ℕ, zero, suc, _+_, _-_, _*_, _/_, _%_, _^_, _≤_, _<_, min}
 use native.Mathlib.Omega.{arith}
 use borrow.Author.Tests.{lt-ltb, le-ltb, eq-eqb, ne-eqb}
 use lib.Ieee.{Float}
-use denote.Enum.Declared.{tagOf}
-use types.Run.{OneOf, miss}
-use Rattle.model.proofs.Value.{the-type}
 use Rattle.model.specs.declared.Value.{Value}
 use Rattle.model.specs.declared.Value.the-variants as v
-use Rattle.model.specs.declared.Last.the-variants.{Is}
 use Rattle.model.specs.declared.Fault.{Fault}
 use Rattle.model.specs.declared.Fault.the-variants as f
 use Rattle.model.specs.declared.Found.{Found}
@@ -22,19 +17,18 @@ use Rattle.model.specs.declared.Scalars.the-variants as sc
 use Rattle.model.specs.declared.Booleans.{Booleans}
 use Rattle.model.specs.declared.Booleans.the-variants as bo
 use Rattle.model.specs.declared.Told.{Told}
-use Rattle.model.specs.declared.Told.the-variants.{Number, Refused}
-use Rattle.model.specs.Values.{ifReference, textAt, kind, payload, valueOf, valueAt, vals, valuesFrom, popOf, popping, poppingScalar, poppingBoolean, ifScalar, ifBoolean, Fine}
+use Rattle.model.specs.Values.{ifReference, textAt, valueOf, valueAt, vals, valuesFrom, popOf, popping, poppingScalar, poppingBoolean, ifScalar, ifBoolean}
 use Rattle.model.specs.Scalars.{scalarsOf, booleansOf}
 use Rattle.model.specs.Programs.{newestFrom, functionNamed}
 use Rattle.model.specs.Stores.{Stores, start, size, pack, part}
 use Rattle.model.specs.Emission.{namesFrom, toldName}
 use Rattle.model.specs.Steps.{World, constantOf, slotOf, lastOf, cut}
-use Rattle.value.proofs.Coding.{words-value}
 use Rattle.value.proofs.Stores.{length-values, getD-values, length-vals, vals-slot, vals-drop}
 use Rattle.value.proofs.Operands.{none, got-top, on-scalars, on-booleans}
 use Rattle.program.specs.Links.{namesLent}
 use Rattle.arms.specs.declared.Fixed.{Fixed}
-use Rattle.arms.specs.Links.{lastIn, Named}
+use Rattle.value.specs.Links.{lastIn}
+use Rattle.arms.specs.Links.{Named}
 
 -- ---- one value is popped
 
@@ -135,19 +129,6 @@ module _ (k a : ℕ) where
   unfolding lastOf lastIn
   last h d = rw (ne-eqb k 7 h, d)
 
--- no value has the kind that stands for no last result
-kept-kind : (x : Value) → kind x ≡ 7 → ⊥
-kept-kind (v.Scalar x) e = omega arith
-kept-kind (v.Boolean x) e = omega arith
-kept-kind (v.String o n) e = omega arith
-kept-kind (v.FunctionReference o n) e = omega arith
-kept-kind (v.List p) e = omega arith
-kept-kind (v.StructInstance p) e = omega arith
-
-pub last-words : (x : Value) → Fine x → lastIn (kind x) (payload x) ≡ Is x
-unfolding lastIn
-last-words x h = rw (ne-eqb (kind x) 7 (kept-kind x), words-value x h)
-
 -- ---- a stack shortened
 
 pub cut-vals : (b n : ℕ) (s : List ℕ) → cut b (vals n s) ≡ vals (min b n) s
@@ -159,18 +140,6 @@ cut-vals b n s = let z : n - (n - b) ≡ min b n = omega arith in rw (length-val
 pub is-reference : {A : Type 0} {x : Value} {o n : ℕ} → x ≡ v.FunctionReference o n → (k : ℕ → ℕ → A) (d : A) → ifReference x k d ≡ k o n
 unfolding ifReference
 is-reference e k d = rw e
-
-abbrev no-references : List ℕ
-no-references = 0 ∷ 1 ∷ 2 ∷ 4 ∷ 5 ∷ []
-
-pub no-reference : {A : Type 0} (x : Value) → OneOf no-references (tagOf the-type x) → (k : ℕ → ℕ → A) (d : A) → ifReference x k d ≡ d
-unfolding ifReference
-no-reference (v.Scalar x) h k d = refl
-no-reference (v.Boolean x) h k d = refl
-no-reference (v.String o n) h k d = refl
-no-reference (v.FunctionReference o n) h k d = absurd (miss no-references 3 tt h)
-no-reference (v.List p) h k d = refl
-no-reference (v.StructInstance p) h k d = refl
 
 -- the word of a reference names its text
 pub part-packed : (t : List ℕ) (o n : ℕ) → o < 2 ^ 32 → part t (pack o n) ≡ textAt t o n
@@ -187,13 +156,3 @@ module _ (u : World) (k : Fixed) (fs t : List ℕ) (rest : Stores) (e : Named k 
       → q ≡ toldName (functionNamed (textAt (u .text) o n) (u .functions))
   unfolding functionNamed namesLent
   named-as h c d q = rw (e .names, e .text, ← part-packed t o n h, ← c, ← d) q
-
-pub told-none : {x : Option ℕ} {q : Told} {t : ℕ} → q ≡ toldName x → q ≡ Refused t → x ≡ no
-unfolding toldName
-told-none {x = no} e h = refl
-told-none {x = some i} e h = cc
-
-pub told-some : {x : Option ℕ} {q : Told} {i : ℕ} → q ≡ toldName x → q ≡ Number i → x ≡ some i
-unfolding toldName
-told-some {x = no} e h = cc
-told-some {x = some i} e h = cc

@@ -2,31 +2,25 @@
 use mathlib.Core.Path.{_≡_}
 use mathlib.Core.Bool.{Bool, true, false, not, _&&_, _||_}
 use mathlib.Core.List.{List, [], _∷_, map}
-use Prim.Native.Nat.{ℕ, _+_, _*_, _≤_, _<_}
-use lib.Dec.{eqb}
+use Prim.Native.Nat.{ℕ, _*_, _≤_, _<_}
 use lib.ListN.{length}
 use Rattle.model.specs.declared.Value.{Value}
 use Rattle.model.specs.declared.Value.the-variants as v
-use Rattle.model.specs.declared.Last.{Last}
-use Rattle.model.specs.declared.Last.the-variants.{Nothing, Is}
 use Rattle.model.specs.declared.Fault.the-variants as f
 use Rattle.model.specs.declared.Frame.{Frame}
-use Rattle.model.specs.Basics.{if_then_else_, everyFrom}
-use Rattle.model.specs.Values.{vals, places, valueOf, valueAt, kindAt, payloadAt, exactValue}
+use Rattle.model.specs.Basics.{everyFrom}
+use Rattle.model.specs.Values.{vals, places, valueAt, kindAt, payloadAt, exactValue}
 use Rattle.model.specs.Heap.{heapOf, heapOk, placedBelow, exactCells}
 use Rattle.model.specs.Stores.{Stores}
 use Rattle.model.specs.Emission.{namesFrom}
 use Rattle.model.specs.Steps.{World, State, Outcome, went, returned, faulted, withFrames}
+use Rattle.value.specs.Links.{lastIn}
 use Rattle.arms.specs.declared.Fixed.{Fixed}
 use Rattle.arms.specs.declared.Going.{Going}
-use Rattle.arms.specs.declared.Completed.{Completed}
 use Rattle.arms.specs.declared.Answer.{Answer}
 use Rattle.arms.specs.declared.Answer.the-variants.{Went, Returned, Call, Back, Stopped}
 
 -- ---- what the words stand for: s is the stack's store, x the cells', cs the callers
-
-unfoldable pub lastIn : ℕ → ℕ → Last
-lastIn k a = if eqb k 7 then Nothing else Is (valueOf k a)
 
 abbrev pub frameIn : Going → Frame
 frameIn g = record { function = g .function; position = g .position; base = g .base }

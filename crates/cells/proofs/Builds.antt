@@ -16,10 +16,10 @@ use Rattle.model.specs.declared.Header.{Header}
 use Rattle.model.specs.declared.Fault.the-variants as f
 use Rattle.model.specs.Values.{kindAt, payloadAt, valueAt, putWords, places, vals}
 use Rattle.model.specs.Heap as heap
-use Rattle.model.specs.Heap.{Cell, item, head, headerOf, cellKind, cellPayload, putCell, heapOf, depthIn, deepest, listElements, structFields, blockOf, buildOf, placedBelow, exactCell, exactCells}
+use Rattle.model.specs.Heap.{Cell, item, head, headerOf, cellKind, cellPayload, heapOf, depthIn, deepest, listElements, structFields, blockOf, buildOf, placedBelow, exactCell, exactCells}
 use Rattle.value.specs.Links.{Written}
 use Rattle.value.proofs.Coding.{and-left, and-right, cell-exact}
-use Rattle.value.proofs.Stores.{length-vals, vals-at, vals-upward, getD-values, kind-same, kind-other, payload-same, payload-other, written-length, taken}
+use Rattle.value.proofs.Stores.{length-vals, vals-at, vals-upward, getD-values, kind-same, kind-other, payload-same, payload-other, stored-words, written-length, taken}
 use Rattle.cells.specs.declared.Built.the-variants.{Taken, Bad}
 use Rattle.cells.specs.Links.{elementsOf, Held, TopPre, Besides, CopyPost, BuildPost}
 use Rattle.cells.proofs.Order.{and-both, Every, nil, cons, every-at, Whole, list-of, struct-of}
@@ -173,22 +173,18 @@ exact-more (suc n) i s e f =
     and-both x (exactCells (suc n) (suc i) s) (and-left x y e) (exact-more n (suc i) s (and-right x y e) (rw z at f))
 
 module _ {w : List ℕ} {j : ℕ} {x : Cell} {w' : List ℕ} (q : Written w j x w') where
-  stored-words : w' ≡ putWords w j (cellKind x) (cellPayload x)
-  unfolding putCell
-  stored-words = q .stored
-
   written-exact : 2 * j + 2 ≤ length w → exactCells j 0 w ≡ true → exactCells (j + 1) 0 w' ≡ true
   written-exact h e =
       let k = cellKind x in let a = cellPayload x in
       let z : j + 1 ≡ suc j = omega arith in
       let y : 0 + j ≡ j = omega arith in
-      rw (z, stored-words) (exact-more j 0 (putWords w j k a) (exact-before j 0 w j k a (omega arith) ∙ e)
+      rw (z, stored-words q) (exact-more j 0 (putWords w j k a) (exact-before j 0 w j k a (omega arith) ∙ e)
       (rw (y, kind-same w j k a h, payload-same w j k a h) (cell-exact x (q .fine))))
 
   written-besides : Besides j (j + 1) w w'
   unfolding putWords
   written-besides k n =
-      rw stored-words
+      rw (stored-words q)
       (getD-set-other (set w (2 * j) (cellKind x)) (2 * j + 1) k (cellPayload x) 0 (λ e. n (omega arith) (omega arith))
       ∙ getD-set-other w (2 * j) k (cellKind x) 0 (λ e. n (omega arith) (omega arith)))
 

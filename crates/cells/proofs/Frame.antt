@@ -4,7 +4,7 @@ use mathlib.Core.Bool.{Bool, true, false, _&&_}
 use mathlib.Core.List.{List, [], _∷_, _++_}
 use Prim.Native.Nat.{ℕ, zero, suc, _+_, _<_, _≤_}
 use native.Mathlib.Omega.{arith}
-use borrow.Author.Tests.{lt-ltb, ltb-false, eqb-true, eq-eqb, ne-eqb}
+use borrow.Author.Tests.{ltb-false, eqb-true, eq-eqb, ne-eqb}
 use lib.Dec.{eqb, ltb}
 use lib.ListN.{length, getD, take, length-append, length-map, List·getD-append, List·getD-map}
 use lib.Seq.{getD-append-add, getD-append-seam, take-append-seam}
@@ -14,7 +14,7 @@ use Rattle.model.specs.declared.Header.{Header}
 use Rattle.model.specs.declared.Fault.the-variants as f
 use Rattle.model.specs.declared.Found.the-variants as g
 use Rattle.model.specs.Basics.{if_then_else_}
-use Rattle.model.specs.Heap.{Cell, item, head, isHead, itemOf, headOf, cellIn, itemIn, headIn, items, elementsIn, fieldOf, depthIn, deepest, blockOf, built, unbuilt, buildOf, placedBelow, blockOk, blocksFrom, heapOk}
+use Rattle.model.specs.Heap.{Cell, item, head, isHead, itemOf, headOf, cellIn, itemIn, headIn, items, elementsIn, depthIn, deepest, blockOf, built, unbuilt, buildOf, placedBelow, blockOk, blocksFrom, heapOk}
 use Rattle.value.proofs.Coding.{and-left, and-right}
 use Rattle.cells.proofs.Order.{Every, nil, cons, every-map, every-at, Whole, Placed, list-of, list-number, list-to, struct-of, struct-to, placed-more, Block, block-of, block-to, inner}
 
@@ -168,12 +168,6 @@ grown-at room H k us H' false false ex ey e = record { shallow = ltb-false _ _ e
 pub grown-of : (room : ℕ) (H : List Cell) (k : ℕ) (us : List Value) (H' : List Cell) → buildOf room H k us ≡ built H' → Grown room H k us H'
 unfolding buildOf
 grown-of room H k us H' e = grown-at room H k us H' (ltb 64 (suc (deepest H us))) (ltb room (length H + suc (length us))) refl refl e
-
--- field a of a new struct is element a
-pub new-field : (room : ℕ) (H : List Cell) (k : ℕ) (us : List Value) (H' : List Cell) → buildOf room H k us ≡ built H'
-    → (a : ℕ) → a < length us → fieldOf H' (length H) a ≡ g.Got (getD us a (v.Boolean false))
-unfolding fieldOf
-new-field room H k us H' q a h = rw (grown-of room H k us H' q .is, head-new H k us, lt-ltb a (length us) h, item-new H k us a)
 
 -- ---- the test passes again
 

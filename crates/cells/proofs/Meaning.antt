@@ -10,6 +10,7 @@ use lib.ListN.{length}
 use Rattle.model.specs.declared.Value.{Value}
 use Rattle.model.specs.declared.Value.the-variants as v
 use Rattle.model.specs.declared.Header.{Header}
+use Rattle.model.specs.declared.Fault.{Fault}
 use Rattle.model.specs.declared.Fault.the-variants as f
 use Rattle.model.specs.declared.Found.the-variants as g
 use Rattle.model.specs.Basics.{if_then_else_}
@@ -290,13 +291,13 @@ at-items m H zero i a h = absurd (let z : ⊥ = omega arith in z)
 at-items m H (suc n) i zero h = let z : i + 0 ≡ i = omega arith in rw z here
 at-items m H (suc n) i (suc a) h = let z : i + suc a ≡ suc i + a = omega arith in rw z (later (at-items m H n (suc i) a (omega arith)))
 
-got : (x y : Value) (z : Bool) → (if z then g.Got x else g.Bad f.OutOfRange) ≡ g.Got y → (z ≡ true) × (x ≡ y)
-got x y true e = (refl, cc)
-got x y false e = absurd (let z : _≡_ {A = ℕ} 0 1 = cc in omega arith)
+pub got : (b : Bool) (x y : Value) (n : Fault) → (if b then g.Got x else g.Bad n) ≡ g.Got y → (b ≡ true) × (x ≡ y)
+got true x y n e = (refl, cc)
+got false x y n e = absurd (let z : _≡_ {A = ℕ} 0 1 = cc in omega arith)
 
 field-at : (H : List Cell) (p a : ℕ) (u : Value) → fieldOf H p a ≡ g.Got u → (a < headIn H p .count) × (itemIn H (suc p + a) ≡ u)
 unfolding fieldOf
-field-at H p a u e = let z = got (itemIn H (suc p + a)) u (ltb a (headIn H p .count)) e in (ltb-true _ _ (z .0), z .1)
+field-at H p a u e = let z = got (ltb a (headIn H p .count)) (itemIn H (suc p + a)) u _ e in (ltb-true _ _ (z .0), z .1)
 
 pub field-is : (t : List ℕ) (H : List Cell) → heapOk (length t) H ≡ true → (p a : ℕ) → Placed (length t) H (length H) (v.StructInstance p)
     → (u : Value) → fieldOf H p a ≡ g.Got u → (k : ℕ) (us : Trees) → meaning t H (v.StructInstance p) ≡ struct k us → At us a (meaning t H u)

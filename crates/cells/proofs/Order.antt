@@ -20,10 +20,6 @@ use Rattle.model.specs.Heap.{Cell, item, head, isHead, itemOf, cellIn, itemIn, 
 pub and-both : (x y : Bool) → x ≡ true → y ≡ true → x && y ≡ true
 and-both x y e f = rw e f
 
-pub and-false : (x : Bool) → x && false ≡ false
-and-false true = refl
-and-false false = refl
-
 pub same-test : (x y : Bool) → (x ≡ true → y ≡ true) → (x ≡ false → y ≡ false) → x ≡ y
 same-test true y f g = sym (f refl)
 same-test false y f g = sym (g refl)

@@ -26,7 +26,7 @@ same-bool-true false y e = absurd (true≢false (sym e))
 
 -- a value of another kind
 module _ {A : Type 0} where
-  no-string : (u : Value) → OneOf (0 ∷ 1 ∷ 3 ∷ 4 ∷ 5 ∷ []) (tagOf the-type u) → (k : ℕ → ℕ → A) (d : A) → ifString u k d ≡ d
+  pub no-string : (u : Value) → OneOf (0 ∷ 1 ∷ 3 ∷ 4 ∷ 5 ∷ []) (tagOf the-type u) → (k : ℕ → ℕ → A) (d : A) → ifString u k d ≡ d
   unfolding ifString
   no-string (v.Scalar x) h k d = refl
   no-string (v.Boolean x) h k d = refl
@@ -35,7 +35,7 @@ module _ {A : Type 0} where
   no-string (v.List p) h k d = refl
   no-string (v.StructInstance p) h k d = refl
 
-  no-reference : (u : Value) → OneOf (0 ∷ 1 ∷ 2 ∷ 4 ∷ 5 ∷ []) (tagOf the-type u) → (k : ℕ → ℕ → A) (d : A) → ifReference u k d ≡ d
+  pub no-reference : (u : Value) → OneOf (0 ∷ 1 ∷ 2 ∷ 4 ∷ 5 ∷ []) (tagOf the-type u) → (k : ℕ → ℕ → A) (d : A) → ifReference u k d ≡ d
   unfolding ifReference
   no-reference (v.Scalar x) h k d = refl
   no-reference (v.Boolean x) h k d = refl
@@ -44,7 +44,7 @@ module _ {A : Type 0} where
   no-reference (v.List p) h k d = refl
   no-reference (v.StructInstance p) h k d = refl
 
-  no-list : (u : Value) → OneOf (0 ∷ 1 ∷ 2 ∷ 3 ∷ 5 ∷ []) (tagOf the-type u) → (k : ℕ → A) (d : A) → ifList u k d ≡ d
+  pub no-list : (u : Value) → OneOf (0 ∷ 1 ∷ 2 ∷ 3 ∷ 5 ∷ []) (tagOf the-type u) → (k : ℕ → A) (d : A) → ifList u k d ≡ d
   unfolding ifList
   no-list (v.Scalar x) h k d = refl
   no-list (v.Boolean x) h k d = refl
@@ -53,7 +53,7 @@ module _ {A : Type 0} where
   no-list (v.List p) h k d = absurd (miss (0 ∷ 1 ∷ 2 ∷ 3 ∷ 5 ∷ []) 4 tt h)
   no-list (v.StructInstance p) h k d = refl
 
-  no-struct : (u : Value) → OneOf (0 ∷ 1 ∷ 2 ∷ 3 ∷ 4 ∷ []) (tagOf the-type u) → (k : ℕ → A) (d : A) → ifStruct u k d ≡ d
+  pub no-struct : (u : Value) → OneOf (0 ∷ 1 ∷ 2 ∷ 3 ∷ 4 ∷ []) (tagOf the-type u) → (k : ℕ → A) (d : A) → ifStruct u k d ≡ d
   unfolding ifStruct
   no-struct (v.Scalar x) h k d = refl
   no-struct (v.Boolean x) h k d = refl

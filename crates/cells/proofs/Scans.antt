@@ -1,6 +1,6 @@
 -- The test of good order: the laws of its code.
 use mathlib.Core.Path.{_≡_, refl, sym, ap, _∙_}
-use mathlib.Core.Bool.{Bool, true, false, not, _&&_, true≢false}
+use mathlib.Core.Bool.{Bool, true, false, not, _&&_, true≢false, and-false}
 use mathlib.Core.Logic.{⊎-elim}
 use mathlib.Core.List.{List, [], _∷_, _++_}
 use Prim.Native.Nat.{ℕ, zero, suc, _+_, _-_, _*_, _<_, _≤_, max}
@@ -17,7 +17,7 @@ use Rattle.model.specs.declared.Header.{Header}
 use Rattle.model.specs.Values.{kindAt, payloadAt, valueAt}
 use Rattle.model.specs.Heap.{Cell, item, head, headerOf, cellsFrom, heapOf, isHead, itemOf, cellIn, itemIn, headIn, items, elementsIn, depthIn, deepest, wholeBelow, placedBelow, elementBelow, elementsBelow, blockOk, blocksFrom, heapOk, exactCell, exactCells}
 use Rattle.cells.specs.Links.{Held}
-use Rattle.cells.proofs.Order.{and-false, same-test, by-less, Whole, whole-of, Placed, Block, block-of}
+use Rattle.cells.proofs.Order.{same-test, by-less, Whole, whole-of, Placed, Block, block-of}
 use Rattle.cells.proofs.Frame.{cell-frame, head-frame, depth-frame, at-end}
 use Rattle.cells.proofs.Stands.{length-heap, kind-is, item-is, head-is, header-is, header-room, heap-split}
 

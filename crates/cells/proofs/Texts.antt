@@ -1,6 +1,6 @@
 -- Two texts: the loop's invariant and its laws.
 use mathlib.Core.Path.{_≡_, refl, sym, ap, _∙_}
-use mathlib.Core.Bool.{true, false, _&&_}
+use mathlib.Core.Bool.{true, false, _&&_, and-false}
 use mathlib.Core.List.{List, [], _∷_}
 use Prim.Native.Nat.{ℕ, zero, suc, _+_, _-_, _<_, _≤_}
 use native.Mathlib.Omega.{arith}
@@ -10,7 +10,6 @@ use lib.ListN.{length, getD, length-take, length-drop}
 use lib.Seq.{drop-cons}
 use Rattle.model.specs.Values.{textAt}
 use Rattle.model.specs.Equality.{sameBytes}
-use Rattle.cells.proofs.Order.{and-false}
 
 length-text : (t : List ℕ) (o n : ℕ) → o + n ≤ length t → length (textAt t o n) ≡ n
 unfolding textAt

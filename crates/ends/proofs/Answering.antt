@@ -9,24 +9,13 @@ use Rattle.model.specs.declared.Value.{Value}
 use Rattle.model.specs.declared.Last.{Last}
 use Rattle.model.specs.declared.Last.the-variants.{Nothing, Is}
 use Rattle.model.specs.declared.RunResult.the-variants as r
-use Rattle.model.specs.Values.{valueOf, payloadAt}
+use Rattle.model.specs.Values.{payloadAt}
 use Rattle.model.specs.Stores.{size, codeWord}
 use Rattle.model.specs.Runs.{root}
 use Rattle.arms.specs.declared.Going.{Going}
-use Rattle.arms.specs.Links.{lastIn}
+use Rattle.value.specs.Links.{lastIn}
 use Rattle.steps.specs.Links.{answerIn}
 use Rattle.ends.specs.Links.{vmWith, vmEnded, resultBy, endedWith, vmFaulted, faultedWith}
-
--- ---- the last result from its words
-
-module _ (k a : ℕ) where
-  pub last-none : k ≡ 7 → Nothing ≡ lastIn k a
-  unfolding lastIn
-  last-none e = rw (eq-eqb _ _ e)
-
-  pub last-some : (k ≡ 7 → ⊥) → {x : Value} → x ≡ valueOf k a → Is x ≡ lastIn k a
-  unfolding lastIn
-  last-some h e = rw (ne-eqb _ _ h, e)
 
 -- ---- the answers
 

@@ -1,3 +1,4 @@
+-- A run before and behind its loop.
 pub mod Judging
 pub mod Starting
 pub mod Answering

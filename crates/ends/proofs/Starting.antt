@@ -1,25 +1,17 @@
 -- The copy of a stack, what no step changes, and the machine at its start.
-use mathlib.Core.Path.{_≡_, refl, sym, ap}
-use mathlib.Core.Bool.{false}
+use mathlib.Core.Path.{_≡_, refl, sym}
 use mathlib.Core.List.{List}
 use Prim.Native.Nat.{ℕ, _+_, _≤_, _<_, min}
 use native.Mathlib.Omega.{arith}
-use lib.Dec.{eqb}
 use lib.ListN.{length, getD, set, take}
 use lib.Seq.{getD-take, length-take-le}
 use Rattle.model.specs.declared.Vm.{Vm}
-use Rattle.model.specs.declared.Value.{Value}
-use Rattle.model.specs.declared.Value.the-variants as v
 use Rattle.model.specs.declared.Last.{Last}
-use Rattle.model.specs.declared.Last.the-variants.{Nothing, Is}
-use Rattle.model.specs.Values.{kind}
 use Rattle.model.specs.Emission.{written}
 use Rattle.model.specs.Machines.{frameRoom}
-use Rattle.value.specs.Links.{PayloadOf}
-use Rattle.value.proofs.Coding.{words-value}
+use Rattle.value.specs.Links.{lastIn, lastKind}
 use Rattle.program.proofs.Writing.{Writing, another, whole}
-use Rattle.arms.specs.Links.{lastIn}
-use Rattle.ends.specs.Links.{FixedPost, lastKind}
+use Rattle.ends.specs.Links.{FixedPost}
 use Rattle.ends.proofs.Judging.{Room}
 
 -- ---- the first n words of one store at the front of another
@@ -38,33 +30,7 @@ pub fixed-is : (m : Vm) (a b : ℕ) {ra rb : ℕ} → Room a ra → rb ≡ min b
 unfolding frameRoom
 fixed-is m a b ha hb = record { constants = refl; structs = refl; functions = refl; slots = ha; frames = λ fs e. rw (hb, e) }
 
--- ---- the last result in words
+-- ---- the last result, by its two words
 
-no-kind : (x : Value) → eqb (kind x) 7 ≡ false
-no-kind (v.Scalar x) = refl
-no-kind (v.Boolean x) = refl
-no-kind (v.String o n) = refl
-no-kind (v.FunctionReference o n) = refl
-no-kind (v.List p) = refl
-no-kind (v.StructInstance p) = refl
-
-module _ {last : Last} where
-  pub kind-none : last ≡ Nothing → 7 ≡ lastKind last
-  unfolding lastKind
-  kind-none e = rw e
-
-  pub kind-some : {x : Value} → last ≡ Is x → {k : ℕ} → k ≡ kind x → k ≡ lastKind last
-  unfolding lastKind
-  kind-some e f = rw e f
-
-  pub payload-none : last ≡ Nothing → lastIn (lastKind last) 0 ≡ last
-  unfolding lastIn lastKind
-  payload-none e = rw e
-
-  pub payload-some : {x : Value} → last ≡ Is x → {a : ℕ} → PayloadOf x a → lastIn (lastKind last) a ≡ last
-  unfolding lastIn lastKind
-  payload-some {x} e p = rw (e, no-kind x, p .is) (ap Is (words-value x (p .fine)))
-
-  -- both words together
-  pub last-back : (k a : ℕ) → k ≡ lastKind last → lastIn (lastKind last) a ≡ last → lastIn k a ≡ last
-  last-back k a e f = rw e f
+pub last-back : {last : Last} (k a : ℕ) → k ≡ lastKind last → lastIn (lastKind last) a ≡ last → lastIn k a ≡ last
+last-back k a e f = rw e f

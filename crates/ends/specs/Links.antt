@@ -18,7 +18,7 @@ use Rattle.model.specs.Machines.{Lent, frameRoom, tooShort}
 use Rattle.rules.specs.Ordered.{runProgram}
 use Rattle.arms.specs.declared.Fixed.{Fixed}
 use Rattle.arms.specs.declared.Going.{Going}
-use Rattle.arms.specs.Links.{lastIn}
+use Rattle.value.specs.Links.{lastIn}
 use Rattle.steps.specs.Links.{answerIn}
 
 -- what a run is lent of the program: all but the struct names
@@ -53,11 +53,6 @@ pub record FixedPost (m : Vm) (a b : ℕ) (k : Fixed) : Type 0 where
   pub functions : k .functions ≡ m .program .functions
   pub slots : (s : List ℕ) → length s ≡ a → k .slots ≡ places 2 s
   pub frames : (fs : List Frame) → length fs ≡ b → k .frames ≡ frameRoom fs
-
--- the last result's kind in words, 7 where there is none
-unfoldable pub lastKind : Last → ℕ
-lastKind Nothing = 7
-lastKind (Is v) = kind v
 
 -- the running machine at its start, in the frame f
 pub record Begun (m : Vm) (f : Frame) (u : ℕ) (g : Going) : Type 0 where

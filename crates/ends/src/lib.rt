@@ -20,8 +20,9 @@ use program::words::room;
 use program::words::second;
 use program::words::size_of;
 use value::words::exact_value;
-use value::words::kind_of;
-use value::words::payload_of;
+use value::words::last_in;
+use value::words::last_kind;
+use value::words::last_payload;
 use value::words::value_of;
 ghost use mathlib.Core.Path.{_≡_};
 ghost use mathlib.Core.Bool.{_&&_};
@@ -35,8 +36,7 @@ ghost use Rattle.model.specs.Stores.{size, codeWord};
 ghost use Rattle.model.specs.Orders.{cellsOk, stackOk, lastOk};
 ghost use Rattle.model.specs.Runs.{root};
 ghost use Rattle.rules.specs.Ordered.{runProgram};
-ghost use Rattle.arms.specs.Links.{lastIn};
-ghost use Rattle.ends.specs.Links.{programLent, restOrder, ShortPost, FixedPost, lastKind, Begun, vmWith, endedWith, faultedWith};
+ghost use Rattle.ends.specs.Links.{programLent, restOrder, ShortPost, FixedPost, Begun, vmWith, endedWith, faultedWith};
 
 // ---- before the loop
 
@@ -198,26 +198,6 @@ pub fn innermost_at(n: usize) -> usize
     n - 1
 }
 
-// The last result in words: its kind, 7 where there is none.
-fn last_kind(last: Last) -> u64
-    ensures { λ r. ⌜ r ≡ lastKind last ⌝ }
-{
-    match last {
-        Last::Nothing => 7,
-        Last::Is(v) => kind_of(v),
-    }
-}
-
-// And its payload.
-fn last_payload(last: Last) -> u64
-    ensures { λ r. ⌜ lastIn (lastKind last) r ≡ last ⌝ }
-{
-    match last {
-        Last::Nothing => 0,
-        Last::Is(v) => payload_of(v),
-    }
-}
-
 // The machine at its start, in the frame f.
 pub fn begin(m: Vm, f: Frame, units: u64) -> Going
     ensures { λ r. ⌜ Begun m f units r ⌝ }
@@ -239,16 +219,6 @@ pub fn begin(m: Vm, f: Frame, units: u64) -> Going
 }
 
 // ---- behind the loop
-
-// The last result from its words.
-fn last_in(kind: u64, payload: u64) -> Last
-    ensures { λ r. ⌜ r ≡ lastIn kind payload ⌝ }
-{
-    if kind == 7 {
-        return Last::Nothing;
-    }
-    Last::Is(value_of(kind, payload))
-}
 
 // The machine over the same program, with these counts and this last result.
 fn vm_with(m: Vm, stack: usize, frames: usize, cells: usize, last: Last) -> Vm

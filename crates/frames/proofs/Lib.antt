@@ -3,6 +3,7 @@ pub mod Locals
 pub mod Lends
 pub mod Slices
 pub mod Calls
+pub mod Lending
 pub mod Picks
 pub mod Elements
 pub mod Branches

@@ -4,7 +4,8 @@
 --     trace-is             the backtrace in numbers
 -- Assumes nothing.
 use mathlib.Core.Path.{_≡_, refl, sym, ap, _∙_}
-use mathlib.Core.Bool.{Bool, true, false, _&&_}
+use mathlib.Core.Bool.{Bool, true, false, _&&_, and-false}
+use mathlib.Mathlib.Data.Bool.Basic.{and-elim-left, and-elim-right}
 use mathlib.Core.List.{List, [], _∷_}
 use Prim.Native.Nat.{ℕ, zero, suc, _+_, _-_, _<_, _≤_, min}
 use native.Mathlib.Omega.{arith}
@@ -20,11 +21,6 @@ use Rattle.model.specs.Stores.{start, size, part, codeWord}
 use Rattle.model.specs.Orders.{frameOk, callerOk, framesFrom, framesOk, frameStoreOk}
 use Rattle.model.specs.Runs.{traceOf, traceable}
 use Rattle.frames.specs.Links.{noFrame, frameGood, firstGood, callerGood, placeGood, framesGood, callersOf, placesOf, placeAt, placeOf, traceWords, entryWords, insideGood, traceGood}
-use Rattle.frames.proofs.Orders.{false-true}
-
-never : (b : Bool) → (b && false) ≡ false
-never true = refl
-never false = refl
 
 last : (a f : Bool) → (a && f && true && true) ≡ (f && a)
 last true true = refl
@@ -38,10 +34,6 @@ in-front true true c x = refl
 in-front true false c x = refl
 in-front false true c x = refl
 in-front false false c x = refl
-
-both-true : (a b : Bool) → (a && b) ≡ true → (a ≡ true) × (b ≡ true)
-both-true true b h = (refl, h)
-both-true false b h = absurd (false-true h)
 
 not-first : (i : ℕ) (r : Frame) (x : Bool) → (firstGood (suc i) r && x) ≡ x
 unfolding firstGood
@@ -83,7 +75,7 @@ module _ (words : List ℕ) (count slots : ℕ) (fs : List Function) (counted : 
 
   pub frames-are-good : (n : ℕ) (frames : List Frame) → framesGood words count slots n frames ≡ frameStoreOk fs slots n frames
   unfolding framesGood frameStoreOk framesOk
-  frames-are-good zero frames = sym (never (leb 0 (min (length frames) mostPlaces)))
+  frames-are-good zero frames = sym (and-false (leb 0 (min (length frames) mostPlaces)))
   frames-are-good (suc m) frames = by-room m frames (leb (suc m) (min (length frames) mostPlaces)) refl
 
 -- ---- the backtrace
@@ -117,4 +109,4 @@ module _ (words : List ℕ) (count : ℕ) (fs : List Function) (sizes : (i : ℕ
     unfolding traceWords entryWords traceOf traceGood insideGood
     trace-is [] k g = refl
     trace-is (r ∷ rs) k g =
-        rw (place-is r (k .0) (ltb-true (r .position - 1) (size (codeWord words (r .function))) (both-true _ (traceGood words rs) g .0)), trace-is rs (k .1) (both-true (ltb (r .position - 1) (size (codeWord words (r .function)))) (traceGood words rs) g .1))
+        rw (place-is r (k .0) (ltb-true (r .position - 1) (size (codeWord words (r .function))) (and-elim-left _ (traceGood words rs) g)), trace-is rs (k .1) (and-elim-right (ltb (r .position - 1) (size (codeWord words (r .function)))) (traceGood words rs) g))

@@ -1,12 +1,14 @@
 -- What the definitions of good order say to the code that decides them: each test that fails, and all that pass.
 -- Assumes nothing.
-use mathlib.Core.Path.{_≡_, refl, sym, ap, _∙_}
-use mathlib.Core.Bool.{Bool, true, false, not, _&&_}
+use mathlib.Core.Path.{_≡_, refl, sym, _∙_}
+use mathlib.Core.Bool.{Bool, true, false, not, _&&_, false≢true}
+use mathlib.Mathlib.Data.Bool.Basic.{and-elim-left}
 use mathlib.Core.List.{List}
 use Prim.Native.Nat.{ℕ, suc, _+_, _-_, _*_, _/_, _<_, _≤_, min}
 use native.Mathlib.Numerals.{add-one}
 use native.Mathlib.Omega.{arith}
 use lib.Dec.{T, ltb, leb, eqb}
+pub use lib.Ieee.Bits.{is-true, is-false}
 use lib.ListN.{getD}
 use borrow.Author.Tests.{ltb-true, ltb-false, leb-true, lt-ltb, le-ltb, le-leb, lt-leb, eq-eqb, ne-eqb}
 use Rattle.model.specs.declared.Frame.{Frame}
@@ -15,21 +17,6 @@ use Rattle.model.specs.Values.{mostPlaces, payloadAt}
 use Rattle.model.specs.Stores.{size, codeWord}
 use Rattle.frames.specs.Links.{frameGood, firstGood, callerGood, placeGood, begun, looked, scan}
 use Rattle.frames.specs.declared.order.Scan.{Scan}
-
-left-true : (a b : Bool) → (a && b) ≡ true → a ≡ true
-left-true true b h = refl
-left-true false b h = h
-
-pub false-true : false ≡ true → ⊥
-false-true e = let z : _≡_ {A = ℕ} 0 1 = ap (λ (b : Bool). if b then 1 else 0) e in omega arith
-
-pub is-true : (b : Bool) → T b → b ≡ true
-is-true true h = refl
-is-true false h = absurd h
-
-pub is-false : (b : Bool) → T (not b) → b ≡ false
-is-false true h = absurd h
-is-false false h = refl
 
 -- ---- a frame, by its place
 
@@ -48,7 +35,7 @@ module _ (count slots : ℕ) (r : Frame) where
 
   pub function-known : frameGood count slots r ≡ true → r .function < count
   unfolding frameGood
-  function-known h = ltb-true (r .function) count (left-true (ltb (r .function) count) (leb (r .base) slots) (left-true (ltb (r .function) count && leb (r .base) slots) (leb (r .position) 131070) h))
+  function-known h = ltb-true (r .function) count (and-elim-left (ltb (r .function) count) (leb (r .base) slots) (and-elim-left (ltb (r .function) count && leb (r .base) slots) (leb (r .position) 131070) h))
 
 module _ (i : ℕ) (r : Frame) where
   pub not-first : (i ≡ 0 → ⊥) → true ≡ firstGood i r
@@ -146,8 +133,8 @@ module _ (test : ℕ → Bool) (n : ℕ) where
 
   by-case : (i : ℕ) → i < n → (b c : Bool) → test i ≡ b → ltb (i + 1) n ≡ c → Turned i (if b then (if c then scan (i + 1) true true else scan i false true) else scan i false false)
   by-case i h true true e f = record { same = sym (one-more i h ∙ rw e); less = omega arith; inside = λ _. ltb-true (i + 1) n f }
-  by-case i h true false e f = record { same = sym (one-more i h ∙ rw e (at-end i (omega (arith, ltb-false (i + 1) n f)))); less = omega arith; inside = λ g. absurd (false-true g) }
-  by-case i h false c e f = record { same = sym (one-more i h ∙ rw e); less = omega arith; inside = λ g. absurd (false-true g) }
+  by-case i h true false e f = record { same = sym (one-more i h ∙ rw e (at-end i (omega (arith, ltb-false (i + 1) n f)))); less = omega arith; inside = λ g. absurd (false≢true g) }
+  by-case i h false c e f = record { same = sym (one-more i h ∙ rw e); less = omega arith; inside = λ g. absurd (false≢true g) }
 
   turned : (i : ℕ) → i < n → Turned i (looked (test i) n i)
   unfolding looked
@@ -160,8 +147,8 @@ module _ (test : ℕ → Bool) (n : ℕ) where
 
   in-room : (room : ℕ) (b c : Bool) → leb 1 n ≡ b → leb n (min room mostPlaces) ≡ c → (if b && c then scan 0 true true else scan 0 false false) .more ≡ true → ((if b && c then scan 0 true true else scan 0 false false) .at < n) × (n ≤ room)
   in-room room true true e f g = (omega (arith, leb-true 1 n e), omega (arith, leb-true n (min room mostPlaces) f))
-  in-room room true false e f g = absurd (false-true g)
-  in-room room false c e f g = absurd (false-true g)
+  in-room room true false e f g = absurd (false≢true g)
+  in-room room false c e f g = absurd (false≢true g)
 
   -- what is known of the search at the loop's head, over a store with this many frames
   pub record Going (goal : Bool) (room : ℕ) (s : Scan) : Type 0 where

@@ -1,7 +1,7 @@
 -- What the definitions of a backtrace say to the code that writes one, and to the loops over the callers.
 -- Assumes nothing.
 use mathlib.Core.Path.{_≡_, refl, sym, ap, _∙_}
-use mathlib.Core.Bool.{Bool, true, false, not, _&&_}
+use mathlib.Core.Bool.{Bool, true, false, not, _&&_, false≢true}
 use mathlib.Core.List.{List, _∷_}
 use Prim.Native.Nat.{ℕ, zero, suc, _+_, _-_, _*_, _/_, _%_, _<_, _≤_}
 use native.Mathlib.Numerals.{add-one}
@@ -16,7 +16,7 @@ use Rattle.model.specs.Stores.{start, size, codeWord}
 use Rattle.frames.specs.declared.order.Scan.{Scan}
 use Rattle.frames.specs.declared.backtrace.Left.{Left}
 use Rattle.frames.specs.Links.{noFrame, scan, callersOf, placesOf, placeAt, placeOf, traceWords, written, insideGood, traceGood, Readable, leftOf, insideOf, Put}
-use Rattle.frames.proofs.Orders.{false-true, is-true, is-false}
+use Rattle.frames.proofs.Orders.{is-true, is-false}
 
 pub code-start : (words : List ℕ) (i : ℕ) → getD words (2 * i + 1) 0 % 0x1_0000_0000 ≡ start (codeWord words i)
 unfolding start codeWord payloadAt
@@ -110,9 +110,9 @@ module _ (words : List ℕ) (frames : List Frame) where
 
   below : (b : Bool) (i : ℕ) → insideOf b i .more ≡ true → insideOf b i .at < i
   unfolding insideOf
-  below true zero e = absurd (false-true e)
+  below true zero e = absurd (false≢true e)
   below true (suc i) e = omega arith
-  below false i e = absurd (false-true e)
+  below false i e = absurd (false≢true e)
 
   shorter : (b : Bool) (i : ℕ) → toJudge (insideOf b i) < suc i
   unfolding insideOf
@@ -172,7 +172,7 @@ module _ (words main other : List ℕ) (callers : ℕ) (frames : List Frame) whe
 
   next-below : (i : ℕ) → leftOf i .more ≡ true → leftOf i .at < i
   unfolding leftOf
-  next-below zero e = absurd (false-true e)
+  next-below zero e = absurd (false≢true e)
   next-below (suc i) e = omega arith
 
   next-less : (i : ℕ) → toWrite (leftOf i) < suc i

@@ -1,6 +1,6 @@
 -- What is written reads back, and nothing else reads: a law for each way to put readings together.
 use mathlib.Core.Path.{_≡_, refl, sym, ap, subst, _∙_}
-use mathlib.Core.Bool.{Bool, true, false, _&&_}
+use mathlib.Core.Bool.{Bool, true}
 use mathlib.Core.List.{List, [], _∷_, _++_, append-assoc}
 use Prim.Native.Nat.{ℕ, zero, suc, _≤_}
 use native.Mathlib.Omega.{arith}
@@ -10,19 +10,10 @@ use lib.Seq.{take-at, drop-at, length-take-le}
 use borrow.Author.Tests.{le-leb, leb-true}
 use Rattle.model.specs.Numbers.{Step, got, bad, andThen, item, checked, Bytes, Codes}
 use Rattle.model.specs.Images.{joined, series, takes, Each}
+use Rattle.program.proofs.Bools.{either-way}
+use Rattle.number.proofs.Codes.{never, item-only}
 
--- ---- tests, and steps taken apart
-
-pub by-test : {P : Type 0} (t : Bool) → (t ≡ true → P) → (t ≡ false → P) → P
-by-test true f g = f refl
-by-test false f g = g refl
-
-pub both-true : (a b : Bool) → (a && b) ≡ true → (a ≡ true) × (b ≡ true)
-both-true true b e = (refl, e)
-both-true false b e = absurd (let z : _≡_ {A = ℕ} 0 1 = cc in let w : ⊥ = omega arith in w)
-
-pub never : {A : Type 0} {a : A} {r : List ℕ} {n : ℕ} → _≡_ {A = Step A} (bad n) (got a r) → ⊥
-never e = let z : _≡_ {A = ℕ} 0 1 = cc in omega arith
+-- ---- steps taken apart
 
 pub got-value : {A : Type 0} {a b : A} {r q : List ℕ} → got a r ≡ got b q → a ≡ b
 got-value e = cc
@@ -46,15 +37,10 @@ made-only mk (bad n) c r e = absurd (never e)
 pub checked-only : {A : Type 0} (t : A → Bool) (s : Step A) (a : A) (r : List ℕ) → checked t s ≡ got a r → (s ≡ got a r) × (t a ≡ true)
 unfolding checked
 checked-only t (got x q) a r e =
-    by-test (t x)
+    either-way (t x)
     (λ y. let g : got x q ≡ got a r = rw y at e in (g, (let p : x ≡ a = got-value g in rw p at y)))
     (λ y. absurd (never (rw y at e)))
 checked-only t (bad n) a r e = absurd (never e)
-
-pub item-only : {A : Type 0} (b : List ℕ) (s : Step A) (a : A) (r : List ℕ) → item b s ≡ got a r → s ≡ got a r
-unfolding item
-item-only b (got x s) a r e = e
-item-only b (bad n) a r e = absurd (never e)
 
 pub item-got : {A : Type 0} (b : List ℕ) (s : Step A) (a : A) (r : List ℕ) → s ≡ got a r → item b s ≡ got a r
 unfolding item
@@ -125,7 +111,7 @@ unfolding takes
 codes-takes n = record {
   back = λ a r h. let g : n ≤ length (a ++ r) = (let z = length-append a r in omega arith) in rw (le-leb n (length (a ++ r)) g, take-at a r n h, drop-at a r n h);
   only = λ b a r y e.
-      by-test (leb n (length b))
+      either-way (leb n (length b))
       (λ t. let g : got (take n b) (drop n b) ≡ got a r = rw t at e in
       let p : take n b ≡ a = got-value g in let q : drop n b ≡ r = got-rest g in
       (rw (← p, ← q) (sym (take-append-drop n b)), rw (← p) (length-take-le n b (leb-true n (length b) t))))

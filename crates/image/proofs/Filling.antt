@@ -26,7 +26,9 @@ use Rattle.image.specs.declared.Item.the-variants as e
 use Rattle.image.specs.declared.Run.{Run}
 use Rattle.image.specs.declared.NextRun.{NextRun}
 use Rattle.image.specs.declared.NextRun.the-variants as r
-use Rattle.image.proofs.Codecs.{by-test, never, got-value, then-only, made-only}
+use Rattle.program.proofs.Bools.{either-way}
+use Rattle.number.proofs.Codes.{never}
+use Rattle.image.proofs.Codecs.{got-value, then-only, made-only}
 use Rattle.image.proofs.Reading.{Along, along-start, along-end, along-within, along-bad, along-step, joined-length, joined-append, bad-first, bad-test, bad-tested, good-test, good-both, no-number, onto}
 use Rattle.image.proofs.Items.{part-length, part-slice, text-is, text-not, entry-is, entry-not}
 use Rattle.image.proofs.Runs.{Running, runs-start, runs-good, runs-bad, runs-fits, runs-less, runs-step}
@@ -262,7 +264,7 @@ module _ (s : List ℕ) (at t₀ : ℕ) (ss₀ tx₀ : List ℕ) (fit : StructsF
           -- it is a name that is none of those before it: it was judged
           named : Good (readName (h .done)) s next (y + m) (partOf s y m)
           unfolding readName
-          named = by-test (not (among (partOf s y m) (h .done)))
+          named = either-way (not (among (partOf s y m) (h .done)))
               (λ f. good-test (λ t. not (among t (h .done))) (text-is s next x p y m q .good) f)
               (λ f. absurd (no next (bad-test (λ t. not (among t (h .done))) (text-is s next x p y m q .good) f)))
 

@@ -12,8 +12,8 @@ use Rattle.model.specs.Numbers.{Step, got, bad, andThen, digits, groupsOf, numb
 use Rattle.model.specs.Programs.{Constant, scalar, boolean, string, reference, Function, Program, among}
 use Rattle.model.specs.Images as i
 use Rattle.model.specs.Images.{joined, counted, bytesOf, textImage, constantImage, runImage, runsOf, functionImage, imageOf, takes, readText, wordOf, readFlag, readKind, readBody, readConstant, always, readName, snoc, noPlace, readRuns, mainFirst, readFunction, readEnd, parse, fine, judgedStep, judge, Small, SoundConstant, SoundName, SoundFunction, AllSmall, Each, Sound}
-use Rattle.number.proofs.Codes.{number-codes}
-use Rattle.image.proofs.Codecs.{never, got-value, got-rest, then-only, made-only, bytes-front, bytes-rest, codes-as, codes-item, codes-checked, codes-made, codes-seq, codes-takes, codes-series}
+use Rattle.number.proofs.Codes.{number-codes, never}
+use Rattle.image.proofs.Codecs.{got-value, got-rest, then-only, made-only, bytes-front, bytes-rest, codes-as, codes-item, codes-checked, codes-made, codes-seq, codes-takes, codes-series}
 use Rattle.image.proofs.Places.{codes-places}
 
 -- ---- texts
@@ -176,10 +176,10 @@ OkCode nm n f = (length (f .code) ≡ n) × OkPlaces nm (f .code) f
 OkName : List ℕ → Function → Type 0
 OkName nm f = Small (length (f .code)) × OkCode nm (length (f .code)) f
 
-abbrev readPlaces : List ℕ → List ℕ → List ℕ → Step Function
+abbrev pub readPlaces : List ℕ → List ℕ → List ℕ → Step Function
 readPlaces nm c t = andThen (readRuns (length c) (length c) noPlace t) (λ ps u. got (record { name = nm; code = c; places = ps }) u)
 
-abbrev readCode : List ℕ → ℕ → List ℕ → Step Function
+abbrev pub readCode : List ℕ → ℕ → List ℕ → Step Function
 readCode nm n s = andThen (takes n s) (λ c t. readPlaces nm c t)
 
 codes-function-places : (nm c : List ℕ) → Small (length c) → Codes (OkPlaces nm c) (λ f. joined runImage (runsOf (f .places))) (readPlaces nm c)
@@ -254,7 +254,7 @@ pub judge-back : (p : Program) → Sound p → judge (imageOf p) ≡ fine p
 unfolding judge judgedStep
 judge-back p h = rw (parse-back p h)
 
-judged-fine : (n : ℕ) (s : Step Program) (p : Program) → judgedStep n s ≡ fine p → (r : List ℕ) × (s ≡ got p r)
+pub judged-fine : (n : ℕ) (s : Step Program) (p : Program) → judgedStep n s ≡ fine p → (r : List ℕ) × (s ≡ got p r)
 unfolding judgedStep
 judged-fine n (got q r) p e = let z : q ≡ p = cc in (r, ap (λ (x : Program). got x r) z)
 judged-fine n (bad k) p e = absurd (let z : _≡_ {A = ℕ} 0 1 = cc in let w : ⊥ = omega arith in w)

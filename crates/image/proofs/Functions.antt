@@ -1,6 +1,6 @@
 -- Functions: a head, then runs; main, then the others.
 use mathlib.Core.Path.{_≡_, refl, sym, ap, subst, _∙_}
-use mathlib.Core.Bool.{Bool, true, false, _&&_}
+use mathlib.Core.Bool.{Bool, true, false, _&&_, and-true, and-assoc}
 use mathlib.Core.List.{List, [], _∷_, _++_}
 use Prim.Native.Nat.{ℕ, zero, suc, _+_, _-_, _<_, _≤_}
 use native.Mathlib.Omega.{arith}
@@ -12,7 +12,7 @@ use Rattle.model.specs.Basics.{ascii}
 use Rattle.model.specs.Numbers.{Step, got, andThen, item, checked, number}
 use Rattle.model.specs.Equality.{sameBytes}
 use Rattle.model.specs.Programs.{Function, functionAt, mainName, codesWithin}
-use Rattle.model.specs.Images.{joined, series, takes, readText, noPlace, readRuns, mainFirst, readFunction, readFunctions}
+use Rattle.model.specs.Images.{joined, series, readText, mainFirst, readFunction, readFunctions}
 use Rattle.number.specs.Links.{NumPost}
 use Rattle.number.specs.declared.Num.{Num}
 use Rattle.number.specs.declared.Num.the-variants as n
@@ -32,6 +32,7 @@ use Rattle.image.specs.declared.Rest.{Rest}
 use Rattle.image.specs.declared.Rest.the-variants as o
 use Rattle.image.specs.declared.Coded.the-variants as d
 use Rattle.image.proofs.Codecs.{got-value, then-only, made-only}
+use Rattle.image.proofs.Formats.{readPlaces, readCode}
 use Rattle.image.proofs.Reading.{Along, along-start, along-end, along-bad, along-step, joined-length, bad-first, bad-second, good-both, bad-test, bad-tested, good-test, no-number}
 use Rattle.image.proofs.Items.{part-length, part-slice, part-read, part-short, text-is, text-not}
 use Rattle.image.proofs.Passes.{counted-at}
@@ -48,15 +49,9 @@ may-other first nm f = rw f
 
 -- ---- a head
 
--- what follows a name, a code length and a code
-abbrev afterCode : List ℕ → List ℕ → List ℕ → Step Function
-afterCode nm c t = andThen (readRuns (length c) (length c) noPlace t) (λ ps u. got (record { name = nm; code = c; places = ps }) u)
-
-abbrev afterSize : List ℕ → ℕ → List ℕ → Step Function
-afterSize nm n s = andThen (takes n s) (afterCode nm)
-
+-- what follows a name
 abbrev afterName : List ℕ → List ℕ → Step Function
-afterName nm r = andThen (number r) (afterSize nm)
+afterName nm r = andThen (number r) (readCode nm)
 
 module _ (first : Bool) (s : List ℕ) (at : ℕ) (x : Text) (q : TextPost s at x) where
   pub head-none : x ≡ t.Broken → HeadPost first s at (h.Broken at)
@@ -80,7 +75,7 @@ module _ (first : Bool) (s : List ℕ) (at : ℕ) (x : Text) (q : TextPost s at 
 
       pub head-no-size : y ≡ n.Broken → HeadPost first s at (h.Broken (nm + len))
       unfolding readFunction
-      head-no-size g = record { is = bad-second afterName named (bad-first (afterSize (partOf s nm len)) (no-number s (nm + len) y w head-behind g)) }
+      head-no-size g = record { is = bad-second afterName named (bad-first (readCode (partOf s nm len)) (no-number s (nm + len) y w head-behind g)) }
 
       module _ (v code size : ℕ) (g : y ≡ n.Number v code) (k : (size ≡ v) × (size < 4294967296)) where
         sized : Good number s (nm + len) code size
@@ -91,7 +86,7 @@ module _ (first : Bool) (s : List ℕ) (at : ℕ) (x : Text) (q : TextPost s at 
 
         pub head-short : length s - code < size → HeadPost first s at (h.Broken code)
         unfolding readFunction
-        head-short l = record { is = bad-second afterName named (bad-second (afterSize (partOf s nm len)) sized (bad-first (afterCode (partOf s nm len)) (part-short s code size head-code l))) }
+        head-short l = record { is = bad-second afterName named (bad-second (readCode (partOf s nm len)) sized (bad-first (readPlaces (partOf s nm len)) (part-short s code size head-code l))) }
 
         pub head-read : size ≤ length s - code → HeadPost first s at (h.Is (record { name = nm; len = len; code = code; size = size }))
         unfolding readFunction andThen functionOf runsFor
@@ -164,15 +159,7 @@ span-not first s at r w k e = subst (SpannedIs first s at) e (w .is)
 codes-more : (l : List Function) (f : Function) → codesWithin (l ++ (f ∷ [])) ≡ (codesWithin l && leb (length (f .code)) 65535)
 unfolding codesWithin
 codes-more [] f = and-true (leb (length (f .code)) 65535)
-  where
-    and-true : (x : Bool) → (x && true) ≡ x
-    and-true true = refl
-    and-true false = refl
-codes-more (x ∷ l) f = ap (λ (y : Bool). leb (length (x .code)) 65535 && y) (codes-more l f) ∙ regroup (leb (length (x .code)) 65535) (codesWithin l) (leb (length (f .code)) 65535)
-  where
-    regroup : (x y z : Bool) → (x && (y && z)) ≡ ((x && y) && z)
-    regroup true y z = refl
-    regroup false y z = refl
+codes-more (x ∷ l) f = ap (λ (y : Bool). leb (length (x .code)) 65535 && y) (codes-more l f) ∙ sym (and-assoc (leb (length (x .code)) 65535) (codesWithin l) (leb (length (f .code)) 65535))
 
 abbrev pub behindMain : Bool → Function → Bool
 behindMain x f = false
@@ -244,10 +231,10 @@ series-count dec next (suc n) x b l r e =
 
 -- ---- all
 
-abbrev someTest : ℕ → Bool
+abbrev pub someTest : ℕ → Bool
 someTest n = ltb 0 n
 
-abbrev allFor : ℕ → List ℕ → Step (List Function)
+abbrev pub allFor : ℕ → List ℕ → Step (List Function)
 allFor n r = series readFunction behindMain n true r
 
 module _ (s : List ℕ) (at : ℕ) (pre : at ≤ length s) (x : Num) (q : NumPost s at x) where

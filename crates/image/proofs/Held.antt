@@ -99,7 +99,7 @@ constant-is (boolean false) t o k a q h g = let y : k ≡ 1 = cc in let z : a �
 constant-is (string x) t o k a q h g = let y : k ≡ 2 = cc in let z : a ≡ pack o (length x) = cc in rw y (ap string (named t o x a z h g))
 constant-is (reference x) t o k a q h g = let y : k ≡ 3 = cc in let z : a ≡ pack o (length x) = cc in rw y (ap reference (named t o x a z h g))
 
-same-cons : {A : Type 0} {a b : A} {x y : List A} → a ≡ b → x ≡ y → a ∷ x ≡ b ∷ y
+pub same-cons : {A : Type 0} {a b : A} {x y : List A} → a ≡ b → x ≡ y → a ∷ x ≡ b ∷ y
 same-cons e f = rw (e, f)
 
 pub constants-held : (l : List Constant) (cs t : List ℕ) (i o : ℕ) → ConstantsAt cs i o l → Pieces constantText t o l → o + length (joined constantText l) < 2 ^ 32

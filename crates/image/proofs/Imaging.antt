@@ -11,8 +11,9 @@ use Rattle.model.specs.Values.{kindAt, payloadAt, textAt}
 use Rattle.model.specs.Images.{joined, textImage, Run, run, joinRun, runsOf, runImage, functionImage}
 use Rattle.model.specs.Stores.{start, size, part, nameWord, codeWord}
 use Rattle.image.specs.Puts.{Put, Near, TextPuts, SameRun, RunsPut, functionHere, FunctionPuts}
-use Rattle.image.proofs.Codecs.{by-test}
+use Rattle.program.proofs.Bools.{either-way}
 use Rattle.image.proofs.Places.{joins}
+use Rattle.image.proofs.Held.{same-cons}
 use Rattle.image.proofs.Putting.{put-as, put-then, Split, front, back, both, Putting, putting-start, putting-near, putting-step, putting-end}
 
 -- ---- runs
@@ -25,14 +26,11 @@ same-front (suc k) p (x ∷ l) (suc m) a b h =
     let e : x ≡ p = h 0 (omega arith) in
     let z : suc m - suc k ≡ m - k = omega arith in
     rw z (same-cons e (same-front k p l m (omega arith) (omega arith) (λ j q. h (suc j) (omega arith))))
-  where
-    same-cons : {a b : ℕ} {x y : List ℕ} → a ≡ b → x ≡ y → a ∷ x ≡ b ∷ y
-    same-cons e f = rw (e, f)
 
 head-place : (q : ℕ) (l : List Run) (r : Run) (m : List Run) → joinRun q l ≡ r ∷ m → r .place ≡ q
 unfolding joinRun
 head-place q [] r m e = let z : run 1 q ≡ r = cc in sym (ap (λ (x : Run). x .place) z)
-head-place q (x ∷ l) r m e = by-test (eqb q (x .place))
+head-place q (x ∷ l) r m e = either-way (eqb q (x .place))
     (λ t. let g : run (suc (x .bytes)) q ∷ l ≡ r ∷ m = rw t at e in let z : run (suc (x .bytes)) q ≡ r = cc in sym (ap (λ (x : Run). x .place) z))
     (λ t. let g : run 1 q ∷ x ∷ l ≡ r ∷ m = rw t at e in let z : run 1 q ≡ r = cc in sym (ap (λ (x : Run). x .place) z))
 

@@ -15,7 +15,7 @@ pub mod Filling
 pub mod Placing
 pub mod Loads
 pub mod Held
-pub mod Again
+pub mod Loaded
 -- What saving writes.
 pub mod Putting
 pub mod Imaging

@@ -2,16 +2,15 @@
 use mathlib.Core.Path.{_≡_, sym, ap, subst, _∙_}
 use mathlib.Core.Bool.{true, false, not, _&&_}
 use mathlib.Core.List.{List, [], _∷_, _++_}
-use Prim.Native.Nat.{ℕ, _+_, _*_, _/_, _<_, _≤_, _^_, min}
+use Prim.Native.Nat.{ℕ, _+_, _≤_}
 use native.Mathlib.Omega.{arith}
-use native.Mathlib.Nat.{min-le-left, min-le-right}
 use lib.Dec.{leb}
 use lib.ListN.{length, drop, length-append}
 use borrow.Author.Tests.{leb-true, not-true, not-false}
-use Rattle.model.specs.Numbers.{Step, got, bad}
-use Rattle.model.specs.Values.{places, mostPlaces}
+use Rattle.model.specs.Numbers.{Step, got}
+use Rattle.model.specs.Values.{places}
 use Rattle.model.specs.Programs.{Constant, Function, Program, functionAt, withinLimits}
-use Rattle.model.specs.Images.{joined, readConstants, readStructs, readFunctions, readEnd, parse, Judged, fine, broken, judgedStep, judge}
+use Rattle.model.specs.Images.{joined, readConstants, readStructs, readFunctions, readEnd, parse, Judged, fine, broken, judge}
 use Rattle.model.specs.Stores.{Stores}
 use Rattle.model.specs.Emission.{written, counts}
 use Rattle.model.specs.Loading.{constantText, constantsLaid, structsLaid, functionsLaid, constantTexts, structTexts, textsOf, mainOf, othersOf, laid, countsFor, roomFor, loadJudged, loadOf}
@@ -22,7 +21,11 @@ use Rattle.image.specs.declared.Sizes.{Sizes}
 use Rattle.image.specs.declared.Judgement.{Judgement}
 use Rattle.image.specs.declared.Judgement.the-variants as j
 use Rattle.image.specs.declared.loading.Filled.{Filled}
-use Rattle.image.proofs.Codecs.{both-true, never, then-only, got-value, got-rest}
+use Rattle.program.proofs.Bools.{both-true}
+use Rattle.number.proofs.Codes.{never}
+use Rattle.image.proofs.Codecs.{then-only, got-value, got-rest}
+pub use Rattle.program.proofs.Parts.{one-word, two-words}
+use Rattle.image.proofs.Formats.{judged-fine}
 use Rattle.image.proofs.Written.{kept-length, more-written}
 
 -- ---- the parts of a program that was judged
@@ -40,15 +43,10 @@ unfolding readEnd
 end-only q [] p r e = got-value e
 end-only q (x ∷ u) p r e = absurd (never e)
 
-judged-got : (n : ℕ) (x : Step Program) (p : Program) → judgedStep n x ≡ fine p → (r : List ℕ) × (x ≡ got p r)
-unfolding judgedStep
-judged-got n (got q r) p e = let z : q ≡ p = cc in (r, ap (λ (y : Program). got y r) z)
-judged-got n (bad k) p e = absurd (let z : _≡_ {A = ℕ} 0 1 = cc in let w : ⊥ = omega arith in w)
-
 parts : (s : List ℕ) (p : Program) → judge s ≡ fine p → Parts s p
 unfolding judge parse
 parts s p e =
-    let g = judged-got (length s) (parse s) p e in
+    let g = judged-fine (length s) (parse s) p e in
     let g1 = then-only (readConstants s) _ p (g .0) (g .1) in
     let g2 = then-only (readStructs (g1 .1)) _ p (g .0) (g1 .3) in
     let g3 = then-only (readFunctions (g2 .1)) _ p (g .0) (g2 .3) in
@@ -69,17 +67,6 @@ stores-same : {cs cs′ ss ss′ fs fs′ tx tx′ mn mn′ mp mp′ ot ot′ op
 stores-same a b c d e f g h = rw (a, b, c, d, e, f, g, h)
 
 -- ---- room
-
-pub two-words : (k : ℕ) (s : List ℕ) → k ≤ places 2 s → 2 * k ≤ length s
-unfolding places
-two-words k s h = let a : min (length s / 2) mostPlaces ≤ length s / 2 = min-le-left _ _ in omega arith
-
-pub one-word : (k : ℕ) (s : List ℕ) → k ≤ places 1 s → (k ≤ length s) × (k < 2 ^ 32)
-unfolding places
-one-word k s h =
-    let a : min (length s / 1) mostPlaces ≤ length s / 1 = min-le-left _ _ in
-    let b : min (length s / 1) mostPlaces ≤ mostPlaces = min-le-right _ _ in
-    (omega arith, omega arith)
 
 -- every store has room for its part
 pub record Room (p : Program) (x : Stores) : Type 0 where
@@ -221,7 +208,7 @@ module _ (s : List ℕ) (cs ss fs tx mn mp ot op : List ℕ) (fit : Fits s (lent
 
 -- ---- loading
 
-limits-by : (p : Program) (z : Sizes) → SizesOf p z → (leb (z .constants) 65535 && leb (z .structs) 65536 && leb (z .functions) 65536 && z .within) ≡ withinLimits p
+pub limits-by : (p : Program) (z : Sizes) → SizesOf p z → (leb (z .constants) 65535 && leb (z .structs) 65536 && leb (z .functions) 65536 && z .within) ≡ withinLimits p
 unfolding withinLimits
 limits-by p z h = rw (h .constants, h .structs, h .functions, h .within)
 

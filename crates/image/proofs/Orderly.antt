@@ -7,24 +7,26 @@ use native.Mathlib.Omega.{arith}
 use native.Mathlib.Nat.{min-le-left}
 use lib.Dec.{eqb, leb, ltb}
 use lib.ListN.{length, drop, length-append, length-take}
-use borrow.Author.Tests.{leb-true, ltb-true, ltb-false, eqb-true, eqb-false, ne-eqb, le-leb, lt-leb, not-true, not-false}
-use Rattle.model.specs.Basics.{if_then_else_, everyFrom}
+use borrow.Author.Tests.{leb-true, ltb-true, ne-eqb, le-leb, lt-leb, not-true, not-false}
+use Rattle.model.specs.Basics.{if_then_else_}
 use Rattle.model.specs.Numbers.{digits, groupsOf}
 use Rattle.model.specs.Values.{places, kindAt, payloadAt, textAt}
 use Rattle.model.specs.Programs.{Function, boolean}
 use Rattle.model.specs.Images.{joined, counted, textImage, constantImage, Run, joinRun, runsOf, runImage, functionImage, imageOf}
 use Rattle.model.specs.Stores.{Stores, start, size, part, structWord, nameWord, codeWord, codeEnd, constantIn, constantsFrom, structsFrom, functionIn, functionsFrom, programIn}
-use Rattle.model.specs.Orders.{countsOk, textOk, insideText, constantOk, constantsOk, structsOk, codeStart, functionOk, functionsOk, mainOk, mainTaken, otherTaken, insideCodes, programOk}
+use Rattle.model.specs.Orders.{countsOk, textOk, insideText, constantOk, constantsOk, structsOk, codeStart, functionsOk, mainOk, mainTaken, otherTaken, insideCodes, programOk}
 use Rattle.model.specs.Loading.{OutRes, putOut, saveOf}
 use Rattle.model.specs.declared.Counts.{Counts}
 use Rattle.model.specs.declared.Told.{Told}
 use Rattle.model.specs.declared.Told.the-variants as t
-use Rattle.program.proofs.Every.{passed-at}
+use Rattle.program.proofs.Every.{passed}
+use Rattle.program.proofs.Parts.{one-word}
+use Rattle.program.proofs.Known.{Limited, limited, text-inside, constants-known, structs-inside, Known as KnownFunction, function-known, ascending}
+use Rattle.program.proofs.Keeping.{Good, good-of}
 use Rattle.image.specs.Fills.{lent}
 use Rattle.image.specs.Puts.{Put, Near, Known, ConstantsPut, StructsPut, functionHere, Lies, FunctionPuts, functionsHere, FunctionsPut}
-use Rattle.image.proofs.Codecs.{by-test, both-true}
+use Rattle.program.proofs.Bools.{either-way, both-true}
 use Rattle.image.proofs.Formats.{bytes-length}
-use Rattle.image.proofs.Loads.{one-word}
 use Rattle.image.proofs.Putting.{put-as, Split, front, back, both, Putting, putting-start, count-split, one-split, each-near, each-step, each-end, constants-open, constants-shut, structs-open, structs-shut}
 
 -- ---- how long a piece can be
@@ -32,7 +34,7 @@ use Rattle.image.proofs.Putting.{put-as, Split, front, back, both, Putt
 groups-most : (f v : ℕ) → length (groupsOf f v) ≤ suc f
 unfolding groupsOf
 groups-most zero v = omega arith
-groups-most (suc f) v = by-test (ltb v 128) (λ t. rw t (let z : 1 ≤ suc (suc f) = omega arith in z)) (λ t. rw t (let z = groups-most f (v / 128) in let y : suc (length (groupsOf f (v / 128))) ≤ suc (suc f) = omega arith in y))
+groups-most (suc f) v = either-way (ltb v 128) (λ t. rw t (let z : 1 ≤ suc (suc f) = omega arith in z)) (λ t. rw t (let z = groups-most f (v / 128) in let y : suc (length (groupsOf f (v / 128))) ≤ suc (suc f) = omega arith in y))
 
 digits-most : (v : ℕ) → length (digits v) ≤ 5
 unfolding digits
@@ -49,7 +51,7 @@ part-most t w = let a = length-take (size w) (drop (start w) t) in let b : min (
 runs-count : (p : ℕ) (l : List Run) → length (joinRun p l) ≤ suc (length l)
 unfolding joinRun
 runs-count p [] = omega arith
-runs-count p (r ∷ l) = by-test (eqb p (r .place)) (λ t. rw t (let z : suc (length l) ≤ suc (suc (length l)) = omega arith in z)) (λ t. rw t (let z : suc (suc (length l)) ≤ suc (suc (length l)) = omega arith in z))
+runs-count p (r ∷ l) = either-way (eqb p (r .place)) (λ t. rw t (let z : suc (length l) ≤ suc (suc (length l)) = omega arith in z)) (λ t. rw t (let z : suc (suc (length l)) ≤ suc (suc (length l)) = omega arith in z))
 
 runs-fewer : (ps : List ℕ) → length (runsOf ps) ≤ length ps
 unfolding runsOf
@@ -84,14 +86,7 @@ module _ {A : Type 0} (image : A → List ℕ) (from : ℕ → ℕ → List A) (
 
 -- ---- what good order says
 
-passed-here : (n : ℕ) (t : ℕ → Bool) → everyFrom n 0 t ≡ true → (i : ℕ) → i < n → t i ≡ true
-passed-here n t h i l = subst (λ (k : ℕ). t k ≡ true) (let z : 0 + i ≡ i = omega arith in z) (passed-at n 0 t h i l)
-
 module _ (c : Counts) where
-  inside-of : (w : ℕ) → insideText c w ≡ true → start w + size w ≤ c .text
-  unfolding insideText
-  inside-of w h = leb-true _ _ h
-
   known-of : (t : List ℕ) (k a : ℕ) → c .text < 2 ^ 32 → constantOk c k a ≡ true → Known t k a
   unfolding constantOk
   known-of t zero a s h = record { kind = omega arith; flag = λ e. absurd (let w : ⊥ = omega arith in w); small = λ l. absurd (let w : ⊥ = omega arith in w) }
@@ -100,8 +95,8 @@ module _ (c : Counts) where
       let e0 : eqb (suc (suc k)) 0 ≡ false = ne-eqb (suc (suc k)) 0 (λ e. omega arith) in
       let e1 : eqb (suc (suc k)) 1 ≡ false = ne-eqb (suc (suc k)) 1 (λ e. omega arith) in
       let g : (if leb (suc (suc k)) 3 then insideText c a else false) ≡ true = rw (e0, e1) at h in
-      by-test (leb (suc (suc k)) 3)
-      (λ q. let i : insideText c a ≡ true = rw q at g in let b = inside-of a i in let p = part-most t a in
+      either-way (leb (suc (suc k)) 3)
+      (λ q. let i : insideText c a ≡ true = rw q at g in let b = text-inside c a i in let p = part-most t a in
       record { kind = leb-true _ _ q; flag = λ e. absurd (let w : ⊥ = omega arith in w); small = λ l. omega arith })
       (λ q. let z : _≡_ {A = Bool} false true = rw q at g in absurd (let y : _≡_ {A = ℕ} 0 1 = cc in let w : ⊥ = omega arith in w))
 
@@ -120,42 +115,13 @@ known-most t (suc (suc (suc (suc k)))) a h = absurd (let b = h .kind in let w : 
 
 -- ---- functions
 
-pub record FunctionFine (c : Counts) (fs : List ℕ) (i : ℕ) : Type 0 where
-  pub name : start (nameWord fs i) + size (nameWord fs i) ≤ c .text
-  pub starts : start (codeWord fs i) ≡ codeStart fs i
-  pub short : size (codeWord fs i) ≤ 65535
-
-pub function-of : (c : Counts) (fs : List ℕ) (i : ℕ) → functionOk c fs i ≡ true → FunctionFine c fs i
-unfolding functionOk insideText
-function-of c fs i h =
-    let h3 = both-true _ _ h in let h2 = both-true _ _ (h3 .0) in let h1 = both-true _ _ (h2 .0) in
-    record { name = leb-true _ _ (h1 .0); starts = eqb-true _ _ (h1 .1); short = leb-true _ _ (h2 .1) }
-
-end-is : (fs : List ℕ) (i : ℕ) → codeEnd fs i ≡ start (codeWord fs i) + size (codeWord fs i)
-unfolding codeEnd
-end-is fs i = refl
-
-less : (i m : ℕ) → i ≤ m → (i ≡ m → ⊥) → i < m
-less i m l n = by-test (ltb i m) (λ t. ltb-true i m t) (λ t. absurd (n (let z = ltb-false i m t in omega arith)))
-
--- a code ends before where the next one is to start
-ends-before : (c : Counts) (fs : List ℕ) (m i : ℕ) → 0 < i → i < m → ((j : ℕ) → j < m → FunctionFine c fs j) → codeEnd fs i ≤ codeStart fs m
-unfolding codeStart
-ends-before c fs zero i a b h = absurd (let w : ⊥ = omega arith in w)
-ends-before c fs (suc zero) i a b h = absurd (let w : ⊥ = omega arith in w)
-ends-before c fs (suc (suc m)) i a b h = by-test (eqb i (suc m))
-    (λ t. let e = eqb-true i (suc m) t in rw e (omega arith))
-    (λ t. let n = eqb-false i (suc m) t in
-    let g = ends-before c fs (suc m) i a (less i (suc m) (omega arith) n) (λ j l. h j (omega arith)) in
-    let f = h (suc m) (omega arith) .starts in let e = end-is fs (suc m) in omega arith)
-
-pub lies-of : (c : Counts) (fs : List ℕ) (i : ℕ) (t cd pl : List ℕ) → FunctionFine c fs i → c .text < 2 ^ 32 → codeEnd fs i ≤ length pl → Lies fs i t cd pl
+pub lies-of : (c : Counts) (fs : List ℕ) (i : ℕ) (t cd pl : List ℕ) → KnownFunction c fs i → c .text < 2 ^ 32 → codeEnd fs i ≤ length pl → Lies fs i t cd pl
 unfolding codeEnd
 lies-of c fs i t cd pl h s e =
     let a = part-most t (nameWord fs i) in let b = h .name in let d = part-most cd (codeWord fs i) in let f = h .short in
     record { name = omega arith; code = omega arith; places = e }
 
-function-most : (c : Counts) (fs : List ℕ) (i : ℕ) (t cd pl : List ℕ) → FunctionFine c fs i → c .text < 2 ^ 32 → length (functionImage (functionHere fs i t cd pl)) ≤ 8589934592
+function-most : (c : Counts) (fs : List ℕ) (i : ℕ) (t cd pl : List ℕ) → KnownFunction c fs i → c .text < 2 ^ 32 → length (functionImage (functionHere fs i t cd pl)) ≤ 8589934592
 unfolding functionImage functionHere
 function-most c fs i t cd pl h s =
     let nm : List ℕ = part t (nameWord fs i) in let cb : List ℕ = part cd (codeWord fs i) in let ps : List ℕ = part pl (codeWord fs i) in
@@ -191,40 +157,25 @@ here-all (suc n) j cs ss fs t mn mp ot op = ap (λ (l : List Function). function
 -- ---- the whole
 
 module _ (c : Counts) (cs ss fs tx mn mp ot op : List ℕ) (ok : programOk c (lent cs ss fs tx mn mp ot op) ≡ true) where
-  pub parts : (countsOk c ≡ true) × ((constantsOk c cs ≡ true) × ((structsOk c ss tx ≡ true) × ((functionsOk c fs ≡ true) × ((insideCodes c fs mp op ≡ true) × ((mainOk fs tx ≡ true) × (insideCodes c fs mn ot ≡ true))))))
-  unfolding programOk
-  parts =
-      let h7 = both-true _ _ ok in let h6 = both-true _ _ (h7 .0) in let h5 = both-true _ _ (h6 .0) in let h4 = both-true _ _ (h5 .0) in
-      let h3 = both-true _ _ (h4 .0) in let h2 = both-true _ _ (h3 .0) in let h1 = both-true _ _ (h2 .0) in
-      (h1 .0, (h2 .1, (h3 .1, (h4 .1, (h7 .1, (h5 .1, h6 .1))))))
+  pub good : Good c (lent cs ss fs tx mn mp ot op)
+  good = good-of c (lent cs ss fs tx mn mp ot op) ok
 
-  pub numbers : (c .constants ≤ 65535) × ((c .structs ≤ 65536) × ((1 ≤ c .functions) × ((c .functions ≤ 65536) × (c .text < 2 ^ 32))))
-  unfolding countsOk
-  numbers =
-      let h5 = both-true _ _ (parts .0) in let h4 = both-true _ _ (h5 .0) in let h3 = both-true _ _ (h4 .0) in let h2 = both-true _ _ (h3 .0) in let h1 = both-true _ _ (h2 .0) in
-      (leb-true _ _ (h1 .0), (leb-true _ _ (h1 .1), (leb-true _ _ (h2 .1), (leb-true _ _ (h3 .1), (let z : c .text ≤ 0xFFFF_FFFF = leb-true _ _ (h4 .1) in omega arith)))))
+  pub limits : Limited c
+  limits = limited c (good .counts)
+
+  pub text-small : c .text < 2 ^ 32
+  text-small = let z = limits .text in omega arith
 
   pub constant-at : (i : ℕ) → i < c .constants → Known tx (kindAt cs i) (payloadAt cs i)
-  unfolding constantsOk
-  constant-at i l = known-of c tx _ _ (numbers .1 .1 .1 .1) (passed-here (c .constants) (λ j. constantOk c (kindAt cs j) (payloadAt cs j))
-      (both-true (leb (c .constants) (places 2 cs)) _ (parts .1 .0) .1) i l)
+  constant-at i l = known-of c tx _ _ text-small (constants-known c cs (good .constants) .each i l)
 
   pub struct-at : (i : ℕ) → i < c .structs → length (part tx (structWord ss i)) < 2 ^ 32
-  unfolding structsOk
   struct-at i l =
-      let h = passed-here (c .structs) (λ j. insideText c (structWord ss j)) (both-true (leb (c .structs) (places 1 ss)) _ (both-true (leb (c .structs) (places 1 ss) && everyFrom (c .structs) 0 (λ j. insideText c (structWord ss j))) _ (parts .1 .1 .0) .0) .1) i l in
-      let a = inside-of c (structWord ss i) h in let b = part-most tx (structWord ss i) in let d = numbers .1 .1 .1 .1 in omega arith
+      let h = passed (c .structs) (λ j. insideText c (structWord ss j)) (structs-inside c ss tx (good .structs)) i l in
+      let a = text-inside c (structWord ss i) h in let b = part-most tx (structWord ss i) in let d = text-small in omega arith
 
-  pub function-at : (i : ℕ) → i < c .functions → FunctionFine c fs i
-  unfolding functionsOk
-  function-at i l = function-of c fs i (passed-here (c .functions) (functionOk c fs) (both-true (leb (c .functions) (places 2 fs)) _ (parts .1 .1 .1 .0) .1) i l)
-
-  -- function 0 is `<main>`, and the codes lie in their store
-  pub main-named : mainOk fs tx ≡ true
-  main-named = parts .1 .1 .1 .1 .1 .0
-
-  pub codes-in : insideCodes c fs mn ot ≡ true
-  codes-in = parts .1 .1 .1 .1 .1 .1
+  pub function-at : (i : ℕ) → i < c .functions → KnownFunction c fs i
+  function-at = function-known c fs (good .functions)
 
   -- the code of function i ends inside stores that the codes lie in
   pub ends-in : (a b : List ℕ) → insideCodes c fs a b ≡ true → (codeEnd fs 0 ≤ length a) × ((i : ℕ) → 0 < i → i < c .functions → codeEnd fs i ≤ length b)
@@ -232,19 +183,13 @@ module _ (c : Counts) (cs ss fs tx mn mp ot op : List ℕ) (ok : programOk c (le
   ends-in a b h =
       let g = both-true (leb (codeEnd fs 0) (places 1 a)) _ h in
       let e : codeStart fs (c .functions) ≤ length b = one-word _ b (leb-true _ _ (g .1)) .0 in
-      (one-word _ a (leb-true _ _ (g .0)) .0, λ i p q. let z = ends-before c fs (c .functions) i p q function-at in omega arith)
-
-  codes : (codeEnd fs 0 ≤ length mp) × (codeStart fs (c .functions) ≤ length op)
-  unfolding insideCodes mainTaken otherTaken
-  codes = let h = both-true _ _ (parts .1 .1 .1 .1 .0) in (one-word _ mp (leb-true _ _ (h .0)) .0, one-word _ op (leb-true _ _ (h .1)) .0)
+      (one-word _ a (leb-true _ _ (g .0)) .0, λ i p q. let z = ascending c fs (good .functions) i (c .functions) p q (omega arith) in omega arith)
 
   main-lies : Lies fs 0 tx mn mp
-  main-lies = let a = numbers .1 .1 .0 in lies-of c fs 0 tx mn mp (function-at 0 (omega arith)) (numbers .1 .1 .1 .1) (codes .0)
+  main-lies = let a = limits .some in lies-of c fs 0 tx mn mp (function-at 0 (omega arith)) text-small (ends-in mp op (good .places) .0)
 
   other-lies : (i : ℕ) → 0 < i → i < c .functions → Lies fs i tx ot op
-  other-lies i a b =
-      let e = ends-before c fs (c .functions) i a b function-at in let d = codes .1 in
-      lies-of c fs i tx ot op (function-at i b) (numbers .1 .1 .1 .1) (omega arith)
+  other-lies i a b = lies-of c fs i tx ot op (function-at i b) text-small (ends-in mp op (good .places) .1 i a b)
 
   bound-1 : length (counted constantImage (constantsFrom (c .constants) 0 cs tx)) ≤ 5 + 8589934592 * c .constants
   bound-1 = counted-most constantImage (λ a b. constantsFrom a b cs tx) (λ j. constantIn tx (kindAt cs j) (payloadAt cs j)) (constants-open cs tx) (constants-shut cs tx) (c .constants)
@@ -255,9 +200,9 @@ module _ (c : Counts) (cs ss fs tx mn mp ot op : List ℕ) (ok : programOk c (le
       (λ i l. let a = text-most (part tx (structWord ss i)) in let b = struct-at i l in omega arith)
 
   function-image-most : (i : ℕ) → i < c .functions → length (functionImage (functionIn (lent [] [] fs tx mn mp ot op) i)) ≤ 8589934592
-  function-image-most zero l = subst (λ (f : Function). length (functionImage f) ≤ 8589934592) (sym (first-is fs tx mn mp ot op)) (function-most c fs 0 tx mn mp (function-at 0 l) (numbers .1 .1 .1 .1))
+  function-image-most zero l = subst (λ (f : Function). length (functionImage f) ≤ 8589934592) (sym (first-is fs tx mn mp ot op)) (function-most c fs 0 tx mn mp (function-at 0 l) text-small)
   function-image-most (suc i) l = subst (λ (f : Function). length (functionImage f) ≤ 8589934592) (sym (other-is fs tx mn mp ot op (suc i) (omega arith)))
-      (function-most c fs (suc i) tx ot op (function-at (suc i) l) (numbers .1 .1 .1 .1))
+      (function-most c fs (suc i) tx ot op (function-at (suc i) l) text-small)
 
   bound-3 : length (counted functionImage (functionsHere (c .functions) 0 fs tx mn mp ot op)) ≤ 5 + 8589934592 * c .functions
   bound-3 = counted-most functionImage (λ a b. functionsHere a b fs tx mn mp ot op) (λ j. functionIn (lent [] [] fs tx mn mp ot op) j) (here-open fs tx mn mp ot op) (here-shut fs tx mn mp ot op) (c .functions)
@@ -287,11 +232,11 @@ module _ (c : Counts) (cs ss fs tx mn mp ot op : List ℕ) (ok : programOk c (le
   near =
       let e = ap length (split-1 .split) in let a = length-append C (S ++ F) in let b = length-append S F in
       let b1 = bound-1 in let b2 = bound-2 in let b3 = bound-3 in
-      let n = numbers in let n0 = n .0 in let n1 = n .1 .0 in let n2 = n .1 .1 .1 .0 in omega arith
+      let n0 = limits .constants in let n1 = limits .structs in let n2 = limits .functions in omega arith
 
   pub constants-puts : ConstantsPut 0 (c .constants) cs tx
   unfolding C
-  constants-puts = let n = numbers .0 in record { count = omega arith; each = constant-at; near = front _ _ _ 0 split-1 near }
+  constants-puts = let n = limits .constants in record { count = omega arith; each = constant-at; near = front _ _ _ 0 split-1 near }
 
   module _ (out o1 : List ℕ) (a : ℕ) (p1 : Put (counted constantImage (constantsFrom (c .constants) 0 cs tx)) out 0 o1 a) where
     near-2 : Near a (S ++ F)
@@ -300,12 +245,12 @@ module _ (c : Counts) (cs ss fs tx mn mp ot op : List ℕ) (ok : programOk c (le
 
     pub structs-puts : StructsPut a (c .structs) ss tx
     unfolding S
-    structs-puts = let n = numbers .1 .0 in record { count = omega arith; each = struct-at; near = front _ _ _ a split-2 near-2 }
+    structs-puts = let n = limits .structs in record { count = omega arith; each = struct-at; near = front _ _ _ a split-2 near-2 }
 
     module _ (o2 : List ℕ) (b : ℕ) (p2 : Put (counted textImage (structsFrom (c .structs) 0 ss tx)) o1 a o2 b) where
       pub functions-puts : FunctionsPut b (c .functions) fs tx mn mp ot op
       unfolding S F
-      functions-puts = let n = numbers .1 .1 .0 in let m = numbers .1 .1 .1 .0 in record {
+      functions-puts = let n = limits .some in let m = limits .functions in record {
         count = omega arith;
         some = omega arith;
         main = main-lies;

@@ -23,7 +23,8 @@ use Rattle.image.specs.declared.Entry.{Entry}
 use Rattle.image.specs.declared.Item.{Item}
 use Rattle.image.specs.declared.Item.the-variants as e
 use Rattle.image.specs.declared.Checked.the-variants as c
-use Rattle.image.proofs.Codecs.{never, got-value, got-rest, then-only, made-only}
+use Rattle.number.proofs.Codes.{never}
+use Rattle.image.proofs.Codecs.{got-value, got-rest, then-only, made-only}
 use Rattle.image.proofs.Reading.{Along, along-start, along-end, along-within, along-bad, along-step, joined-length, bad-first, bad-second, good-both, bad-test, bad-tested, good-test, no-number, a-number}
 use Rattle.image.proofs.Items.{part-length, text-is, text-not, entry-is, entry-not}
 

@@ -9,8 +9,9 @@ use lib.ListN.{length, replicate, length-append, length-replicate}
 use borrow.Author.Tests.{lt-ltb, ltb-true, le-leb, leb-true, eq-eqb, ne-eqb, eqb-true, eqb-false, not-true}
 use Rattle.model.specs.Numbers.{got, andThen, digits, Bytes, Codes}
 use Rattle.model.specs.Images.{joined, Run, run, joinRun, runsOf, runImage, noPlace, readRunBytes, readRunPlace, readRuns, Small, AllSmall}
-use Rattle.number.proofs.Codes.{number-codes}
-use Rattle.image.proofs.Codecs.{by-test, both-true, never, got-value, got-rest, then-only, made-only, bytes-rest, codes-item, codes-checked}
+use Rattle.number.proofs.Codes.{number-codes, never}
+use Rattle.program.proofs.Bools.{either-way, both-true}
+use Rattle.image.proofs.Codecs.{got-value, got-rest, then-only, made-only, bytes-rest, codes-item, codes-checked}
 
 -- ---- runs, and the places that they give
 
@@ -87,7 +88,7 @@ runs-good (p ∷ (p′ ∷ ps)) q s d = more (runsOf (p′ ∷ ps)) (λ q′ d�
     more [] f g = absurd (let z : suc (length ps) ≡ 0 = g .1 in let w : ⊥ = omega arith in w)
     more (r ∷ l) f g =
         let same : (n : ℕ) → 0 < n → replicate n (r .place) ++ spread l ≡ p′ ∷ ps → r .place ≡ p′ = λ n. first n in
-        by-test (eqb p (r .place))
+        either-way (eqb p (r .place))
         (λ t. let e : p ≡ r .place = eqb-true p (r .place) t in
         let b0 = g .1 .0 .0 in let b1 = g .1 .0 .1 .0 in
         let z : suc (suc (length ps)) - suc (r .bytes) ≡ suc (length ps) - r .bytes = omega arith in
@@ -157,8 +158,8 @@ runs-one left q b ps r n p b1 b2 ps1 e1 e2 z f s d e ih = (
 
 runs-only : (fuel left q : ℕ) (b ps r : List ℕ) → Bytes b → readRuns fuel left q b ≡ got ps r → Read left q b ps r
 unfolding readRuns
-runs-only zero left q b ps r y e = by-test (eqb left 0) (λ t. runs-none left q b ps r (eqb-true left 0 t) (rw t at e)) (λ t. absurd (never (rw t at e)))
-runs-only (suc fuel) left q b ps r y e = by-test (eqb left 0)
+runs-only zero left q b ps r y e = either-way (eqb left 0) (λ t. runs-none left q b ps r (eqb-true left 0 t) (rw t at e)) (λ t. absurd (never (rw t at e)))
+runs-only (suc fuel) left q b ps r y e = either-way (eqb left 0)
     (λ t. runs-none left q b ps r (eqb-true left 0 t) (rw t at e))
     (λ t. let g1 = then-only (readRunBytes left b) _ ps r (rw t at e) in
     let o1 = codes-run-bytes left .only b (g1 .0) (g1 .1) y (g1 .2) in

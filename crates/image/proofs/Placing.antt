@@ -5,7 +5,6 @@ use mathlib.Core.List.{List, [], _∷_, _++_}
 use Prim.Native.Nat.{ℕ, suc, _+_, _-_, _*_, _<_, _≤_, _^_}
 use native.Mathlib.Omega.{arith}
 use native.Mathlib.Nat.{pos-of-ne-zero}
-use lib.Dec.{ltb}
 use lib.ListN.{length, take, drop, length-append}
 use borrow.Author.Tests.{lt-ltb}
 use Rattle.model.specs.Numbers.{Step, got, andThen, number}
@@ -27,7 +26,7 @@ use Rattle.image.specs.declared.Span.{Span}
 use Rattle.image.proofs.Codecs.{then-only, made-only}
 use Rattle.image.proofs.Reading.{Along, along-start, along-step, joined-length, joined-append, bad-first, bad-test, bad-tested, good-test, no-number}
 use Rattle.image.proofs.Items.{part-length, part-slice}
-use Rattle.image.proofs.Functions.{head-is, head-not, behindMain, series-count}
+use Rattle.image.proofs.Functions.{head-is, head-not, behindMain, someTest, allFor, series-count}
 use Rattle.image.proofs.Filling.{has-never, has-same, has-second, series-whole, series-head}
 use Rattle.image.proofs.Written.{written-none, written-two, kept-length, more-written, more-joined}
 
@@ -219,12 +218,6 @@ module _ (k : ℕ) (s : List ℕ) (at t₀ : ℕ) (fs₀ tx₀ cd₀ pl₀ : Lis
             }
 
 -- ---- all functions
-
-abbrev someTest : ℕ → Bool
-someTest k = ltb 0 k
-
-abbrev allFor : ℕ → List ℕ → Step (List Function)
-allFor k r = series readFunction behindMain k true r
 
 module _ (s : List ℕ) (at t : ℕ) (fs tx mn mp ot op : List ℕ) (fit : FunctionsFit s at t fs tx mn mp ot op) (x : Num) (p : NumPost s at x) where
   pub functions-no-count : x ≡ n.Broken → ⊥

@@ -15,13 +15,14 @@ use Rattle.model.specs.Stores.{part, structWord, constantIn, constantsFrom, str
 use Rattle.model.specs.Emission.{written}
 use Rattle.number.specs.Links.{WritePost}
 use Rattle.image.specs.Puts.{Put, Near, TextPuts, Known, ConstantPuts, ConstantsPut, StructsPut, SameRun}
-use Rattle.image.proofs.Codecs.{by-test}
-use Rattle.image.proofs.Written.{written-none, written-one, written-length, more-written}
+use Rattle.program.proofs.Bools.{either-way}
+use Rattle.program.proofs.Writing.{length-written}
+use Rattle.image.proofs.Written.{written-none, written-one, more-written}
 
 -- ---- one piece
 
 pub put-is : (l out out′ : List ℕ) (at next : ℕ) → next ≡ at + length l → out′ ≡ written out at l → Put l out at out′ next
-put-is l out out′ at next e f = record { next = e; kept = ap length f ∙ written-length out at l; stored = λ h. f }
+put-is l out out′ at next e f = record { next = e; kept = ap length f ∙ length-written out at l; stored = λ h. f }
 
 -- it does not fit, and is not written
 pub put-not : (l out : List ℕ) (at next : ℕ) → next ≡ at + length l → length out < next → Put l out at out next
@@ -377,5 +378,5 @@ module _ (places : List ℕ) (i to : ℕ) (h : (i < to) × (to ≤ length places
     same-step l e = let a = s .ahead in record {
       ahead = omega arith;
       most = omega arith;
-      same = λ j x y. by-test (ltb j k) (λ t. s .same j x (ltb-true j k t)) (λ t. let m : j ≡ k = (let z = ltb-false j k t in omega arith) in ap (λ (z : ℕ). getD places z 0) m ∙ e);
+      same = λ j x y. either-way (ltb j k) (λ t. s .same j x (ltb-true j k t)) (λ t. let m : j ≡ k = (let z = ltb-false j k t in omega arith) in ap (λ (z : ℕ). getD places z 0) m ∙ e);
     }

@@ -11,7 +11,8 @@ use Rattle.number.specs.Links.{NumPost, numOf, Ahead}
 use Rattle.number.specs.declared.Num.{Num}
 use Rattle.number.specs.declared.Num.the-variants as n
 use Rattle.image.specs.Links.{Good, Bad}
-use Rattle.image.proofs.Codecs.{never, got-value}
+use Rattle.number.proofs.Codes.{never}
+use Rattle.image.proofs.Codecs.{got-value}
 
 -- ---- a reading by itself
 

@@ -7,7 +7,7 @@ use native.Mathlib.Omega.{arith}
 use lib.Dec.{eqb, leb}
 use lib.ListN.{length, take, drop, getD, length-drop}
 use lib.Seq.{length-take-le}
-use borrow.Author.Tests.{ne-eqb}
+use borrow.Author.Tests.{ne-eqb, not-true}
 use Rattle.model.specs.Basics.{everyFrom}
 use Rattle.model.specs.Values.{places, kindAt, payloadAt, textAt}
 use Rattle.model.specs.Equality.{sameBytes}
@@ -18,10 +18,11 @@ use Rattle.model.specs.Orders.{insideText, allDifferent, structsOk, mainOk, pro
 use Rattle.model.specs.declared.Counts.{Counts}
 use Rattle.image.specs.Fills.{lent}
 use Rattle.image.specs.Puts.{Known}
-use Rattle.image.proofs.Codecs.{by-test, both-true}
+use Rattle.program.proofs.Bools.{either-way, both-true}
 use Rattle.program.proofs.Searching.{same-sym}
-use Rattle.image.proofs.Again.{Clear}
-use Rattle.image.proofs.Orderly.{part-most, FunctionFine, parts, numbers, constant-at, struct-at, function-at, main-named, codes-in, ends-in}
+use Rattle.program.proofs.Known.{Known as KnownFunction}
+use Rattle.image.proofs.Loaded.{Clear}
+use Rattle.image.proofs.Orderly.{part-most, good, limits, text-small, constant-at, struct-at, function-at, ends-in}
 
 -- every number of a store is below b: what the type of a slice says
 abbrev pub Below : ℕ → List ℕ → Type 0
@@ -69,7 +70,7 @@ unfolding Clear among
 fresh [] t l c = (refl, tt)
 fresh (x ∷ seen) t l c =
     let r = fresh seen t l (c .1) in
-    by-test (sameBytes x t)
+    either-way (sameBytes x t)
     (λ e. absurd (let z : _≡_ {A = Bool} true false = rw e at (c .0) in let k : _≡_ {A = ℕ} 0 1 = cc in let w : ⊥ = omega arith in w))
     (λ e. (rw (same-sym t x ∙ e) (r .0), (rw e at (c .0), r .1)))
 
@@ -83,11 +84,7 @@ unfolding Each allDifferent Shorts
 names-sound [] seen d c s = tt
 names-sound (t ∷ l) seen d c s =
     let g = both-true (not (among t l)) (allDifferent l) d in let f = fresh seen t l c in
-    ((s .0, ap not (f .0)), names-sound l (seen ++ (t ∷ [])) (g .1) (clear-one seen t l (f .1) (not-so (among t l) (g .0))) (s .1))
-  where
-    not-so : (b : Bool) → not b ≡ true → b ≡ false
-    not-so true e = sym e
-    not-so false e = refl
+    ((s .0, ap not (f .0)), names-sound l (seen ++ (t ∷ [])) (g .1) (clear-one seen t l (f .1) (not-true (among t l) (g .0))) (s .1))
 
 -- ---- functions
 
@@ -122,7 +119,7 @@ part-whole : (s : List ℕ) (w : ℕ) → start w + size w ≤ length s → leng
 unfolding part textAt
 part-whole s w h = length-take-le (size w) (drop (start w) s) (let z = length-drop (start w) s in omega arith)
 
-function-sound : (c : Counts) (first : Bool) (fs t cd pl : List ℕ) (i : ℕ) → FunctionFine c fs i → c .text < 2 ^ 32 → codeEnd fs i ≤ length cd → codeEnd fs i ≤ length pl → Below (2 ^ 32) pl
+function-sound : (c : Counts) (first : Bool) (fs t cd pl : List ℕ) (i : ℕ) → KnownFunction c fs i → c .text < 2 ^ 32 → codeEnd fs i ≤ length cd → codeEnd fs i ≤ length pl → Below (2 ^ 32) pl
     → mainFirst first (part t (nameWord fs i)) ≡ true → SoundFunction first (record { name = part t (nameWord fs i); code = part cd (codeWord fs i); places = part pl (codeWord fs i) })
 unfolding codeEnd part textAt
 function-sound c first fs t cd pl i h s a b w m =
@@ -142,24 +139,21 @@ module _ (c : Counts) (cs ss fs tx mn mp ot op : List ℕ) (ok : programOk c (le
   x : Stores
   x = lent cs ss fs tx mn mp ot op
 
-  text-small : c .text < 2 ^ 32
-  text-small = numbers c cs ss fs tx mn mp ot op ok .1 .1 .1 .1
-
   code-ends : (codeEnd fs 0 ≤ length mn) × ((i : ℕ) → 0 < i → i < c .functions → codeEnd fs i ≤ length ot)
-  code-ends = ends-in c cs ss fs tx mn mp ot op ok mn ot (codes-in c cs ss fs tx mn mp ot op ok)
+  code-ends = ends-in c cs ss fs tx mn mp ot op ok mn ot (good c cs ss fs tx mn mp ot op ok .codes)
 
   place-ends : (codeEnd fs 0 ≤ length mp) × ((i : ℕ) → 0 < i → i < c .functions → codeEnd fs i ≤ length op)
-  place-ends = ends-in c cs ss fs tx mn mp ot op ok mp op (parts c cs ss fs tx mn mp ot op ok .1 .1 .1 .1 .0)
+  place-ends = ends-in c cs ss fs tx mn mp ot op ok mp op (good c cs ss fs tx mn mp ot op ok .places)
 
   main-sound : 0 < c .functions → SoundFunction true (functionIn (lent cs ss fs tx mn mp ot op) 0)
   unfolding functionIn mainFirst mainOk
-  main-sound l = function-sound c true fs tx mn mp 0 (function-at c cs ss fs tx mn mp ot op ok 0 l) text-small (code-ends .0) (place-ends .0) mains (main-named c cs ss fs tx mn mp ot op ok)
+  main-sound l = function-sound c true fs tx mn mp 0 (function-at c cs ss fs tx mn mp ot op ok 0 l) (text-small c cs ss fs tx mn mp ot op ok) (code-ends .0) (place-ends .0) mains (good c cs ss fs tx mn mp ot op ok .main)
 
   other-sound : (i : ℕ) → 0 < i → i < c .functions → SoundFunction false (functionIn (lent cs ss fs tx mn mp ot op) i)
   unfolding functionIn mainFirst
   other-sound i p l =
       let n : eqb i 0 ≡ false = ne-eqb i 0 (λ e. omega arith) in
-      rw n (function-sound c false fs tx ot op i (function-at c cs ss fs tx mn mp ot op ok i l) text-small (code-ends .1 i p l) (place-ends .1 i p l) others refl)
+      rw n (function-sound c false fs tx ot op i (function-at c cs ss fs tx mn mp ot op ok i l) (text-small c cs ss fs tx mn mp ot op ok) (code-ends .1 i p l) (place-ends .1 i p l) others refl)
 
   all-sound : (n : ℕ) → n ≡ c .functions → 0 < n → Each SoundFunction (λ y f. false) true (functionsFrom n 0 (lent cs ss fs tx mn mp ot op))
   unfolding functionsFrom Each
@@ -169,13 +163,13 @@ module _ (c : Counts) (cs ss fs tx mn mp ot op : List ℕ) (ok : programOk c (le
   pub order-sound : Sound (programIn c (lent cs ss fs tx mn mp ot op))
   unfolding programIn structsOk payloadAt Clear
   order-sound =
-      let n = numbers c cs ss fs tx mn mp ot op ok in let n0 = n .0 in let n1 = n .1 .0 in let n2 = n .1 .1 .0 in let n3 = n .1 .1 .1 .0 in
+      let n = limits c cs ss fs tx mn mp ot op ok in let n0 = n .constants in let n1 = n .structs in let n2 = n .some in let n3 = n .functions in
       let l1 = constants-length (c .constants) 0 cs tx in let l2 = structs-length (c .structs) 0 ss tx in let l3 = functions-length (c .functions) 0 (lent cs ss fs tx mn mp ot op) in
       record {
         constants = (omega arith, constants-sound (c .constants) 0 cs tx (λ i a b. constant-sound tx _ _ (constant-at c cs ss fs tx mn mp ot op ok i (omega arith)) (words (2 * i + 1))));
         structs = (
           omega arith,
-          names-sound (structsFrom (c .structs) 0 ss tx) [] (both-true (leb (c .structs) (places 1 ss) && everyFrom (c .structs) 0 (λ i. insideText c (structWord ss i))) _ (parts c cs ss fs tx mn mp ot op ok .1 .1 .0) .1) tt
+          names-sound (structsFrom (c .structs) 0 ss tx) [] (both-true (leb (c .structs) (places 1 ss) && everyFrom (c .structs) 0 (λ i. insideText c (structWord ss i))) _ (good c cs ss fs tx mn mp ot op ok .structs) .1) tt
               (structs-short (c .structs) 0 ss tx (λ i a b. struct-at c cs ss fs tx mn mp ot op ok i (omega arith))),
         );
         functions = ((omega arith, omega arith), all-sound (c .functions) refl (omega arith));

@@ -13,9 +13,9 @@ use Rattle.model.specs.Orders.{programOk}
 use Rattle.model.specs.Loading.{laid, countsFor, roomFor, LoadRes, loadJudged, loadOf, putOut, saveOf}
 use Rattle.model.specs.declared.Counts.{Counts}
 use Rattle.model.specs.declared.Loaded.the-variants as l
-use Rattle.image.proofs.Codecs.{by-test}
+use Rattle.program.proofs.Bools.{either-way}
 use Rattle.image.proofs.Formats.{judge-back, judge-only}
-use Rattle.image.proofs.Again.{laid-again}
+use Rattle.image.proofs.Loaded.{laid-again}
 use Rattle.image.proofs.Sounds.{Below, order-sound}
 
 pub image-back : (p : Program) → Sound p → judge (imageOf p) ≡ fine p
@@ -52,8 +52,8 @@ done-only : (r : Judged) (x : Stores) (c : Counts) (y : Stores) → loadJudged r
 unfolding loadJudged Done
 done-only (broken i) x c y e = absurd (not-broken (ap (λ (k : LoadRes). k .answer) e))
 done-only (fine p) x c y e =
-    by-test (withinLimits p)
-    (λ h. by-test (roomFor p x)
+    either-way (withinLimits p)
+    (λ h. either-way (roomFor p x)
     (λ r. let g : _≡_ {A = LoadRes} (record { answer = l.Done (countsFor p); stores = laid p x }) (record { answer = l.Done c; stores = y }) = rw (h, r) at e in
     (p, refl, h, r, done-same (ap (λ (k : LoadRes). k .answer) g), ap (λ (k : LoadRes). k .stores) g))
     (λ r. let g : _≡_ {A = LoadRes} (record { answer = l.Refused 21; stores = x }) (record { answer = l.Done c; stores = y }) = rw (h, r) at e in

@@ -4,10 +4,11 @@ use mathlib.Core.List.{List, [], _∷_, _++_}
 use Prim.Native.Nat.{ℕ, suc, _+_, _*_}
 use native.Mathlib.Omega.{arith}
 use lib.ListN.{length, set}
-use lib.Seq.{sets, length-sets}
+use lib.Seq.{sets}
 use Rattle.model.specs.Values.{putWords}
 use Rattle.model.specs.Images.{joined}
 use Rattle.model.specs.Emission.{written}
+use Rattle.program.proofs.Writing.{length-written}
 use Rattle.image.proofs.Reading.{joined-more}
 
 sets-append : (l : List ℕ) (i : ℕ) (x y : List ℕ) → sets (sets l i x) (i + length x) y ≡ sets l i (x ++ y)
@@ -17,10 +18,6 @@ sets-append l i (a ∷ x) y = let z : i + suc (length x) ≡ suc i + length x = 
 pub written-behind : (l : List ℕ) (i j : ℕ) (x y : List ℕ) → j ≡ i + length x → written (written l i x) j y ≡ written l i (x ++ y)
 unfolding written
 written-behind l i j x y e = rw e (sets-append l i x y)
-
-pub written-length : (l : List ℕ) (i : ℕ) (x : List ℕ) → length (written l i x) ≡ length l
-unfolding written
-written-length l i x = length-sets l i x
 
 pub written-none : (l : List ℕ) (i : ℕ) → l ≡ written l i []
 unfolding written
@@ -36,7 +33,7 @@ written-two l i a b = let z : 2 * i + 1 ≡ suc (2 * i) = omega arith in rw z
 
 -- a store that was written keeps its length
 pub kept-length : (l l₀ : List ℕ) (i : ℕ) (x : List ℕ) → l ≡ written l₀ i x → length l ≡ length l₀
-kept-length l l₀ i x e = ap length e ∙ written-length l₀ i x
+kept-length l l₀ i x e = ap length e ∙ length-written l₀ i x
 
 -- one piece more
 pub more-written : (l₀ l l′ : List ℕ) (i j : ℕ) (x y : List ℕ) → l ≡ written l₀ i x → j ≡ i + length x → l′ ≡ written l j y → l′ ≡ written l₀ i (x ++ y)

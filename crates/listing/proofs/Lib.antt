@@ -1,3 +1,4 @@
+-- A listing, from its letters to the entry.
 pub mod Names
 pub mod Pieces
 pub mod Lent

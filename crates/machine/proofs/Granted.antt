@@ -7,7 +7,8 @@
 --     lengths-of                        the stack's words, their copy, the cells and the current frame are there
 -- Assumes nothing.
 use mathlib.Core.Path.{_≡_, refl, sym, _∙_}
-use mathlib.Core.Bool.{Bool, true, false, _&&_, _||_, true≢false}
+use mathlib.Core.Bool.{true, false, _&&_}
+use mathlib.Mathlib.Data.Bool.Basic.{or-eq-false-eq-eq-false-and-eq-false}
 use Prim.Native.Nat.{ℕ, _-_, _*_, _≤_, _<_, min}
 use native.Mathlib.Omega.{arith}
 use borrow.Author.Tests.{leb-true, ltb-false}
@@ -95,14 +96,6 @@ module _ (m : Vm) (s : Stores) (l : Lent) where
 
 -- ---- bounds
 
-or-left : (a b : Bool) → (a || b) ≡ false → a ≡ false
-or-left false b e = refl
-or-left true b e = absurd (true≢false e)
-
-or-right : (a b : Bool) → (a || b) ≡ false → b ≡ false
-or-right false b e = e
-or-right true b e = absurd (true≢false e)
-
 pub record Lengths (m : Vm) (l : Lent) : Type 0 where
   pub slots : m .stack ≤ places 2 (l .stack)
   pub stack : 2 * m .stack ≤ length (l .stack)
@@ -122,7 +115,8 @@ lengths-of m s l g =
     let there = leb (m .cells) (places 2 (l .cells)) in
     let exact = exactCells (m .cells) 0 (l .cells) in
     let slots : m .stack ≤ places 2 (l .stack) = leb-true _ _ (and-left (leb (m .stack) (places 2 (l .stack))) _ (o .stack)) in
-    let copy : places 2 (l .stack) ≤ places 2 (l .copy) = ltb-false _ _ (or-left short few (g .long)) in
+    let long = or-eq-false-eq-eq-false-and-eq-false short few .0 (g .long) in
+    let copy : places 2 (l .stack) ≤ places 2 (l .copy) = ltb-false _ _ (long .0) in
     let some = some-frame (functionsFrom (m .program .functions) 0 s) (places 2 (l .stack)) (m .frames) (l .frames) (o .frames) in
     let frames : m .frames ≤ frameRoom (l .frames) = unfold frameRoom in leb-true _ _ (and-left (leb (m .frames) (min (length (l .frames)) mostPlaces)) (framesOk (functionsFrom (m .program .functions) 0 s) (places 2 (l .stack)) (take (m .frames) (l .frames))) (o .frames)) in
     record {
@@ -133,5 +127,5 @@ lengths-of m s l g =
       some = some;
       frames = frames;
       current = unfold frameRoom in omega arith;
-      trace = ltb-false _ _ (or-right short few (g .long));
+      trace = ltb-false _ _ (long .1);
     }

@@ -1,6 +1,8 @@
 -- tests, records and answers in a walk
 pub mod Tests
 pub mod Rows
+-- what a run is passed
+pub mod Parameters
 -- a run as an entry: refused or granted
 pub mod Granted
 -- its copied stack

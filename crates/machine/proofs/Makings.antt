@@ -23,7 +23,7 @@ use Rattle.model.specs.declared.Started.{Started}
 use Rattle.model.specs.declared.Started.the-variants as st
 use Rattle.model.specs.Basics.{if_then_else_}
 use Rattle.model.specs.Values.{places}
-use Rattle.model.specs.Programs.{Program, withinLimits}
+use Rattle.model.specs.Programs.{withinLimits}
 use Rattle.model.specs.Images.{Judged, fine, broken, judge}
 use Rattle.model.specs.Runs.{root}
 use Rattle.model.specs.Stores.{Stores}
@@ -31,11 +31,11 @@ use Rattle.model.specs.Emission.{Res, newOf}
 use Rattle.model.specs.Loading.{LoadRes, laid, countsFor, roomFor, loadJudged, loadOf}
 use Rattle.model.specs.Machines.{StartRes, fresh, startWith, loadMachineOf, asLoaded, newMachineOf}
 use Rattle.program.specs.Links.{Is}
-use Rattle.image.specs.Links.{JudgePost, SizesOf}
+use Rattle.image.specs.Links.{JudgePost}
 use Rattle.image.specs.declared.Sizes.{Sizes}
 use Rattle.image.specs.declared.Judgement.{Judgement}
 use Rattle.image.specs.declared.Judgement.the-variants as j
-use Rattle.image.proofs.Loads.{judged-not, judged-is}
+use Rattle.image.proofs.Loads.{limits-by, judged-not, judged-is}
 use Rattle.machine.specs.Links.{isDone, Makes}
 
 -- ---- whether a machine was made
@@ -131,10 +131,6 @@ module _ (image : List ℕ) (x : Stores) where
 
 -- without a place for a frame
 
-limits : (p : Program) (z : Sizes) → SizesOf p z → (leb (z .constants) 65535 && leb (z .structs) 65536 && leb (z .functions) 65536 && z .within) ≡ withinLimits p
-unfolding withinLimits
-limits p z h = rw (h .constants, h .structs, h .functions, h .within)
-
 module _ (image : List ℕ) (x : Stores) (r : Judgement) (h : JudgePost image r) where
   pub place-broken : (o : ℕ) → r ≡ j.Broken o → Makes (loadMachineOf image x) 0 (st.Broken o) x
   unfolding loadOf loadJudged
@@ -143,15 +139,15 @@ module _ (image : List ℕ) (x : Stores) (r : Judgement) (h : JudgePost image r)
   module _ (z : Sizes) (q : r ≡ j.Fine z) where
     pub place-22 : (leb (z .constants) 65535 && leb (z .structs) 65536 && leb (z .functions) 65536 && z .within) ≡ false → Makes (loadMachineOf image x) 0 (st.Refused 22) x
     unfolding loadOf loadJudged
-    place-22 e = let g = judged-is image r h z q in by-load image x (loaded (l.Refused 22) x) (rw (g .judged, sym (limits (g .program) z (g .sizes)) ∙ e)) (by-refused x x 22 0)
+    place-22 e = let g = judged-is image r h z q in by-load image x (loaded (l.Refused 22) x) (rw (g .judged, sym (limits-by (g .program) z (g .sizes)) ∙ e)) (by-refused x x 22 0)
 
     pub place-21 : (leb (z .constants) 65535 && leb (z .structs) 65536 && leb (z .functions) 65536 && z .within) ≡ true → Makes (loadMachineOf image x) 0 (st.Refused 21) x
     unfolding loadOf loadJudged
     place-21 e = let g = judged-is image r h z q in on (roomFor (g .program) x) refl
       where
         on : (b : Bool) → roomFor (judged-is image r h z q .program) x ≡ b → Makes (loadMachineOf image x) 0 (st.Refused 21) x
-        on true f = let g = judged-is image r h z q in by-load image x (loaded (l.Done (countsFor (g .program))) (laid (g .program) x)) (rw (g .judged, sym (limits (g .program) z (g .sizes)) ∙ e, f)) (none-done (laid (g .program) x) x (countsFor (g .program)))
-        on false f = let g = judged-is image r h z q in by-load image x (loaded (l.Refused 21) x) (rw (g .judged, sym (limits (g .program) z (g .sizes)) ∙ e, f)) (by-refused x x 21 0)
+        on true f = let g = judged-is image r h z q in by-load image x (loaded (l.Done (countsFor (g .program))) (laid (g .program) x)) (rw (g .judged, sym (limits-by (g .program) z (g .sizes)) ∙ e, f)) (none-done (laid (g .program) x) x (countsFor (g .program)))
+        on false f = let g = judged-is image r h z q in by-load image x (loaded (l.Refused 21) x) (rw (g .judged, sym (limits-by (g .program) z (g .sizes)) ∙ e, f)) (by-refused x x 21 0)
 
 pub without-place : {w : List Frame → StartRes} {n : ℕ} → n ≡ 0 → {r : Started} {y : Stores} → Makes w 0 r y → Makes w n r y
 without-place e m = rw e m

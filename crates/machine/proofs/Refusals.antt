@@ -19,7 +19,7 @@ use Rattle.model.specs.Machines.{Lent, tooShort}
 use Rattle.frames.specs.Links.{framesGood}
 use Rattle.ends.specs.Links.{programLent, restOrder, ShortPost}
 use Rattle.machine.specs.Links.{runLent, refusalBy, RunJudged}
-use Rattle.machine.proofs.Slices.{functions-ready, rest-refused, frames-refused, short-refused, granted}
+use Rattle.machine.proofs.Granted as gr
 
 -- ---- the number
 
@@ -57,13 +57,14 @@ module _ (m : Vm) (structs constants functions text main mainPlaces other otherP
   too-short h c t = h .means lent refl refl c t
 
   pub functions-counted : (good : Bool) → good ≡ restOrder m stores stack cells → 2 * (if good then m .program .functions else 0) ≤ length functions
-  functions-counted true e = functions-ready m 0 structs constants functions text main mainPlaces other otherPlaces stack cells frames copy backtrace (sym e)
+  unfolding programLent runLent
+  functions-counted true e = gr.functions-fit m stores lent (sym e)
   functions-counted false e = omega arith
 
   pub run-judged : (good fine short : Bool) → good ≡ restOrder m stores stack cells → fine ≡ framesGood functions (if good then m .program .functions else 0) (places 2 stack) (m .frames) frames → short ≡ tooShort lent
       → RunJudged m stores lent (refusalBy good fine short)
-  unfolding refusalBy
-  run-judged true true true g f s = record { grants = λ e. absurd (not-none 16 e); refuses = λ some u. short-refused m u structs constants functions text main mainPlaces other otherPlaces stack cells frames copy backtrace (sym g) (sym f) (sym s) }
-  run-judged true true false g f s = record { grants = λ e. granted m 0 structs constants functions text main mainPlaces other otherPlaces stack cells frames copy backtrace (sym g) (sym f) (sym s); refuses = λ some u. absurd (some refl) }
-  run-judged true false short g f s = record { grants = λ e. absurd (not-none 18 e); refuses = λ some u. frames-refused m u structs constants functions text main mainPlaces other otherPlaces stack cells frames copy backtrace (sym g) (sym f) }
-  run-judged false fine short g f s = record { grants = λ e. absurd (not-none 18 e); refuses = λ some u. rest-refused m u structs constants functions text main mainPlaces other otherPlaces stack cells frames copy backtrace (sym g) }
+  unfolding refusalBy programLent runLent
+  run-judged true true true g f s = record { grants = λ e. absurd (not-none 16 e); refuses = λ some u. gr.short-refused m stores lent u (sym g) (sym f) (sym s) }
+  run-judged true true false g f s = record { grants = λ e. gr.granted m stores lent (sym g) (sym f) (sym s); refuses = λ some u. absurd (some refl) }
+  run-judged true false short g f s = record { grants = λ e. absurd (not-none 18 e); refuses = λ some u. gr.frames-refused m stores lent u (sym g) (sym f) }
+  run-judged false fine short g f s = record { grants = λ e. absurd (not-none 18 e); refuses = λ some u. gr.rest-refused m stores lent u (sym g) }

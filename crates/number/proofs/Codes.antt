@@ -3,24 +3,29 @@ use mathlib.Core.Path.{_≡_, sym, ap, _∙_}
 use mathlib.Core.List.{List, [], _∷_, _++_}
 use Prim.Native.Nat.{ℕ, zero, suc, _+_, _-_, _*_, _/_, _%_, _≤_, _<_}
 use native.Mathlib.Omega.{arith}
-use lib.ListN.{length}
 use borrow.Author.Tests.{lt-ltb, le-ltb}
 use Rattle.model.specs.Numbers.{Step, got, bad, item, Bytes, Codes, groupsOf, digits, more, groups, number}
 use Rattle.model.specs.Numbers.{Small}
 use Rattle.number.specs.Links.{limit}
 use Rattle.number.proofs.Digits.{by-lt, limit-4, one, many}
 
--- a broken reading is no number
-no-number : {P : Type 0} (k n : ℕ) (r : List ℕ) → bad k ≡ got n r → P
-no-number k n r e = absurd (let z : _≡_ {A = ℕ} 0 1 = cc in let w : ⊥ = omega arith in w)
+-- a broken reading reads nothing
+pub never : {A : Type 0} {a : A} {r : List ℕ} {n : ℕ} → _≡_ {A = Step A} (bad n) (got a r) → ⊥
+never e = let z : _≡_ {A = ℕ} 0 1 = cc in omega arith
+
+-- an item reads where its bytes do
+pub item-only : {A : Type 0} (b : List ℕ) (s : Step A) (a : A) (r : List ℕ) → item b s ≡ got a r → s ≡ got a r
+unfolding item
+item-only b (got x s) a r e = e
+item-only b (bad n) a r e = absurd (never e)
 
 -- how a group in front of others was read
 pub more-got : (d : ℕ) (s : Step ℕ) (n : ℕ) (r : List ℕ) → more d s ≡ got n r → (q : ℕ) × (s ≡ got q r) × (0 < q) × (n ≡ d + 128 * q)
 unfolding more
-more-got d (got zero t) n r e = no-number 0 n r e
+more-got d (got zero t) n r e = absurd (never e)
 more-got d (got (suc q) t) n r e =
     let a : t ≡ r = cc in let c : n ≡ d + 128 * suc q = cc in (suc q, rw a, omega arith, c)
-more-got d (bad k) n r e = no-number 0 n r e
+more-got d (bad k) n r e = absurd (never e)
 
 -- the first group of a reading
 pub last-group : (f x : ℕ) (r : List ℕ) → x < 128 → groups (suc f) (x ∷ r) ≡ got x r
@@ -66,11 +71,11 @@ ended f x n s r l e =
 
 only : (f : ℕ) (b : List ℕ) (n : ℕ) (r : List ℕ) → Bytes b → groups f b ≡ got n r → (b ≡ groupsOf f n ++ r) × (n < limit f)
 unfolding groups limit Bytes
-only f [] n r y e = no-number 0 n r e
+only f [] n r y e = absurd (never e)
 only zero (x ∷ s) n r y e =
     by-lt x 16
     (λ l. let z = ended 0 x n s r (omega arith) (sym (end-group x s l) ∙ e) in (z .0, rw (z .1) l))
-    (λ g. no-number 0 n r (sym (no-group x s g) ∙ e))
+    (λ g. absurd (never (sym (no-group x s g) ∙ e)))
 only (suc f) (x ∷ s) n r y e =
     by-lt x 128
     (λ l. let z = ended (suc f) x n s r l (sym (last-group f x s l) ∙ e) in (z .0, rw (z .1) (below f x l)))
@@ -85,15 +90,9 @@ only (suc f) (x ∷ s) n r y e =
     let high : n / 128 ≡ m .0 = omega arith in
     (rw (many f n (omega arith), low, high) (ap (λ (t : List ℕ). x ∷ t) (rest .0)), omega arith))
 
--- an item reads as a number where its groups do
-item-got : (b : List ℕ) (s : Step ℕ) (n : ℕ) (r : List ℕ) → item b s ≡ got n r → s ≡ got n r
-unfolding item
-item-got b (got m t) n r e = e
-item-got b (bad k) n r e = no-number (length b) n r e
-
 pub number-codes : Codes Small digits number
 unfolding number digits item
 number-codes = record {
   back = λ n r h. rw (back 4 n r (rw limit-4 h));
-  only = λ b n r y e. let z = only 4 b n r y (item-got b (groups 4 b) n r e) in (z .0, rw limit-4 at (z .1));
+  only = λ b n r y e. let z = only 4 b n r y (item-only b (groups 4 b) n r e) in (z .0, rw limit-4 at (z .1));
 }

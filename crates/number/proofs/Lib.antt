@@ -1,3 +1,4 @@
+-- A number in groups, read and written; and that the two undo each other.
 pub mod Digits
 pub mod Codes
 pub mod Reading

@@ -49,6 +49,9 @@ passed-at zero i t e j h = absurd (let y : ⊥ = omega arith in y)
 passed-at (suc n) i t e zero h = let z : i + 0 ≡ i = omega arith in rw z (and-left (t i) (everyFrom n (suc i) t) e)
 passed-at (suc n) i t e (suc j) h = let z : i + suc j ≡ suc i + j = omega arith in rw z (passed-at n (suc i) t (and-right (t i) (everyFrom n (suc i) t) e) j (omega arith))
 
+pub passed : (n : ℕ) (t : ℕ → Bool) → everyFrom n 0 t ≡ true → (i : ℕ) → i < n → t i ≡ true
+passed n t e i h = let z : 0 + i ≡ i = omega arith in rw z at (passed-at n 0 t e i h)
+
 -- and what each place passes, all pass
 pub pass-all : (n i : ℕ) (t : ℕ → Bool) → ((j : ℕ) → j < n → t (i + j) ≡ true) → everyFrom n i t ≡ true
 unfolding everyFrom

@@ -2,8 +2,10 @@
 use mathlib.Core.Path.{_≡_, refl, sym, ap, _∙_}
 use mathlib.Core.Bool.{Bool, true, false, _&&_, _||_}
 use mathlib.Core.List.{List, _++_, append-assoc}
+use mathlib.Mathlib.Data.Bool.Basic.{or-inr}
 use Prim.Native.Nat.{ℕ, zero, suc, _+_, _-_, _*_, _≤_, _<_, _^_}
 use native.Mathlib.Omega.{arith}
+use native.Mathlib.Numerals.{lt-of-le-of-ne}
 use lib.Dec.{eqb, leb, ltb}
 use lib.ListN.{length, set, take, drop, length-set, length-drop, take-append-drop}
 use lib.Seq.{sets-eq, length-take-le, take-append-le, drop-append-le, drop-at, take-at, getD-set-same, getD-set-other}
@@ -19,12 +21,12 @@ use Rattle.model.specs.Stores.{Stores, start, size, pack, part, structWord, nam
 use Rattle.model.specs.Orders.{countsOk, textOk, insideText, constantOk, constantsOk, allDifferent, structsOk, codeStart, functionOk, functionsOk, mainOk, mainTaken, otherTaken, insideCodes, programOk}
 use Rattle.model.specs.Emission.{counts, oneConstant, written, textRoom, withConstant, withTextConstant, constantAdded, constantOrder, addConstantOf, u16, sizeHere, patchOrder, patched, patchOf, endFunctionOf, oneFunction}
 use Rattle.program.proofs.Bools.{either-way, and-left, and-right, and-both}
-use Rattle.program.proofs.Parts.{room-1, room-2, start-pack, size-pack}
+use Rattle.program.proofs.Parts.{room-1, room-2, places-same, start-pack, size-pack}
 use Rattle.program.proofs.Every.{pass-all, passed-at}
 use Rattle.program.proofs.Known.{Limited, limited, text-inside, constants-known, function-known, codes-behind}
 use Rattle.program.proofs.Writing.{length-written, length-words}
 use Rattle.program.proofs.Adding.{start-below}
-use Rattle.program.proofs.Keeping.{Good, good-of, of-good, inside-back, places-same, function-good, Kept, kept-if, kept-refused}
+use Rattle.program.proofs.Keeping.{Good, good-of, of-good, inside-back, function-good, Kept, kept-if, kept-refused}
 
 -- ---- a text appended at a
 
@@ -129,9 +131,6 @@ module _ (cs : List ℕ) (i a b : ℕ) (h : 2 * i + 2 ≤ length cs) where
     getD-set-other (set cs (2 * i) a) (2 * i + 1) (2 * j + 1) b 0 (λ (e : 2 * j + 1 ≡ 2 * i + 1). d (omega arith)) ∙ getD-set-other cs (2 * i) (2 * j + 1) a 0 (λ (e : 2 * j + 1 ≡ 2 * i). omega arith),
   )
 
-pub below-or-same : (j n : ℕ) → j < suc n → (j ≡ n → ⊥) → j < n
-below-or-same j n h d = either-way (leb n j) (λ t. let l : n ≤ j = leb-true n j t in absurd (d (omega arith))) (λ f. leb-false n j f)
-
 pub counts-good : (c : Counts) → c .constants ≤ 65535 → c .structs ≤ 65536 → 1 ≤ c .functions → c .functions ≤ 65536 → c .text ≤ 0xFFFF_FFFF → (eqb (c .current) 0 || eqb (suc (c .current)) (c .functions)) ≡ true → countsOk c ≡ true
 unfolding countsOk
 counts-good c a b d e f g = rw (le-leb _ _ a, le-leb _ _ b, le-leb _ _ d, le-leb _ _ e, le-leb _ _ f) g
@@ -151,7 +150,7 @@ module _ (c : Counts) (n : ℕ) (cs : List ℕ) (g : constantsOk c cs ≡ true) 
       rw (e, x .0, x .1) ok)
       (λ f.
       let d : j ≡ c .constants → ⊥ = eqb-false j (c .constants) f in
-      let l : j < c .constants = below-or-same j (c .constants) h d in
+      let l : j < c .constants = lt-of-le-of-ne (omega arith) d in
       let x = words-other cs (c .constants) kind w pair j d in
       rw (x .0, x .1) (constant-more c (oneConstant n c) (omega arith) (kindAt cs j) (payloadAt cs j) (constants-known c cs g .each j l))))
 
@@ -284,10 +283,6 @@ end-keeps c s e d n q =
 
 -- ---- a new function
 
-or-true : (a b : Bool) → b ≡ true → (a || b) ≡ true
-or-true true b e = refl
-or-true false b e = e
-
 module _ (c : Counts) (s : Stores) (g : Good c s) (few : c .functions < 65536) (fits : c .functions < places 2 (s .functions)) (n : ℕ) (u : List ℕ) (room : c .text + n ≤ places 1 u)
     (same : (v : ℕ) → start v + size v ≤ c .text → part u v ≡ part (s .text) v) where
   d : Counts
@@ -372,7 +367,7 @@ module _ (c : Counts) (s : Stores) (g : Good c s) (few : c .functions < 65536) (
       let z : 0 + i ≡ i = omega arith in
       rw z (either-way (eqb i (c .functions))
       (λ t. let e : i ≡ c .functions = eqb-true i (c .functions) t in rw e new-good)
-      (λ f. old-good i (below-or-same i (c .functions) h (eqb-false i (c .functions) f))))))
+      (λ f. old-good i (lt-of-le-of-ne (omega arith) (eqb-false i (c .functions) f))))))
 
   main-now : mainOk fs u ≡ true
   unfolding mainOk
@@ -398,7 +393,7 @@ module _ (c : Counts) (s : Stores) (g : Good c s) (few : c .functions < 65536) (
   function-begun =
       let x = room-1 u in
       record {
-        counts = counts-good (oneFunction n c) (limits .constants) (limits .structs) (omega arith) (omega arith) (omega arith) (or-true (eqb (c .functions) 0) (eqb (suc (c .functions)) (suc (c .functions))) (eq-eqb (suc (c .functions)) (suc (c .functions)) refl));
+        counts = counts-good (oneFunction n c) (limits .constants) (limits .structs) (omega arith) (omega arith) (omega arith) (or-inr (eqb (c .functions) 0) (eqb (suc (c .functions)) (suc (c .functions))) (eq-eqb (suc (c .functions)) (suc (c .functions)) refl));
         text = le-leb (c .text + n) (places 1 u) room;
         constants = constants-more c (oneFunction n c) (omega arith) (s .constants) refl (g .constants);
         structs = structs-more c (oneFunction n c) (omega arith) (s .structs) (s .text) u same refl (g .structs);

@@ -18,7 +18,7 @@ use Rattle.model.specs.Stores.{Stores, start, size, pack, nameWord, codeWord, c
 use Rattle.model.specs.Orders.{countsOk, textOk, insideText, constantsOk, structsOk, codeStart, functionOk, functionsOk, mainOk, mainTaken, otherTaken, insideCodes, programOk}
 use Rattle.model.specs.Emission.{Res, refuse, sizeHere, endHere, codeRoom, longer, appended, codeOrder, emitIn, emitOf}
 use Rattle.program.proofs.Bools.{either-way, and-left, and-right, and-both}
-use Rattle.program.proofs.Parts.{room-1, start-pack, size-pack}
+use Rattle.program.proofs.Parts.{room-1, places-same, start-pack, size-pack}
 use Rattle.program.proofs.Every.{pass-all}
 use Rattle.program.proofs.Known.{Limited, limited, Known, function-known, codes-behind}
 use Rattle.program.proofs.Writing.{length-written}
@@ -66,11 +66,6 @@ module _ (c : Counts) (s : Stores) where
 pub inside-back : (c : Counts) (w : ℕ) → start w + size w ≤ c .text → insideText c w ≡ true
 unfolding insideText
 inside-back c w h = le-leb (start w + size w) (c .text) h
-
-pub places-same : (w : ℕ) (a b : List ℕ) → length a ≡ length b → places w a ≡ places w b
-unfolding places
-places-same zero a b e = refl
-places-same (suc w) a b e = rw e
 
 functions-room : (c : Counts) (fs : List ℕ) → functionsOk c fs ≡ true → leb (c .functions) (places 2 fs) ≡ true
 unfolding functionsOk

@@ -4,18 +4,19 @@ use mathlib.Core.Bool.{Bool, true, false, _&&_, _||_}
 use mathlib.Core.List.{List}
 use Prim.Native.Nat.{ℕ, zero, suc, _+_, _*_, _≤_, _<_}
 use native.Mathlib.Omega.{arith}
+use native.Mathlib.Numerals.{lt-of-le-of-ne}
 use lib.Dec.{eqb, leb}
 use lib.ListN.{length}
-use borrow.Author.Tests.{leb-true, eqb-true}
+use borrow.Author.Tests.{leb-true, eqb-true, eqb-false}
 use Rattle.model.specs.declared.Counts.{Counts}
 use Rattle.model.specs.Basics.{everyFrom}
 use Rattle.model.specs.Values.{places, kindAt, payloadAt}
 use Rattle.model.specs.Programs.{codeLimit}
-use Rattle.model.specs.Stores.{start, size, nameWord, codeWord, codeEnd}
-use Rattle.model.specs.Orders.{countsOk, textOk, insideText, constantOk, constantsOk, codeStart, functionOk, functionsOk, mainTaken, otherTaken, insideCodes}
-use Rattle.program.proofs.Bools.{and-left, and-right}
+use Rattle.model.specs.Stores.{start, size, structWord, structsFrom, nameWord, codeWord, codeEnd}
+use Rattle.model.specs.Orders.{countsOk, textOk, insideText, constantOk, constantsOk, allDifferent, structsOk, codeStart, functionOk, functionsOk, mainTaken, otherTaken, insideCodes}
+use Rattle.program.proofs.Bools.{either-way, and-left, and-right}
 use Rattle.program.proofs.Parts.{room-1, room-2}
-use Rattle.program.proofs.Every.{passed-at}
+use Rattle.program.proofs.Every.{passed}
 
 -- the counts are within their limits, and the current function is one of them
 pub record Limited (c : Counts) : Type 0 where
@@ -78,8 +79,15 @@ constants-known c cs e =
     let a = leb (c .constants) (places 2 cs) in let b = everyFrom (c .constants) 0 (λ i. constantOk c (kindAt cs i) (payloadAt cs i)) in
     record {
       within = leb-true (c .constants) (places 2 cs) (and-left a b e);
-      each = λ i h. let z : 0 + i ≡ i = omega arith in rw z at (passed-at (c .constants) 0 (λ j. constantOk c (kindAt cs j) (payloadAt cs j)) (and-right a b e) i h);
+      each = passed (c .constants) (λ j. constantOk c (kindAt cs j) (payloadAt cs j)) (and-right a b e);
     }
+
+-- the struct names lie in the text
+pub structs-inside : (c : Counts) (ss t : List ℕ) → structsOk c ss t ≡ true → everyFrom (c .structs) 0 (λ j. insideText c (structWord ss j)) ≡ true
+unfolding structsOk
+structs-inside c ss t e =
+    let a = leb (c .structs) (places 1 ss) in let b = everyFrom (c .structs) 0 (λ j. insideText c (structWord ss j)) in
+    and-right a b (and-left (a && b) (allDifferent (structsFrom (c .structs) 0 ss t)) e)
 
 -- function i: its words lie in the store, its name in the text, its code behind the others
 pub record Known (c : Counts) (fs : List ℕ) (i : ℕ) : Type 0 where
@@ -96,8 +104,7 @@ function-known c fs e i h =
     let a = leb (c .functions) (places 2 fs) in let b = everyFrom (c .functions) 0 (functionOk c fs) in
     let r : c .functions ≤ places 2 fs = leb-true (c .functions) (places 2 fs) (and-left a b e) in
     let x = room-2 fs in
-    let z : 0 + i ≡ i = omega arith in
-    let f : functionOk c fs i ≡ true = rw z at (passed-at (c .functions) 0 (functionOk c fs) (and-right a b e) i h) in
+    let f : functionOk c fs i ≡ true = passed (c .functions) (functionOk c fs) (and-right a b e) i h in
     let b1 = insideText c (nameWord fs i) in let b2 = eqb (start (codeWord fs i)) (codeStart fs i) in
     let b3 = leb (size (codeWord fs i)) codeLimit in let b4 = leb (codeEnd fs i) 0xFFFF_FFFF in
     let f3 = and-left (b1 && b2 && b3) b4 f in
@@ -110,6 +117,23 @@ function-known c fs e i h =
       short = leb-true (size (codeWord fs i)) 65535 (and-right (b1 && b2) b3 f3);
       ends = leb-true (codeEnd fs i) 0xFFFF_FFFF (and-right (b1 && b2 && b3) b4 f);
     }
+
+-- the codes of the others stand one behind the other
+start-end : (c : Counts) (fs : List ℕ) (j : ℕ) → Known c fs j → codeStart fs j ≤ codeEnd fs j
+unfolding codeEnd
+start-end c fs j q = rw (← (q .starts)) (omega arith)
+
+pub ascending : (c : Counts) (fs : List ℕ) → functionsOk c fs ≡ true → (i j : ℕ) → 1 ≤ i → i < j → j ≤ c .functions → codeEnd fs i ≤ codeStart fs j
+unfolding codeStart
+ascending c fs g i zero a b d = absurd (let y : ⊥ = omega arith in y)
+ascending c fs g i (suc zero) a b d = absurd (let y : ⊥ = omega arith in y)
+ascending c fs g i (suc (suc j)) a b d = either-way (eqb i (suc j))
+    (λ t. let e : i ≡ suc j = eqb-true i (suc j) t in rw e (omega arith))
+    (λ f.
+    let l : i < suc j = lt-of-le-of-ne (omega arith) (eqb-false i (suc j) f) in
+    let r : codeEnd fs i ≤ codeStart fs (suc j) = ascending c fs g i (suc j) a l (omega arith) in
+    let q : codeStart fs (suc j) ≤ codeEnd fs (suc j) = start-end c fs (suc j) (function-known c fs g (suc j) (omega arith)) in
+    omega arith)
 
 -- the current function's code lies in its store
 pub codes-behind : (fs : List ℕ) (i n : ℕ) → (i ≡ 0 → ⊥) → suc i ≡ n → codeStart fs n ≡ codeEnd fs i

@@ -1,13 +1,17 @@
+-- tests, words and written stores
 pub mod Bools
 pub mod Parts
 pub mod Every
-pub mod Checks
 pub mod Writing
+-- good order: what each check answers, and what it hands on
+pub mod Checks
 pub mod Known
+-- what each function answers, way by way
+pub mod Searching
 pub mod Entered
 pub mod Emitting
-pub mod Searching
 pub mod Adding
+-- what an entry leaves: good order, and which program
 pub mod Keeping
 pub mod Growing
 pub mod Reading

@@ -5,6 +5,7 @@ use mathlib.Core.List.{List, [], _∷_, _++_}
 use mathlib.Core.Option.{Option, none, some}
 use Prim.Native.Nat.{ℕ, zero, suc, _+_, _*_, _≤_, _<_, _^_}
 use native.Mathlib.Omega.{arith}
+use native.Mathlib.Numerals.{lt-of-le-of-ne}
 use lib.Dec.{eqb, leb}
 use lib.ListN.{length, set, length-set}
 use lib.Seq.{getD-set-same, getD-set-other}
@@ -19,15 +20,15 @@ use Rattle.model.specs.Stores.{Stores, start, size, pack, part, structWord, nam
 use Rattle.model.specs.Orders.{countsOk, textOk, insideText, constantsOk, allDifferent, structsOk, codeStart, functionsOk, mainOk, mainTaken, otherTaken, insideCodes, programOk}
 use Rattle.model.specs.Emission.{Res, refuse, counts, oneStruct, oneFunction, written, textRoom, newOf, structAdded, structFound, structOrder, addStructOf, functionOrder, begun, beginFunctionOf, endFunctionOf}
 use Rattle.program.proofs.Bools.{either-way, and-left, and-right, and-both}
-use Rattle.program.proofs.Parts.{room-1, room-2, start-pack, size-pack}
-use Rattle.program.proofs.Every.{pass-all, passed-at}
-use Rattle.program.proofs.Known.{Limited, limited, text-inside, constants-known, function-known}
+use Rattle.program.proofs.Parts.{room-1, room-2, places-same, start-pack, size-pack}
+use Rattle.program.proofs.Every.{pass-all, passed}
+use Rattle.program.proofs.Known.{Limited, limited, structs-inside, text-inside, constants-known, function-known}
 use Rattle.program.proofs.Writing.{length-written}
 use Rattle.program.proofs.Searching.{among-none, among-some, different-more}
 use Rattle.program.proofs.Adding.{start-below}
-use Rattle.program.proofs.Keeping.{Good, good-of, of-good, inside-back, places-same, function-good, Kept}
-use Rattle.program.proofs.Growing.{part-kept, part-new, inside-more, constants-more, functions-more, names-same, main-kept, words-here, words-other, below-or-same, counts-good, function-begun}
-use Rattle.program.proofs.Reading.{all-same, constants-alike, constant-alike, structs-inside, Reads}
+use Rattle.program.proofs.Keeping.{Good, good-of, of-good, inside-back, function-good, Kept}
+use Rattle.program.proofs.Growing.{part-kept, part-new, inside-more, constants-more, functions-more, names-same, main-kept, words-here, words-other, counts-good, function-begun}
+use Rattle.program.proofs.Reading.{all-same, constants-alike, constant-alike, Reads}
 
 -- ---- what an entry leaves when it is done: a program in good order, and this one
 
@@ -118,7 +119,7 @@ module _ (c : Counts) (s : Stores) (g : Good c s) (lent : List ℕ) (room : c .t
   word-old j e = getD-set-other (s .structs) (c .structs) j w 0 e
 
   old-inside : (j : ℕ) → j < c .structs → insideText c (structWord (s .structs) j) ≡ true
-  old-inside j h = let z : 0 + j ≡ j = omega arith in rw z at (passed-at (c .structs) 0 (λ i. insideText c (structWord (s .structs) i)) (structs-inside c (s .structs) (s .text) (g .structs)) j h)
+  old-inside j h = passed (c .structs) (λ i. insideText c (structWord (s .structs) i)) (structs-inside c (s .structs) (s .text) (g .structs)) j h
 
   names-now : structsFrom (suc (c .structs)) 0 ss t ≡ structsFrom (c .structs) 0 (s .structs) (s .text) ++ (lent ∷ [])
   names-now =
@@ -138,7 +139,7 @@ module _ (c : Counts) (s : Stores) (g : Good c s) (lent : List ℕ) (room : c .t
       (λ e. let q : j ≡ c .structs = eqb-true j (c .structs) e in rw (q, word-new) new-inside)
       (λ e.
       let q : j ≡ c .structs → ⊥ = eqb-false j (c .structs) e in
-      rw (word-old j q) (inside-more c d (omega arith) (structWord (s .structs) j) (old-inside j (below-or-same j (c .structs) h q)))))
+      rw (word-old j q) (inside-more c d (omega arith) (structWord (s .structs) j) (old-inside j (lt-of-le-of-ne (omega arith) q)))))
 
   old-different : allDifferent (structsFrom (c .structs) 0 (s .structs) (s .text)) ≡ true
   unfolding structsOk

@@ -32,6 +32,18 @@ pub room-2 : (s : List ℕ) → (2 * places 2 s ≤ length s) × (places 2 s ≤
 unfolding places
 room-2 s = (let h : min (length s / 2) 0xFFFF_FFFF ≤ length s / 2 = min-le-left _ _ in omega arith, min-le-right _ _)
 
+-- what fits in so many places
+pub one-word : (k : ℕ) (s : List ℕ) → k ≤ places 1 s → (k ≤ length s) × (k < 2 ^ 32)
+one-word k s h = let x = room-1 s in (omega arith, omega arith)
+
+pub two-words : (k : ℕ) (s : List ℕ) → k ≤ places 2 s → 2 * k ≤ length s
+two-words k s h = let x = room-2 s in omega arith
+
+pub places-same : (w : ℕ) (a b : List ℕ) → length a ≡ length b → places w a ≡ places w b
+unfolding places
+places-same zero a b e = refl
+places-same (suc w) a b e = rw e
+
 -- ---- words
 
 pub last-never : (i n : ℕ) → n ≡ 0 → false ≡ eqb (suc i) n

@@ -1,27 +1,28 @@
 -- What the program then is: the old one with the bytes appended to the current function's code or patched inside it, or with the constant appended.
 use mathlib.Core.Path.{_≡_, refl, sym, ap, _∙_}
-use mathlib.Core.Bool.{Bool, true, false, not, _&&_}
+use mathlib.Core.Bool.{Bool, true, false, not}
 use mathlib.Core.List.{List, [], _∷_, _++_, append-assoc}
 use Prim.Native.Nat.{ℕ, zero, suc, _+_, _-_, _*_, _≤_, _<_, _^_}
 use native.Mathlib.Omega.{arith}
+use native.Mathlib.Numerals.{lt-of-le-of-ne}
 use lib.Dec.{eqb, leb, ltb}
 use lib.ListN.{length, set, take, drop, replicate, length-replicate, length-drop}
 use lib.Seq.{take-append-add, take-add, drop-at, take-at, length-take-le, take-set-lt, drop-set-add}
-use borrow.Author.Tests.{eq-eqb, ne-eqb, eqb-true, eqb-false, ltb-true, ltb-false, leb-true, leb-false}
+use borrow.Author.Tests.{eq-eqb, ne-eqb, eqb-true, eqb-false, ltb-false, leb-true, leb-false}
 use Rattle.model.specs.declared.Constant.{Constant}
 use Rattle.model.specs.declared.Constant.the-variants as k
 use Rattle.model.specs.declared.Counts.{Counts}
-use Rattle.model.specs.Basics.{if_then_else_, everyFrom}
+use Rattle.model.specs.Basics.{if_then_else_}
 use Rattle.model.specs.Values.{places, textAt, kindAt, payloadAt, putWords}
 use Rattle.model.specs.Programs.{scalar, boolean, string, reference, Function, functionAt, Program, codeLimit, constantLimit}
 use Rattle.model.specs.Programs as p
-use Rattle.model.specs.Stores.{Stores, start, size, pack, part, structWord, nameWord, codeWord, codeEnd, codeHere, placesHere, withCode, withFunctions, withMain, withOther, withConstants, withText, constantIn, constantsFrom, structsFrom, functionIn, functionsFrom, programIn}
-use Rattle.model.specs.Orders.{insideText, constantOk, structsOk, allDifferent, codeStart, functionsOk, programOk}
+use Rattle.model.specs.Stores.{Stores, start, size, pack, part, nameWord, codeWord, codeEnd, codeHere, placesHere, withCode, withFunctions, withMain, withOther, withConstants, withText, constantIn, constantsFrom, structsFrom, functionIn, functionsFrom, programIn}
+use Rattle.model.specs.Orders.{insideText, constantOk, codeStart, programOk}
 use Rattle.model.specs.declared.Emitted.the-variants.{Done}
 use Rattle.model.specs.Emission.{Res, refuse, oneConstant, textRoom, withConstant, withTextConstant, constantAdded, constantOrder, addConstantOf, codeOrder, emitIn, emitOf, written, sizeHere, endHere, codeRoom, longer, appended, u16, patchOrder, patched, patchOf}
-use Rattle.program.proofs.Bools.{apart, either-way, and-left, and-right}
+use Rattle.program.proofs.Bools.{apart, either-way}
 use Rattle.program.proofs.Parts.{room-1, room-2, start-pack, size-pack}
-use Rattle.program.proofs.Known.{Limited, limited, Known, function-known, constants-known, text-inside, code-in-other}
+use Rattle.program.proofs.Known.{Limited, limited, function-known, ascending, constants-known, structs-inside, text-inside, code-in-other}
 use Rattle.program.proofs.Keeping.{Good, good-of, Longer, in-code, in-places, now-longer}
 use Rattle.program.proofs.Growing.{split, part-kept, part-new, words-here, words-other, names-same}
 
@@ -41,30 +42,9 @@ part-longer m l a z h =
     let e4 : take (length l) rest ≡ l = take-at l (drop (a + z + length l) m) (length l) refl in
     rw (e1, e2) (ap (λ (q : ℕ). take (q + length l) (take z (drop a m) ++ rest)) (sym lz) ∙ e3 ∙ rw e4)
 
-lower : (x y : ℕ) → x < suc y → (x ≡ y → ⊥) → x < y
-lower x y h d = either-way (ltb x y) (λ t. ltb-true x y t) (λ f. absurd (d (let z : y ≤ x = ltb-false x y f in omega arith)))
-
 positive : (j : ℕ) → (j ≡ 0 → ⊥) → 1 ≤ j
 positive zero h = absurd (h refl)
 positive (suc j) h = omega arith
-
-start-end : (c : Counts) (fs : List ℕ) (j : ℕ) → Known c fs j → codeStart fs j ≤ codeEnd fs j
-unfolding codeEnd
-start-end c fs j q = rw (← (q .starts)) (omega arith)
-
--- the codes of the others stand one behind the other
-ascending : (c : Counts) (fs : List ℕ) → functionsOk c fs ≡ true → (i j : ℕ) → 1 ≤ i → i < j → j < c .functions → codeEnd fs i ≤ codeStart fs j
-unfolding codeStart
-ascending c fs g i zero a b d = absurd (let y : ⊥ = omega arith in y)
-ascending c fs g i (suc zero) a b d = absurd (let y : ⊥ = omega arith in y)
-ascending c fs g i (suc (suc j)) a b d = either-way (eqb i (suc j))
-    (λ t. let e : i ≡ suc j = eqb-true i (suc j) t in rw e (omega arith))
-    (λ f.
-    let n : i ≡ suc j → ⊥ = eqb-false i (suc j) f in
-    let l : i < suc j = lower i (suc j) b n in
-    let r : codeEnd fs i ≤ codeStart fs (suc j) = ascending c fs g i (suc j) a l (omega arith) in
-    let q : codeStart fs (suc j) ≤ codeEnd fs (suc j) = start-end c fs (suc j) (function-known c fs g (suc j) (omega arith)) in
-    omega arith)
 
 start-small : (w : ℕ) → start w < 2 ^ 32
 unfolding start
@@ -95,7 +75,7 @@ module _ (s s' : Stores) where
       rw (z, e) (ap (λ (q : List Function). functionIn s' k ∷ q) (rw e at (all-same n (suc i) (λ j u v. h j (omega arith) (λ (w : j ≡ k). omega arith))))))
       (λ f.
       let d : i ≡ k → ⊥ = eqb-false i k f in
-      let l : i < k = lower i k (omega arith) d in
+      let l : i < k = lt-of-le-of-ne a d in
       let z : k - i ≡ suc (k - suc i) = omega arith in
       rw (z, h i (omega arith) d) (ap (λ (q : List Function). functionIn s i ∷ q) (one-other n (suc i) k (omega arith) (omega arith) (λ j u v. h j (omega arith) v))))
 
@@ -159,8 +139,8 @@ module _ (c : Counts) (bytes : List ℕ) (place : ℕ) (s : Stores) (g : Good c 
   unfolding codeEnd word
   same-code m l j h d one z e f =
       let n = lim .newest z in
-      let b : j < c .current = lower j (c .current) (omega arith) d in
-      let q : codeEnd (s .functions) j ≤ codeStart (s .functions) (c .current) = ascending c (s .functions) (g .functions) j (c .current) one b (lim .current) in
+      let b : j < c .current = lt-of-le-of-ne (omega arith) d in
+      let q : codeEnd (s .functions) j ≤ codeStart (s .functions) (c .current) = ascending c (s .functions) (g .functions) j (c .current) one b (let x = lim .current in omega arith) in
       let w = function-known c (s .functions) (g .functions) (c .current) (lim .current) .starts in
       let x = room-1 m in let y = end-here in
       part-kept m (endHere c s) l (omega arith) (codeWord (s .functions) j) (omega arith)
@@ -230,8 +210,8 @@ module _ (c : Counts) (at a : ℕ) (s : Stores) (g : Good c s) (within : at + 2 
   unfolding codeEnd u16
   other-part j h d one z =
       let n = bounded .newest z in
-      let b : j < c .current = lower j (c .current) (omega arith) d in
-      let q : codeEnd (s .functions) j ≤ codeStart (s .functions) (c .current) = ascending c (s .functions) (g .functions) j (c .current) one b (bounded .current) in
+      let b : j < c .current = lt-of-le-of-ne (omega arith) d in
+      let q : codeEnd (s .functions) j ≤ codeStart (s .functions) (c .current) = ascending c (s .functions) (g .functions) j (c .current) one b (let x = bounded .current in omega arith) in
       let w = function-known c (s .functions) (g .functions) (c .current) (bounded .current) .starts in
       let x = in-size in let y = in-other z in
       part-kept (s .other) (start here + at) (u16 a) (omega arith) (codeWord (s .functions) j) (omega arith)
@@ -280,12 +260,6 @@ constant-alike c t u same k a e = kinds-alike (eqb k 0) (eqb k 1) (eqb k 2) (leb
 -- a program with one constant more
 unfoldable pub withOne : Program → p.Constant → Program
 withOne q x = record { constants = q .constants ++ (x ∷ []); structs = q .structs; functions = q .functions }
-
-pub structs-inside : (c : Counts) (ss t : List ℕ) → structsOk c ss t ≡ true → everyFrom (c .structs) 0 (λ j. insideText c (structWord ss j)) ≡ true
-unfolding structsOk
-structs-inside c ss t e =
-    let a = leb (c .structs) (places 1 ss) in let b = everyFrom (c .structs) 0 (λ j. insideText c (structWord ss j)) in
-    and-right a b (and-left (a && b) (allDifferent (structsFrom (c .structs) 0 ss t)) e)
 
 module _ (c : Counts) (s : Stores) (g : Good c s) (fits : c .constants < places 2 (s .constants)) where
   -- n bytes more of text that change no part below, and the words of the new constant

@@ -1,9 +1,7 @@
 -- The heap only grows, and only a completed root Return sets the last result.
-use mathlib.Core.Path.{_≡_, refl, ap, _∙_}
-use mathlib.Core.List.{List, [], _∷_, _++_, append-assoc}
+use mathlib.Core.Path.{_≡_, refl, sym, ap, _∙_}
+use mathlib.Core.List.{List, [], _++_, append-nil, append-assoc}
 use Prim.Native.Nat.{ℕ}
-use lib.ListN.{length, take}
-use lib.Seq.{take-append-seam}
 use Rattle.model.specs.declared.Value.{Value}
 use Rattle.model.specs.Heap.{Cell, built, buildOf, blockOf}
 use Rattle.model.specs.Steps.{World, State, Outcome, stepOf}
@@ -11,18 +9,11 @@ use Rattle.cells.proofs.Frame.{grown-of}
 use Rattle.rules.specs.Paths.{Grows, Adds}
 use Rattle.rules.proofs.Does.{Does, fault, spent, full, push, answer, compare, fall, leap, call, build, field, back, home, Stepped, unpaid, unread, ran, step-one}
 
-append-nil : {A : Type 0} (l : List A) → l ≡ l ++ []
-append-nil [] = refl
-append-nil (x ∷ l) = rw (← append-nil l)
-
 pub grows-none : (H : List Cell) → Grows H H
-grows-none H = record { more = []; is = append-nil H }
+grows-none H = record { more = []; is = sym (append-nil H) }
 
 pub grows-on : {H K L : List Cell} → Grows H K → Grows K L → Grows H L
 grows-on {H} {K} {L} g h = record { more = g .more ++ h .more; is = h .is ∙ ap (λ (l : List Cell). l ++ h .more) (g .is) ∙ append-assoc H (g .more) (h .more) }
-
-pub grows-take : {H K : List Cell} → Grows H K → take (length H) K ≡ H
-grows-take {H} g = rw (g .is) (take-append-seam H (g .more))
 
 pub built-grows : (room : ℕ) (H : List Cell) (k : ℕ) (us : List Value) {H' : List Cell} → buildOf room H k us ≡ built H' → Grows H H'
 built-grows room H k us {H'} e = record { more = blockOf H k us; is = grown-of room H k us H' e .is }

@@ -28,6 +28,7 @@ use Rattle.model.specs.Heap.{Cell, built, buildOf, listElements, structFields, 
 use Rattle.model.specs.Equality.{Same, sameBytes}
 use Rattle.model.specs.Programs.{Function, functionNamed, newestFrom, orElse, wordAt}
 use Rattle.model.specs.Steps.{World, State, Outcome, went, returned, faulted, withStack, withHeap, withLast, withUnits, withFrames, at, position, codeOf, pushing, onFound, constantOf, slotOf, lastOf, loadStep, slotStep, lastStep, negateStep, arithmeticStep, orderingStep, onSame, equalStep, logicStep, notStep, jumpStep, jumpIfFalseStep, enter, callStep, enterNamed, callCallableStep, buildStep, structStep, fieldStep, cut, returnTo, returnStep, execOf, operandsThen, decodedThen, fetched, stepOf}
+use Rattle.cells.proofs.Meaning.{got}
 use Rattle.rules.proofs.Combinators.{if-each, if-left, popping-each, ifReference-each, ifStruct-each, poppingScalar-each, poppingBoolean-each, onFound-each, pushing-each, onSame-each, onBuilt-each, enter-each}
 
 -- ---- the words of the table
@@ -130,10 +131,6 @@ unfolding functionNamed
 named-less t fs i e = let z = newest-less 0 t (map (λ (x : Function). x .name) fs) i e in let y = length-map fs (λ (x : Function). x .name) in omega arith
 
 -- ---- each instruction does one of these
-
-pub got : (b : Bool) (x y : Value) (n : Fault) → (if b then g.Got x else g.Bad n) ≡ g.Got y → (b ≡ true) × (x ≡ y)
-got true x y n e = (refl, cc)
-got false x y n e = absurd (let z : _≡_ {A = ℕ} 0 1 = cc in let y : ⊥ = omega arith in y)
 
 module _ (w : World) (a : ℕ) (s : State) (u : ℕ) (h : s .units ≤ u) where
   abbrev D : Outcome → Outcome → Type 0

@@ -1,4 +1,4 @@
--- Frames as a slice has them, the root first, and as a machine has them: the innermost, then its callers, the nearest first.
+-- Good order of frames: as a slice has them, the root first, and as a machine has them, the innermost and then its callers: from each to the other.
 use mathlib.Core.Path.{_≡_, sym}
 use mathlib.Core.Bool.{true, false, _&&_, true≢false}
 use mathlib.Core.List.{List, [], _∷_, _++_, reverse, reverseAux}

@@ -17,7 +17,8 @@ use Rattle.cells.proofs.Order.{Every, nil, cons, Placed, placed-more, struct-of
 use Rattle.cells.proofs.Frame.{placed-frame, length-new, Keeps, build-good, grown-of}
 use Rattle.rules.specs.Sane.{AllPlaced, LastPlaced}
 use Rattle.rules.specs.Paths.{Grows}
-use Rattle.rules.proofs.Does.{Below, here, under, Plain, number, truth, Makes, list, struct, Builds, got}
+use Rattle.cells.proofs.Meaning.{got}
+use Rattle.rules.proofs.Does.{Below, here, under, Plain, number, truth, Makes, list, struct, Builds}
 
 -- cells behind a heap change nothing below
 pub grows-placed : (t : ℕ) {H H' : List Cell} → Grows H H' → (x : Value) → Placed t H (length H) x → Placed t H' (length H') x

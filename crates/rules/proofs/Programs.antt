@@ -161,10 +161,6 @@ module _ (c : Counts) (s : Stores) (p : Parts c s) where
   unfolding functionIn
   code-size i h = rw (function-at s (c .functions) 0 i h, zero-add i) (part-size c (s .functions) (p .functions) (s .main) (s .other) (p .codes) i h)
 
-  pub places-size : (i : ℕ) → i < c .functions → length (functionAt (functionsFrom (c .functions) 0 s) i .places) ≡ size (codeWord (s .functions) i)
-  unfolding functionIn
-  places-size i h = rw (function-at s (c .functions) 0 i h, zero-add i) (part-size c (s .functions) (p .functions) (s .mainPlaces) (s .otherPlaces) (p .places) i h)
-
   code-fits : (i : ℕ) → i < c .functions → length (functionIn s i .code) ≤ 65535
   unfolding functionIn
   code-fits i h = omega (arith, part-size c (s .functions) (p .functions) (s .main) (s .other) (p .codes) i h, placed-code c (s .functions) (p .functions) i h .1)

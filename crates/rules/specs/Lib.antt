@@ -1,3 +1,4 @@
+-- What the theorems say of a run.
 pub mod Sane
 pub mod Paths
 pub mod Ordered

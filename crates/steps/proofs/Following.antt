@@ -11,11 +11,11 @@ use Rattle.model.specs.declared.Last.the-variants.{Is}
 use Rattle.model.specs.declared.Fault.{Fault}
 use Rattle.model.specs.declared.Fault.the-variants as f
 use Rattle.model.specs.declared.Frame.{Frame}
-use Rattle.model.specs.Values.{places}
 use Rattle.model.specs.Heap.{Cell, heapOf}
 use Rattle.model.specs.Steps.{World, State, Outcome, went, returned, faulted, codeOf, stepOf}
 use Rattle.model.specs.Runs.{Mark, stopped, over, next}
 use Rattle.cells.proofs.Stands.{length-heap}
+use Rattle.program.proofs.Parts.{places-same}
 use Rattle.rules.specs.Sane as sane
 use Rattle.rules.specs.Paths.{Spends, Grows, Adds, endFrom}
 use Rattle.rules.proofs.Does.{Does, Stepped, step-one}
@@ -29,7 +29,8 @@ use Rattle.arms.specs.declared.Going.{Going}
 use Rattle.arms.specs.declared.Completed.{Completed}
 use Rattle.arms.specs.declared.Answer.{Answer}
 use Rattle.arms.specs.declared.Answer.the-variants as r
-use Rattle.arms.specs.Links.{stateOf, outcomeOf, backTo, goingIn, lastIn, Kept, BlockPost}
+use Rattle.value.specs.Links.{lastIn}
+use Rattle.arms.specs.Links.{stateOf, outcomeOf, backTo, goingIn, Kept, BlockPost}
 use Rattle.steps.specs.declared.Event.{Event}
 use Rattle.steps.specs.declared.Event.the-variants.{Over, Call, Back, Stopped}
 use Rattle.steps.specs.Links.{Lent, Ready, answerIn, markIn, backIn, afterEvent, goingAt, SaneAt, ExecPost}
@@ -66,10 +67,6 @@ stepped-called (does.ran i a h l k e d) = does-called d
 grown : {H K : List Cell} → Grows H K → length H ≤ length K
 grown {H} z = let l = ap length (z .is) ∙ length-append H (z .more) in omega arith
 
-same-room : (x y : List ℕ) → length y ≡ length x → places 2 y ≡ places 2 x
-unfolding places
-same-room x y e = rw e
-
 -- the world is what the slices say, whatever the cells hold
 pub lent-on : {w : World} {k : Fixed} {constants functions text x x' : List ℕ} → Lent w k constants functions text x → length x' ≡ length x → Lent w k constants functions text x'
 lent-on {x = x} {x' = x'} l e = record {
@@ -78,7 +75,7 @@ lent-on {x = x} {x' = x'} l e = record {
   room = l .room;
   rest = l .rest;
   named = l .named;
-  cellRoom = l .cellRoom ∙ sym (same-room x x' e);
+  cellRoom = l .cellRoom ∙ sym (places-same 2 x' x e);
   sane = l .sane;
 }
 

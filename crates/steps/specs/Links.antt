@@ -20,7 +20,8 @@ use Rattle.rules.specs.Sane.{Sane, SaneWorld}
 use Rattle.rules.specs.Paths.{endFrom}
 use Rattle.arms.specs.declared.Fixed.{Fixed}
 use Rattle.arms.specs.declared.Going.{Going}
-use Rattle.arms.specs.Links.{Within, Suits, Named, CellsWithin, stateOf, frameIn, entered, lastIn}
+use Rattle.value.specs.Links.{lastIn}
+use Rattle.arms.specs.Links.{Within, Suits, Named, CellsWithin, stateOf, frameIn, entered}
 use Rattle.steps.specs.declared.Event.{Event}
 use Rattle.steps.specs.declared.Event.the-variants.{Over, Call, Back, Stopped}
 

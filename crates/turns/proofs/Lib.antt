@@ -1,1 +1,2 @@
+-- The run's loop.
 pub mod Turning

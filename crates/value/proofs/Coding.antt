@@ -1,13 +1,14 @@
 -- What a kind and a payload stand for, the words of a value and of a cell, and which words are exact.
 use mathlib.Core.Path.{_≡_, refl, sym, ap, subst}
-use mathlib.Core.Bool.{Bool, true, false, _&&_}
+use mathlib.Core.Bool.{Bool, true, false}
+pub use mathlib.Mathlib.Data.Bool.Basic.{and-elim-left as and-left, and-elim-right as and-right}
 use Prim.Native.Nat.{ℕ, _+_, _*_, _%_, _/_, _<_, _^_}
 use native.Mathlib.Nat.{mod-eq-of-lt}
 use native.Mathlib.Omega.{arith}
 use borrow.Author.Tests.{eq-eqb, ne-eqb, eqb-true}
 use lib.Dec.{T, eqb}
 use lib.Ieee.{binary64}
-use lib.Ieee.Bits.{ofBits-toBits, ofBits-fits}
+use lib.Ieee.Bits.{ofBits-toBits}
 use Rattle.model.specs.declared.Value.{Value}
 use Rattle.model.specs.declared.Value.the-variants as v
 use Rattle.model.specs.declared.Header.{Header}
@@ -51,29 +52,7 @@ words-value (v.FunctionReference o n) f = rw (low o n (f .0), high o n (f .0))
 words-value (v.List p) f = rw (mod-eq-of-lt f)
 words-value (v.StructInstance p) f = rw (mod-eq-of-lt f)
 
--- what two words stand for fits a store
-fine-if : (b : Bool) (x y : Value) → Fine x → Fine y → Fine (if b then x else y)
-fine-if true x y f g = f
-fine-if false x y f g = g
-
-pub value-fine : (k a : ℕ) → a < 2 ^ 64 → Fine (valueOf k a)
-unfolding valueOf
-value-fine k a h =
-    fine-if (eqb k 0) _ _ (ofBits-fits binary64 a)
-    (fine-if (eqb k 1) _ _ tt
-    (fine-if (eqb k 2) _ _ (omega arith, omega arith)
-    (fine-if (eqb k 3) _ _ (omega arith, omega arith)
-    (fine-if (eqb k 4) _ _ (omega arith) (omega arith)))))
-
 -- ---- exact words of a value
-
-pub and-left : (a b : Bool) → a && b ≡ true → a ≡ true
-and-left true b e = refl
-and-left false b e = e
-
-pub and-right : (a b : Bool) → a && b ≡ true → b ≡ true
-and-right true b e = e
-and-right false b e = cc
 
 -- exact words are those of their value
 module _ (k a : ℕ) (e : exactValue k a ≡ true) where

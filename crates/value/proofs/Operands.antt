@@ -21,7 +21,7 @@ use Rattle.model.specs.declared.Booleans.{Booleans}
 use Rattle.model.specs.declared.Booleans.the-variants as b
 use Rattle.model.specs.Values.{ifScalar, ifBoolean, popOf, popping, poppingScalar, poppingBoolean, valueAt, vals}
 use Rattle.model.specs.Scalars.{scalarsOf, booleansOf}
-use Rattle.value.specs.Links.{onFound, onScalars, onBooleans}
+use Rattle.value.specs.Links.{onScalars, onBooleans}
 
 -- ---- one pop
 
@@ -115,13 +115,7 @@ no-boolean (v.FunctionReference o n) h k d = refl
 no-boolean (v.List p) h k d = refl
 no-boolean (v.StructInstance p) h k d = refl
 
--- ---- an arm goes by what `pop`, `two_scalars` and `two_booleans` answer
-
-pub on-pop : {A : Type 0} (vs : List Value) (e : Fault → A) (k : Value → List Value → A)
-    → popping vs e k ≡ onFound (popOf vs) e (λ x. k x (drop 1 vs))
-unfolding popping popOf
-on-pop [] e k = refl
-on-pop (x ∷ r) e k = refl
+-- ---- an arm goes by what `two_scalars` and `two_booleans` answer
 
 module _ {B A : Type 0} (pick : Value → (B → A) → A → A) where
   both-arm : (e : Fault → A) (k : B → B → List Value → A) (vs : List Value)

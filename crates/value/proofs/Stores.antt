@@ -1,5 +1,5 @@
 -- What stands in a store after a write, and the lists of values and cells that stand there.
-use mathlib.Core.Path.{_≡_, refl, sym, ap, _∙_}
+use mathlib.Core.Path.{_≡_, refl, ap, _∙_}
 use mathlib.Core.Bool.{true, false}
 use mathlib.Core.List.{List, [], _∷_, _++_, reverse, reverse-cons}
 use Prim.Native.Nat.{ℕ, zero, suc, _+_, _-_, _*_, _<_, _≤_}
@@ -8,11 +8,10 @@ use lib.Dec.{eqb}
 use lib.ListN.{length, getD, set, take, drop, length-set}
 use lib.Seq.{getD-set-same, getD-set-other}
 use Rattle.model.specs.declared.Value.{Value}
-use Rattle.model.specs.declared.Header.{Header}
 use Rattle.model.specs.Values.{kind, payload, kindAt, payloadAt, valueAt, putWords, putValue, vals, valuesFrom, Fine}
 use Rattle.model.specs.Heap.{Cell, item, head, headerOf, cellOf, cellKind, cellPayload, cellAt, putCell, cellsFrom, heapOf}
 use Rattle.value.specs.Links.{FineCell, PayloadOf, Written}
-use Rattle.value.proofs.Coding.{words-value, words-header, words-cell}
+use Rattle.value.proofs.Coding.{words-value, words-cell}
 
 -- ---- two words are written
 
@@ -64,10 +63,6 @@ module _ (s : List ℕ) (i : ℕ) (h : 2 * i + 2 ≤ length s) where
   unfolding cellAt putCell
   cell-same x f =
       rw (kind-same s i (cellKind x) (cellPayload x) h, payload-same s i (cellKind x) (cellPayload x) h) (words-cell x f)
-
-  pub header-same : (x : Header) → FineCell (head x) → headerOf (payloadAt (putCell s i (head x)) i) ≡ x
-  unfolding putCell
-  header-same x f = rw (payload-same s i 6 (cellPayload (head x)) h) (words-header x f)
 
 -- a cell by its kind
 module _ (s : List ℕ) (i : ℕ) where
@@ -145,11 +140,6 @@ module _ (n i : ℕ) (s : List ℕ) where
 
   -- a write behind them changes none
   module _ (p k a : ℕ) (h : i + n ≤ p) where
-    pub values-before : valuesFrom n i (putWords s p k a) ≡ valuesFrom n i s
-    values-before =
-        rw (values-from n i (putWords s p k a), values-from n i s)
-        (from-same (valueAt s) (valueAt (putWords s p k a)) n i (λ j x y. value-other s p k a j (λ e. omega arith)))
-
     pub cells-before : cellsFrom n i (putWords s p k a) ≡ cellsFrom n i s
     cells-before =
         rw (cells-from n i (putWords s p k a), cells-from n i s)
@@ -212,18 +202,12 @@ heap-push n s x h f =
 -- ---- the same of what a write ensures
 
 module _ {s : List ℕ} {i : ℕ} {x : Cell} {t : List ℕ} (w : Written s i x t) where
-  stored-words : t ≡ putWords s i (cellKind x) (cellPayload x)
+  pub stored-words : t ≡ putWords s i (cellKind x) (cellPayload x)
   unfolding putCell
   stored-words = w .stored
 
   pub written-length : length t ≡ length s
   written-length = rw stored-words (length-words s i (cellKind x) (cellPayload x))
-
-  pub written-vals : (n : ℕ) → n ≤ i → vals n t ≡ vals n s
-  written-vals n h = rw stored-words (vals-below n s i (cellKind x) (cellPayload x) h)
-
-  pub written-cells : (n j : ℕ) → j + n ≤ i → cellsFrom n j t ≡ cellsFrom n j s
-  written-cells n j h = rw stored-words (cells-before n j s i (cellKind x) (cellPayload x) h)
 
 pub pushed : {s : List ℕ} {n : ℕ} {x : Value} {t : List ℕ} → Written s n (item x) t → 2 * n + 2 ≤ length s → vals (suc n) t ≡ x ∷ vals n s
 unfolding putCell putValue

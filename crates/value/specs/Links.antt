@@ -3,16 +3,18 @@ use mathlib.Core.Path.{_≡_}
 use mathlib.Core.Bool.{Bool}
 use mathlib.Core.List.{List}
 use Prim.Native.Nat.{ℕ, _<_}
+use lib.Dec.{eqb}
 use lib.Ieee.{Float}
 use Rattle.model.specs.declared.Value.{Value}
+use Rattle.model.specs.declared.Last.{Last}
+use Rattle.model.specs.declared.Last.the-variants.{Nothing, Is}
 use Rattle.model.specs.declared.Fault.{Fault}
-use Rattle.model.specs.declared.Found.{Found}
-use Rattle.model.specs.declared.Found.the-variants as g
 use Rattle.model.specs.declared.Scalars.{Scalars}
 use Rattle.model.specs.declared.Scalars.the-variants as s
 use Rattle.model.specs.declared.Booleans.{Booleans}
 use Rattle.model.specs.declared.Booleans.the-variants as b
-use Rattle.model.specs.Values.{payload, Fine}
+use Rattle.model.specs.Basics.{if_then_else_}
+use Rattle.model.specs.Values.{valueOf, kind, payload, Fine}
 use Rattle.model.specs.Heap.{Cell, item, head, putCell}
 
 -- r is the payload of v, and v fits a store: the types of the code say so
@@ -30,11 +32,20 @@ pub record Written (s : List ℕ) (i : ℕ) (x : Cell) (s' : List ℕ) : Type 0 
   pub stored : s' ≡ putCell s i x
   pub fine : FineCell x
 
--- ---- what an arm does with its operands, and what with the fault
+-- ---- the last result in words: kind 7, payload 0 where there is none
 
-abbrev pub onFound : {A : Type 0} → Found → (Fault → A) → (Value → A) → A
-onFound (g.Got x) e k = k x
-onFound (g.Bad t) e k = e t
+unfoldable pub lastIn : ℕ → ℕ → Last
+lastIn k a = if eqb k 7 then Nothing else Is (valueOf k a)
+
+unfoldable pub lastKind : Last → ℕ
+lastKind Nothing = 7
+lastKind (Is v) = kind v
+
+unfoldable pub lastPayload : Last → ℕ
+lastPayload Nothing = 0
+lastPayload (Is v) = payload v
+
+-- ---- what an arm does with its operands, and what with the fault
 
 abbrev pub onScalars : {A : Type 0} → Scalars → (Fault → A) → (Float → Float → A) → A
 onScalars (s.Two x y) e k = k x y

@@ -1,5 +1,6 @@
-// A value and a header as two words, the kind and the payload; and the stores that hold two words to a place.
+// A value, a header and the last result as two words, the kind and the payload; and the stores that hold two words to a place.
 use model::Header;
+use model::Last;
 use model::Value;
 ghost use mathlib.Core.Path.{_≡_};
 ghost use Prim.Native.Nat.{_+_, _*_, _<_, _≤_};
@@ -8,7 +9,7 @@ ghost use lib.Ieee.{binary64, toBits, ofBits};
 ghost use lib.ListN.{length};
 ghost use Rattle.model.specs.Values.{valueOf, kind, kindAt, payloadAt, valueAt, putWords, exactValue};
 ghost use Rattle.model.specs.Heap.{item, head, headerOf, exactCell};
-ghost use Rattle.value.specs.Links.{PayloadOf, Written};
+ghost use Rattle.value.specs.Links.{PayloadOf, Written, lastIn, lastKind, lastPayload};
 
 // The bits of x; of any NaN 7FF8000000000000.
 pub fn to_word(x: f64) -> u64
@@ -157,4 +158,34 @@ pub fn exact_cell(s: &[u64], i: usize) -> bool
         return true;
     }
     exact_value(s[2 * i], s[2 * i + 1])
+}
+
+// The kind of the last result, 7 where there is none.
+pub fn last_kind(last: Last) -> u64
+    ensures { λ r. ⌜ r ≡ lastKind last ⌝ }
+{
+    match last {
+        Last::Nothing => 7,
+        Last::Is(v) => kind_of(v),
+    }
+}
+
+// And its payload: the two words stand for it.
+pub fn last_payload(last: Last) -> u64
+    ensures { λ r. ⌜ (r ≡ lastPayload last) × (lastIn (lastKind last) r ≡ last) ⌝ }
+{
+    match last {
+        Last::Nothing => 0,
+        Last::Is(v) => payload_of(v),
+    }
+}
+
+// The last result from its words.
+pub fn last_in(kind: u64, payload: u64) -> Last
+    ensures { λ r. ⌜ r ≡ lastIn kind payload ⌝ }
+{
+    if kind == 7 {
+        return Last::Nothing;
+    }
+    Last::Is(value_of(kind, payload))
 }

@@ -1,3 +1,4 @@
+-- `cells::equal` meets its contract.
 use mathlib.Core.Path.{refl, subst}
 use Prim.Native.Nat.{ℕ, _<_, _-_}
 use native.Mathlib.Omega.{arith}

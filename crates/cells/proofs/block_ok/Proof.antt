@@ -1,3 +1,4 @@
+-- `cells::block_ok` meets its contract.
 use Rattle.cells.proofs.block_ok.Statement.{statement}
 use Rattle.cells.proofs.block_ok.Tie as tie
 use borrow.Author.Needs.{needs}

@@ -1,3 +1,4 @@
+-- `cells::build` meets its contract.
 use borrow.Author.Needs.{needs}
 use Rattle.cells.proofs.build.Statement.{statement}
 use Rattle.cells.proofs.build.Tie as tie

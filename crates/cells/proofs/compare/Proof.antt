@@ -1,3 +1,4 @@
+-- `cells::compare` meets its contract.
 use borrow.Author.Needs.{needs}
 use Rattle.cells.proofs.compare.Statement.{statement}
 use Rattle.cells.proofs.compare.Tie as tie

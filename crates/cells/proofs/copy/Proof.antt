@@ -1,3 +1,4 @@
+-- `cells::copy` meets its contract.
 use Rattle.cells.proofs.copy.Statement.{statement}
 use Rattle.cells.proofs.copy.Tie as tie
 use borrow.Author.Needs.{needs}

@@ -1,3 +1,4 @@
+-- `cells::deepest_of` meets its contract.
 use Rattle.cells.proofs.deepest_of.Statement.{statement}
 use Rattle.cells.proofs.deepest_of.Tie as tie
 use borrow.Author.Needs.{needs}

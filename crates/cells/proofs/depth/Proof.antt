@@ -1,3 +1,4 @@
+-- `cells::depth` meets its contract.
 use borrow.Author.Needs.{needs}
 use Rattle.cells.proofs.depth.Statement.{statement}
 use Rattle.cells.proofs.depth.Tie as tie

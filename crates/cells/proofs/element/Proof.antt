@@ -1,3 +1,4 @@
+-- `cells::element` meets its contract.
 use borrow.Author.Needs.{needs}
 use Rattle.cells.proofs.element.Statement.{statement}
 use Rattle.cells.proofs.element.Tie as tie

@@ -1,3 +1,4 @@
+-- `cells::exact_cells` meets its contract.
 use Rattle.cells.proofs.exact_cells.Statement.{statement}
 use Rattle.cells.proofs.exact_cells.Tie as tie
 use borrow.Author.Needs.{needs}

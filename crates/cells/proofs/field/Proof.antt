@@ -1,3 +1,4 @@
+-- `cells::field` meets its contract.
 use Rattle.cells.proofs.field.Statement.{statement}
 use Rattle.cells.proofs.field.Tie as tie
 use native.Mathlib.Omega.{arith}

@@ -1,3 +1,4 @@
+-- `cells::good_cells` meets its contract.
 use Rattle.cells.proofs.good_cells.Statement.{statement}
 use Rattle.cells.proofs.good_cells.Tie as tie
 use borrow.Author.Needs.{needs}

@@ -1,3 +1,4 @@
+-- `cells::placed` meets its contract.
 use borrow.Author.Needs.{needs}
 use Rattle.cells.proofs.placed.Statement.{statement}
 use Rattle.cells.proofs.placed.Tie as tie

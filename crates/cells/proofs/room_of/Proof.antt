@@ -1,3 +1,4 @@
+-- `cells::room_of` meets its contract.
 use Rattle.cells.proofs.room_of.Statement.{statement}
 use Rattle.cells.proofs.room_of.Tie as tie
 use Rattle.cells.proofs.Builds.{room-small, room-large}

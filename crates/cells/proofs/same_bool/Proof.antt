@@ -1,3 +1,4 @@
+-- `cells::same_bool` meets its contract.
 use borrow.Author.Needs.{needs}
 use Rattle.cells.proofs.same_bool.Statement.{statement}
 use Rattle.cells.proofs.same_bool.Tie as tie

@@ -1,3 +1,4 @@
+-- `cells::same_text` meets its contract.
 use Rattle.cells.proofs.same_text.Statement.{statement}
 use Rattle.cells.proofs.same_text.Tie as tie
 use borrow.Author.Needs.{needs}

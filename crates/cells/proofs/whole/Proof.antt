@@ -1,3 +1,4 @@
+-- `cells::whole` meets its contract.
 use borrow.Author.Needs.{needs}
 use Rattle.cells.proofs.whole.Statement.{statement}
 use Rattle.cells.proofs.whole.Tie as tie

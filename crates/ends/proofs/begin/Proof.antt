@@ -15,7 +15,7 @@ last-payload-requires : tie.Need-last-payload-requires
 last-payload-requires c κs = search needs
 
 returns : tie.Need-returns
-returns c = record { sp = refl; function = refl; position = refl; base = refl; callers = c .before .before .innermost-at .ensures; used = refl; units = refl; last = last-back _ _ (c .before .last-kind .ensures) (c .last-payload .ensures); mark = refl; answered = refl }
+returns c = record { sp = refl; function = refl; position = refl; base = refl; callers = c .before .before .innermost-at .ensures; used = refl; units = refl; last = last-back _ _ (c .before .last-kind .ensures) (c .last-payload .ensures .1); mark = refl; answered = refl }
 
 pub begin-spec : {M : Type 1} → statement M
 begin-spec =

@@ -1,3 +1,4 @@
+-- `turns::stopped` meets its contract.
 use borrow.Author.Needs.{needs}
 use Rattle.turns.proofs.stopped.Statement.{statement}
 use Rattle.turns.proofs.stopped.Tie as tie

@@ -1,7 +1,9 @@
+-- `arms::blocks::access_struct_field` meets its contract.
 use borrow.Author.Needs.{needs}
 use native.Mathlib.Omega.{arith}
 use Rattle.value.proofs.Operands.{got-some}
-use Rattle.arms.proofs.Cellwise.{no-struct, field-none, field-wrong, field-pre, field-bad, field-got}
+use Rattle.cells.proofs.Pairs.{no-struct}
+use Rattle.arms.proofs.Cellwise.{field-none, field-wrong, field-pre, field-bad, field-got}
 use Rattle.arms.proofs.blocks.access_struct_field.Statement.{statement}
 use Rattle.arms.proofs.blocks.access_struct_field.Tie as tie
 

@@ -1,3 +1,4 @@
+-- `arms::blocks::build` meets its contract.
 use borrow.Author.Needs.{needs}
 use native.Mathlib.Omega.{arith}
 use Rattle.arms.proofs.Cellwise.{build-few, build-pre, build-bad, took, popped-within, built}

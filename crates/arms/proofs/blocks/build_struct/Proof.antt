@@ -1,3 +1,4 @@
+-- `arms::blocks::build_struct` meets its contract.
 use borrow.Author.Needs.{needs}
 use Rattle.arms.proofs.Cellwise.{unknown-struct, builds}
 use Rattle.arms.proofs.blocks.build_struct.Statement.{statement}

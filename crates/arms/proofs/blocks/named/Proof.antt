@@ -1,3 +1,4 @@
+-- `arms::blocks::named` meets its contract.
 use Rattle.arms.specs.Links.{builtBy}
 use Rattle.arms.proofs.blocks.named.Statement.{statement}
 use Rattle.arms.proofs.blocks.named.Tie as tie

@@ -1,3 +1,4 @@
+-- `arms::blocks::told` meets its contract.
 use Rattle.arms.specs.Links.{verdictBy}
 use Rattle.arms.proofs.blocks.told.Statement.{statement}
 use Rattle.arms.proofs.blocks.told.Tie as tie

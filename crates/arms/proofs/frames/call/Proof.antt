@@ -1,3 +1,4 @@
+-- `arms::frames::call` meets its contract.
 use borrow.Author.Needs.{needs}
 use Rattle.arms.proofs.Posts.{no-number, calls}
 use Rattle.arms.proofs.frames.call.Statement.{statement}

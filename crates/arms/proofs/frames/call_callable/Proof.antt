@@ -1,7 +1,9 @@
+-- `arms::frames::call_callable` meets its contract.
 use borrow.Author.Needs.{needs}
 use native.Mathlib.Omega.{arith}
 use Rattle.value.proofs.Operands.{got-some}
-use Rattle.arms.proofs.Rules.{no-reference, named-as}
+use Rattle.cells.proofs.Pairs.{no-reference}
+use Rattle.arms.proofs.Rules.{named-as}
 use Rattle.arms.proofs.Posts.{calls-named, one-none, one-wrong, no-name, calls-name}
 use Rattle.arms.proofs.frames.call_callable.Statement.{statement}
 use Rattle.arms.proofs.frames.call_callable.Tie as tie

@@ -1,3 +1,4 @@
+-- `arms::frames::enters` meets its contract.
 use borrow.Author.Needs.{needs}
 use Rattle.arms.proofs.Posts.{few, no-frame, enters}
 use Rattle.arms.proofs.frames.enters.Statement.{statement}

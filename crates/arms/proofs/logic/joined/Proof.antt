@@ -1,3 +1,4 @@
+-- `arms::logic::joined` meets its contract.
 use Rattle.arms.specs.Links.{connective}
 use Rattle.arms.proofs.logic.joined.Statement.{statement}
 use Rattle.arms.proofs.logic.joined.Tie as tie

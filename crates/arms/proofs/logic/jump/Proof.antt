@@ -1,3 +1,4 @@
+-- `arms::logic::jump` meets its contract.
 use borrow.Author.Needs.{needs}
 use mathlib.Core.Path.{refl}
 use Rattle.arms.proofs.Posts.{jumps}

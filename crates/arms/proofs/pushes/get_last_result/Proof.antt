@@ -1,3 +1,4 @@
+-- `arms::pushes::get_last_result` meets its contract.
 use borrow.Author.Needs.{needs}
 use Rattle.arms.proofs.Rules.{no-last, last}
 use Rattle.arms.proofs.Posts.{gets-last, missing, found}

@@ -1,3 +1,4 @@
+-- `arms::pushes::get_slot` meets its contract.
 use borrow.Author.Needs.{needs}
 use Rattle.arms.proofs.Rules.{no-slot, slot}
 use Rattle.arms.proofs.Posts.{gets-slot, missing, found}

@@ -1,3 +1,4 @@
+-- `arms::pushes::load_constant` meets its contract.
 use borrow.Author.Needs.{needs}
 use Rattle.arms.proofs.Rules.{no-constant, constant}
 use Rattle.arms.proofs.Posts.{loads, missing, found}

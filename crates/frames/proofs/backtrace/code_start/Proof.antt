@@ -1,3 +1,4 @@
+-- `frames::backtrace::code_start` meets its contract.
 use borrow.Author.Needs.{needs}
 use Rattle.frames.proofs.Traces.{code-start}
 use Rattle.frames.proofs.backtrace.code_start.Statement.{statement}

@@ -1,3 +1,4 @@
+-- `frames::backtrace::inside` meets its contract.
 use borrow.Author.Needs.{needs}
 use mathlib.Core.Path.{sym, _∙_}
 use native.Mathlib.Omega.{arith}

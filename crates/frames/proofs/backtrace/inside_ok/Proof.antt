@@ -1,3 +1,4 @@
+-- `frames::backtrace::inside_ok` meets its contract.
 use borrow.Author.Needs.{needs}
 use native.Mathlib.Omega.{arith}
 use Rattle.frames.proofs.Traces.{judged, no-function}

@@ -1,3 +1,4 @@
+-- `frames::backtrace::place_of` meets its contract.
 use borrow.Author.Needs.{needs}
 use Rattle.frames.proofs.Traces.{from-main, from-other, in-main, in-other}
 use Rattle.frames.proofs.backtrace.place_of.Statement.{statement}

@@ -1,3 +1,4 @@
+-- `frames::backtrace::put_entry` meets its contract.
 use borrow.Author.Needs.{needs}
 use native.Mathlib.Omega.{arith}
 use lib.ListN.{length-set}

@@ -1,3 +1,4 @@
+-- `frames::order::begin` meets its contract.
 use native.Mathlib.Omega.{arith}
 use Rattle.frames.proofs.Orders.{fits, no-frame, no-room}
 use Rattle.frames.proofs.order.begin.Statement.{statement}

@@ -1,3 +1,4 @@
+-- `frames::order::caller_ok` meets its contract.
 use borrow.Author.Needs.{needs}
 use native.Mathlib.Omega.{arith}
 use Rattle.frames.proofs.Orders.{at-start, behind, code-length, innermost}

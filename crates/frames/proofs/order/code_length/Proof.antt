@@ -1,3 +1,4 @@
+-- `frames::order::code_length` meets its contract.
 use borrow.Author.Needs.{needs}
 use Rattle.frames.proofs.Orders.{code-length}
 use Rattle.frames.proofs.order.code_length.Statement.{statement}

@@ -1,3 +1,4 @@
+-- `frames::order::first_ok` meets its contract.
 use native.Mathlib.Omega.{arith}
 use Rattle.frames.proofs.Orders.{main, not-first, not-main}
 use Rattle.frames.proofs.order.first_ok.Statement.{statement}

@@ -1,3 +1,4 @@
+-- `frames::order::frame_ok` meets its contract.
 use native.Mathlib.Omega.{arith}
 use Rattle.frames.proofs.Orders.{known, no-base, unknown}
 use Rattle.frames.proofs.order.frame_ok.Statement.{statement}

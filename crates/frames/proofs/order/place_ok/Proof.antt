@@ -1,3 +1,4 @@
+-- `frames::order::place_ok` meets its contract.
 use borrow.Author.Needs.{needs}
 use mathlib.Core.Path.{sym, _∙_}
 use native.Mathlib.Omega.{arith}

@@ -1,3 +1,4 @@
+-- `value::pops::pop` meets its contract.
 use borrow.Author.Needs.{needs}
 use Rattle.value.proofs.Operands.{pop-none, pop-top}
 use Rattle.value.proofs.pops.pop.Statement.{statement}

@@ -1,3 +1,4 @@
+-- `value::pops::two_booleans` meets its contract.
 use borrow.Author.Needs.{needs}
 use Rattle.model.specs.declared.Booleans.the-variants as s
 use Rattle.model.specs.Values.{ifBoolean, poppingBoolean}

@@ -1,3 +1,4 @@
+-- `value::pops::two_scalars` meets its contract.
 use borrow.Author.Needs.{needs}
 use Rattle.model.specs.declared.Scalars.the-variants as s
 use Rattle.model.specs.Values.{ifScalar, poppingScalar}

@@ -1,3 +1,4 @@
+-- `value::scalars::arithmetic` meets its contract.
 use borrow.Author.Needs.{needs}
 use Rattle.model.specs.Scalars.{arithOf}
 use Rattle.value.proofs.scalars.arithmetic.Statement.{statement}

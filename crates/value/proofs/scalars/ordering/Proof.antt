@@ -1,3 +1,4 @@
+-- `value::scalars::ordering` meets its contract.
 use borrow.Author.Needs.{needs}
 use Rattle.model.specs.Scalars.{orderOf}
 use Rattle.value.proofs.scalars.ordering.Statement.{statement}

@@ -1,3 +1,4 @@
+-- `value::scalars::zero_divisor` meets its contract.
 use mathlib.Core.Path.{ap}
 use borrow.Author.Needs.{needs}
 use lib.Ieee as Ieee

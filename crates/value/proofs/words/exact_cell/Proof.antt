@@ -1,3 +1,4 @@
+-- `value::words::exact_cell` meets its contract.
 use borrow.Author.Needs.{needs}
 use Rattle.model.specs.Values.{kindAt, payloadAt}
 use Rattle.value.proofs.Coding.{exact-header, exact-item}

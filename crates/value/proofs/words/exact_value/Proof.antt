@@ -1,3 +1,4 @@
+-- `value::words::exact_value` meets its contract.
 use borrow.Author.Needs.{needs}
 use Rattle.value.proofs.Coding.{exact-same, exact-differs}
 use Rattle.value.proofs.words.exact_value.Statement.{statement}

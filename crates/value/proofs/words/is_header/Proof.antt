@@ -1,3 +1,4 @@
+-- `value::words::is_header` meets its contract.
 use mathlib.Core.Path.{refl}
 use borrow.Author.Needs.{needs}
 use Rattle.model.specs.Values.{kindAt}

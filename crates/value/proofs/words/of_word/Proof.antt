@@ -1,3 +1,4 @@
+-- `value::words::of_word` meets its contract.
 use mathlib.Core.Path.{_∙_, sym}
 use borrow.Author.Needs.{needs}
 use Rattle.value.proofs.Floats.{zero-by-zero, nan-above, no-nan-below}

@@ -1,3 +1,4 @@
+-- `value::words::payload_of` meets its contract.
 use mathlib.Core.Path.{refl}
 use borrow.Author.Needs.{needs}
 use Rattle.value.proofs.Coding.{payload-is, told}

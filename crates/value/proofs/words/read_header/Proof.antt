@@ -1,3 +1,4 @@
+-- `value::words::read_header` meets its contract.
 use borrow.Author.Needs.{needs}
 use Rattle.model.specs.Values.{payloadAt}
 use Rattle.model.specs.Heap.{headerOf}

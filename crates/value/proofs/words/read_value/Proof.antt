@@ -1,3 +1,4 @@
+-- `value::words::read_value` meets its contract.
 use borrow.Author.Needs.{needs}
 use Rattle.model.specs.Values.{kindAt, payloadAt, valueAt}
 use Rattle.value.proofs.words.read_value.Statement.{statement}

@@ -1,3 +1,4 @@
+-- `value::words::to_word` meets its contract.
 use borrow.Author.Needs.{needs}
 use Rattle.value.proofs.Floats.{nan-word, no-nan}
 use Rattle.value.proofs.words.to_word.Statement.{statement}

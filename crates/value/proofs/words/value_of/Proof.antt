@@ -1,3 +1,4 @@
+-- `value::words::value_of` meets its contract.
 use mathlib.Core.Path.{ap}
 use borrow.Author.Needs.{needs}
 use Rattle.model.specs.declared.Value.the-variants as v

@@ -1,3 +1,4 @@
+-- `value::words::write_header` meets its contract.
 use borrow.Author.Needs.{needs}
 use Rattle.model.specs.Heap.{putCell}
 use Rattle.value.proofs.words.write_header.Statement.{statement}

@@ -1,3 +1,4 @@
+-- `value::words::write_value` meets its contract.
 use borrow.Author.Needs.{needs}
 use Rattle.value.proofs.Stores.{wrote}
 use Rattle.value.proofs.words.write_value.Statement.{statement}

@@ -1,3 +1,4 @@
+-- `value::words::write_words` meets its contract.
 use native.Mathlib.Omega.{arith}
 use borrow.Author.Needs.{needs}
 use lib.ListN.{length-set}

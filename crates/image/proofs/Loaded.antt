@@ -1,8 +1,8 @@
--- What was loaded is saved again as the same program: it is in good order, and stands for the program that was read.
+-- A loaded program is in good order, and stands for the program that was read.
 use mathlib.Core.Path.{_≡_, refl, sym, ap, subst, _∙_}
 use mathlib.Core.Bool.{Bool, true, false, not}
 use mathlib.Core.List.{List, [], _∷_, _++_, append-assoc}
-use Prim.Native.Nat.{ℕ, zero, suc, _+_, _<_, _≤_, _^_}
+use Prim.Native.Nat.{ℕ, suc, _+_, _<_, _≤_, _^_}
 use native.Mathlib.Omega.{arith}
 use lib.Dec.{leb}
 use lib.ListN.{length, take, length-append}
@@ -16,14 +16,13 @@ use Rattle.model.specs.Stores.{Stores, start, size, pack, structWord, nameWord,
 use Rattle.model.specs.Orders.{countsOk, textOk, insideText, constantOk, constantsOk, allDifferent, structsOk, codeStart, functionOk, functionsOk, mainOk, mainTaken, otherTaken, insideCodes, programOk}
 use Rattle.model.specs.Loading.{constantText, constantWords, constantsLaid, structsLaid, othersLaid, functionsLaid, constantTexts, structTexts, textsOf, mainOf, othersOf, laid, countsFor, roomFor}
 use Rattle.model.specs.declared.Counts.{Counts}
-use Rattle.program.proofs.Parts.{start-pack, size-pack}
-use Rattle.program.proofs.Bools.{and-both}
+use Rattle.program.proofs.Parts.{one-word, two-words, places-same, start-pack, size-pack}
+use Rattle.program.proofs.Bools.{either-way, both-true, and-both}
 use Rattle.program.proofs.Searching.{same-sym}
-use Rattle.image.proofs.Codecs.{by-test, both-true}
 use Rattle.image.proofs.Filling.{laid-length, structs-length}
 use Rattle.image.proofs.Placing.{others-length}
-use Rattle.image.proofs.Loads.{two-words, one-word, Room, room-of}
-use Rattle.image.proofs.Written.{written-length}
+use Rattle.image.proofs.Loads.{Room, room-of}
+use Rattle.program.proofs.Writing.{length-written}
 use Rattle.image.proofs.Held.{written-front, Pieces, pieces-here, named, ConstantsAt, constants-here, constants-held, StructsAt, structs-here, structs-held, FunctionsAt, functions-here, Placed, places-sum, function-held, others-held, first-here, second-here}
 
 -- ---- in good order, part by part
@@ -91,7 +90,7 @@ NotIn t (x ∷ l) = (sameBytes x t ≡ false) × NotIn t l
 not-in : (t : List ℕ) (l : List (List ℕ)) → among t l ≡ false → NotIn t l
 unfolding among NotIn
 not-in t [] h = tt
-not-in t (x ∷ l) h = by-test (sameBytes t x)
+not-in t (x ∷ l) h = either-way (sameBytes t x)
     (λ e. absurd (let z : _≡_ {A = Bool} true false = rw e at h in let k : _≡_ {A = ℕ} 0 1 = cc in let w : ⊥ = omega arith in w))
     (λ e. (same-sym x t ∙ e, not-in t l (rw e at h)))
 
@@ -124,11 +123,6 @@ different (t ∷ l) seen h =
     (and-both _ _ (ap not (p .1)) (r .0), clear-cons seen t l (not-in t seen (not-true _ (h .0 .1))) (p .0))
 
 -- ---- the whole
-
-places-same : (k : ℕ) (a b : List ℕ) → length a ≡ length b → places k a ≡ places k b
-unfolding places
-places-same zero a b e = refl
-places-same (suc k) a b e = rw e
 
 placed-of : (b : Bool) (l : List Function) → Each SoundFunction (λ x f. false) b l → Placed l
 unfolding Each Placed
@@ -290,18 +284,18 @@ module _ (cs : List Constant) (ss : List (List ℕ)) (f : Function) (l : List Fu
       × ((places 1 (y .other) ≡ places 1 (x .other)) × (places 1 (y .otherPlaces) ≡ places 1 (x .otherPlaces))))))))
   unfolding y laid
   same-places = (
-    places-same 2 _ (x .constants) (written-length (x .constants) 0 _),
+    places-same 2 _ (x .constants) (length-written (x .constants) 0 _),
     (
-      places-same 1 _ (x .structs) (written-length (x .structs) 0 _),
+      places-same 1 _ (x .structs) (length-written (x .structs) 0 _),
       (
-        places-same 2 _ (x .functions) (written-length (x .functions) 0 _),
+        places-same 2 _ (x .functions) (length-written (x .functions) 0 _),
         (
-          places-same 1 _ (x .text) (written-length (x .text) 0 _),
+          places-same 1 _ (x .text) (length-written (x .text) 0 _),
           (
-            places-same 1 _ (x .main) (written-length (x .main) 0 _),
+            places-same 1 _ (x .main) (length-written (x .main) 0 _),
             (
-              places-same 1 _ (x .mainPlaces) (written-length (x .mainPlaces) 0 _),
-              (places-same 1 _ (x .other) (written-length (x .other) 0 _), places-same 1 _ (x .otherPlaces) (written-length (x .otherPlaces) 0 _)),
+              places-same 1 _ (x .mainPlaces) (length-written (x .mainPlaces) 0 _),
+              (places-same 1 _ (x .other) (length-written (x .other) 0 _), places-same 1 _ (x .otherPlaces) (length-written (x .otherPlaces) 0 _)),
             ),
           ),
         ),

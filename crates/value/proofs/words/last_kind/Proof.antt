@@ -1,8 +1,8 @@
--- `ends::last_kind` meets its contract.
+-- `value::words::last_kind` meets its contract.
 use borrow.Author.Needs.{needs}
-use Rattle.ends.proofs.Starting.{kind-none, kind-some}
-use Rattle.ends.proofs.last_kind.Statement.{statement}
-use Rattle.ends.proofs.last_kind.Tie as tie
+use Rattle.value.proofs.Lasts.{kind-none, kind-some}
+use Rattle.value.proofs.words.last_kind.Statement.{statement}
+use Rattle.value.proofs.words.last_kind.Tie as tie
 
 enum-told : tie.Need-enum-told
 enum-told c = search needs

@@ -1,8 +1,8 @@
--- `ends::last_payload` meets its contract.
+-- `value::words::last_payload` meets its contract.
 use borrow.Author.Needs.{needs}
-use Rattle.ends.proofs.Starting.{payload-none, payload-some}
-use Rattle.ends.proofs.last_payload.Statement.{statement}
-use Rattle.ends.proofs.last_payload.Tie as tie
+use Rattle.value.proofs.Lasts.{payload-none, payload-some}
+use Rattle.value.proofs.words.last_payload.Statement.{statement}
+use Rattle.value.proofs.words.last_payload.Tie as tie
 
 enum-told : tie.Need-enum-told
 enum-told c = search needs

@@ -1,8 +1,8 @@
--- `ends::last_in` meets its contract.
+-- `value::words::last_in` meets its contract.
 use borrow.Author.Needs.{needs}
-use Rattle.ends.proofs.Answering.{last-none, last-some}
-use Rattle.ends.proofs.last_in.Statement.{statement}
-use Rattle.ends.proofs.last_in.Tie as tie
+use Rattle.value.proofs.Lasts.{last-none, last-some}
+use Rattle.value.proofs.words.last_in.Statement.{statement}
+use Rattle.value.proofs.words.last_in.Tie as tie
 
 returns : tie.Need-returns
 returns c = last-none _ _ (c .if1 .taken)
