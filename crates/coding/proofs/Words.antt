@@ -7,14 +7,13 @@ use borrow.Author.Tests.{eq-eqb, ne-eqb}
 use lib.Dec.{eqb, leb}
 use lib.ListN.{length, getD, set, List·getD-eq-default}
 use lib.Seq.{set-out, length-sets}
-use Rattle.model.specs.declared.Value.{Value}
 use Rattle.model.specs.declared.Last.{Last}
-use Rattle.model.specs.declared.Last.the-variants.{Nothing, Is}
 use Rattle.model.specs.declared.Counts.{Counts}
 use Rattle.model.specs.declared.Vm.{Vm}
 use Rattle.model.specs.Basics.{written}
-use Rattle.model.specs.Values.{valueOf, kind, payload, exactValue}
-use Rattle.coding.specs.Coding.{lastOf, lastKind, lastPayload, vmIn, countWords, vmWords, lastExact, recordOk}
+use Rattle.model.specs.Values.{exactValue}
+use Rattle.value.specs.Links.{lastIn, lastKind, lastPayload}
+use Rattle.coding.specs.Coding.{vmIn, countWords, vmWords, lastExact, recordOk}
 
 -- ---- words
 
@@ -31,14 +30,6 @@ four-put s a b c d e1 e2 e3 e4 = rw (e4, e3, e2, e1)
 -- ---- the last result
 
 module _ (k a : ℕ) where
-  pub last-none : k ≡ 7 → Nothing ≡ lastOf k a
-  unfolding lastOf
-  last-none e = rw (eq-eqb _ _ e)
-
-  pub last-some : (k ≡ 7 → ⊥) → {x : Value} → x ≡ valueOf k a → Is x ≡ lastOf k a
-  unfolding lastOf
-  last-some h e = rw (ne-eqb _ _ h, e)
-
   pub exact-none : k ≡ 7 → eqb a 0 ≡ lastExact k a
   unfolding lastExact
   exact-none e = rw (eq-eqb _ _ e)
@@ -47,30 +38,13 @@ module _ (k a : ℕ) where
   unfolding lastExact
   exact-some h e = rw (ne-eqb _ _ h, e)
 
-module _ {last : Last} where
-  pub kind-none : last ≡ Nothing → 7 ≡ lastKind last
-  unfolding lastKind
-  kind-none e = rw e
-
-  pub kind-some : {x : Value} → last ≡ Is x → {k : ℕ} → k ≡ kind x → k ≡ lastKind last
-  unfolding lastKind
-  kind-some e f = rw e f
-
-  pub payload-none : last ≡ Nothing → 0 ≡ lastPayload last
-  unfolding lastPayload
-  payload-none e = rw e
-
-  pub payload-some : {x : Value} → last ≡ Is x → {k : ℕ} → k ≡ payload x → k ≡ lastPayload last
-  unfolding lastPayload
-  payload-some e f = rw e f
-
 -- ---- the record
 
 pub record-is : (w : List ℕ) {k a : ℕ} {b : Bool} → k ≡ getD w 8 0 → a ≡ getD w 9 0 → b ≡ lastExact k a → leb 10 (length w) && b ≡ recordOk w
 unfolding recordOk
 record-is w e f g = rw (g, e, f)
 
-pub vm-is : (w : List ℕ) {a0 a1 a2 a3 a4 a5 a6 a7 a8 a9 : ℕ} {last : Last} → a0 ≡ getD w 0 0 → a1 ≡ getD w 1 0 → a2 ≡ getD w 2 0 → a3 ≡ getD w 3 0 → a4 ≡ getD w 4 0 → a8 ≡ getD w 8 0 → a9 ≡ getD w 9 0 → last ≡ lastOf a8 a9 → a5 ≡ getD w 5 0 → a6 ≡ getD w 6 0 → a7 ≡ getD w 7 0
+pub vm-is : (w : List ℕ) {a0 a1 a2 a3 a4 a5 a6 a7 a8 a9 : ℕ} {last : Last} → a0 ≡ getD w 0 0 → a1 ≡ getD w 1 0 → a2 ≡ getD w 2 0 → a3 ≡ getD w 3 0 → a4 ≡ getD w 4 0 → a8 ≡ getD w 8 0 → a9 ≡ getD w 9 0 → last ≡ lastIn a8 a9 → a5 ≡ getD w 5 0 → a6 ≡ getD w 6 0 → a7 ≡ getD w 7 0
     → record { program = record { constants = a0; structs = a1; functions = a2; text = a3; current = a4 }; stack = a5; frames = a6; cells = a7; last = last } ≡ vmIn w
 unfolding vmIn
 vm-is w e0 e1 e2 e3 e4 e8 e9 e e5 e6 e7 = rw (e, e0, e1, e2, e3, e4, e5, e6, e7, e8, e9)

@@ -8,8 +8,6 @@ use lib.Dec.{eqb, leb}
 use lib.ListN.{length, getD}
 use Rattle.model.specs.declared.Counts.{Counts}
 use Rattle.model.specs.declared.Vm.{Vm}
-use Rattle.model.specs.declared.Last.{Last}
-use Rattle.model.specs.declared.Last.the-variants.{Nothing, Is}
 use Rattle.model.specs.declared.Frame.{Frame}
 use Rattle.model.specs.declared.Told.{Told}
 use Rattle.model.specs.declared.Told.the-variants as t
@@ -24,25 +22,15 @@ use Rattle.model.specs.declared.Started.the-variants as st
 use Rattle.model.specs.declared.RunResult.{RunResult}
 use Rattle.model.specs.declared.RunResult.the-variants as r
 use Rattle.model.specs.Basics.{if_then_else_, written}
-use Rattle.model.specs.Values.{valueOf, kind, payload, exactValue}
+use Rattle.model.specs.Values.{kind, payload, exactValue}
 use Rattle.model.specs.Stores.{Stores}
 use Rattle.model.specs.Emission.{Res}
 use Rattle.model.specs.Loading.{OutRes}
 use Rattle.model.specs.Machines.{Lent, RunPost, StartRes}
+use Rattle.value.specs.Links.{lastIn, lastKind, lastPayload}
 
 -- ---- a machine's record in ten words: constants, structs, functions, text, current, stack, frames, cells, and the last result's kind and payload.
 -- Kind 7, payload 0: no last result
-
-unfoldable pub lastOf : ℕ → ℕ → Last
-lastOf k a = if eqb k 7 then Nothing else Is (valueOf k a)
-
-unfoldable pub lastKind : Last → ℕ
-lastKind Nothing = 7
-lastKind (Is v) = kind v
-
-unfoldable pub lastPayload : Last → ℕ
-lastPayload Nothing = 0
-lastPayload (Is v) = payload v
 
 unfoldable pub vmIn : List ℕ → Vm
 vmIn w = record {
@@ -50,7 +38,7 @@ vmIn w = record {
   stack = getD w 5 0;
   frames = getD w 6 0;
   cells = getD w 7 0;
-  last = lastOf (getD w 8 0) (getD w 9 0);
+  last = lastIn (getD w 8 0) (getD w 9 0);
 }
 
 unfoldable pub countWords : Counts → List ℕ

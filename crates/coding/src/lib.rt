@@ -2,7 +2,6 @@
 use model::Counts;
 use model::Emitted;
 use model::Headed;
-use model::Last;
 use model::RunResult;
 use model::Shown;
 use model::Started;
@@ -10,14 +9,16 @@ use model::Told;
 use model::Vm;
 use value::words::exact_value;
 use value::words::kind_of;
+use value::words::last_in;
+use value::words::last_kind;
+use value::words::last_payload;
 use value::words::payload_of;
-use value::words::value_of;
 ghost use mathlib.Core.Path.{_≡_};
 ghost use mathlib.Core.List.{List, [], _∷_};
 ghost use Prim.Native.Nat.{ℕ};
 ghost use lib.ListN.{getD, set};
 ghost use Rattle.model.specs.Basics.{written};
-ghost use Rattle.coding.specs.Coding.{lastOf, lastKind, lastPayload, vmIn, countWords, vmWords, lastExact, recordOk, slicesRefusal, valueRefusal, outRefusal, runCoded, startedCoded, emittedCoded, toldCoded, shownCoded, headedCoded};
+ghost use Rattle.coding.specs.Coding.{vmIn, countWords, vmWords, lastExact, recordOk, slicesRefusal, valueRefusal, outRefusal, runCoded, startedCoded, emittedCoded, toldCoded, shownCoded, headedCoded};
 
 // Word i, 0 past the end.
 fn word(s: &[u64], i: usize) -> u64
@@ -40,34 +41,6 @@ fn put(s: &mut [u64], i: usize, x: u64)
 
 // ---- a machine's record
 
-// The last result of a kind and a payload.
-fn last_of(kind: u64, payload: u64) -> Last
-    ensures { λ r. ⌜ r ≡ lastOf kind payload ⌝ }
-{
-    if kind == 7 {
-        return Last::Nothing;
-    }
-    Last::Is(value_of(kind, payload))
-}
-
-fn last_kind(last: Last) -> u64
-    ensures { λ r. ⌜ r ≡ lastKind last ⌝ }
-{
-    match last {
-        Last::Nothing => 7,
-        Last::Is(v) => kind_of(v),
-    }
-}
-
-fn last_payload(last: Last) -> u64
-    ensures { λ r. ⌜ r ≡ lastPayload last ⌝ }
-{
-    match last {
-        Last::Nothing => 0,
-        Last::Is(v) => payload_of(v),
-    }
-}
-
 // The machine of a record.
 pub fn vm_of(vm: &[u64]) -> Vm
     ensures { λ r. ⌜ r ≡ vmIn (now (vm .entry)) ⌝ }
@@ -79,7 +52,7 @@ pub fn vm_of(vm: &[u64]) -> Vm
         text: word(vm, 3) as usize,
         current: word(vm, 4) as usize,
     };
-    let last = last_of(word(vm, 8), word(vm, 9));
+    let last = last_in(word(vm, 8), word(vm, 9));
     Vm {
         program,
         stack: word(vm, 5) as usize,

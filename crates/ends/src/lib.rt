@@ -35,10 +35,24 @@ ghost use Rattle.model.specs.Emission.{written};
 ghost use Rattle.model.specs.Stores.{size, codeWord};
 ghost use Rattle.model.specs.Orders.{cellsOk, stackOk, lastOk};
 ghost use Rattle.model.specs.Runs.{root};
+ghost use Rattle.model.specs.Machines.{fresh};
 ghost use Rattle.rules.specs.Ordered.{runProgram};
 ghost use Rattle.ends.specs.Links.{programLent, restOrder, ShortPost, FixedPost, Begun, vmWith, endedWith, faultedWith};
 
 // ---- before the loop
+
+// A machine that has not run: an empty stack, no last result, one frame.
+pub fn fresh_vm(c: Counts) -> Vm
+    ensures { λ r. ⌜ r ≡ fresh c ⌝ }
+{
+    Vm {
+        program: c,
+        stack: 0,
+        frames: 1,
+        cells: 0,
+        last: Last::Nothing,
+    }
+}
 
 // What a run judges of the program.
 fn program_ok(

@@ -1,36 +1,22 @@
 // Making a machine that has not run: all but its frame.
+use ends::fresh_vm;
 use image::Judgement;
 use image::judge;
 use image::load;
 use model::Counts;
 use model::Emitted;
 use model::Frame;
-use model::Last;
 use model::Loaded;
 use model::Started;
-use model::Vm;
 use program::functions::new;
 ghost use mathlib.Core.Path.{_≡_};
 ghost use Prim.Native.Nat.{ℕ};
 ghost use Rattle.model.specs.Runs.{root};
 ghost use Rattle.model.specs.Stores.{Stores};
-ghost use Rattle.model.specs.Machines.{fresh, loadMachineOf, newMachineOf};
+ghost use Rattle.model.specs.Machines.{loadMachineOf, newMachineOf};
 ghost use Rattle.program.specs.Links.{namesLent};
 ghost use Rattle.image.specs.Fills.{lent};
 ghost use Rattle.machine.specs.Links.{isDone, Makes};
-
-// An empty stack, no last result, one frame.
-fn fresh_vm(c: Counts) -> Vm
-    ensures { λ r. ⌜ r ≡ fresh c ⌝ }
-{
-    Vm {
-        program: c,
-        stack: 0,
-        frames: 1,
-        cells: 0,
-        last: Last::Nothing,
-    }
-}
 
 // The first frame: function 0, base 0, position 0.
 pub fn first_frame() -> Frame

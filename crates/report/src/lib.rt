@@ -6,14 +6,13 @@ mod playing; // playing.rt: a run on call frames of its own
 use crate::playing::play;
 use crate::runs::put_refused;
 use crate::runs::put_report;
+use ends::fresh_vm;
 use image::load;
 use listing::disassemble;
 use model::Counts;
-use model::Last;
 use model::Loaded;
 use model::RunResult;
 use model::Told;
-use model::Vm;
 use program::words::room;
 ghost use mathlib.Core.Path.{_≡_};
 ghost use mathlib.Core.Bool.{true};
@@ -96,19 +95,6 @@ fn list_loaded<'a>(
         Loaded::Done(c) => list_program(c, functions, text, main, other, out),
         Loaded::Broken(_) => print_refused(20, out),
         Loaded::Refused(n) => print_refused(n, out),
-    }
-}
-
-// A machine that has not run.
-fn fresh_vm(c: Counts) -> Vm
-    ensures { λ r. ⌜ r ≡ fresh c ⌝ }
-{
-    Vm {
-        program: c,
-        stack: 0,
-        frames: 1,
-        cells: 0,
-        last: Last::Nothing,
     }
 }
 

@@ -25,8 +25,8 @@ word-requires-6 c κs = search needs
 word-requires-7 : tie.Need-word-requires-7
 word-requires-7 c κs = search needs
 
-last-of-requires : tie.Need-last-of-requires
-last-of-requires c κs = search needs
+last-in-requires : tie.Need-last-in-requires
+last-in-requires c κs = search needs
 
 word-requires-8 : tie.Need-word-requires-8
 word-requires-8 c κs = search needs
@@ -38,7 +38,7 @@ word-requires-10 : tie.Need-word-requires-10
 word-requires-10 c κs = search needs
 
 returns : tie.Need-returns
-returns c = vm-is (c .before .before .before .before .before .before .before .before .before .before .before .before .args .vm .now) (c .before .before .before .before .before .before .before .before .before .before .word .ensures) (c .before .before .before .before .before .before .before .before .before .word2 .ensures) (c .before .before .before .before .before .before .before .before .word3 .ensures) (c .before .before .before .before .before .before .before .word4 .ensures) (c .before .before .before .before .before .before .word5 .ensures) (c .before .before .before .before .before .word6 .ensures) (c .before .before .before .before .word7 .ensures) (c .before .before .before .last-of .ensures) (c .before .before .word8 .ensures) (c .before .word9 .ensures) (c .word10 .ensures)
+returns c = vm-is (c .before .before .before .before .before .before .before .before .before .before .before .before .args .vm .now) (c .before .before .before .before .before .before .before .before .before .before .word .ensures) (c .before .before .before .before .before .before .before .before .before .word2 .ensures) (c .before .before .before .before .before .before .before .before .word3 .ensures) (c .before .before .before .before .before .before .before .word4 .ensures) (c .before .before .before .before .before .before .word5 .ensures) (c .before .before .before .before .before .word6 .ensures) (c .before .before .before .before .word7 .ensures) (c .before .before .before .last-in .ensures) (c .before .before .word8 .ensures) (c .before .word9 .ensures) (c .word10 .ensures)
 
 pub vm-of-spec : {M : Type 1} → statement M
 vm-of-spec =
@@ -51,7 +51,7 @@ vm-of-spec =
     word-requires-5
     word-requires-6
     word-requires-7
-    last-of-requires
+    last-in-requires
     word-requires-8
     word-requires-9
     word-requires-10

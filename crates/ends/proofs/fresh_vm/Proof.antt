@@ -1,8 +1,8 @@
--- `fresh_vm`: as the rules have it.
+-- `fresh_vm`: a machine that has not run.
 use mathlib.Core.Path.{refl}
 use Rattle.model.specs.Machines.{fresh}
-use Rattle.report.proofs.fresh_vm.Statement.{statement}
-use Rattle.report.proofs.fresh_vm.Tie as tie
+use Rattle.ends.proofs.fresh_vm.Statement.{statement}
+use Rattle.ends.proofs.fresh_vm.Tie as tie
 
 returns : tie.Need-returns
 unfolding fresh
