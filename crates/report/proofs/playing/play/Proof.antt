@@ -34,7 +34,7 @@ use Rattle.machine.proofs.run.Symbol as it-def
 use Rattle.machine.proofs.run.Symbol.{name as #it}
 use Rattle.machine.proofs.run.Met as it-thm
 use Rattle.report.specs.Links.{PlayPost}
-use Rattle.report.proofs.Lending.{apart, whole, lend-array, back-array, calls-with}
+use Rattle.frames.proofs.Lending.{apart, whole, lend-array, back-array, calls-with}
 use Rattle.report.proofs.playing.play.Key.{name as #me}
 use Rattle.report.proofs.playing.play as me
 use Rattle.report.proofs.playing.play.Statement as stated
