@@ -44,14 +44,7 @@ A record is the lengths of four parts (each u32, low byte first) and then the
 parts: the image, what `load` prints, what the runner prints, what the lister
 prints. Records stand one behind the other up to the end.
 
-The console's commands are those at the head of crates/console/stdin, and
-
-  last, stack I                 the last result; the value at place I
-  header I, element I J         of the list or struct at place I of the stack
-  text I [ROOM]                 of the string or function reference there
-  save ROOM, list ROOM, trace ROOM, run UNITS ROOM
-                                with a store of so many places lent
-
+The console's commands are those at the head of crates/console/stdin.
 It stops where the oracle cannot tell the answer: at `sum`, `poke`, `result`
 and the counts of stores other than the frames', which speak of the words in
 stores, and at a frame past those that a call has left.
