@@ -2,6 +2,5 @@ pub mod Weights
 pub mod Alongs
 pub mod Nexts
 pub mod Numbers
-pub mod Switches
 pub mod Arrays
 pub mod Calls

@@ -29,14 +29,10 @@ use Rattle.rules.specs.Ordered.{CodeBytes}
 use Rattle.rules.proofs.Runs.{path-sane}
 use Rattle.rules.proofs.Ordered.{order-of, order-world, order-sane}
 use Rattle.rules.proofs.Demands.{run-recovered, recovered-faults}
+use Rattle.machine.proofs.Traced.{length-trace}
 use Rattle.report.specs.Links.{Inside, Shows}
 
 -- ---- a fault's backtrace has an entry for each frame, and there is room for that many
-
-length-trace : (fs : List Function) (rs : List Frame) → length (traceOf fs rs) ≡ length rs
-unfolding traceOf
-length-trace fs [] = refl
-length-trace fs (r ∷ rs) = ap suc (length-trace fs rs)
 
 trace-short : (w : World) → SaneWorld w → (m : Machine) (u : ℕ) → Sane w (begin m u) → (n spent : ℕ) (es : List Entry) → runOf w m u .reply ≡ fault n spent es → length es ≤ w .frameRoom
 trace-short w good m u h n spent es e =

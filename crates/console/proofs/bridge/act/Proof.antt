@@ -20,7 +20,7 @@ use Rattle.console.specs.declared.bridge.Answer.{Answer}
 use Rattle.console.specs.declared.bridge.Answer.the-variants as ans
 use Rattle.frames.proofs.Frames.{R}
 use Rattle.machine.proofs.Rows.{VmRow, vmVal, vm-tells, vm-typed, vm-makes, StartedRow, startedVal, IsStarted, started-tells, started-typed, started-makes, ResultRow, resultVal, IsResult, result-tells, result-typed, result-makes, ToldRow, toldVal, IsTold, told-tells, told-typed, told-makes}
-use Rattle.console.proofs.Switches.{returns-match}
+use Rattle.frames.proofs.Branches.{returns-match}
 use Rattle.console.proofs.Calls.{CallRow, callVal, IsCall, call-tells, call-typed, call-makes, AnswerRow, answerVal, IsAnswer, answer-tells, answer-typed, answer-makes, run-fits}
 use Rattle.console.proofs.bridge.lay as lay-of
 use Rattle.console.proofs.bridge.lay.Symbol as lay-def
