@@ -71,6 +71,11 @@ withUsed u g = record {
   answered = g .answered;
 }
 
+-- the rule goes another way to the same outcome
+pub same-block : {rule other : State → Outcome} {k : Fixed} {g : Going} {s x : List ℕ} {r : Answer} {t y : List ℕ}
+    → ((cs : List Frame) → other (stateOf g s x cs) ≡ rule (stateOf g s x cs)) → BlockPost rule k g s x r t y → BlockPost other k g s x r t y
+same-block e p = record { means = λ cs h. p .means cs h ∙ sym (e cs); within = p .within; kept = p .kept; cells = p .cells; before = p .before }
+
 -- ---- an arm that ends as one does that is lent the stack alone
 
 module _ {rule other : State → Outcome} {k : Fixed} {g : Going} {s x : List ℕ} {r : Answer} {t : List ℕ} where
@@ -105,6 +110,10 @@ module _ {m : ℕ} {k : Fixed} {g : Going} {s x : List ℕ} (b : Blocks m k g s 
   cells-room : 2 * g .used ≤ length x
   unfolding places
   cells-room = let z = b .cells .count in omega arith
+
+  pub cells-fit : g .used < 0x1_0000_0000
+  unfolding places
+  cells-fit = let z = b .cells .count in omega arith
 
   popped-placed : (n : ℕ) → n ≤ g .sp → {p : Found} {u : Value} → p ≡ popOf (vals n s) → p ≡ Got u → placedBelow m (heapOf (g .used) x) (g .used) u ≡ true
   popped-placed n l e h = rw (got-at n s e h) (b .placed (n - 1) (let z = got-some n s e h in omega arith))
@@ -222,30 +231,20 @@ module _ {m : ℕ} {k : Fixed} {g : Going} {s x : List ℕ} (b : Blocks m k g s 
 -- ---- a list or a struct is built
 
 -- the two builds of the rules
-module _ (u : World) (j n : ℕ) (st : State) where
-  pub list-is-build : buildStep u v.List listElements j n st ≡ buildStep u (builtBy true) (elementsOf true) j n st
+module _ (u : World) (j n : ℕ) {k : Fixed} {g : Going} {s x : List ℕ} {r : Answer} {w y : List ℕ} where
+  pub builds-list : BlockPost (buildStep u (builtBy true) (elementsOf true) j n) k g s x r w y → BlockPost (buildStep u v.List listElements j n) k g s x r w y
   unfolding builtBy elementsOf
-  list-is-build = refl
+  builds-list p = p
 
-  struct-is-build : buildStep u v.StructInstance structFields j n st ≡ buildStep u (builtBy false) (elementsOf false) j n st
-  unfolding builtBy elementsOf
-  struct-is-build = refl
+  pub builds-struct : Suits k u → j < k .structs → BlockPost (buildStep u (builtBy false) (elementsOf false) j n) k g s x r w y
+      → BlockPost (structStep u j n) k g s x r w y
+  unfolding structStep builtBy elementsOf
+  builds-struct c h p = same-block (λ cs. rw (lt-ltb j (u .structs) (let e = c .structs in omega arith))) p
 
 module _ {m : ℕ} {k : Fixed} {g : Going} {s x : List ℕ} (b : Blocks m k g s x) (u : World) (j n : ℕ) where
   pub unknown-struct : Suits k u → k .structs ≤ j → BlockPost (structStep u j n) k g s x (Stopped g f.OutOfRange) s x
   unfolding structStep
   unknown-struct c h = arm-block (b .cells) (refused (b .stack) (λ x cs d. rw (c .structs, le-ltb j (k .structs) h)))
-
-  pub builds : {r : Answer} {w y : List ℕ} → Suits k u → j < k .structs → BlockPost (buildStep u (builtBy false) (elementsOf false) j n) k g s x r w y
-      → BlockPost (structStep u j n) k g s x r w y
-  unfolding structStep
-  builds c h p = record {
-    means = λ cs d. p .means cs d ∙ sym (rw (lt-ltb j (u .structs) (let e = c .structs in omega arith)) (struct-is-build u j n _));
-    within = p .within;
-    kept = p .kept;
-    cells = p .cells;
-    before = p .before;
-  }
 
   pub build-few : (list : Bool) → g .sp < n → BlockPost (buildStep u (builtBy list) (elementsOf list) j n) k g s x (Stopped g f.TooFewValues) s x
   unfolding buildStep
@@ -275,11 +274,8 @@ module _ {m : ℕ} {k : Fixed} {g : Going} {s x : List ℕ} (b : Blocks m k g s 
       new : BuildPost list s (g .sp) n j x (g .used) (bu.Taken c) y
       new = rw e at post
 
-      pub took : Took (g .used) n c x y
+      took : Took (g .used) n c x y
       took = new .after
-
-      pub popped-within : Within k (withCount (g .sp - n) (withUsed c g)) s
-      popped-within = fewer (b .stack) (omega arith) refl
 
       stay : (i : ℕ) → i ≤ g .used → heapOf i y ≡ heapOf i x
       stay i h =

@@ -11,12 +11,14 @@ use model::Value;
 use value::pops;
 use value::words;
 ghost use mathlib.Core.Path.{_≡_};
-ghost use Prim.Native.Nat.{ℕ, _<_};
+ghost use mathlib.Core.List.{List};
+ghost use Prim.Native.Nat.{ℕ, _≤_, _<_};
 ghost use lib.ListN.{length};
 ghost use Rattle.model.specs.Values.{places};
+ghost use Rattle.model.specs.Heap.{listElements};
 ghost use Rattle.model.specs.Steps.{World, equalStep, buildStep, structStep, fieldStep};
-ghost use Rattle.cells.specs.Links.{elementsOf};
-ghost use Rattle.arms.specs.Links.{Suits, Blocks, BlockPost, verdictBy, builtBy};
+ghost use Rattle.cells.specs.Links.{elementsOf, BuildPost};
+ghost use Rattle.arms.specs.Links.{Within, Suits, Blocks, BlockPost, verdictBy, builtBy};
 
 // The value of Equal from the verdict, or of NotEqual.
 fn told(not: bool, same: bool) -> bool
@@ -63,39 +65,36 @@ fn named(list: bool, p: u32) -> Value
     }
 }
 
-// BuildList n, and BuildStructInstance of a known number: n values popped, the new value pushed.
-pub fn build(
-    list: bool,
-    number: usize,
-    n: usize,
-    k: Fixed,
-    g: Going,
-    stack: &mut [u64],
-    cells: &mut [u64],
-) -> Answer
-    requires { ⌜ ((t : ℕ) × Blocks t k g (now stack) (now cells)) × ((n < 0x1_0000) × (number < 0x1_0000)) ⌝ }
-    ensures { λ r. ⌜ ((w : World) → Suits k w → w .cellRoom ≡ places 2 (now (cells .entry)) → BlockPost (buildStep w (builtBy list) (elementsOf list) number n) k g (now (stack .entry)) (now (cells .entry)) r (now (stack .exit)) (now (cells .exit))) ⌝ }
+// The list or struct whose cells are written, in place of the n values on top that it was built of; or the fault.
+fn replace(list: bool, n: usize, built: Built, k: Fixed, g: Going, stack: &mut [u64]) -> Answer
+    requires { ⌜ (Within k g (now stack)) × ((n ≤ g .sp) × (g .used < 0x1_0000_0000)) ⌝ }
+    ensures { λ r. ⌜ ((w : World) (t number : ℕ) (x y : List ℕ) → Suits k w → w .cellRoom ≡ places 2 x → Blocks t k g (now (stack .entry)) x → BuildPost list (now (stack .entry)) (g .sp) n number x (g .used) built y → BlockPost (buildStep w (builtBy list) (elementsOf list) number n) k g (now (stack .entry)) x r (now (stack .exit)) y) ⌝ }
 {
-    let sp = g.sp;
-    if sp < n {
-        return Answer::Stopped(g, Fault::TooFewValues);
-    }
-    let used = g.used;
-    match cells::build(list, stack, sp, n, number, cells, used) {
+    match built {
         Built::Bad(f) => Answer::Stopped(g, f),
         Built::Taken(u) => {
-            let popped = Going {
-                sp: sp - n,
-                used: u,
-                ..g
-            };
-            let v = named(list, used as u32);
+            let sp = g.sp - n;
+            let popped = Going { sp, used: u, ..g };
+            let v = named(list, g.used as u32);
             pushes::push(k, popped, v, stack)
         }
     }
 }
 
-// BuildStructInstance.
+// BuildList n: n values popped, the new value pushed.
+pub fn build_list(n: usize, k: Fixed, g: Going, stack: &mut [u64], cells: &mut [u64]) -> Answer
+    requires { ⌜ ((t : ℕ) × Blocks t k g (now stack) (now cells)) × (n < 0x1_0000) ⌝ }
+    ensures { λ r. ⌜ ((w : World) → Suits k w → w .cellRoom ≡ places 2 (now (cells .entry)) → BlockPost (buildStep w Value.List listElements 0 n) k g (now (stack .entry)) (now (cells .entry)) r (now (stack .exit)) (now (cells .exit))) ⌝ }
+{
+    let sp = g.sp;
+    if sp < n {
+        return Answer::Stopped(g, Fault::TooFewValues);
+    }
+    let built = cells::build(true, stack, sp, n, 0, cells, g.used);
+    replace(true, n, built, k, g, stack)
+}
+
+// BuildStructInstance number n.
 pub fn build_struct(
     number: usize,
     n: usize,
@@ -110,7 +109,12 @@ pub fn build_struct(
     if k.structs <= number {
         return Answer::Stopped(g, Fault::OutOfRange);
     }
-    build(false, number, n, k, g, stack, cells)
+    let sp = g.sp;
+    if sp < n {
+        return Answer::Stopped(g, Fault::TooFewValues);
+    }
+    let built = cells::build(false, stack, sp, n, number, cells, g.used);
+    replace(false, n, built, k, g, stack)
 }
 
 // AccessStructField a.
@@ -129,7 +133,7 @@ pub fn access_struct_field(k: Fixed, g: Going, a: usize, cells: &[u64], stack: &
         Found::Bad(f) => Answer::Stopped(g, f),
         Found::Got(x) => {
             words::write_value(stack, sp - 1, x);
-            Answer::Went(g)
+            Answer::Went(Going { sp, ..g })
         }
     }
 }

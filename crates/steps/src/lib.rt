@@ -11,8 +11,9 @@ use model::Decoded;
 use model::Fault;
 use model::Op;
 ghost use mathlib.Core.Path.{_≡_};
+ghost use mathlib.Core.Bool.{true, false};
 ghost use mathlib.Core.List.{List};
-ghost use Prim.Native.Nat.{_≤_, _<_};
+ghost use Prim.Native.Nat.{_+_, _*_, _≤_, _<_};
 ghost use lib.ListN.{length, getD};
 ghost use Rattle.model.specs.declared.Frame.{Frame};
 ghost use Rattle.model.specs.Programs.{wordAt};
@@ -29,21 +30,51 @@ pub enum Event {
 }
 
 // The byte at i; 0 past the code.
-fn byte_at(code: &[u8], i: usize) -> usize
+fn byte_at(code: &[u8], i: usize) -> u8
     ensures { λ r. ⌜ r ≡ getD (now (code .entry)) i 0 ⌝ }
 {
     if i < code.len() {
-        return code[i] as usize;
+        return code[i];
     }
     0
 }
 
-// The operand at i, low byte first.
-fn word_at(code: &[u8], i: usize) -> usize
-    requires { ⌜ i < 0x1_0000_0000 ⌝ }
-    ensures { λ r. ⌜ (r ≡ wordAt (now (code .entry)) i) × (r < 0x1_0000) ⌝ }
+// The word of two bytes, low byte first.
+fn word(low: u8, high: u8) -> usize
+    ensures { λ r. ⌜ (r ≡ low + 256 * high) × (r < 0x1_0000) ⌝ }
 {
-    byte_at(code, i) + 256 * byte_at(code, i + 1)
+    low as usize + 256 * (high as usize)
+}
+
+// The two words at a place of the code.
+struct Operands {
+    a: usize,
+    b: usize,
+}
+
+// The operands at i. Mostly both are there, and one test tells so.
+fn operands_at(code: &[u8], i: usize) -> Operands
+    requires { ⌜ i < 0x1_0000_0000 ⌝ }
+    ensures { λ r. ⌜ ((r .a ≡ wordAt (now (code .entry)) i) × (r .b ≡ wordAt (now (code .entry)) (i + 2))) × ((r .a < 0x1_0000) × (r .b < 0x1_0000)) ⌝ }
+{
+    if i + 4 <= code.len() {
+        let a = word(code[i], code[i + 1]);
+        let b = word(code[i + 2], code[i + 3]);
+        return Operands { a, b };
+    }
+    let a = word(byte_at(code, i), byte_at(code, i + 1));
+    let b = word(byte_at(code, i + 2), byte_at(code, i + 3));
+    Operands { a, b }
+}
+
+// Which of the two equalities an instruction is.
+fn is_not_equal(o: Op) -> bool
+    ensures { λ r. ⌜ (o ≡ Op.Equal → r ≡ false) × (o ≡ Op.NotEqual → r ≡ true) ⌝ }
+{
+    match o {
+        Op::NotEqual => true,
+        _ => false,
+    }
 }
 
 // An instruction whose opcode and operands have been read.
@@ -73,8 +104,10 @@ fn execute(
         Op::Negate => scalars::negate(k, g, stack),
         Op::Arithmetic(which) => scalars::arithmetic(which, k, g, stack),
         Op::Ordering(which) => scalars::ordering(which, k, g, stack),
-        Op::Equal => blocks::equal(false, k, g, text, cells, stack),
-        Op::NotEqual => blocks::equal(true, k, g, text, cells, stack),
+        Op::Equal | Op::NotEqual => {
+            let not = is_not_equal(o);
+            blocks::equal(not, k, g, text, cells, stack)
+        }
         Op::LogicalAnd => logic::logical(true, k, g, stack),
         Op::LogicalOr => logic::logical(false, k, g, stack),
         Op::LogicalNeg => logic::logical_neg(k, g, stack),
@@ -84,7 +117,7 @@ fn execute(
         Op::CallCallable => frames::call_callable(k, g, a, functions, text, stack),
         Op::BuildStructInstance => blocks::build_struct(a, b, k, g, stack, cells),
         Op::AccessStructField => blocks::access_struct_field(k, g, a, cells, stack),
-        Op::BuildList => blocks::build(true, 0, a, k, g, stack, cells),
+        Op::BuildList => blocks::build_list(a, k, g, stack, cells),
         Op::Return => frames::go_back(k, g, stack),
     }
 }
@@ -110,9 +143,10 @@ fn step(
     let position = g.position;
     let opcode = code[position];
     let next = position + 1;
+    let left = units - 1;
     let fetched = Going {
         position: next,
-        units: units - 1,
+        units: left,
         ..g
     };
     match opcode::decode(opcode) {
@@ -123,13 +157,23 @@ fn step(
             if code.len() < behind {
                 return Answer::Stopped(fetched, Fault::CodeEnds);
             }
-            let a = word_at(code, next);
-            let b = word_at(code, next + 2);
+            let operands = operands_at(code, next);
             let read = Going {
                 position: behind,
                 ..fetched
             };
-            execute(o, a, b, k, read, constants, functions, text, stack, cells)
+            execute(
+                o,
+                operands.a,
+                operands.b,
+                k,
+                read,
+                constants,
+                functions,
+                text,
+                stack,
+                cells,
+            )
         }
     }
 }

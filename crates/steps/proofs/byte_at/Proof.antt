@@ -1,4 +1,4 @@
--- `steps::byte_at` meets its contract: a byte fits, and past the code there is none.
+-- `steps::byte_at` meets its contract: past the code there is no byte.
 use borrow.Author.Needs.{needs}
 use mathlib.Core.Path.{sym}
 use native.Mathlib.Omega.{arith}
@@ -9,9 +9,6 @@ use Rattle.steps.proofs.byte_at.Tie as tie
 shared-slice-read-result : tie.Need-shared-slice-read-result
 shared-slice-read-result c = search needs
 
-cast-result : tie.Need-cast-result
-cast-result c = omega (arith, c .shared-slice-known .given (c .before .before .args .i))
-
 returns : tie.Need-returns
 returns c = search needs
 
@@ -19,4 +16,4 @@ returns-2 : tie.Need-returns-2
 returns-2 c = sym (List·getD-eq-default (c .before .args .code .now) _ {n = c .before .args .i} (omega arith))
 
 pub byte-at-spec : {M : Type 1} → statement M
-byte-at-spec = tie.close (tie.spec shared-slice-read-result cast-result returns returns-2)
+byte-at-spec = tie.close (tie.spec shared-slice-read-result returns returns-2)

@@ -4,8 +4,8 @@ use borrow.Author.Needs.{needs}
 use Rattle.model.specs.Steps.{execOf}
 use Rattle.program.specs.Links.{namesLent}
 use Rattle.arms.specs.Links.{connective}
-use Rattle.arms.proofs.Cellwise.{equal-is, not-equal-is, list-is-build}
-use Rattle.steps.proofs.Dispatch.{by-arm, by-block}
+use Rattle.arms.proofs.Cellwise.{same-block}
+use Rattle.steps.proofs.Dispatch.{by-arm, by-block, equalities, equality-is}
 use Rattle.steps.proofs.execute.Statement.{statement}
 use Rattle.steps.proofs.execute.Tie as tie
 
@@ -54,80 +54,74 @@ enum-known-o-2 c = search needs
 ordering-requires : tie.Need-ordering-requires
 ordering-requires c κs = search needs
 
-enum-told-6 : tie.Need-enum-told-6
-enum-told-6 c = search needs
+is-not-equal-requires : tie.Need-is-not-equal-requires
+is-not-equal-requires c κs = search needs
 
 equal-requires : tie.Need-equal-requires
 equal-requires c κs = search needs
 
-enum-told-7 : tie.Need-enum-told-7
-enum-told-7 c = search needs
-
-equal-requires-2 : tie.Need-equal-requires-2
-equal-requires-2 c κs = search needs
-
-enum-told-8 : tie.Need-enum-told-8
-enum-told-8 c = search needs
+enum-told-6 : tie.Need-enum-told-6
+enum-told-6 c = search needs
 
 logical-requires : tie.Need-logical-requires
 logical-requires c κs = search needs
 
-enum-told-9 : tie.Need-enum-told-9
-enum-told-9 c = search needs
+enum-told-7 : tie.Need-enum-told-7
+enum-told-7 c = search needs
 
 logical-requires-2 : tie.Need-logical-requires-2
 logical-requires-2 c κs = search needs
 
-enum-told-10 : tie.Need-enum-told-10
-enum-told-10 c = search needs
+enum-told-8 : tie.Need-enum-told-8
+enum-told-8 c = search needs
 
 logical-neg-requires : tie.Need-logical-neg-requires
 logical-neg-requires c κs = search needs
 
-enum-told-11 : tie.Need-enum-told-11
-enum-told-11 c = search needs
+enum-told-9 : tie.Need-enum-told-9
+enum-told-9 c = search needs
 
 jump-if-false-requires : tie.Need-jump-if-false-requires
 jump-if-false-requires c κs = search needs
 
-enum-told-12 : tie.Need-enum-told-12
-enum-told-12 c = search needs
+enum-told-10 : tie.Need-enum-told-10
+enum-told-10 c = search needs
 
 jump-requires : tie.Need-jump-requires
 jump-requires c κs = search needs
 
-enum-told-13 : tie.Need-enum-told-13
-enum-told-13 c = search needs
+enum-told-11 : tie.Need-enum-told-11
+enum-told-11 c = search needs
 
 call-requires : tie.Need-call-requires
 call-requires c κs = search needs
 
-enum-told-14 : tie.Need-enum-told-14
-enum-told-14 c = search needs
+enum-told-12 : tie.Need-enum-told-12
+enum-told-12 c = search needs
 
 call-callable-requires : tie.Need-call-callable-requires
 call-callable-requires c κs = search needs
 
-enum-told-15 : tie.Need-enum-told-15
-enum-told-15 c = search needs
+enum-told-13 : tie.Need-enum-told-13
+enum-told-13 c = search needs
 
 build-struct-requires : tie.Need-build-struct-requires
 build-struct-requires c κs = search needs
 
-enum-told-16 : tie.Need-enum-told-16
-enum-told-16 c = search needs
+enum-told-14 : tie.Need-enum-told-14
+enum-told-14 c = search needs
 
 access-struct-field-requires : tie.Need-access-struct-field-requires
 access-struct-field-requires c κs = search needs
 
-enum-told-17 : tie.Need-enum-told-17
-enum-told-17 c = search needs
+enum-told-15 : tie.Need-enum-told-15
+enum-told-15 c = search needs
 
-build-requires : tie.Need-build-requires
-build-requires c κs = search needs
+build-list-requires : tie.Need-build-list-requires
+build-list-requires c κs = search needs
 
-enum-told-18 : tie.Need-enum-told-18
-enum-told-18 c = search needs
+enum-told-16 : tie.Need-enum-told-16
+enum-told-16 c = search needs
 
 go-back-requires : tie.Need-go-back-requires
 go-back-requires c κs = search needs
@@ -188,67 +182,67 @@ same-length-9 : tie.Need-same-length-9
 same-length-9 c = search needs
 
 returns-8 : tie.Need-returns-8
-unfolding execOf namesLent
-returns-8 c = λ w l. by-block w _ _ (c .before .before .before .before .before .enum-told6 .given .1) (λ cs. equal-is w _) (c .before .before .equal .ensures w (l .named .text))
+unfolding namesLent
+returns-8 c = λ w l. same-block (λ cs. equality-is w (c .before .before .before .before .before .before .before .before .before .before .before .before .args .a) (c .before .before .before .before .before .before .before .before .before .before .before .before .args .b) (equalities (c .before .before .before .before .before .before .before .before .before .before .before .before .args .o) (c .before .before .before .before .before .before .match .keys8)) (c .before .before .before .before .before .is-not-equal .ensures) _) (c .before .before .equal .ensures w (l .named .text))
 
 same-length-10 : tie.Need-same-length-10
 same-length-10 c = search needs
 
+returns-9 : tie.Need-returns-9
+unfolding execOf connective
+returns-9 c = λ w l. by-arm w _ _ (c .before .before .before .before .enum-told6 .given .1) (λ cs. refl) (c .before .before .before .before .before .before .before .before .before .before .before .pre .1 .0 .cells) (c .before .before .logical .ensures)
+
 same-length-11 : tie.Need-same-length-11
 same-length-11 c = search needs
 
-returns-9 : tie.Need-returns-9
-unfolding execOf namesLent
-returns-9 c = λ w l. by-block w _ _ (c .before .before .before .before .before .enum-told7 .given .1) (λ cs. not-equal-is w _) (c .before .before .equal2 .ensures w (l .named .text))
+returns-10 : tie.Need-returns-10
+unfolding execOf connective
+returns-10 c = λ w l. by-arm w _ _ (c .before .before .before .before .enum-told7 .given .1) (λ cs. refl) (c .before .before .before .before .before .before .before .before .before .before .before .pre .1 .0 .cells) (c .before .before .logical2 .ensures)
 
 same-length-12 : tie.Need-same-length-12
 same-length-12 c = search needs
 
-returns-10 : tie.Need-returns-10
-unfolding execOf connective
-returns-10 c = λ w l. by-arm w _ _ (c .before .before .before .before .enum-told8 .given .1) (λ cs. refl) (c .before .before .before .before .before .before .before .before .before .before .before .pre .1 .0 .cells) (c .before .before .logical .ensures)
+returns-11 : tie.Need-returns-11
+unfolding execOf
+returns-11 c = λ w l. by-arm w _ _ (c .before .before .before .before .enum-told8 .given .1) (λ cs. refl) (c .before .before .before .before .before .before .before .before .before .before .before .pre .1 .0 .cells) (c .before .before .logical-neg .ensures)
 
 same-length-13 : tie.Need-same-length-13
 same-length-13 c = search needs
 
-returns-11 : tie.Need-returns-11
-unfolding execOf connective
-returns-11 c = λ w l. by-arm w _ _ (c .before .before .before .before .enum-told9 .given .1) (λ cs. refl) (c .before .before .before .before .before .before .before .before .before .before .before .pre .1 .0 .cells) (c .before .before .logical2 .ensures)
+returns-12 : tie.Need-returns-12
+unfolding execOf
+returns-12 c = λ w l. by-arm w _ _ (c .before .before .enum-told9 .given .1) (λ cs. refl) (c .before .before .before .before .before .before .before .before .before .pre .1 .0 .cells) (c .jump-if-false .ensures)
 
 same-length-14 : tie.Need-same-length-14
 same-length-14 c = search needs
 
-returns-12 : tie.Need-returns-12
+returns-13 : tie.Need-returns-13
 unfolding execOf
-returns-12 c = λ w l. by-arm w _ _ (c .before .before .before .before .enum-told10 .given .1) (λ cs. refl) (c .before .before .before .before .before .before .before .before .before .before .before .pre .1 .0 .cells) (c .before .before .logical-neg .ensures)
+returns-13 c = λ w l. by-arm w _ _ (c .before .before .enum-told10 .given .1) (λ cs. refl) (c .before .before .before .before .before .before .before .before .before .pre .1 .0 .cells) (c .jump .ensures)
 
 same-length-15 : tie.Need-same-length-15
 same-length-15 c = search needs
 
-returns-13 : tie.Need-returns-13
+returns-14 : tie.Need-returns-14
 unfolding execOf
-returns-13 c = λ w l. by-arm w _ _ (c .before .before .enum-told11 .given .1) (λ cs. refl) (c .before .before .before .before .before .before .before .before .before .pre .1 .0 .cells) (c .jump-if-false .ensures)
+returns-14 c = λ w l. by-arm w _ _ (c .before .before .enum-told11 .given .1) (λ cs. refl) (c .before .before .before .before .before .before .before .before .before .pre .1 .0 .cells) (c .call .ensures w (l .suits))
 
 same-length-16 : tie.Need-same-length-16
 same-length-16 c = search needs
 
-returns-14 : tie.Need-returns-14
+returns-15 : tie.Need-returns-15
 unfolding execOf
-returns-14 c = λ w l. by-arm w _ _ (c .before .before .enum-told12 .given .1) (λ cs. refl) (c .before .before .before .before .before .before .before .before .before .pre .1 .0 .cells) (c .jump .ensures)
+returns-15 c = λ w l. by-arm w _ _ (c .before .before .enum-told12 .given .1) (λ cs. refl) (c .before .before .before .before .before .before .before .before .before .pre .1 .0 .cells) (c .call-callable .ensures w (l .rest) (l .suits) (l .named))
 
 same-length-17 : tie.Need-same-length-17
 same-length-17 c = search needs
-
-returns-15 : tie.Need-returns-15
-unfolding execOf
-returns-15 c = λ w l. by-arm w _ _ (c .before .before .enum-told13 .given .1) (λ cs. refl) (c .before .before .before .before .before .before .before .before .before .pre .1 .0 .cells) (c .call .ensures w (l .suits))
 
 same-length-18 : tie.Need-same-length-18
 same-length-18 c = search needs
 
 returns-16 : tie.Need-returns-16
 unfolding execOf
-returns-16 c = λ w l. by-arm w _ _ (c .before .before .enum-told14 .given .1) (λ cs. refl) (c .before .before .before .before .before .before .before .before .before .pre .1 .0 .cells) (c .call-callable .ensures w (l .rest) (l .suits) (l .named))
+returns-16 c = λ w l. by-block w _ _ (c .before .before .before .before .before .before .before .enum-told13 .given .1) (λ cs. refl) (c .before .before .before .before .build-struct .ensures w (l .suits) (l .cellRoom))
 
 same-length-19 : tie.Need-same-length-19
 same-length-19 c = search needs
@@ -258,7 +252,7 @@ same-length-20 c = search needs
 
 returns-17 : tie.Need-returns-17
 unfolding execOf
-returns-17 c = λ w l. by-block w _ _ (c .before .before .before .before .before .before .before .enum-told15 .given .1) (λ cs. refl) (c .before .before .before .before .build-struct .ensures w (l .suits) (l .cellRoom))
+returns-17 c = λ w l. by-block w _ _ (c .before .before .before .before .before .enum-told14 .given .1) (λ cs. refl) (c .before .before .access-struct-field .ensures)
 
 same-length-21 : tie.Need-same-length-21
 same-length-21 c = search needs
@@ -268,24 +262,14 @@ same-length-22 c = search needs
 
 returns-18 : tie.Need-returns-18
 unfolding execOf
-returns-18 c = λ w l. by-block w _ _ (c .before .before .before .before .before .enum-told16 .given .1) (λ cs. refl) (c .before .before .access-struct-field .ensures)
+returns-18 c = λ w l. by-block w _ _ (c .before .before .before .before .before .before .before .enum-told15 .given .1) (λ cs. refl) (c .before .before .before .before .build-list .ensures w (l .suits) (l .cellRoom))
 
 same-length-23 : tie.Need-same-length-23
 same-length-23 c = search needs
 
-same-length-24 : tie.Need-same-length-24
-same-length-24 c = search needs
-
 returns-19 : tie.Need-returns-19
 unfolding execOf
-returns-19 c = λ w l. by-block w _ _ (c .before .before .before .before .before .before .before .enum-told17 .given .1) (λ cs. list-is-build w 0 _ _) (c .before .before .before .before .build .ensures w (l .suits) (l .cellRoom))
-
-same-length-25 : tie.Need-same-length-25
-same-length-25 c = search needs
-
-returns-20 : tie.Need-returns-20
-unfolding execOf
-returns-20 c = λ w l. by-arm w _ _ (c .before .before .before .before .enum-told18 .given .1) (λ cs. refl) (c .before .before .before .before .before .before .before .before .before .before .before .pre .1 .0 .cells) (c .before .before .go-back .ensures)
+returns-19 c = λ w l. by-arm w _ _ (c .before .before .before .before .enum-told16 .given .1) (λ cs. refl) (c .before .before .before .before .before .before .before .before .before .before .before .pre .1 .0 .cells) (c .before .before .go-back .ensures)
 
 pub execute-spec : {M : Type 1} → statement M
 execute-spec =
@@ -306,31 +290,29 @@ execute-spec =
     arithmetic-requires
     enum-known-o-2
     ordering-requires
-    enum-told-6
+    is-not-equal-requires
     equal-requires
-    enum-told-7
-    equal-requires-2
-    enum-told-8
+    enum-told-6
     logical-requires
-    enum-told-9
+    enum-told-7
     logical-requires-2
-    enum-told-10
+    enum-told-8
     logical-neg-requires
-    enum-told-11
+    enum-told-9
     jump-if-false-requires
-    enum-told-12
+    enum-told-10
     jump-requires
-    enum-told-13
+    enum-told-11
     call-requires
-    enum-told-14
+    enum-told-12
     call-callable-requires
-    enum-told-15
+    enum-told-13
     build-struct-requires
-    enum-told-16
+    enum-told-14
     access-struct-field-requires
-    enum-told-17
-    build-requires
-    enum-told-18
+    enum-told-15
+    build-list-requires
+    enum-told-16
     go-back-requires
     same-length
     returns
@@ -350,20 +332,20 @@ execute-spec =
     same-length-9
     returns-8
     same-length-10
-    same-length-11
     returns-9
-    same-length-12
+    same-length-11
     returns-10
-    same-length-13
+    same-length-12
     returns-11
-    same-length-14
+    same-length-13
     returns-12
-    same-length-15
+    same-length-14
     returns-13
-    same-length-16
+    same-length-15
     returns-14
-    same-length-17
+    same-length-16
     returns-15
+    same-length-17
     same-length-18
     returns-16
     same-length-19
@@ -373,7 +355,4 @@ execute-spec =
     same-length-22
     returns-18
     same-length-23
-    same-length-24
-    returns-19
-    same-length-25
-    returns-20)
+    returns-19)

@@ -16,8 +16,8 @@ shared-slice-read-opcode c = search needs
 add-next : tie.Need-add-next
 add-next c = search needs
 
-sub-t23 : tie.Need-sub-t23
-sub-t23 c = search needs
+sub-left : tie.Need-sub-left
+sub-left c = search needs
 
 decode-requires : tie.Need-decode-requires
 decode-requires c κs = search needs
@@ -43,17 +43,11 @@ add-behind c = omega (arith, read-few _ (c .operands-read .ensures), code-short 
 returns-2 : tie.Need-returns-2
 returns-2 c = λ w cs at. cut-short at (c .before .before .before .before .before .before .before .if1 .left) refl (sym (c .before .before .before .o .given .1) ∙ c .before .before .before .before .before .decode .ensures) (c .before .operands-read .ensures) (c .if2 .taken)
 
-word-at-requires : tie.Need-word-at-requires
-word-at-requires c κs = search needs
-
-add-word-at : tie.Need-add-word-at
-add-word-at c = search needs
-
-word-at-requires-2 : tie.Need-word-at-requires-2
-word-at-requires-2 c κs = search needs
+operands-at-requires : tie.Need-operands-at-requires
+operands-at-requires c κs = search needs
 
 execute-requires : tie.Need-execute-requires
-execute-requires c κs = ((c .before .before .before .before .before .before .before .before .before .before .before .before .before .before .before .before .before .before .pre .0 .0, (c .before .before .before .before .before .before .before .before .before .before .before .before .before .before .before .before .before .before .pre .0 .2) .lent), (blocks-at (c .before .before .before .before .before .before .before .before .before .before .before .before .before .before .before .before .before .before .pre .0 .2) _ _, (omega (arith, code-short (c .before .before .before .before .before .before .before .before .before .before .before .before .before .before .before .before .before .before .pre .0 .2)), base-fits (c .before .before .before .before .before .before .before .before .before .before .before .before .before .before .before .before .before .before .pre .0 .2), c .before .before .before .word-at .ensures .1, c .before .before .word-at2 .ensures .1)))
+execute-requires c κs = ((c .before .before .before .before .before .before .before .before .before .before .before .before .before .before .before .before .before .pre .0 .0, (c .before .before .before .before .before .before .before .before .before .before .before .before .before .before .before .before .before .pre .0 .2) .lent), (blocks-at (c .before .before .before .before .before .before .before .before .before .before .before .before .before .before .before .before .before .pre .0 .2) _ _, (omega (arith, code-short (c .before .before .before .before .before .before .before .before .before .before .before .before .before .before .before .before .before .pre .0 .2)), base-fits (c .before .before .before .before .before .before .before .before .before .before .before .before .before .before .before .before .before .pre .0 .2), c .before .before .operands-at .ensures .1 .0, c .before .before .operands-at .ensures .1 .1)))
 
 returns-3 : tie.Need-returns-3
 unfolding decodedThen
@@ -70,7 +64,7 @@ same-length-2 : tie.Need-same-length-2
 same-length-2 c = search needs
 
 returns-5 : tie.Need-returns-5
-returns-5 c = λ w cs at. carried at (c .before .before .before .before .before .before .before .before .before .before .before .before .before .before .before .before .if1 .left) refl (sym (c .before .before .before .before .before .before .before .before .before .before .before .before .o .given .1) ∙ c .before .before .before .before .before .before .before .before .before .before .before .before .before .before .decode .ensures) (c .before .before .before .before .before .before .before .before .before .before .operands-read .ensures) (c .before .before .before .before .before .before .before .before .before .if2 .left) (c .before .before .before .before .before .before .before .before .word-at .ensures .0) (c .before .before .before .before .before .before .before .word-at2 .ensures .0) (c .before .before .before .before .execute .ensures w (at .lent))
+returns-5 c = λ w cs at. carried at (c .before .before .before .before .before .before .before .before .before .before .before .before .before .before .before .if1 .left) refl (sym (c .before .before .before .before .before .before .before .before .before .before .before .o .given .1) ∙ c .before .before .before .before .before .before .before .before .before .before .before .before .before .decode .ensures) (c .before .before .before .before .before .before .before .before .before .operands-read .ensures) (c .before .before .before .before .before .before .before .before .if2 .left) (c .before .before .before .before .before .before .before .operands-at .ensures .0 .0) (c .before .before .before .before .before .before .before .operands-at .ensures .0 .1) (c .before .before .before .before .execute .ensures w (at .lent))
 
 pub step-spec : {M : Type 1} → statement M
 step-spec =
@@ -79,7 +73,7 @@ step-spec =
     returns
     shared-slice-read-opcode
     add-next
-    sub-t23
+    sub-left
     decode-requires
     enum-told
     enum-told-2
@@ -88,9 +82,7 @@ step-spec =
     mul-behind
     add-behind
     returns-2
-    word-at-requires
-    add-word-at
-    word-at-requires-2
+    operands-at-requires
     execute-requires
     returns-3
     returns-4

@@ -1,0 +1,49 @@
+-- `arms::blocks::replace` meets its contract.
+use mathlib.Core.Path.{refl}
+use borrow.Author.Needs.{needs}
+use native.Mathlib.Omega.{arith}
+use Rattle.arms.proofs.Keeping.{fewer}
+use Rattle.arms.proofs.Cellwise.{build-bad, built}
+use Rattle.arms.proofs.blocks.replace.Statement.{statement}
+use Rattle.arms.proofs.blocks.replace.Tie as tie
+
+enum-known-built : tie.Need-enum-known-built
+enum-known-built c = search needs
+
+enum-known-built-2 : tie.Need-enum-known-built-2
+enum-known-built-2 c = search needs
+
+sub-sp : tie.Need-sub-sp
+sub-sp c = search needs
+
+cast-named : tie.Need-cast-named
+cast-named c = search needs
+
+named-requires : tie.Need-named-requires
+named-requires c κs = search needs
+
+push-requires : tie.Need-push-requires
+push-requires c κs = fewer (c .before .before .before .before .before .before .before .before .pre .0) (omega arith) refl
+
+returns : tie.Need-returns
+returns c = λ w t j x y d e b p. build-bad b (c .before .before .before .before .pre .1 .0) p w e (c .before .built .given .1)
+
+same-length : tie.Need-same-length
+same-length c = search needs
+
+returns-2 : tie.Need-returns-2
+returns-2 c = λ w t j x y d e b p. built b (c .before .before .before .before .before .before .before .before .before .before .before .pre .1 .0) p (c .before .before .before .before .before .before .before .before .built2 .given .1) w e (c .before .before .before .before .named .ensures) (c .before .before .push .ensures w d)
+
+pub replace-spec : {M : Type 1} → statement M
+replace-spec =
+    tie.close
+    (tie.spec
+    enum-known-built
+    enum-known-built-2
+    sub-sp
+    cast-named
+    named-requires
+    push-requires
+    returns
+    same-length
+    returns-2)
