@@ -3,5 +3,4 @@ pub mod Alongs
 pub mod Nexts
 pub mod Numbers
 pub mod Switches
-pub mod Arrays
 pub mod Calls
