@@ -2,5 +2,4 @@ pub mod Weights
 pub mod Alongs
 pub mod Nexts
 pub mod Numbers
-pub mod Arrays
 pub mod Calls
