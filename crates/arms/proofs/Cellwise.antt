@@ -16,11 +16,11 @@ use Rattle.model.specs.declared.Found.{Found}
 use Rattle.model.specs.declared.Found.the-variants.{Got, Bad}
 use Rattle.model.specs.declared.Frame.{Frame}
 use Rattle.model.specs.Basics.{if_then_else_}
-use Rattle.model.specs.Values.{places, vals, valueAt, popOf, ifStruct}
+use Rattle.model.specs.Values.{places, vals, valueAt, ifStruct}
 use Rattle.model.specs.Heap.{item, heapOf, fieldOf, listElements, placedBelow}
 use Rattle.model.specs.Equality.{Same, same, sameOf}
 use Rattle.model.specs.Steps.{World, State, Outcome, went, faulted, withStack, withUnits, pushing, onFound, onSame, equalStep, onBuilt, buildStep, structStep, fieldStep}
-use Rattle.value.specs.Links.{Written}
+use Rattle.value.specs.Links.{Written, popOf}
 use Rattle.value.proofs.Stores.{length-vals, vals-drop}
 use Rattle.value.proofs.Operands.{got-some}
 use Rattle.cells.specs.declared.Built.{Built}

@@ -16,21 +16,21 @@ use Rattle.model.specs.declared.Fault.{Fault}
 use Rattle.model.specs.declared.Fault.the-variants as f
 use Rattle.model.specs.declared.Found.{Found}
 use Rattle.model.specs.declared.Found.the-variants.{Got, Bad}
-use Rattle.model.specs.declared.Scalars.{Scalars}
-use Rattle.model.specs.declared.Scalars.the-variants as sc
-use Rattle.model.specs.declared.Booleans.{Booleans}
-use Rattle.model.specs.declared.Booleans.the-variants as bo
+use Rattle.value.specs.declared.Scalars.{Scalars}
+use Rattle.value.specs.declared.Scalars.the-variants as sc
+use Rattle.value.specs.declared.Booleans.{Booleans}
+use Rattle.value.specs.declared.Booleans.the-variants as bo
 use Rattle.model.specs.declared.Told.{Told}
 use Rattle.model.specs.declared.Told.the-variants.{Number, Refused}
 use Rattle.model.specs.declared.Frame.{Frame}
 use Rattle.model.specs.Basics.{if_then_else_}
-use Rattle.model.specs.Values.{kind, vals, popOf, popping, poppingScalar, poppingBoolean, ifScalar, ifBoolean, ifReference, textAt}
-use Rattle.model.specs.Scalars.{arithOf, zeroDivisor, orderOf, scalarsOf, booleansOf}
+use Rattle.model.specs.Values.{kind, vals, popping, poppingScalar, poppingBoolean, ifScalar, ifBoolean, ifReference, textAt}
+use Rattle.model.specs.Scalars.{arithOf, zeroDivisor, orderOf}
 use Rattle.model.specs.Heap.{item}
 use Rattle.model.specs.Programs.{functionNamed}
 use Rattle.model.specs.Emission.{toldName}
 use Rattle.model.specs.Steps.{World, State, Outcome, went, faulted, withStack, at, position, pushing, onFound, constantOf, slotOf, lastOf, loadStep, slotStep, lastStep, negateStep, arithmeticStep, orderingStep, logicStep, notStep, jumpStep, jumpIfFalseStep, enter, callStep, enterNamed, callCallableStep, returnTo, returnStep}
-use Rattle.value.specs.Links.{PayloadOf, Written}
+use Rattle.value.specs.Links.{PayloadOf, Written, booleansOf, popOf, scalarsOf}
 use Rattle.value.proofs.Stores.{length-vals, pushed}
 use Rattle.value.proofs.Operands.{got-some, is-boolean}
 use Rattle.arms.specs.declared.Fixed.{Fixed}

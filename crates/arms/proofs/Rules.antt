@@ -12,13 +12,12 @@ use Rattle.model.specs.declared.Fault.{Fault}
 use Rattle.model.specs.declared.Fault.the-variants as f
 use Rattle.model.specs.declared.Found.{Found}
 use Rattle.model.specs.declared.Found.the-variants as got
-use Rattle.model.specs.declared.Scalars.{Scalars}
-use Rattle.model.specs.declared.Scalars.the-variants as sc
-use Rattle.model.specs.declared.Booleans.{Booleans}
-use Rattle.model.specs.declared.Booleans.the-variants as bo
+use Rattle.value.specs.declared.Scalars.{Scalars}
+use Rattle.value.specs.declared.Scalars.the-variants as sc
+use Rattle.value.specs.declared.Booleans.{Booleans}
+use Rattle.value.specs.declared.Booleans.the-variants as bo
 use Rattle.model.specs.declared.Told.{Told}
-use Rattle.model.specs.Values.{ifReference, textAt, valueOf, valueAt, vals, valuesFrom, popOf, popping, poppingScalar, poppingBoolean, ifScalar, ifBoolean}
-use Rattle.model.specs.Scalars.{scalarsOf, booleansOf}
+use Rattle.model.specs.Values.{ifReference, textAt, valueOf, valueAt, vals, valuesFrom, popping, poppingScalar, poppingBoolean, ifScalar, ifBoolean}
 use Rattle.model.specs.Programs.{newestFrom, functionNamed}
 use Rattle.model.specs.Stores.{Stores, start, size, pack, part}
 use Rattle.model.specs.Emission.{namesFrom, toldName}
@@ -27,7 +26,7 @@ use Rattle.value.proofs.Stores.{length-values, getD-values, length-vals, vals-s
 use Rattle.value.proofs.Operands.{none, got-top, on-scalars, on-booleans}
 use Rattle.program.specs.Links.{namesLent}
 use Rattle.arms.specs.declared.Fixed.{Fixed}
-use Rattle.value.specs.Links.{lastIn}
+use Rattle.value.specs.Links.{lastIn, booleansOf, popOf, scalarsOf}
 use Rattle.arms.specs.Links.{Named}
 
 -- ---- one value is popped

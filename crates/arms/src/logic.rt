@@ -2,10 +2,10 @@
 use crate::Answer;
 use crate::Fixed;
 use crate::Going;
-use model::Booleans;
 use model::Fault;
 use model::Found;
 use model::Value;
+use value::Booleans;
 use value::pops;
 use value::words;
 ghost use mathlib.Core.Path.{_≡_};

@@ -24,3 +24,8 @@ everyFrom (suc n) i t = t i && everyFrom n (suc i) t
 -- the store with the numbers l from place i on
 unfoldable pub written : List ℕ → ℕ → List ℕ → List ℕ
 written s i l = sets s i l
+
+-- all that an example computes with here
+unfoldable pub computes : Type 1
+unfolding ascii everyFrom written
+computes = Type 0

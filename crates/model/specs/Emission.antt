@@ -15,9 +15,9 @@ use Rattle.model.specs.declared.Told.the-variants as t
 use Rattle.model.specs.Basics.{if_then_else_}
 unfoldable pub use Rattle.model.specs.Basics.{written}
 use Rattle.model.specs.Values.{places, putWords, bit}
-use Rattle.model.specs.Programs.{mainName, newestFrom, firstFrom, codeLimit, constantLimit, nameLimit}
-use Rattle.model.specs.Stores.{Stores, withConstants, withStructs, withFunctions, withText, codeHere, placesHere, withCode, start, size, pack, part, nameWord, codeWord, codeEnd, structsFrom}
-use Rattle.model.specs.Orders.{countsOk, textOk, constantsOk, structsOk, functionsOk, mainOk, insideCodes, otherTaken}
+use Rattle.model.specs.Programs.{mainName, newestFrom, firstFrom, putIn, codeLimit, constantLimit, nameLimit}
+use Rattle.model.specs.Stores.{Stores, withConstants, withStructs, withFunctions, withText, codeHere, placesHere, withCode, start, size, pack, part, nameWord, codeWord, codeEnd, structsFrom, ordersFrom}
+use Rattle.model.specs.Orders.{countsOk, functionsOk, otherTaken, adds-code, patches, adds-constant, adds-struct, names-function, judgedBy}
 
 -- an answer, and what the stores then hold
 pub record Res : Type 0 where
@@ -83,7 +83,7 @@ appended c bytes place s =
     (withCode c (written (codeHere c s) (endHere c s) bytes) (written (placesHere c s) (endHere c s) (replicate (length bytes) place)) s))
 
 unfoldable pub codeOrder : Counts → Stores → Bool
-codeOrder c s = countsOk c && functionsOk c (s .functions) && insideCodes c (s .functions) (s .main) (s .other) && insideCodes c (s .functions) (s .mainPlaces) (s .otherPlaces)
+codeOrder c s = judgedBy adds-code c s
 
 -- opcode 38 or more is refused 1
 unfoldable pub emitIn : Counts → ℕ → List ℕ → ℕ → Stores → Res
@@ -114,7 +114,7 @@ currentOffsetOf c fs = if countsOk c && functionsOk c fs then t.Number (size (co
 -- ---- [emission.patch] 23 when not wholly inside the current function's code
 
 unfoldable pub patchOrder : Counts → Stores → Bool
-patchOrder c s = countsOk c && functionsOk c (s .functions) && insideCodes c (s .functions) (s .main) (s .other)
+patchOrder c s = judgedBy patches c s
 
 unfoldable pub patched : Counts → ℕ → ℕ → Stores → Res
 patched c at a s = done c 0 (withCode c (written (codeHere c s) (start (codeWord (s .functions) (c .current)) + at) (u16 a)) (placesHere c s) s)
@@ -141,7 +141,7 @@ constantAdded c k.String lent s = withTextConstant c 2 lent s
 constantAdded c k.FunctionReference lent s = withTextConstant c 3 lent s
 
 unfoldable pub constantOrder : Counts → Stores → Bool
-constantOrder c s = countsOk c && textOk c (s .text) && constantsOk c (s .constants)
+constantOrder c s = judgedBy adds-constant c s
 
 unfoldable pub addConstantOf : Counts → Constant → List ℕ → Stores → Res
 addConstantOf c x lent s =
@@ -153,13 +153,27 @@ addConstantOf c x lent s =
 
 -- ---- [emission.struct] add_struct_info: the number of a known name, else a new one
 
+-- the struct names that there are
+unfoldable pub structNames : Counts → Stores → List (List ℕ)
+structNames c s = structsFrom (c .structs) 0 (s .structs) (s .text)
+
+-- the second words of the struct store: the numbers js in the order of names
+unfoldable pub putOrders : ℕ → List ℕ → List ℕ → List ℕ
+putOrders i [] ss = ss
+putOrders i (j ∷ js) ss = putOrders (suc i) js (set ss (2 * i + 1) j)
+
+-- the new name's word behind the others, and its number put in the order of names
+unfoldable pub withStructName : Counts → List ℕ → Stores → List ℕ
+withStructName c lent s =
+    putOrders 0 (putIn (structNames c s ++ (lent ∷ [])) (c .structs) (ordersFrom (c .structs) 0 (s .structs)))
+    (set (s .structs) (2 * c .structs) (pack (c .text) (length lent)))
+
 unfoldable pub structAdded : Counts → List ℕ → Stores → Res
 structAdded c lent s =
     if leb nameLimit (c .structs) then refuse 22 s else
-    (if leb (places 1 (s .structs)) (c .structs) then refuse 21 s else
+    (if leb (places 2 (s .structs)) (c .structs) then refuse 21 s else
     (if textRoom c s (length lent)
-    then done (oneStruct (length lent) c) (c .structs)
-    (withStructs (set (s .structs) (c .structs) (pack (c .text) (length lent))) (withText (written (s .text) (c .text) lent) s))
+    then done (oneStruct (length lent) c) (c .structs) (withStructs (withStructName c lent s) (withText (written (s .text) (c .text) lent) s))
     else refuse 21 s))
 
 unfoldable pub structFound : Counts → List ℕ → Stores → Option ℕ → Res
@@ -167,15 +181,15 @@ structFound c lent s (some i) = done c i s
 structFound c lent s none = structAdded c lent s
 
 unfoldable pub structOrder : Counts → Stores → Bool
-structOrder c s = countsOk c && textOk c (s .text) && structsOk c (s .structs) (s .text)
+structOrder c s = judgedBy adds-struct c s
 
 unfoldable pub addStructOf : Counts → List ℕ → Stores → Res
-addStructOf c lent s = if structOrder c s then structFound c lent s (firstFrom 0 lent (structsFrom (c .structs) 0 (s .structs) (s .text))) else refuse 19 s
+addStructOf c lent s = if structOrder c s then structFound c lent s (firstFrom 0 lent (structNames c s)) else refuse 19 s
 
 -- ---- [emission.function] begin_function, end_function, get_function_idx
 
 unfoldable pub functionOrder : Counts → Stores → Bool
-functionOrder c s = countsOk c && textOk c (s .text) && functionsOk c (s .functions) && mainOk (s .functions) (s .text)
+functionOrder c s = judgedBy names-function c s
 
 -- a new function with no code, behind the others
 unfoldable pub begun : Counts → List ℕ → Stores → Res

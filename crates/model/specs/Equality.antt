@@ -55,3 +55,8 @@ sameTo (suc d) t H a b = samePair (λ x y. sameTo d t H x y) t H a b
 -- no value is deeper than 64
 unfoldable pub sameOf : List ℕ → List Cell → Value → Value → Same
 sameOf t H a b = sameTo 64 t H a b
+
+-- all that an example computes with here
+unfoldable pub computes : Type 1
+unfolding sameBytes andNext sameElements sameBlocks samePair sameTo sameOf
+computes = Type 0

@@ -12,9 +12,10 @@ use Rattle.model.specs.declared.Value.the-variants as v
 use Rattle.model.specs.declared.Last.{Last}
 use Rattle.model.specs.declared.Last.the-variants.{Nothing, Is}
 use Rattle.model.specs.declared.Frame.{Frame}
+use Rattle.model.specs.declared.Tally.{Tally}
 use Rattle.model.specs.Basics.{ascii}
 use Rattle.model.specs.Numbers.{Step, got, bad, digits, number}
-use Rattle.model.specs.Programs.{Constant, scalar, Function, Program, mainName}
+use Rattle.model.specs.Programs.{Constant, scalar, boolean, Function, Program, mainName}
 use Rattle.model.specs.Images.{imageOf, Judged, fine, broken, judge}
 use Rattle.model.specs.Listings.{Listed, text, unlisted, listingOf}
 use Rattle.model.specs.Steps.{World}
@@ -122,6 +123,19 @@ p8 = program n42 n1
     (coded mainName (0x00 ∷ 0x00 ∷ 0x00 ∷ 0x00 ∷ 0x01 ∷ 0x00 ∷ 0x1C ∷ 0x01 ∷ 0x00 ∷ 0x00 ∷ 0x00 ∷ 0x25 ∷ [])
     ∷ coded (ascii "f") (0x08 ∷ 0x25 ∷ []) ∷ [])
 
+-- A place cannot tell whether a Return was completed: with 2 units this stops behind a jump, at the place of a Return that was passed over. Constants are
+-- false and 1; instruction i has place i, from 1 on.
+unfoldable pub jumped : Program
+jumped = record {
+  constants = boolean false ∷ scalar n1 ∷ [];
+  structs = [];
+  functions = record {
+    name = mainName;
+    code = 0x00 ∷ 0x00 ∷ 0x00 ∷ 0x1A ∷ 0x04 ∷ 0x00 ∷ 0x00 ∷ 0x01 ∷ 0x00 ∷ 0x25 ∷ 0x00 ∷ 0x01 ∷ 0x00 ∷ 0x25 ∷ [];
+    places = 1 ∷ 1 ∷ 1 ∷ 2 ∷ 2 ∷ 2 ∷ 3 ∷ 3 ∷ 3 ∷ 4 ∷ 5 ∷ 5 ∷ 5 ∷ 6 ∷ [];
+  } ∷ [];
+}
+
 -- ---- running them in the runner's stores, on a machine as it is loaded
 
 unfoldable pub world : Program → World
@@ -143,6 +157,10 @@ again p u = runOf (world p) (run p u .machine) u
 abbrev frame : ℕ → ℕ → ℕ → Frame
 frame f i b = record { function = f; position = i; base = b }
 
+-- the units spent, and the root Returns completed
+abbrev did : ℕ → ℕ → Tally
+did spent returns = record { spent = spent; returns = returns }
+
 unfoldable pub scalarOf : ℕ → Value
 scalarOf w = v.Scalar (ofBits binary64 w)
 
@@ -155,28 +173,31 @@ infix 4 _shows_
 unfoldable pub examples : List Example
 examples =
     -- P1
-    (shown (run p1 1000000) shows ran (value (scalarOf n43) 4) [] (frame 0 8 0 ∷ []) (Is (scalarOf n43)))
+    (shown (run p1 1000000) shows ran (value (scalarOf n43) (did 4 1)) [] (frame 0 8 0 ∷ []) (Is (scalarOf n43)))
     ∷ (bytes (imageOf p1-flat) shows bytes p1-image)
     ∷ (judged (judge p1-image) shows judged (fine p1-flat))
     ∷ (listed (listingOf p1) shows listed (text p1-listing))
     ∷ (bytes (runnerText p1-image) shows bytes (ascii "value scalar 4045800000000000\nspent 4\nstack 0\n"))
     ∷ (bytes (listerText p1-image) shows bytes p1-listing)
     -- P2: 3 units
-    ∷ (shown (run p1 3) shows ran (fault 13 3 (entry 0 6 ∷ [])) [] (frame 0 8 0 ∷ []) Nothing)
+    ∷ (shown (run p1 3) shows ran (fault 13 (did 3 0) (entry 0 6 ∷ [])) [] (frame 0 8 0 ∷ []) Nothing)
     -- P3
-    ∷ (shown (run p3 1000000) shows ran (fault 8 3 (entry 0 6 ∷ [])) [] (frame 0 8 0 ∷ []) Nothing)
+    ∷ (shown (run p3 1000000) shows ran (fault 8 (did 3 0) (entry 0 6 ∷ [])) [] (frame 0 8 0 ∷ []) Nothing)
     -- P4: the last result stays
-    ∷ (shown (run p4 1000000) shows ran (fault 8 5 (entry 0 10 ∷ [])) [] (frame 0 12 0 ∷ []) (Is (scalarOf n1)))
+    ∷ (shown (run p4 1000000) shows ran (fault 8 (did 5 1) (entry 0 10 ∷ [])) [] (frame 0 12 0 ∷ []) (Is (scalarOf n1)))
     -- P5
-    ∷ (shown (run p5 1000000) shows ran (value (v.Boolean true) 10) [] (frame 0 20 0 ∷ []) (Is (v.Boolean true)))
+    ∷ (shown (run p5 1000000) shows ran (value (v.Boolean true) (did 10 1)) [] (frame 0 20 0 ∷ []) (Is (v.Boolean true)))
     -- P6: both runs
-    ∷ (shown (run p6 1000000) shows ran (continue 1) [] (frame 1 0 0 ∷ frame 0 5 0 ∷ []) Nothing)
-    ∷ (shown (again p6 1000000) shows ran (continue 0) [] (frame 1 0 0 ∷ frame 0 5 0 ∷ []) Nothing)
+    ∷ (shown (run p6 1000000) shows ran (continue (did 1 0)) [] (frame 1 0 0 ∷ frame 0 5 0 ∷ []) Nothing)
+    ∷ (shown (again p6 1000000) shows ran (continue (did 0 0)) [] (frame 1 0 0 ∷ frame 0 5 0 ∷ []) Nothing)
     -- P7: position 8, and the backtrace
-    ∷ (shown (run p7 1000000) shows ran (continue 1) [] (frame 0 8 0 ∷ []) Nothing)
+    ∷ (shown (run p7 1000000) shows ran (continue (did 1 0)) [] (frame 0 8 0 ∷ []) Nothing)
     ∷ (traced (backtraceOf (p7 .functions) (run p7 1000000 .machine .frame ∷ [])) shows traced (untraced 16))
     -- P8
-    ∷ (shown (run p8 1000000) shows ran (value (scalarOf n43) 6) [] (frame 0 12 0 ∷ []) (Is (scalarOf n43)))
+    ∷ (shown (run p8 1000000) shows ran (value (scalarOf n43) (did 6 1)) [] (frame 0 12 0 ∷ []) (Is (scalarOf n43)))
+    -- the jump: 2 units complete no root Return, 4 complete one
+    ∷ (shown (run jumped 2) shows ran (fault 13 (did 2 0) (entry 0 4 ∷ [])) [] (frame 0 14 0 ∷ []) Nothing)
+    ∷ (shown (run jumped 4) shows ran (value (scalarOf n1) (did 4 1)) [] (frame 0 14 0 ∷ []) (Is (scalarOf n1)))
     -- P9
     ∷ (bytes (digits 127) shows bytes (0x7F ∷ []))
     ∷ (bytes (digits 128) shows bytes (0x80 ∷ 0x01 ∷ []))
@@ -185,7 +206,11 @@ examples =
     ∷ (read (number (0xFF ∷ 0xFF ∷ 0xFF ∷ 0xFF ∷ 0x1F ∷ [])) shows read (bad 5))
     ∷ []
 
--- P1 to P9, together: the rules give what document 01 says
+-- P1 to P9 and the jump, together: the rules give what they are said to give
 pub examples-hold : map (λ e. e .gives) examples ≡ map (λ e. e .says) examples
-unfolding from coded program alone p1 p1-flat p1-image p1-listing p3 p4 p5 p6 p7 p8 world loaded shown run again scalarOf examples basics.ascii basics.everyFrom opcodes.opcodes opcodes.opcodeAt numbers.andThen numbers.item numbers.checked numbers.groupsOf numbers.digits numbers.more numbers.groups numbers.number values.ifScalar values.ifBoolean values.ifString values.ifReference values.ifList values.ifStruct values.faultNumber values.popOf values.popping values.poppingScalar values.poppingBoolean values.places values.valueOf values.kindAt values.payloadAt values.valueAt values.putWords values.putValue values.vals values.valuesFrom values.exactValue values.textAt scalars.arithOf scalars.zeroDivisor scalars.orderOf scalars.scalarsOf scalars.booleansOf heap.headerOf heap.cellOf heap.cellAt heap.putCell heap.cellsFrom heap.heapOf heap.cellIn heap.itemIn heap.headIn heap.items heap.elementsIn heap.fieldOf heap.depthIn heap.deepest heap.listElements heap.structFields heap.blockOf heap.buildOf heap.wholeBelow heap.placedBelow heap.elementBelow heap.elementsBelow heap.blockOk heap.blocksFrom heap.heapOk heap.exactCell heap.exactCells equality.sameBytes equality.andNext equality.sameElements equality.sameBlocks equality.samePair equality.sameTo equality.sameOf programs.mainName programs.functionAt programs.orElse programs.newestFrom programs.functionNamed programs.firstFrom programs.among programs.codesWithin programs.withinLimits programs.wordAt programs.behind images.joined images.counted images.bytesOf images.textImage images.constantImage images.joinRun images.runsOf images.runImage images.functionImage images.imageOf images.series images.takes images.readText images.wordOf images.readFlag images.readKind images.readBody images.readConstant images.readConstants images.readName images.readStructs images.readRunBytes images.readRunPlace images.readRuns images.mainFirst images.readFunction images.readFunctions images.readEnd images.parse images.judgedStep images.judge listings.decimalFor listings.decimal listings.digitsOrMore listings.paddedTo listings.operandsFrom listings.lineOf listings.headerLine listings.inFront listings.knownThen listings.opcodeThen listings.lineThen listings.linesFor listings.andListed listings.listingFrom listings.listingOf steps.codeOf steps.pushing steps.onFound steps.constantOf steps.slotOf steps.lastOf steps.loadStep steps.slotStep steps.lastStep steps.negateStep steps.arithmeticStep steps.orderingStep steps.onSame steps.equalStep steps.logicStep steps.notStep steps.jumpStep steps.jumpIfFalseStep steps.enter steps.callStep steps.enterNamed steps.callCallableStep steps.onBuilt steps.buildStep steps.structStep steps.fieldStep steps.cut steps.returnTo steps.returnStep steps.execOf steps.operandsThen steps.decodedThen steps.fetched steps.stepOf runs.over runs.next runs.turn runs.runFor runs.endOf runs.traceOf runs.traceable runs.backtraceOf runs.recovered runs.answered runs.settle runs.runOf stores.codeHere stores.placesHere stores.withCode stores.start stores.size stores.pack stores.part stores.structWord stores.nameWord stores.codeWord stores.codeEnd stores.constantIn stores.constantsFrom stores.structsFrom stores.functionIn stores.functionsFrom stores.programIn stores.worldIn orders.countsOk orders.textOk orders.insideText orders.constantOk orders.constantsOk orders.allDifferent orders.structsOk orders.codeStart orders.functionOk orders.functionsOk orders.mainOk orders.mainTaken orders.otherTaken orders.insideCodes orders.programOk orders.cellsOk orders.stackOk orders.lastOk orders.frameOk orders.callerOk orders.framesFrom orders.framesOk orders.frameStoreOk machines.frameRoom machines.innermost machines.callersIn machines.machineIn machines.worldOf machines.runOrder machines.tooShort machines.runAnswer machines.copyAfter machines.entryWords machines.traceOfReply machines.traceAfter machines.entriesIn machines.answerIn machines.traceOrder machines.putTrace machines.backtraceIn machines.fresh machines.startWith machines.loadMachineOf machines.asLoaded machines.newMachineOf reports.hexDigit reports.hexFor reports.booleanText reports.valueText reports.entryLines reports.spentLines reports.replyLines reports.refusedLine reports.reportOf reports.emptyStores reports.emptyLent reports.startedText reports.started reports.runnerText reports.listedText reports.loadedText reports.listerText basics.written loading.constantText loading.constantWords loading.constantsLaid loading.structsLaid loading.othersLaid loading.functionsLaid loading.constantTexts loading.structTexts loading.textsOf loading.mainOf loading.othersOf loading.laid loading.countsFor loading.roomFor loading.loadJudged loading.loadOf loading.putOut loading.saveOf loading.putListing loading.listOf Ieee.ofBits Ieee.ofFields Ieee.odd Ieee.add Ieee.sum Ieee.round Ieee.units Ieee.size Ieee.span Ieee.climb Ieee.div Ieee.eq Ieee.toBits trailingZeros
+unfolding from coded program alone p1 p1-flat p1-image p1-listing p3 p4 p5 p6 p7 p8 jumped world loaded shown run again scalarOf examples trailingZeros
+    basics.computes opcodes.computes numbers.computes values.computes scalars.computes heap.computes equality.computes programs.computes
+    images.computes listings.computes steps.computes runs.computes stores.computes orders.computes loading.computes machines.computes
+    reports.computes Ieee.ofBits Ieee.ofFields Ieee.odd Ieee.add Ieee.sum Ieee.round Ieee.units Ieee.size Ieee.span Ieee.climb Ieee.div Ieee.eq
+    Ieee.toBits
 examples-hold = refl

@@ -168,3 +168,9 @@ exactCell k a = if eqb k 6 then true else exactValue k a
 unfoldable pub exactCells : ℕ → ℕ → List ℕ → Bool
 exactCells zero i s = true
 exactCells (suc n) i s = exactCell (kindAt s i) (payloadAt s i) && exactCells n (suc i) s
+
+-- all that an example computes with here
+unfoldable pub computes : Type 1
+unfolding headerOf cellOf cellAt putCell cellsFrom heapOf cellIn itemIn headIn items elementsIn fieldOf depthIn deepest listElements structFields
+    blockOf buildOf wholeBelow placedBelow elementBelow elementsBelow blockOk blocksFrom heapOk exactCell exactCells
+computes = Type 0

@@ -211,3 +211,10 @@ pub record Sound (p : Program) : Type 0 where
   pub constants : Small (length (p .constants)) × Each (λ u. SoundConstant) always tt (p .constants)
   pub structs : Small (length (p .structs)) × Each SoundName snoc [] (p .structs)
   pub functions : (Small (length (p .functions)) × (0 < length (p .functions))) × Each SoundFunction (λ x f. false) true (p .functions)
+
+-- all that an example computes with here
+unfoldable pub computes : Type 1
+unfolding joined counted bytesOf textImage constantImage joinRun runsOf runImage functionImage imageOf series takes readText wordOf readFlag readKind
+    readBody readConstant readConstants readName readStructs readRunBytes readRunPlace readRuns mainFirst readFunction readFunctions readEnd parse
+    judgedStep judge
+computes = Type 0

@@ -12,6 +12,8 @@ pub mod Trees
 pub mod Programs
 pub mod Images
 pub mod Listings
+-- what comes back, as a number
+pub mod Answers
 -- the machine: a step; a run with its recovery and backtrace
 pub mod Steps
 pub mod Runs

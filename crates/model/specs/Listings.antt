@@ -79,3 +79,9 @@ listingFrom i (f ∷ fs) = inFront (headerLine i (f .name)) (andListed (linesFor
 
 unfoldable pub listingOf : Program → Listed
 listingOf p = listingFrom 0 (p .functions)
+
+-- all that an example computes with here
+unfoldable pub computes : Type 1
+unfolding decimalFor decimal digitsOrMore paddedTo operandsFrom lineOf headerLine inFront knownThen opcodeThen lineThen linesFor andListed
+    listingFrom listingOf
+computes = Type 0

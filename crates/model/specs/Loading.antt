@@ -11,11 +11,11 @@ use Rattle.model.specs.declared.Told.{Told}
 use Rattle.model.specs.declared.Told.the-variants as t
 use Rattle.model.specs.Basics.{if_then_else_}
 use Rattle.model.specs.Values.{places, bit}
-use Rattle.model.specs.Programs.{Constant, scalar, boolean, string, reference, Function, Program, functionAt, withinLimits}
+use Rattle.model.specs.Programs.{Constant, scalar, boolean, string, reference, Function, Program, functionAt, orderOf, withinLimits}
 use Rattle.model.specs.Images.{joined, imageOf, Judged, fine, broken, judge}
 use Rattle.model.specs.Listings.{Listed, text, unlisted, listingOf}
 use Rattle.model.specs.Stores.{Stores, pack, programIn}
-use Rattle.model.specs.Orders.{countsOk, textOk, functionsOk, mainOk, insideCodes, programOk}
+use Rattle.model.specs.Orders.{programOk, lists, judgedBy}
 use Rattle.model.specs.Emission.{written, counts}
 
 -- ---- [layout] where a loaded program lies: its texts in the image's order, each store filled from its start
@@ -37,9 +37,11 @@ unfoldable pub constantsLaid : ℕ → List Constant → List ℕ
 constantsLaid o [] = []
 constantsLaid o (c ∷ cs) = constantWords o c ++ constantsLaid (o + length (constantText c)) cs
 
-unfoldable pub structsLaid : ℕ → List (List ℕ) → List ℕ
-structsLaid o [] = []
-structsLaid o (n ∷ ns) = pack o (length n) ∷ structsLaid (o + length n) ns
+-- names from o on, each with a number of the order of names
+unfoldable pub structsLaid : ℕ → List (List ℕ) → List ℕ → List ℕ
+structsLaid o [] js = []
+structsLaid o (n ∷ ns) [] = []
+structsLaid o (n ∷ ns) (j ∷ js) = pack o (length n) ∷ j ∷ structsLaid (o + length n) ns js
 
 -- names from o on, codes from i on
 unfoldable pub othersLaid : ℕ → ℕ → List Function → List ℕ
@@ -69,7 +71,7 @@ othersOf p = drop 1 (p .functions)
 unfoldable pub laid : Program → Stores → Stores
 laid p s = record {
   constants = written (s .constants) 0 (constantsLaid 0 (p .constants));
-  structs = written (s .structs) 0 (structsLaid (length (constantTexts p)) (p .structs));
+  structs = written (s .structs) 0 (structsLaid (length (constantTexts p)) (p .structs) (orderOf (length (p .structs)) (p .structs)));
   functions = written (s .functions) 0 (functionsLaid (length (constantTexts p) + length (structTexts p)) (p .functions));
   text = written (s .text) 0 (textsOf p);
   main = written (s .main) 0 (mainOf p .code);
@@ -85,7 +87,7 @@ countsFor p = counts (length (p .constants)) (length (p .structs)) (length (p .f
 unfoldable pub roomFor : Program → Stores → Bool
 roomFor p s =
     leb (length (p .constants)) (places 2 (s .constants))
-    && leb (length (p .structs)) (places 1 (s .structs))
+    && leb (length (p .structs)) (places 2 (s .structs))
     && leb (length (p .functions)) (places 2 (s .functions))
     && leb (length (textsOf p)) (places 1 (s .text))
     && leb (length (mainOf p .code)) (places 1 (s .main))
@@ -127,7 +129,13 @@ putListing (unlisted n) out = record { answer = t.Refused n; out = out }
 
 -- the listing is lent functions, text and code
 unfoldable pub listOrder : Counts → Stores → Bool
-listOrder c s = countsOk c && textOk c (s .text) && functionsOk c (s .functions) && mainOk (s .functions) (s .text) && insideCodes c (s .functions) (s .main) (s .other)
+listOrder c s = judgedBy lists c s
 
 unfoldable pub listOf : Counts → Stores → List ℕ → OutRes
 listOf c s out = if listOrder c s then putListing (listingOf (programIn c s)) out else record { answer = t.Refused 19; out = out }
+
+-- all that an example computes with here
+unfoldable pub computes : Type 1
+unfolding constantText constantWords constantsLaid structsLaid othersLaid functionsLaid constantTexts structTexts textsOf mainOf othersOf laid
+    countsFor roomFor loadJudged loadOf putOut saveOf putListing listOf
+computes = Type 0

@@ -24,9 +24,9 @@ use Rattle.model.specs.Heap.{heapOf}
 use Rattle.model.specs.Steps.{World}
 use Rattle.model.specs.Runs.{Machine, root, Entry, entry, Traced, trace, untraced, backtraceOf, Reply, value, continue, fault, Ran, runOf}
 use Rattle.model.specs.Stores.{Stores, worldIn, functionsFrom}
-use Rattle.model.specs.Orders.{countsOk, textOk, constantsOk, functionsOk, mainOk, insideCodes, cellsOk, stackOk, lastOk, frameStoreOk}
+use Rattle.model.specs.Orders.{traces, judgedBy, programOk, cellsOk, stackOk, lastOk, frameStoreOk}
 use Rattle.model.specs.Emission.{written, newOf}
-use Rattle.model.specs.Loading.{OutRes, listOrder, loadOf}
+use Rattle.model.specs.Loading.{OutRes, loadOf}
 
 -- what a host lends a run besides the program's stores
 pub record Lent : Type 0 where
@@ -60,21 +60,17 @@ machineIn m l = record {
 unfoldable pub worldOf : Vm → Stores → Lent → World
 worldOf m s l = worldIn (m .program) s (places 2 (l .stack)) (frameRoom (l .frames)) (places 2 (l .cells))
 
--- ---- [order.machine] the good order that a run judges
+-- ---- [order.machine] a machine's good order, over a program's: all of it is judged by a run
 
-unfoldable pub runOrder : Vm → Stores → Lent → Bool
-runOrder m s l =
-    countsOk (m .program)
-    && textOk (m .program) (s .text)
-    && constantsOk (m .program) (s .constants)
-    && functionsOk (m .program) (s .functions)
-    && mainOk (s .functions) (s .text)
-    && insideCodes (m .program) (s .functions) (s .main) (s .other)
-    && insideCodes (m .program) (s .functions) (s .mainPlaces) (s .otherPlaces)
-    && cellsOk (m .program .text) (m .cells) (l .cells)
+unfoldable pub machineOk : Vm → Stores → Lent → Bool
+machineOk m s l =
+    cellsOk (m .program .text) (m .cells) (l .cells)
     && stackOk (m .program .text) (heapOf (m .cells) (l .cells)) (m .stack) (l .stack)
     && lastOk (m .program .text) (heapOf (m .cells) (l .cells)) (m .last)
     && frameStoreOk (functionsFrom (m .program .functions) 0 s) (places 2 (l .stack)) (m .frames) (l .frames)
+
+unfoldable pub runOrder : Vm → Stores → Lent → Bool
+runOrder m s l = programOk (m .program) s && machineOk m s l
 
 -- 17: the copy store is shorter than the stack store, or the backtrace store than the frame store
 unfoldable pub tooShort : Lent → Bool
@@ -100,9 +96,9 @@ entryWords [] = []
 entryWords (e ∷ es) = e .function ∷ e .place ∷ entryWords es
 
 unfoldable pub traceOfReply : Reply → List Entry
-traceOfReply (value v n) = []
-traceOfReply (continue n) = []
-traceOfReply (fault n u es) = es
+traceOfReply (value v t) = []
+traceOfReply (continue t) = []
+traceOfReply (fault n t es) = es
 
 -- the backtrace at the front of its store, and nothing past it
 unfoldable pub traceAfter : Lent → RunAnswer → List ℕ
@@ -146,19 +142,17 @@ pub record RunPost (m : Vm) (s : Stores) (l : Lent) (u : ℕ) (r : RunResult) (l
 
 -- ---- [backtrace] as an entry: 19, 17 where a frame has no place in the lent store, 16
 
-unfoldable pub traceOrder : Vm → Stores → List Frame → Bool
-traceOrder m s frames =
-    listOrder (m .program) s
-    && insideCodes (m .program) (s .functions) (s .mainPlaces) (s .otherPlaces)
-    && frameStoreOk (functionsFrom (m .program .functions) 0 s) mostPlaces (m .frames) frames
+-- what it judges: the functions with their codes and places, and the frames
+unfoldable pub traceOrder : Vm → Stores → List ℕ → List Frame → Bool
+traceOrder m s stack frames = judgedBy traces (m .program) s && frameStoreOk (functionsFrom (m .program .functions) 0 s) (places 2 stack) (m .frames) frames
 
 unfoldable pub putTrace : Traced → List ℕ → OutRes
 putTrace (trace es) out = record { answer = t.Number (length es); out = written out 0 (entryWords es) }
 putTrace (untraced n) out = record { answer = t.Refused n; out = out }
 
-unfoldable pub backtraceIn : Vm → Stores → List Frame → List ℕ → OutRes
-backtraceIn m s frames out =
-    if traceOrder m s frames then
+unfoldable pub backtraceIn : Vm → Stores → List ℕ → List Frame → List ℕ → OutRes
+backtraceIn m s stack frames out =
+    if traceOrder m s stack frames then
     (if ltb (places 2 out) (m .frames) then record { answer = t.Refused 17; out = out } else
     putTrace (backtraceOf (functionsFrom (m .program .functions) 0 s) (innermost (m .frames) frames ∷ callersIn (m .frames) frames)) out)
     else record { answer = t.Refused 19; out = out }
@@ -189,3 +183,9 @@ asLoaded (e.Refused n) = l.Refused n
 
 unfoldable pub newMachineOf : Stores → List Frame → StartRes
 newMachineOf s rs = startWith (asLoaded (newOf s .answer)) (newOf s .stores) s rs
+
+-- all that an example computes with here
+unfoldable pub computes : Type 1
+unfolding frameRoom innermost callersIn machineIn worldOf runOrder tooShort runAnswer copyAfter entryWords traceOfReply traceAfter entriesIn answerIn
+    traceOrder putTrace backtraceIn fresh startWith loadMachineOf asLoaded newMachineOf machineOk
+computes = Type 0

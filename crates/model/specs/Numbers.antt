@@ -65,3 +65,8 @@ groups (suc f) (x ∷ r) = if ltb x 128 then got x r else more (x - 128) (groups
 -- reads a number
 unfoldable pub number : List ℕ → Step ℕ
 number b = item b (groups 4 b)
+
+-- all that an example computes with here
+unfoldable pub computes : Type 1
+unfolding andThen item checked groupsOf digits more groups number
+computes = Type 0

@@ -67,3 +67,8 @@ opcodes =
 -- the opcode of a byte; 38 and above are unknown
 unfoldable pub opcodeAt : ℕ → Opcode
 opcodeAt b = getD opcodes b (op "" 0 0 Unknown)
+
+-- all that an example computes with here
+unfoldable pub computes : Type 1
+unfolding opcodes opcodeAt
+computes = Type 0

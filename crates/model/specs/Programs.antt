@@ -3,7 +3,7 @@ use mathlib.Core.Bool.{Bool, true, false, _&&_}
 use mathlib.Core.List.{List, [], _∷_, map}
 use mathlib.Core.Option.{Option, none, some}
 use Prim.Native.Nat.{ℕ, zero, suc, _+_, _*_}
-use lib.Dec.{leb}
+use lib.Dec.{eqb, leb, ltb}
 use lib.ListN.{length, getD}
 use Rattle.model.specs.Basics.{if_then_else_, ascii}
 use Rattle.model.specs.Equality.{sameBytes}
@@ -52,6 +52,28 @@ unfoldable pub firstFrom : ℕ → List ℕ → List (List ℕ) → Option ℕ
 firstFrom i t [] = none
 firstFrom i t (n ∷ ns) = if sameBytes t n then some i else firstFrom (suc i) t ns
 
+-- ---- the order of names, by which a search is short and "all different" is seen at once
+
+-- one name stands before another: it is less at the first difference, or ends there
+unfoldable pub before : List ℕ → List ℕ → Bool
+before [] [] = false
+before [] (y ∷ ys) = true
+before (x ∷ xs) [] = false
+before (x ∷ xs) (y ∷ ys) = if ltb x y then true else (if eqb x y then before xs ys else false)
+
+unfoldable pub nameAt : List (List ℕ) → ℕ → List ℕ
+nameAt ns i = getD ns i []
+
+-- number i put among the numbers of a list that is in the order of names: in front of the first whose name is not before its own
+unfoldable pub putIn : List (List ℕ) → ℕ → List ℕ → List ℕ
+putIn ns i [] = i ∷ []
+putIn ns i (j ∷ js) = if before (nameAt ns j) (nameAt ns i) then j ∷ putIn ns i js else i ∷ (j ∷ js)
+
+-- the numbers 0 to n - 1 in the order of names
+unfoldable pub orderOf : ℕ → List (List ℕ) → List ℕ
+orderOf zero ns = []
+orderOf (suc n) ns = putIn ns n (orderOf n ns)
+
 -- t is one of the names
 unfoldable pub among : List ℕ → List (List ℕ) → Bool
 among t [] = false
@@ -85,3 +107,8 @@ wordAt code i = getD code i 0 + 256 * getD code (suc i) 0
 -- the position behind an opcode at i and its n operands
 unfoldable pub behind : ℕ → ℕ → ℕ
 behind i n = suc i + 2 * n
+
+-- all that an example computes with here
+unfoldable pub computes : Type 1
+unfolding mainName functionAt orElse newestFrom functionNamed firstFrom among codesWithin withinLimits wordAt behind before nameAt putIn orderOf
+computes = Type 0

@@ -6,6 +6,7 @@ use lib.Dec.{ltb}
 use lib.Ieee.{binary64, toBits}
 use lib.ListN.{length, replicate}
 use Rattle.model.specs.declared.Frame.{Frame}
+use Rattle.model.specs.declared.Tally.{Tally}
 use Rattle.model.specs.declared.Value.{Value}
 use Rattle.model.specs.declared.Value.the-variants as v
 use Rattle.model.specs.declared.Loaded.{Loaded}
@@ -14,6 +15,7 @@ use Rattle.model.specs.declared.Started.{Started}
 use Rattle.model.specs.declared.Started.the-variants as st
 use Rattle.model.specs.Basics.{if_then_else_, ascii}
 use Rattle.model.specs.Heap.{Cell, headIn}
+use Rattle.model.specs.Answers.{loadedNumber, startedNumber}
 use Rattle.model.specs.Listings.{Listed, text, unlisted, decimal, listingOf}
 use Rattle.model.specs.Runs.{Machine, root, Entry, Reply, value, continue, fault}
 use Rattle.model.specs.Stores.{Stores, programIn}
@@ -48,13 +50,13 @@ unfoldable pub entryLines : List Entry → List ℕ
 entryLines [] = []
 entryLines (e ∷ es) = ascii "at " ++ decimal (e .function) ++ ascii " " ++ decimal (e .place) ++ ascii "\n" ++ entryLines es
 
-unfoldable pub spentLines : ℕ → Machine → List ℕ
-spentLines n m = ascii "spent " ++ decimal n ++ ascii "\nstack " ++ decimal (length (m .stack)) ++ ascii "\n"
+unfoldable pub spentLines : Tally → Machine → List ℕ
+spentLines t m = ascii "spent " ++ decimal (t .spent) ++ ascii "\nstack " ++ decimal (length (m .stack)) ++ ascii "\n"
 
 unfoldable pub replyLines : Reply → Machine → List ℕ
-replyLines (value x n) m = ascii "value " ++ valueText (m .heap) x ++ ascii "\n" ++ spentLines n m
-replyLines (continue n) m = ascii "continue\n" ++ spentLines n m
-replyLines (fault k n es) m = ascii "fault " ++ decimal k ++ ascii "\n" ++ spentLines n m ++ entryLines es
+replyLines (value x t) m = ascii "value " ++ valueText (m .heap) x ++ ascii "\n" ++ spentLines t m
+replyLines (continue t) m = ascii "continue\n" ++ spentLines t m
+replyLines (fault n t es) m = ascii "fault " ++ decimal n ++ ascii "\n" ++ spentLines t m ++ entryLines es
 
 unfoldable pub refusedLine : ℕ → List ℕ
 refusedLine n = ascii "refused " ++ decimal n ++ ascii "\n"
@@ -69,7 +71,7 @@ reportOf (refused n) = refusedLine n
 unfoldable pub emptyStores : Stores
 emptyStores = record {
   constants = replicate 512 0;
-  structs = replicate 256 0;
+  structs = replicate 512 0;
   functions = replicate 512 0;
   text = replicate 16384 0;
   main = replicate 8192 0;
@@ -85,8 +87,8 @@ emptyLent frames = record { stack = replicate 2048 0; cells = replicate 4096 0; 
 
 unfoldable pub startedText : Started → Stores → List Frame → List ℕ
 startedText (st.Done m) s frames = reportOf (runAnswer m s (emptyLent frames) 1000000)
-startedText (st.Broken i) s frames = refusedLine 20
-startedText (st.Refused n) s frames = refusedLine n
+startedText (st.Broken i) s frames = refusedLine (startedNumber (st.Broken i))
+startedText (st.Refused n) s frames = refusedLine (startedNumber (st.Refused n))
 
 unfoldable pub started : StartRes → List ℕ
 started r = startedText (r .answer) (r .stores) (r .frames)
@@ -102,8 +104,14 @@ listedText (unlisted n) = refusedLine n
 
 unfoldable pub loadedText : Loaded → Stores → List ℕ
 loadedText (l.Done c) s = listedText (listingOf (programIn c s))
-loadedText (l.Broken i) s = refusedLine 20
-loadedText (l.Refused n) s = refusedLine n
+loadedText (l.Broken i) s = refusedLine (loadedNumber (l.Broken i))
+loadedText (l.Refused n) s = refusedLine (loadedNumber (l.Refused n))
 
 unfoldable pub listerText : List ℕ → List ℕ
 listerText image = if ltb 16384 (length image) then refusedLine 22 else loadedText (loadOf image emptyStores .answer) (loadOf image emptyStores .stores)
+
+-- all that an example computes with here
+unfoldable pub computes : Type 1
+unfolding hexDigit hexFor booleanText valueText entryLines spentLines replyLines refusedLine reportOf emptyStores emptyLent startedText started
+    runnerText listedText loadedText listerText
+computes = Type 0

@@ -10,6 +10,7 @@ use Rattle.model.specs.declared.Last.the-variants.{Nothing, Is}
 use Rattle.model.specs.declared.Fault.{Fault}
 use Rattle.model.specs.declared.Fault.the-variants as f
 use Rattle.model.specs.declared.Frame.{Frame}
+use Rattle.model.specs.declared.Tally.{Tally}
 use Rattle.model.specs.Basics.{if_then_else_}
 use Rattle.model.specs.Values.{faultNumber}
 use Rattle.model.specs.Heap.{Cell}
@@ -35,37 +36,45 @@ machineOf s = record { stack = s .stack; frame = s .frame; callers = s .callers;
 unfoldable pub over : World → State → Bool
 over w s = leb (length (codeOf w s)) (position s)
 
--- [mark] what a fault goes back to: the cells and the last result of the last completed root Return of the run, or of its start
-pub record Mark : Type 0 where
+-- How far a run has come: the value of its last completed root Return, if there was one, and how many it completed; and [mark] what a fault goes back to:
+-- the cells and the last result of that Return, or of the run's start.
+pub record Progress : Type 0 where
+  pub answer : Last
+  pub returns : ℕ
   pub heap : List Cell
   pub last : Last
 
-abbrev pub mark : State → Mark
-mark s = record { heap = s .heap; last = s .last }
+abbrev pub atStart : State → Progress
+atStart s = record { answer = Nothing; returns = 0; heap = s .heap; last = s .last }
 
--- the value of the last root Return, if there was one, and the state; or the fault, the state where it came, and the mark
+-- a root Return of the value v has completed, and left s
+abbrev pub counted : Value → Progress → State → Progress
+counted v p s = record { answer = Is v; returns = suc (p .returns); heap = s .heap; last = s .last }
+
+-- a run has ended, or a fault has stopped it
 pub data Ended : Type 0 where
-  ended : Last → State → Ended
-  stopped : Fault → State → Mark → Ended
+  ended : Progress → State → Ended
+  stopped : Fault → State → Progress → Ended
 
--- after a step the run goes on, as k
-unfoldable pub next : (Last → Mark → State → Ended) → Last → Mark → Outcome → Ended
-next k a m (went s) = k a m s
-next k a m (returned v s) = k (Is v) (mark s) s
-next k a m (faulted n s) = stopped n s m
+-- after a step: the run goes on; so it does after a root Return, which has counted; a fault stops it
+unfoldable pub next : (goOn : Progress → State → Ended) → Progress → Outcome → Ended
+next goOn p (went s) = goOn p s
+next goOn p (returned v s) = goOn (counted v p s) s
+next goOn p (faulted n s) = stopped n s p
 
-unfoldable pub turn : World → (Last → Mark → State → Ended) → Bool → Last → Mark → State → Ended
-turn w k true a m s = ended a s
-turn w k false a m s = next k a m (stepOf w s)
+-- [run.end] is looked at before each step
+unfoldable pub turn : World → (goOn : Progress → State → Ended) → (isOver : Bool) → Progress → State → Ended
+turn w goOn true p s = ended p s
+turn w goOn false p s = next goOn p (stepOf w s)
 
--- n turns at most
-unfoldable pub runFor : World → ℕ → Last → Mark → State → Ended
-runFor w zero a m s = stopped f.UnitsSpent s m
-runFor w (suc n) a m s = turn w (runFor w n) (over w s) a m s
+-- steps, until the run ends or a fault stops it; so many turns at most
+unfoldable pub runFor : World → (turns : ℕ) → Progress → State → Ended
+runFor w zero p s = stopped f.UnitsSpent s p
+runFor w (suc turns) p s = turn w (runFor w turns) (over w s) p s
 
--- each step spends a unit, so these turns are enough
+-- a whole run. Each step spends a unit, so there are never more turns than these.
 unfoldable pub endOf : World → State → Ended
-endOf w s = runFor w (suc (s .units)) Nothing (mark s) s
+endOf w s = runFor w (suc (s .units)) (atStart s) s
 
 -- ---- [backtrace] innermost frame first: function, and the place of code byte position less 1, or byte 0 at position 0
 
@@ -98,28 +107,38 @@ backtraceOf fs rs = if traceable fs rs then trace (traceOf fs rs) else untraced 
 abbrev pub root : ℕ → Frame
 root i = record { function = 0; position = i; base = 0 }
 
-unfoldable pub recovered : World → Machine → Mark → Machine
-recovered w m k = record { stack = m .stack; frame = root (length (functionAt (w .functions) 0 .code)); callers = []; heap = k .heap; last = k .last }
+unfoldable pub recovered : World → Machine → Progress → Machine
+recovered w m p = record { stack = m .stack; frame = root (length (functionAt (w .functions) 0 .code)); callers = []; heap = p .heap; last = p .last }
 
--- ---- what a run answers: a value or "continue", or a fault's number and backtrace; all with the units spent
+-- ---- what a run answers: a value or "continue", or a fault's number and backtrace; all with the units spent and the root Returns completed
 
 pub data Reply : Type 0 where
-  value : Value → ℕ → Reply
-  continue : ℕ → Reply
-  fault : ℕ → ℕ → List Entry → Reply
+  value : Value → Tally → Reply
+  continue : Tally → Reply
+  fault : ℕ → Tally → List Entry → Reply
 
 pub record Ran : Type 0 where
   pub reply : Reply
   pub machine : Machine
 
-unfoldable pub answered : Last → ℕ → Reply
-answered Nothing spent = continue spent
-answered (Is v) spent = value v spent
+abbrev pub tally : ℕ → Progress → Tally
+tally spent p = record { spent = spent; returns = p .returns }
 
+-- the value of its last root Return, or "continue" if it had none
+unfoldable pub answered : Last → Tally → Reply
+answered Nothing t = continue t
+answered (Is v) t = value v t
+
+-- u is how many units the run was given
 unfoldable pub settle : World → Machine → ℕ → Ended → Ran
-settle w m u (ended a s) = record { reply = answered a (u - s .units); machine = machineOf s }
-settle w m u (stopped n s k) = record { reply = fault (faultNumber n) (u - s .units) (traceOf (w .functions) (s .frame ∷ s .callers)); machine = recovered w m k }
+settle w m u (ended p s) = record { reply = answered (p .answer) (tally (u - s .units) p); machine = machineOf s }
+settle w m u (stopped n s p) = record { reply = fault (faultNumber n) (tally (u - s .units) p) (traceOf (w .functions) (s .frame ∷ s .callers)); machine = recovered w m p }
 
 -- a run of m with u units
 unfoldable pub runOf : World → Machine → ℕ → Ran
 runOf w m u = settle w m u (endOf w (begin m u))
+
+-- all that an example computes with here
+unfoldable pub computes : Type 1
+unfolding over next turn runFor endOf traceOf traceable backtraceOf recovered answered settle runOf
+computes = Type 0

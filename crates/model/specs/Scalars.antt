@@ -1,7 +1,5 @@
 -- [arithmetic] One binary64 operation, rounded once.
 use mathlib.Core.Bool.{Bool, true, false}
-use mathlib.Core.List.{List}
-use Prim.Native.Nat.{ℕ}
 use lib.Ieee as Ieee
 use lib.Ieee.{Float, binary64, fin}
 use lib.IntN.{pos}
@@ -9,12 +7,6 @@ use Rattle.model.specs.declared.Arith.{Arith}
 use Rattle.model.specs.declared.Arith.the-variants as a
 use Rattle.model.specs.declared.Order.{Order}
 use Rattle.model.specs.declared.Order.the-variants as c
-use Rattle.model.specs.declared.Value.{Value}
-use Rattle.model.specs.declared.Scalars.{Scalars}
-use Rattle.model.specs.declared.Scalars.the-variants as s
-use Rattle.model.specs.declared.Booleans.{Booleans}
-use Rattle.model.specs.declared.Booleans.the-variants as b
-use Rattle.model.specs.Values.{poppingScalar, poppingBoolean}
 
 unfoldable pub arithOf : Arith → Float → Float → Float
 arithOf a.Add x y = Ieee.add binary64 x y
@@ -36,9 +28,7 @@ orderOf c.GreaterThan x y = Ieee.lt y x
 orderOf c.LessOrEqual x y = Ieee.le x y
 orderOf c.GreatorOrEqual x y = Ieee.le y x
 
--- [pops] two scalars or two booleans: the right one is popped first
-unfoldable pub scalarsOf : List Value → Scalars
-scalarsOf vs = poppingScalar vs s.Bad (λ y r. poppingScalar r s.Bad (λ x q. s.Two x y))
-
-unfoldable pub booleansOf : List Value → Booleans
-booleansOf vs = poppingBoolean vs b.Bad (λ y r. poppingBoolean r b.Bad (λ x q. b.Two x y))
+-- all that an example computes with here
+unfoldable pub computes : Type 1
+unfolding arithOf zeroDivisor orderOf
+computes = Type 0

@@ -255,3 +255,10 @@ fetched w c s = decodedThen w (c .what) (c .read) (at (suc (position s)) (withUn
 
 unfoldable pub stepOf : World → State → Outcome
 stepOf w s = if eqb (s .units) 0 then faulted f.UnitsSpent s else fetched w (opcodeAt (getD (codeOf w s) (position s) 0)) s
+
+-- all that an example computes with here
+unfoldable pub computes : Type 1
+unfolding codeOf pushing onFound constantOf slotOf lastOf loadStep slotStep lastStep negateStep arithmeticStep orderingStep onSame equalStep
+    logicStep notStep jumpStep jumpIfFalseStep enter callStep enterNamed callCallableStep onBuilt buildStep structStep fieldStep cut returnTo
+    returnStep execOf operandsThen decodedThen fetched stepOf
+computes = Type 0

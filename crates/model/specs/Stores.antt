@@ -3,15 +3,15 @@ use mathlib.Core.Bool.{Bool, true, false, not}
 use mathlib.Core.List.{List, [], _∷_}
 use Prim.Native.Nat.{ℕ, zero, suc, _+_, _*_, _/_, _%_}
 use lib.Dec.{eqb}
-use lib.ListN.{getD, take}
+use lib.ListN.{take}
 use Rattle.model.specs.declared.Counts.{Counts}
 use Rattle.model.specs.Basics.{if_then_else_}
 use Rattle.model.specs.Values.{textAt, kindAt, payloadAt, valuesFrom}
 use Rattle.model.specs.Programs.{Constant, scalar, boolean, string, reference, Function, Program}
 use Rattle.model.specs.Steps.{World}
 
--- constants: two words to a place, the kind and the payload. structs: a word, the name. functions: two words, the name and the code.
--- text, main and other (code): bytes. mainPlaces and otherPlaces: the place of each byte of code.
+-- constants: two words to a place, the kind and the payload. structs: two words, the name, and a number of the order of names. functions: two words, the
+-- name and the code. text, main and other (code): bytes. mainPlaces and otherPlaces: the place of each byte of code.
 pub record Stores : Type 0 where
   pub constants : List ℕ
   pub structs : List ℕ
@@ -67,9 +67,14 @@ pack o n = o + 0x1_0000_0000 * n
 unfoldable pub part : List ℕ → ℕ → List ℕ
 part s w = textAt s (start w) (size w)
 
--- the words of struct i and of function i
+-- the name of struct i; and the number of the struct whose name stands at i in the order of names
 unfoldable pub structWord : List ℕ → ℕ → ℕ
-structWord ss i = getD ss i 0
+structWord ss i = kindAt ss i
+
+unfoldable pub orderWord : List ℕ → ℕ → ℕ
+orderWord ss i = payloadAt ss i
+
+-- the name and the code of function i
 
 unfoldable pub nameWord : List ℕ → ℕ → ℕ
 nameWord fs i = kindAt fs i
@@ -97,6 +102,11 @@ constantsFrom (suc n) i cs t = constantIn t (kindAt cs i) (payloadAt cs i) ∷ c
 unfoldable pub structsFrom : ℕ → ℕ → List ℕ → List ℕ → List (List ℕ)
 structsFrom zero i ss t = []
 structsFrom (suc n) i ss t = part t (structWord ss i) ∷ structsFrom n (suc i) ss t
+
+-- the n numbers from i on, in the order of names
+unfoldable pub ordersFrom : ℕ → ℕ → List ℕ → List ℕ
+ordersFrom zero i ss = []
+ordersFrom (suc n) i ss = orderWord ss i ∷ ordersFrom n (suc i) ss
 
 -- main and the others have separate code stores
 unfoldable pub functionIn : Stores → ℕ → Function
@@ -128,3 +138,9 @@ worldIn c s stackRoom frameRoom cellRoom = record {
   frameRoom = frameRoom;
   cellRoom = cellRoom;
 }
+
+-- all that an example computes with here
+unfoldable pub computes : Type 1
+unfolding codeHere placesHere withCode start size pack part structWord nameWord codeWord codeEnd constantIn constantsFrom structsFrom functionIn
+    functionsFrom programIn worldIn orderWord ordersFrom
+computes = Type 0

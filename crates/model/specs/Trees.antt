@@ -53,53 +53,33 @@ unfoldable pub size : Trees → ℕ
 size none = 0
 size (more t ts) = suc (size ts)
 
+-- what to do with a tree of each kind
+abbrev pub byTree : Tree → (Float → Same) → (Bool → Same) → (List ℕ → Same) → (List ℕ → Same) → (Trees → Same) → (ℕ → Trees → Same) → Same
+byTree (scalar x) s b t r l i = s x
+byTree (boolean x) s b t r l i = b x
+byTree (string x) s b t r l i = t x
+byTree (reference x) s b t r l i = r x
+byTree (list us) s b t r l i = l us
+byTree (struct n us) s b t r l i = i n us
+
+-- a tree of another kind is not the same
 unfoldable pub isScalar : Tree → (Float → Same) → Same
-isScalar (scalar x) k = k x
-isScalar (boolean x) k = said false
-isScalar (string s) k = said false
-isScalar (reference s) k = said false
-isScalar (list us) k = said false
-isScalar (struct n us) k = said false
+isScalar u k = byTree u k (λ x. said false) (λ x. said false) (λ x. said false) (λ us. said false) (λ n us. said false)
 
 unfoldable pub isBoolean : Tree → (Bool → Same) → Same
-isBoolean (scalar x) k = said false
-isBoolean (boolean x) k = k x
-isBoolean (string s) k = said false
-isBoolean (reference s) k = said false
-isBoolean (list us) k = said false
-isBoolean (struct n us) k = said false
+isBoolean u k = byTree u (λ x. said false) k (λ x. said false) (λ x. said false) (λ us. said false) (λ n us. said false)
 
 unfoldable pub isString : Tree → (List ℕ → Same) → Same
-isString (scalar x) k = said false
-isString (boolean x) k = said false
-isString (string s) k = k s
-isString (reference s) k = said false
-isString (list us) k = said false
-isString (struct n us) k = said false
+isString u k = byTree u (λ x. said false) (λ x. said false) k (λ x. said false) (λ us. said false) (λ n us. said false)
 
 unfoldable pub isReference : Tree → (List ℕ → Same) → Same
-isReference (scalar x) k = said false
-isReference (boolean x) k = said false
-isReference (string s) k = said false
-isReference (reference s) k = k s
-isReference (list us) k = said false
-isReference (struct n us) k = said false
+isReference u k = byTree u (λ x. said false) (λ x. said false) (λ x. said false) k (λ us. said false) (λ n us. said false)
 
 unfoldable pub isList : Tree → (Trees → Same) → Same
-isList (scalar x) k = said false
-isList (boolean x) k = said false
-isList (string s) k = said false
-isList (reference s) k = said false
-isList (list us) k = k us
-isList (struct n us) k = said false
+isList u k = byTree u (λ x. said false) (λ x. said false) (λ x. said false) (λ x. said false) k (λ n us. said false)
 
 unfoldable pub isStruct : Tree → (ℕ → Trees → Same) → Same
-isStruct (scalar x) k = said false
-isStruct (boolean x) k = said false
-isStruct (string s) k = said false
-isStruct (reference s) k = said false
-isStruct (list us) k = said false
-isStruct (struct n us) k = k n us
+isStruct u k = byTree u (λ x. said false) (λ x. said false) (λ x. said false) (λ x. said false) (λ us. said false) k
 
 unfoldable pub isMore : Trees → (Tree → Trees → Same) → Same
 isMore none k = said true

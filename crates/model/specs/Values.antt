@@ -1,68 +1,46 @@
 -- Values, the fault of a step, and how values stand in stores of numbers: two words to a place, the kind and the payload.
 use mathlib.Core.Bool.{Bool, true, false, not, _&&_}
 use mathlib.Core.List.{List, [], _∷_}
-use Prim.Native.Nat.{ℕ, zero, suc, _+_, _*_, _/_, _%_, _<_, _^_, min}
-use lib.Dec.{T, eqb, leb, ltb}
+use Prim.Native.Nat.{ℕ, zero, suc, _+_, _*_, _/_, _%_, min}
+use lib.Dec.{eqb}
 use lib.ListN.{length, getD, set, take, drop}
-use lib.Ieee.{Float, binary64, toBits, ofBits, fits}
+use lib.Ieee.{Float, binary64, toBits, ofBits}
 use Rattle.model.specs.declared.Value.{Value}
 use Rattle.model.specs.declared.Value.the-variants as v
 use Rattle.model.specs.declared.Header.{Header}
 use Rattle.model.specs.declared.Fault.{Fault}
 use Rattle.model.specs.declared.Fault.the-variants as f
-use Rattle.model.specs.declared.Found.{Found}
-use Rattle.model.specs.declared.Found.the-variants as g
 use Rattle.model.specs.Basics.{if_then_else_}
 
--- ---- values by kind: what to do with a value of that kind, and what with any other
+-- ---- values by kind
 
+-- what to do with a value of each kind: a scalar, a boolean, a string, a function reference, a list, a struct
+abbrev pub byKind : {A : Type 0} → Value → (Float → A) → (Bool → A) → (ℕ → ℕ → A) → (ℕ → ℕ → A) → (ℕ → A) → (ℕ → A) → A
+byKind (v.Scalar x) s b t r l i = s x
+byKind (v.Boolean x) s b t r l i = b x
+byKind (v.String o n) s b t r l i = t o n
+byKind (v.FunctionReference o n) s b t r l i = r o n
+byKind (v.List p) s b t r l i = l p
+byKind (v.StructInstance p) s b t r l i = i p
+
+-- what to do with a value of one kind, and what with any other
 unfoldable pub ifScalar : {A : Type 0} → Value → (Float → A) → A → A
-ifScalar (v.Scalar x) k e = k x
-ifScalar (v.Boolean x) k e = e
-ifScalar (v.String o n) k e = e
-ifScalar (v.FunctionReference o n) k e = e
-ifScalar (v.List p) k e = e
-ifScalar (v.StructInstance p) k e = e
+ifScalar v k e = byKind v k (λ x. e) (λ o n. e) (λ o n. e) (λ p. e) (λ p. e)
 
 unfoldable pub ifBoolean : {A : Type 0} → Value → (Bool → A) → A → A
-ifBoolean (v.Scalar x) k e = e
-ifBoolean (v.Boolean x) k e = k x
-ifBoolean (v.String o n) k e = e
-ifBoolean (v.FunctionReference o n) k e = e
-ifBoolean (v.List p) k e = e
-ifBoolean (v.StructInstance p) k e = e
+ifBoolean v k e = byKind v (λ x. e) k (λ o n. e) (λ o n. e) (λ p. e) (λ p. e)
 
 unfoldable pub ifString : {A : Type 0} → Value → (ℕ → ℕ → A) → A → A
-ifString (v.Scalar x) k e = e
-ifString (v.Boolean x) k e = e
-ifString (v.String o n) k e = k o n
-ifString (v.FunctionReference o n) k e = e
-ifString (v.List p) k e = e
-ifString (v.StructInstance p) k e = e
+ifString v k e = byKind v (λ x. e) (λ x. e) k (λ o n. e) (λ p. e) (λ p. e)
 
 unfoldable pub ifReference : {A : Type 0} → Value → (ℕ → ℕ → A) → A → A
-ifReference (v.Scalar x) k e = e
-ifReference (v.Boolean x) k e = e
-ifReference (v.String o n) k e = e
-ifReference (v.FunctionReference o n) k e = k o n
-ifReference (v.List p) k e = e
-ifReference (v.StructInstance p) k e = e
+ifReference v k e = byKind v (λ x. e) (λ x. e) (λ o n. e) k (λ p. e) (λ p. e)
 
 unfoldable pub ifList : {A : Type 0} → Value → (ℕ → A) → A → A
-ifList (v.Scalar x) k e = e
-ifList (v.Boolean x) k e = e
-ifList (v.String o n) k e = e
-ifList (v.FunctionReference o n) k e = e
-ifList (v.List p) k e = k p
-ifList (v.StructInstance p) k e = e
+ifList v k e = byKind v (λ x. e) (λ x. e) (λ o n. e) (λ o n. e) k (λ p. e)
 
 unfoldable pub ifStruct : {A : Type 0} → Value → (ℕ → A) → A → A
-ifStruct (v.Scalar x) k e = e
-ifStruct (v.Boolean x) k e = e
-ifStruct (v.String o n) k e = e
-ifStruct (v.FunctionReference o n) k e = e
-ifStruct (v.List p) k e = e
-ifStruct (v.StructInstance p) k e = k p
+ifStruct v k e = byKind v (λ x. e) (λ x. e) (λ o n. e) (λ o n. e) (λ p. e) k
 
 -- ---- [numbers] the number of each fault
 
@@ -83,11 +61,6 @@ faultNumber f.UnitsSpent = 13
 faultNumber f.NoFunction = 14
 
 -- ---- [pops] from the top of a stack, whose top is first: 4 before 5 at each
-
--- the value popped, or the fault
-unfoldable pub popOf : List Value → Found
-popOf [] = g.Bad f.TooFewValues
-popOf (v ∷ r) = g.Got v
 
 -- what to do with the value popped and the values below it, and what with the fault
 unfoldable pub popping : {A : Type 0} → List Value → (Fault → A) → (Value → List Value → A) → A
@@ -156,10 +129,6 @@ valueAt s i = valueOf (kindAt s i) (payloadAt s i)
 unfoldable pub putWords : List ℕ → ℕ → ℕ → ℕ → List ℕ
 putWords s i k a = set (set s (2 * i) k) (2 * i + 1) a
 
--- the store with v at place i
-unfoldable pub putValue : List ℕ → ℕ → Value → List ℕ
-putValue s i v = putWords s i (kind v) (payload v)
-
 -- the values at places 0 to n - 1, the last first: a stack of n values, its top first
 unfoldable pub vals : ℕ → List ℕ → List Value
 vals zero s = []
@@ -174,15 +143,12 @@ valuesFrom (suc n) i s = valueAt s i ∷ valuesFrom n (suc i) s
 unfoldable pub exactValue : ℕ → ℕ → Bool
 exactValue k a = eqb k (kind (valueOf k a)) && eqb a (payload (valueOf k a))
 
--- a value that a store can hold: what the types of the code say
-abbrev pub Fine : Value → Type 0
-Fine (v.Scalar x) = T (fits binary64 x)
-Fine (v.Boolean x) = Unit
-Fine (v.String o n) = (o < 2 ^ 32) × (n < 2 ^ 32)
-Fine (v.FunctionReference o n) = (o < 2 ^ 32) × (n < 2 ^ 32)
-Fine (v.List p) = p < 2 ^ 32
-Fine (v.StructInstance p) = p < 2 ^ 32
-
 -- the n bytes of text from o on
 unfoldable pub textAt : List ℕ → ℕ → ℕ → List ℕ
 textAt t o n = take n (drop o t)
+
+-- all that an example computes with here
+unfoldable pub computes : Type 1
+unfolding ifScalar ifBoolean ifString ifReference ifList ifStruct faultNumber popping poppingScalar poppingBoolean places valueOf kindAt payloadAt
+    valueAt putWords vals valuesFrom exactValue textAt
+computes = Type 0

@@ -93,18 +93,6 @@ pub enum Found {
     Bad(Fault),
 }
 
-// Two popped scalars, the left one first, or the fault.
-pub enum Scalars {
-    Two(f64, f64),
-    Bad(Fault),
-}
-
-// Two popped booleans, the left one first, or the fault.
-pub enum Booleans {
-    Two(bool, bool),
-    Bad(Fault),
-}
-
 // A call frame. Its layout is C's, so that a host in C can lend frames.
 #[repr(C)]
 pub struct Frame {
@@ -158,12 +146,18 @@ pub struct Vm {
     pub last: Last,
 }
 
-// What a run answers, with the machine as it then is and the units spent: a value, or "continue", or a fault's number and the length of its backtrace.
+// What a run did: the units that it spent, and how many root Returns it completed. 0 returns: nothing has counted.
+pub struct Tally {
+    pub spent: u64,
+    pub returns: u64,
+}
+
+// What a run answers, with the machine as it then is and what it did: a value, or "continue", or a fault's number and the length of its backtrace.
 // Or a refusal.
 pub enum RunResult {
-    Value(Vm, Value, u64),
-    Continue(Vm, u64),
-    Fault(Vm, u8, u64, usize),
+    Value(Vm, Value, Tally),
+    Continue(Vm, Tally),
+    Fault(Vm, u8, Tally, usize),
     Refused(u8),
 }
 

@@ -13,9 +13,9 @@ use Rattle.model.specs.declared.Value.{Value}
 use Rattle.model.specs.declared.Value.the-variants as v
 use Rattle.model.specs.declared.Header.{Header}
 use Rattle.model.specs.Basics.{if_then_else_}
-use Rattle.model.specs.Values.{valueOf, kind, payload, exactValue, Fine}
+use Rattle.model.specs.Values.{valueOf, kind, payload, exactValue}
 use Rattle.model.specs.Heap.{Cell, item, head, headerOf, cellOf, cellKind, cellPayload, exactCell}
-use Rattle.value.specs.Links.{FineCell, PayloadOf}
+use Rattle.value.specs.Links.{FineCell, PayloadOf, Fine}
 
 -- ---- the arms of `value_of` and `payload_of`
 

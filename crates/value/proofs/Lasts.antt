@@ -8,8 +8,8 @@ use Rattle.model.specs.declared.Value.{Value}
 use Rattle.model.specs.declared.Value.the-variants as v
 use Rattle.model.specs.declared.Last.{Last}
 use Rattle.model.specs.declared.Last.the-variants.{Nothing, Is}
-use Rattle.model.specs.Values.{valueOf, kind, payload, Fine}
-use Rattle.value.specs.Links.{PayloadOf, lastIn, lastKind, lastPayload}
+use Rattle.model.specs.Values.{valueOf, kind, payload}
+use Rattle.value.specs.Links.{PayloadOf, lastIn, lastKind, lastPayload, Fine}
 use Rattle.value.proofs.Coding.{words-value}
 
 -- ---- from its words

@@ -15,13 +15,12 @@ use Rattle.model.specs.declared.Fault.{Fault}
 use Rattle.model.specs.declared.Fault.the-variants as f
 use Rattle.model.specs.declared.Found.{Found}
 use Rattle.model.specs.declared.Found.the-variants as g
-use Rattle.model.specs.declared.Scalars.{Scalars}
-use Rattle.model.specs.declared.Scalars.the-variants as s
-use Rattle.model.specs.declared.Booleans.{Booleans}
-use Rattle.model.specs.declared.Booleans.the-variants as b
-use Rattle.model.specs.Values.{ifScalar, ifBoolean, popOf, popping, poppingScalar, poppingBoolean, valueAt, vals}
-use Rattle.model.specs.Scalars.{scalarsOf, booleansOf}
-use Rattle.value.specs.Links.{onScalars, onBooleans}
+use Rattle.value.specs.declared.Scalars.{Scalars}
+use Rattle.value.specs.declared.Scalars.the-variants as s
+use Rattle.value.specs.declared.Booleans.{Booleans}
+use Rattle.value.specs.declared.Booleans.the-variants as b
+use Rattle.model.specs.Values.{ifScalar, ifBoolean, popping, poppingScalar, poppingBoolean, valueAt, vals}
+use Rattle.value.specs.Links.{onScalars, onBooleans, booleansOf, popOf, scalarsOf}
 
 -- ---- one pop
 

@@ -8,9 +8,9 @@ use lib.Dec.{eqb}
 use lib.ListN.{length, getD, set, take, drop, length-set}
 use lib.Seq.{getD-set-same, getD-set-other}
 use Rattle.model.specs.declared.Value.{Value}
-use Rattle.model.specs.Values.{kind, payload, kindAt, payloadAt, valueAt, putWords, putValue, vals, valuesFrom, Fine}
+use Rattle.model.specs.Values.{kind, payload, kindAt, payloadAt, valueAt, putWords, vals, valuesFrom}
 use Rattle.model.specs.Heap.{Cell, item, head, headerOf, cellOf, cellKind, cellPayload, cellAt, putCell, cellsFrom, heapOf}
-use Rattle.value.specs.Links.{FineCell, PayloadOf, Written}
+use Rattle.value.specs.Links.{FineCell, PayloadOf, Written, Fine, putValue}
 use Rattle.value.proofs.Coding.{words-value, words-cell}
 
 -- ---- two words are written

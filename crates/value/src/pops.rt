@@ -1,15 +1,15 @@
 // Operands from the top of a stack of sp values: too few values is judged before the kind, and the right operand before the left.
+use crate::Booleans;
+use crate::Scalars;
 use crate::words;
-use model::Booleans;
 use model::Fault;
 use model::Found;
-use model::Scalars;
 use model::Value;
 ghost use mathlib.Core.Path.{_≡_};
 ghost use Prim.Native.Nat.{_*_, _≤_};
 ghost use lib.ListN.{length};
-ghost use Rattle.model.specs.Values.{vals, popOf};
-ghost use Rattle.model.specs.Scalars.{scalarsOf, booleansOf};
+ghost use Rattle.model.specs.Values.{vals};
+ghost use Rattle.value.specs.Links.{booleansOf, popOf, scalarsOf};
 
 // The value on top.
 pub fn pop(stack: &[u64], sp: usize) -> Found
