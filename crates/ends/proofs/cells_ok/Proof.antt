@@ -12,7 +12,9 @@ returns : tie.Need-returns
 returns c = cells-many _ _ _ (c .before .room .ensures _ refl) (c .if1 .taken)
 
 good-cells-requires : tie.Need-good-cells-requires
-good-cells-requires c κs = words-room (c .before .before .before .args .used) (c .before .before .before .args .cells .now) (c .before .room .ensures _ refl) (c .if1 .left)
+good-cells-requires c κs =
+    let at-start = c .before .before .before in
+    words-room (at-start .args .used) (at-start .args .cells .now) (c .before .room .ensures _ refl) (c .if1 .left)
 
 returns-2 : tie.Need-returns-2
 returns-2 c = cells-is _ _ _ (c .before .before .room .ensures _ refl) (c .before .if1 .left) (c .good-cells .ensures)

@@ -39,13 +39,13 @@ loop-less : tie.Need-loop-less Inv-loop μ-loop
 loop-less c = omega arith
 
 loop-again : tie.Need-loop-again Inv-loop μ-loop
-loop-again c = copies _ _ _ (c .before .before .before .pre .0) (c .before .before .loop .inv) (c .before .loop-test .taken)
+loop-again c = search copies
 
 same-length : tie.Need-same-length Inv-loop μ-loop
 same-length c = c .before .loop .inv .same
 
 returns : tie.Need-returns Inv-loop μ-loop
-returns c = copied _ _ _ (c .before .before .pre .0) (c .before .loop .inv) (c .loop-test .left)
+returns c = search copied
 
 pub copy-front-spec : {M : Type 1} → statement M
 copy-front-spec =

@@ -5,31 +5,31 @@ use Rattle.ends.proofs.ended.Statement.{statement}
 use Rattle.ends.proofs.ended.Tie as tie
 
 last-in-requires : tie.Need-last-in-requires
-last-in-requires c κs = search needs
+last-in-requires c κs = search
 
 add-vm-with : tie.Need-add-vm-with
 add-vm-with c = search needs
 
 vm-with-requires : tie.Need-vm-with-requires
-vm-with-requires c κs = search needs
+vm-with-requires c κs = search
 
 sub-spent : tie.Need-sub-spent
-sub-spent c = search needs
+sub-spent c = search
 
 returns : tie.Need-returns
-returns c = ends-unanswered _ _ _ (c .before .before .before .before .last-in .ensures) (c .before .before .vm-with .ensures) (c .if1 .taken)
+returns c = search ends-unanswered
 
 enum-told : tie.Need-enum-told
-enum-told c = search needs
+enum-told c = search
 
 enum-known-last : tie.Need-enum-known-last
-enum-known-last c = search needs
+enum-known-last c = search
 
 returns-2 : tie.Need-returns-2
-returns-2 c = ends-none _ _ _ (c .before .before .before .before .before .before .last-in .ensures) (c .before .before .before .before .vm-with .ensures) (c .before .before .if1 .left) (c .enum-told .given .1)
+returns-2 c = search ends-none
 
 returns-3 : tie.Need-returns-3
-returns-3 c = ends-some _ _ _ (c .before .before .before .before .before .before .before .last-in .ensures) (c .before .before .before .before .before .vm-with .ensures) (c .before .before .before .if1 .left) (c .before .last .given .1)
+returns-3 c = search ends-some
 
 pub ended-spec : {M : Type 1} → statement M
 ended-spec =

@@ -5,19 +5,19 @@ use Rattle.ends.proofs.faulted.Statement.{statement}
 use Rattle.ends.proofs.faulted.Tie as tie
 
 last-in-requires : tie.Need-last-in-requires
-last-in-requires c κs = search needs
+last-in-requires c κs = search
 
 vm-with-requires : tie.Need-vm-with-requires
-vm-with-requires c κs = search needs
+vm-with-requires c κs = search
 
 sub-spent : tie.Need-sub-spent
-sub-spent c = search needs
+sub-spent c = search
 
 add-traced : tie.Need-add-traced
 add-traced c = search needs
 
 returns : tie.Need-returns
-returns c = faults _ _ _ (c .before .before .before .last-in .ensures) (c .before .before .vm-with .ensures) _
+returns c = search faults
 
 pub faulted-spec : {M : Type 1} → statement M
 faulted-spec = tie.close (tie.spec last-in-requires vm-with-requires sub-spent add-traced returns)

@@ -8,10 +8,10 @@ room-requires : tie.Need-room-requires
 room-requires c κs = search needs
 
 lesser-requires : tie.Need-lesser-requires
-lesser-requires c κs = search needs
+lesser-requires c κs = search
 
 returns : tie.Need-returns
-returns c = fixed-is _ _ _ (c .before .room .ensures) (c .lesser .ensures)
+returns c = search fixed-is
 
 pub fixed-spec : {M : Type 1} → statement M
 fixed-spec = tie.close (tie.spec room-requires lesser-requires returns)

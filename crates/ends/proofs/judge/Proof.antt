@@ -6,25 +6,33 @@ use Rattle.ends.proofs.judge.Statement.{statement}
 use Rattle.ends.proofs.judge.Tie as tie
 
 program-ok-requires : tie.Need-program-ok-requires
-program-ok-requires c κs = search needs
+program-ok-requires c κs = search
 
 returns : tie.Need-returns
 returns c = λ structs. not-whole _ _ _ _ (c .before .program-ok .ensures structs) (not-true _ (c .if1 .taken))
 
 cells-ok-requires : tie.Need-cells-ok-requires
-cells-ok-requires c κs = search needs
+cells-ok-requires c κs = search
 
 returns-2 : tie.Need-returns-2
-returns-2 c = λ structs. not-exact _ _ _ _ (c .before .before .before .program-ok .ensures structs) (not-false _ (c .before .before .if1 .left)) (c .before .cells-ok .ensures) (not-true _ (c .if2 .taken))
+returns-2 c =
+    λ structs. not-exact _ _ _ _ (c .before .before .before .program-ok .ensures structs)
+    (not-false _ (c .before .before .if1 .left)) (c .before .cells-ok .ensures) (not-true _ (c .if2 .taken))
 
 stack-ok-requires : tie.Need-stack-ok-requires
-stack-ok-requires c κs = cells-fit _ (c .before .before .before .before .before .before .before .before .before .before .before .before .before .before .args .m .cells) (c .before .before .before .before .before .before .before .before .before .before .before .before .before .before .args .cells .now) (c .before .cells-ok .ensures) (not-false _ (c .if2 .left))
+stack-ok-requires c κs = search (cells-fit, not-false)
 
 last-ok-requires : tie.Need-last-ok-requires
-last-ok-requires c κs = cells-fit _ (c .before .before .before .before .before .before .before .before .before .before .before .before .before .before .before .args .m .cells) (c .before .before .before .before .before .before .before .before .before .before .before .before .before .before .before .args .cells .now) (c .before .before .cells-ok .ensures) (not-false _ (c .before .if2 .left))
+last-ok-requires c κs = search (cells-fit, not-false)
 
 returns-3 : tie.Need-returns-3
-returns-3 c = λ structs. rest-is _ _ _ _ (c .before .before .before .before .before .program-ok .ensures structs) (not-false _ (c .before .before .before .before .if1 .left)) (c .before .before .before .cells-ok .ensures) (not-false _ (c .before .before .if2 .left)) (c .before .stack-ok .ensures) (c .last-ok .ensures)
+returns-3 c =
+    let at-cells-ok = c .before .before .before in
+    let at-if1 = at-cells-ok .before in
+    let at-program-ok = at-if1 .before in
+    λ structs. rest-is _ _ _ _ (at-program-ok .program-ok .ensures structs) (not-false _ (at-if1 .if1 .left))
+    (at-cells-ok .cells-ok .ensures) (not-false _ (c .before .before .if2 .left)) (c .before .stack-ok .ensures)
+    (c .last-ok .ensures)
 
 pub judge-spec : {M : Type 1} → statement M
 judge-spec =

@@ -5,13 +5,13 @@ use Rattle.ends.proofs.root_at.Statement.{statement}
 use Rattle.ends.proofs.root_at.Tie as tie
 
 second-requires : tie.Need-second-requires
-second-requires c κs = search needs
+second-requires c κs = search
 
 size-of-requires : tie.Need-size-of-requires
-size-of-requires c κs = search needs
+size-of-requires c κs = search
 
 returns : tie.Need-returns
-returns c = root-is _ (c .before .second .ensures) (c .size-of .ensures .0)
+returns c = search root-is
 
 pub root-at-spec : {M : Type 1} → statement M
 root-at-spec = tie.close (tie.spec second-requires size-of-requires returns)

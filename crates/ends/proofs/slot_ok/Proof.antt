@@ -5,22 +5,22 @@ use Rattle.ends.proofs.slot_ok.Statement.{statement}
 use Rattle.ends.proofs.slot_ok.Tie as tie
 
 first-requires : tie.Need-first-requires
-first-requires c κs = search needs
+first-requires c κs = search
 
 second-requires : tie.Need-second-requires
-second-requires c κs = search needs
+second-requires c κs = search
 
 value-of-requires : tie.Need-value-of-requires
-value-of-requires c κs = search needs
+value-of-requires c κs = search
 
 exact-value-requires : tie.Need-exact-value-requires
-exact-value-requires c κs = search needs
+exact-value-requires c κs = search
 
 placed-requires : tie.Need-placed-requires
-placed-requires c κs = search needs
+placed-requires c κs = search
 
 returns : tie.Need-returns
-returns c = slot-is _ _ _ _ _ (c .before .before .before .before .first .ensures) (c .before .before .before .second .ensures) (c .before .before .value-of .ensures) (c .before .exact-value .ensures) (c .placed .ensures)
+returns c = search slot-is
 
 pub slot-ok-spec : {M : Type 1} → statement M
 slot-ok-spec =

@@ -15,7 +15,10 @@ use Rattle.ends.proofs.stack_ok.Statement.{statement}
 use Rattle.ends.proofs.stack_ok.Tie as tie
 
 abbrev Inv-loop : tie.InvT-loop
-Inv-loop texts used cells n stack i₀ i = Passed (stackOk texts (heapOf used cells) n stack) n (λ j. exactValue (kindAt stack j) (payloadAt stack j) && placedBelow texts (heapOf used cells) (length (heapOf used cells)) (valueAt stack j)) i
+Inv-loop texts used cells n stack i₀ i =
+    Passed (stackOk texts (heapOf used cells) n stack) n
+    (λ j. exactValue (kindAt stack j) (payloadAt stack j) && placedBelow texts (heapOf used cells) (length (heapOf used cells))
+    (valueAt stack j)) i
 
 abbrev μ-loop : tie.MeasureT-loop
 μ-loop texts used cells n stack i₀ i = n - i
@@ -33,7 +36,7 @@ slot-ok-requires : tie.Need-slot-ok-requires Inv-loop μ-loop
 slot-ok-requires c κs = c .before .before .before .before .before .before .pre
 
 returns-2 : tie.Need-returns-2 Inv-loop μ-loop
-returns-2 c = one-fails (c .before .before .before .loop .inv) (c .before .before .loop-test .taken) _ (c .before .slot-ok .ensures) (not-true _ (c .if2 .taken))
+returns-2 c = search (one-fails, not-true)
 
 add-i : tie.Need-add-i Inv-loop μ-loop
 add-i c = omega arith
@@ -42,7 +45,7 @@ loop-less : tie.Need-loop-less Inv-loop μ-loop
 loop-less c = omega arith
 
 loop-again : tie.Need-loop-again Inv-loop μ-loop
-loop-again c = one-more (c .before .before .before .loop .inv) (c .before .before .loop-test .taken) _ (c .before .slot-ok .ensures) (not-false _ (c .if2 .left))
+loop-again c = search (one-more, not-false)
 
 returns-3 : tie.Need-returns-3 Inv-loop μ-loop
 returns-3 c = all-passed (c .before .loop .inv) (c .loop-test .left)

@@ -14,10 +14,10 @@ room-requires-3 : tie.Need-room-requires-3
 room-requires-3 c κs = search needs
 
 lesser-requires : tie.Need-lesser-requires
-lesser-requires c κs = search needs
+lesser-requires c κs = search
 
 returns : tie.Need-returns
-returns c = short-is _ _ _ _ (c .before .before .room2 .ensures) (c .lesser .ensures) (c .before .before .before .room .ensures) (c .before .room3 .ensures)
+returns c = search short-is
 
 pub too-short-spec : {M : Type 1} → statement M
 too-short-spec =

@@ -7,10 +7,10 @@ use Rattle.steps.proofs.byte_at.Statement.{statement}
 use Rattle.steps.proofs.byte_at.Tie as tie
 
 shared-slice-read-result : tie.Need-shared-slice-read-result
-shared-slice-read-result c = search needs
+shared-slice-read-result c = search
 
 returns : tie.Need-returns
-returns c = search needs
+returns c = search
 
 returns-2 : tie.Need-returns-2
 returns-2 c = sym (List·getD-eq-default (c .before .args .code .now) _ {n = c .before .args .i} (omega arith))

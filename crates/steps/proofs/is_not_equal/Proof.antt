@@ -6,7 +6,7 @@ use Rattle.steps.proofs.is_not_equal.Statement.{statement}
 use Rattle.steps.proofs.is_not_equal.Tie as tie
 
 enum-told : tie.Need-enum-told
-enum-told c = search needs
+enum-told c = search
 
 returns : tie.Need-returns
 returns c = (λ e. absurd (not-both e (c .enum-told .given .1)), λ e. refl)

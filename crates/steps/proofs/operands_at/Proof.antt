@@ -19,7 +19,7 @@ shared-slice-read-word-2 : tie.Need-shared-slice-read-word-2
 shared-slice-read-word-2 c = search needs
 
 word-requires : tie.Need-word-requires
-word-requires c κs = search needs
+word-requires c κs = search
 
 add-word-2 : tie.Need-add-word-2
 add-word-2 c = search needs
@@ -34,40 +34,53 @@ shared-slice-read-word-4 : tie.Need-shared-slice-read-word-4
 shared-slice-read-word-4 c = search needs
 
 word-requires-2 : tie.Need-word-requires-2
-word-requires-2 c κs = search needs
+word-requires-2 c κs = search
 
 returns : tie.Need-returns
-returns c = ((word-is _ _ (omega arith) refl refl (c .before .before .before .word .ensures .0), word-is _ _ (omega arith) refl refl (c .word2 .ensures .0)), (c .before .before .before .word .ensures .1, c .word2 .ensures .1))
+returns c = (
+  (
+    word-is _ _ (omega arith) refl refl (c .before .before .before .word .ensures .0),
+    word-is _ _ (omega arith) refl refl (c .word2 .ensures .0),
+  ),
+  (c .before .before .before .word .ensures .1, c .word2 .ensures .1),
+)
 
 byte-at-requires : tie.Need-byte-at-requires
-byte-at-requires c κs = search needs
+byte-at-requires c κs = search
 
 add-byte-at : tie.Need-add-byte-at
 add-byte-at c = search needs
 
 byte-at-requires-2 : tie.Need-byte-at-requires-2
-byte-at-requires-2 c κs = search needs
+byte-at-requires-2 c κs = search
 
 word-requires-3 : tie.Need-word-requires-3
-word-requires-3 c κs = search needs
+word-requires-3 c κs = search
 
 add-byte-at-2 : tie.Need-add-byte-at-2
 add-byte-at-2 c = search needs
 
 byte-at-requires-3 : tie.Need-byte-at-requires-3
-byte-at-requires-3 c κs = search needs
+byte-at-requires-3 c κs = search
 
 add-byte-at-3 : tie.Need-add-byte-at-3
 add-byte-at-3 c = search needs
 
 byte-at-requires-4 : tie.Need-byte-at-requires-4
-byte-at-requires-4 c κs = search needs
+byte-at-requires-4 c κs = search
 
 word-requires-4 : tie.Need-word-requires-4
-word-requires-4 c κs = search needs
+word-requires-4 c κs = search
 
 returns-2 : tie.Need-returns-2
-returns-2 c = ((word-is _ _ (omega arith) (c .before .before .before .before .before .byte-at .ensures) (c .before .before .before .before .byte-at2 .ensures) (c .before .before .before .word3 .ensures .0), word-is _ _ (omega arith) (c .before .before .byte-at3 .ensures) (c .before .byte-at4 .ensures) (c .word4 .ensures .0)), (c .before .before .before .word3 .ensures .1, c .word4 .ensures .1))
+returns-2 c = (
+  (
+    word-is _ _ (omega arith) (c .before .before .before .before .before .byte-at .ensures)
+        (c .before .before .before .before .byte-at2 .ensures) (c .before .before .before .word3 .ensures .0),
+    word-is _ _ (omega arith) (c .before .before .byte-at3 .ensures) (c .before .byte-at4 .ensures) (c .word4 .ensures .0),
+  ),
+  (c .before .before .before .word3 .ensures .1, c .word4 .ensures .1),
+)
 
 pub operands-at-spec : {M : Type 1} → statement M
 operands-at-spec =

@@ -4,7 +4,7 @@ use Rattle.turns.proofs.stopped.Statement.{statement}
 use Rattle.turns.proofs.stopped.Tie as tie
 
 fault-number-requires : tie.Need-fault-number-requires
-fault-number-requires c κs = search needs
+fault-number-requires c κs = search
 
 returns : tie.Need-returns
 returns c = rw (c .fault-number .ensures)

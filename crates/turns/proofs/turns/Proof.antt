@@ -124,10 +124,15 @@ back-is : (g : Going) → IsEvent (Back g) → IsGoing g
 back-is g is = EL.owed TE.the-type TE′.the-laws (Back g) _ is .0
 
 stopped-is : (g : Going) (f : Fault) → IsEvent (Stopped g f) → IsGoing g × IsFault f
-stopped-is g f is = let z = EL.owed TE.the-type TE′.the-laws (Stopped g f) _ is in (z .0, subst (Is TN.the-row f) (TN′.lowers .val-is f _ (z .1 .0)) (z .1 .0))
+stopped-is g f is =
+    let z = EL.owed TE.the-type TE′.the-laws (Stopped g f) _ is in
+    (z .0, subst (Is TN.the-row f) (TN′.lowers .val-is f _ (z .1 .0)) (z .1 .0))
 
 abbrev kinds : List (Kind 8)
-kinds = own TF.the-row kval (TF′.lowers .val-is) (λ x f. refl) ∷ own TG.the-row gval (TG′.lowers .val-is) (λ x f. refl) ∷ number ∷ shared 0 tt u64 ∷ shared 1 tt u64 ∷ shared 2 tt u8 ∷ shared 3 tt u8 ∷ shared 4 tt u8 ∷ unique 5 tt u64 ∷ unique 6 tt u64 ∷ unique 7 tt R ∷ []
+kinds =
+    own TF.the-row kval (TF′.lowers .val-is) (λ x f. refl) ∷ own TG.the-row gval (TG′.lowers .val-is) (λ x f. refl) ∷ number ∷
+    shared 0 tt u64 ∷ shared 1 tt u64 ∷ shared 2 tt u8 ∷ shared 3 tt u8 ∷ shared 4 tt u8 ∷ unique 5 tt u64 ∷ unique 6 tt u64 ∷
+    unique 7 tt R ∷ []
 
 module _ {M : Type 1} (𝓤 : URA M) (H : Heap 𝓤) (A : Atoms 𝓤) (W : Given 𝓤 H A) (mem : Memory → SProp 𝓤) (run : Routine → Fun 𝓤) where
   going-typed : (g : Going) → IsGoing g → T (hasTy TG′.mir (gval g)) × WT (gval g)
@@ -176,44 +181,58 @@ module _ {M : Type 1} (𝓤 : URA M) (H : Heap 𝓤) (A : Atoms 𝓤) (W : Given
     it = val TG.the-row g (gval g) ∷ []
 
     call-begun : Rule 𝓤 H A W it Begun TC.the-row cval (λ r zs. r ≡ goesOn g)
-    call-begun = call-with 𝓤 H A W it Begun TC.the-row cval (λ r zs. r ≡ goesOn g) (TC′.lowers .val-is) (λ ns. passing (lent it ns)) (λ ns. refl)
-        (λ ns. unasked W (lent it ns)) (λ ns w. id⊢ 𝓤 _) (LL.makes TG.the-type TG′.the-plain 𝓤 H A g _ is, tt) tt
+    call-begun =
+        call-with 𝓤 H A W it Begun TC.the-row cval (λ r zs. r ≡ goesOn g) (TC′.lowers .val-is) (λ ns. passing (lent it ns))
+        (λ ns. refl) (λ ns. unasked W (lent it ns)) (λ ns w. id⊢ 𝓤 _) (LL.makes TG.the-type TG′.the-plain 𝓤 H A g _ is, tt) tt
 
     call-over : Rule 𝓤 H A W it Overs TC.the-row cval (λ r zs. r ≡ isOver g)
-    call-over = call-with 𝓤 H A W it Overs TC.the-row cval (λ r zs. r ≡ isOver g) (TC′.lowers .val-is) (λ ns. passing (lent it ns)) (λ ns. refl)
-        (λ ns. unasked W (lent it ns)) (λ ns w. id⊢ 𝓤 _) (LL.makes TG.the-type TG′.the-plain 𝓤 H A g _ is, tt) tt
+    call-over =
+        call-with 𝓤 H A W it Overs TC.the-row cval (λ r zs. r ≡ isOver g) (TC′.lowers .val-is) (λ ns. passing (lent it ns))
+        (λ ns. refl) (λ ns. unasked W (lent it ns)) (λ ns w. id⊢ 𝓤 _) (LL.makes TG.the-type TG′.the-plain 𝓤 H A g _ is, tt) tt
 
     call-frame-of : Rule 𝓤 H A W it FrameOf R fval (λ r zs. r ≡ frameIn g)
     call-frame-of = call-with 𝓤 H A W it FrameOf R fval (λ r zs. r ≡ frameIn g) tells (λ ns. passing (lent it ns)) (λ ns. refl)
         (λ ns. unasked W (lent it ns)) (λ ns w. id⊢ 𝓤 _) (LL.makes TG.the-type TG′.the-plain 𝓤 H A g _ is, tt) tt
 
     call-caller-at : 0 < g .callers → Rule 𝓤 H A W it CallerAt usize (vint w64) (λ r zs. g .callers ≡ r + 1)
-    call-caller-at ask = call-with 𝓤 H A W it CallerAt usize (vint w64) (λ r zs. g .callers ≡ r + 1) (uint-tells w64) (λ ns. passing (lent it ns)) (λ ns. refl)
-        (λ ns. asked W (lent it ns) ask) (λ ns w. id⊢ 𝓤 _) (LL.makes TG.the-type TG′.the-plain 𝓤 H A g _ is, tt) tt
+    call-caller-at ask =
+        call-with 𝓤 H A W it CallerAt usize (vint w64) (λ r zs. g .callers ≡ r + 1) (uint-tells w64) (λ ns. passing (lent it ns))
+        (λ ns. refl) (λ ns. asked W (lent it ns) ask) (λ ns w. id⊢ 𝓤 _) (LL.makes TG.the-type TG′.the-plain 𝓤 H A g _ is, tt) tt
 
     module _ (i b : ℕ) (fits-i : i < 2 ^ 64) (fits-b : b < 2 ^ 64) where
       abbrev to-enter : List Arg
       to-enter = val TG.the-row g (gval g) ∷ val usize i (vint w64 i) ∷ val usize b (vint w64 b) ∷ []
 
       call-enter : g .callers + 1 < 2 ^ 64 → Rule 𝓤 H A W to-enter Enter TC.the-row cval (λ r zs. r ≡ goesOn (inFrame g (g .callers + 1) (entered i b)))
-      call-enter ask = call-with 𝓤 H A W to-enter Enter TC.the-row cval (λ r zs. r ≡ goesOn (inFrame g (g .callers + 1) (entered i b))) (TC′.lowers .val-is) (λ ns. passing (lent to-enter ns)) (λ ns. refl)
-          (λ ns. asked W (lent to-enter ns) ask) (λ ns w. id⊢ 𝓤 _) (LL.makes TG.the-type TG′.the-plain 𝓤 H A g _ is, (uint-makes 𝓤 H A W w64 i _ (refl, fits-i), (uint-makes 𝓤 H A W w64 b _ (refl, fits-b), tt))) tt
+      call-enter ask =
+          call-with 𝓤 H A W to-enter Enter TC.the-row cval (λ r zs. r ≡ goesOn (inFrame g (g .callers + 1) (entered i b)))
+          (TC′.lowers .val-is) (λ ns. passing (lent to-enter ns)) (λ ns. refl) (λ ns. asked W (lent to-enter ns) ask)
+          (λ ns w. id⊢ 𝓤 _) (
+            LL.makes TG.the-type TG′.the-plain 𝓤 H A g _ is,
+            (uint-makes 𝓤 H A W w64 i _ (refl, fits-i), (uint-makes 𝓤 H A W w64 b _ (refl, fits-b), tt)),
+          ) tt
 
     module _ (i : ℕ) (fits-i : i < 2 ^ 64) (f : Frame) (isf : Is R f (fval f ∷ [])) where
       abbrev to-resume : List Arg
       to-resume = val TG.the-row g (gval g) ∷ val usize i (vint w64 i) ∷ val R f (fval f) ∷ []
 
       call-resume : Rule 𝓤 H A W to-resume Resume TC.the-row cval (λ r zs. r ≡ goesOn (inFrame g i f))
-      call-resume = call-with 𝓤 H A W to-resume Resume TC.the-row cval (λ r zs. r ≡ goesOn (inFrame g i f)) (TC′.lowers .val-is) (λ ns. passing (lent to-resume ns)) (λ ns. refl)
-          (λ ns. unasked W (lent to-resume ns)) (λ ns w. id⊢ 𝓤 _) (LL.makes TG.the-type TG′.the-plain 𝓤 H A g _ is, (uint-makes 𝓤 H A W w64 i _ (refl, fits-i), (frame-makes 𝓤 H A W f _ isf, tt))) tt
+      call-resume =
+          call-with 𝓤 H A W to-resume Resume TC.the-row cval (λ r zs. r ≡ goesOn (inFrame g i f)) (TC′.lowers .val-is)
+          (λ ns. passing (lent to-resume ns)) (λ ns. refl) (λ ns. unasked W (lent to-resume ns)) (λ ns w. id⊢ 𝓤 _) (
+            LL.makes TG.the-type TG′.the-plain 𝓤 H A g _ is,
+            (uint-makes 𝓤 H A W w64 i _ (refl, fits-i), (frame-makes 𝓤 H A W f _ isf, tt)),
+          ) tt
 
     module _ (f : Fault) (isf : IsFault f) where
       abbrev to-stop : List Arg
       to-stop = val TG.the-row g (gval g) ∷ val TN.the-row f (nval f) ∷ []
 
       call-stop : Rule 𝓤 H A W to-stop Stop TC.the-row cval (λ r zs. r ≡ isStopped g f)
-      call-stop = call-with 𝓤 H A W to-stop Stop TC.the-row cval (λ r zs. r ≡ isStopped g f) (TC′.lowers .val-is) (λ ns. passing (lent to-stop ns)) (λ ns. refl)
-          (λ ns. unasked W (lent to-stop ns)) (λ ns w. id⊢ 𝓤 _) (LL.makes TG.the-type TG′.the-plain 𝓤 H A g _ is, (EL.makes TN.the-type TN′.the-plain 𝓤 H A f _ isf, tt)) tt
+      call-stop =
+          call-with 𝓤 H A W to-stop Stop TC.the-row cval (λ r zs. r ≡ isStopped g f) (TC′.lowers .val-is)
+          (λ ns. passing (lent to-stop ns)) (λ ns. refl) (λ ns. unasked W (lent to-stop ns)) (λ ns w. id⊢ 𝓤 _)
+          (LL.makes TG.the-type TG′.the-plain 𝓤 H A g _ is, (EL.makes TN.the-type TN′.the-plain 𝓤 H A f _ isf, tt)) tt
 
   module _ (𝓣 : Tables 𝓤 H) (k-read : Triple 𝓤 (𝓣 .C #read) (Read 𝓤 H A W mem run)) (k-write : Triple 𝓤 (𝓣 .C #write) (Write 𝓤 H A W mem run)) (k-begun : Triple 𝓤 (𝓣 .C #begun) Begun) (k-advance : Triple 𝓤 (𝓣 .C #advance) Advance) (k-over : Triple 𝓤 (𝓣 .C #over) Overs) (k-frame-of : Triple 𝓤 (𝓣 .C #frame-of) FrameOf)
       (k-enter : Triple 𝓤 (𝓣 .C #enter) Enter) (k-caller-at : Triple 𝓤 (𝓣 .C #caller-at) CallerAt) (k-resume : Triple 𝓤 (𝓣 .C #resume) Resume) (k-stop : Triple 𝓤 (𝓣 .C #stop) Stop) (κs : Lfts 8) (qs : Shares 8) (a : Passed kinds TC.the-row κs) (is : Known kinds TC.the-row κs a) where
@@ -310,13 +329,17 @@ module _ {M : Type 1} (𝓤 : URA M) (H : Heap 𝓤) (A : Atoms 𝓤) (W : Given
 
     -- the stores, and the frames
     abbrev stores : List ℕ → List ℕ → List Arg
-    stores st cs = shr u64 s0 constants ∷ shr u64 s1 functions ∷ shr u8 s2 text ∷ shr u8 s3 main ∷ shr u8 s4 other ∷ mut u64 s5 st ∷ mut u64 s6 cs ∷ []
+    stores st cs =
+        shr u64 s0 constants ∷ shr u64 s1 functions ∷ shr u8 s2 text ∷ shr u8 s3 main ∷ shr u8 s4 other ∷ mut u64 s5 st ∷ mut u64
+        s6 cs ∷ []
 
     abbrev frames : List Frame → List Arg
     frames fs = mut R s7 fs ∷ []
 
     abbrev xs : List ℕ → List ℕ → List Frame → List Arg
-    xs st cs fs = val TF.the-row k (kval k) ∷ val TG.the-row start (gval start) ∷ val usize n (vint w64 n) ∷ shr u64 s0 constants ∷ shr u64 s1 functions ∷ shr u8 s2 text ∷ shr u8 s3 main ∷ shr u8 s4 other ∷ mut u64 s5 st ∷ mut u64 s6 cs ∷ mut R s7 fs ∷ []
+    xs st cs fs =
+        val TF.the-row k (kval k) ∷ val TG.the-row start (gval start) ∷ val usize n (vint w64 n) ∷ shr u64 s0 constants ∷ shr u64
+        s1 functions ∷ shr u8 s2 text ∷ shr u8 s3 main ∷ shr u8 s4 other ∷ mut u64 s5 st ∷ mut u64 s6 cs ∷ mut R s7 fs ∷ []
 
     abbrev x0 : List Arg
     x0 = xs stack₀ cells₀ frames₀
@@ -329,12 +352,22 @@ module _ {M : Type 1} (𝓤 : URA M) (H : Heap 𝓤) (A : Atoms 𝓤) (W : Given
 
     exits : (c : Course) (st cs : List ℕ) (fs : List Frame) → IsCourse c → length st ≡ s5 .count → length cs ≡ s6 .count → length fs ≡ s7 .count → Came false c st cs fs → ent 𝓤 (⋆ 𝓤 H A (‵ (Holds (stores st cs)) ∷ ‵ (Holds (frames fs)) ∷ [])) (Post (cval c))
     exits c st cs fs isc e5 e6 e7 said =
-        qed W (‵ (Holds (stores st cs)) ∷ ‵ (Holds (frames fs)) ∷ []) ∵ suffices ! _ (ends-at 𝓤 H A me.ended (stays kinds) (me.clauses 𝓤 H A mem run) W (passing x0) (cval c) c (tt, (tt, (tt, (tt, (tt, (tt, (tt, (tt, (st, (cs, (fs, tt))))))))))) (tt, (tt, (tt, (tt, (tt, (tt, (tt, (tt, (e5, (e6, (e7, tt)))))))))))) $ says ! said $
-        joins ! (stores st cs) (frames fs) (gives ! (xs st cs fs) (LL.makes TF.the-type TF′.the-plain 𝓤 H A k _ is-k, (LL.makes TG.the-type TG′.the-plain 𝓤 H A start _ is-start, (uint-makes 𝓤 H A W w64 n _ is-n, tt))) (frame ! $ owned ! TC.the-row (Is TC.the-row) (LL.makes TC.the-type TC′.the-plain 𝓤 H A) c _ isc $ keep ! (1 ∷ 0 ∷ []) $ done !))
+        qed W (‵ (Holds (stores st cs)) ∷ ‵ (Holds (frames fs)) ∷ []) ∵ suffices ! _
+        (ends-at 𝓤 H A me.ended (stays kinds) (me.clauses 𝓤 H A mem run) W (passing x0) (cval c) c
+        (tt, (tt, (tt, (tt, (tt, (tt, (tt, (tt, (st, (cs, (fs, tt)))))))))))
+        (tt, (tt, (tt, (tt, (tt, (tt, (tt, (tt, (e5, (e6, (e7, tt)))))))))))) $ says ! said $ joins ! (stores st cs) (frames fs)
+        (gives ! (xs st cs fs) (
+          LL.makes TF.the-type TF′.the-plain 𝓤 H A k _ is-k,
+          (LL.makes TG.the-type TG′.the-plain 𝓤 H A start _ is-start, (uint-makes 𝓤 H A W w64 n _ is-n, tt)),
+        )
+        (frame ! $ owned ! TC.the-row (Is TC.the-row) (LL.makes TC.the-type TC′.the-plain 𝓤 H A) c _ isc $ keep ! (1 ∷ 0 ∷ []) $
+        done !))
 
     -- the call of `advance`
     abbrev to-advance : Going → List ℕ → List ℕ → List Arg
-    to-advance g st cs = val TF.the-row k (kval k) ∷ val TG.the-row g (gval g) ∷ val usize n (vint w64 n) ∷ shr u64 s0 constants ∷ shr u64 s1 functions ∷ shr u8 s2 text ∷ shr u8 s3 main ∷ shr u8 s4 other ∷ mut u64 s5 st ∷ mut u64 s6 cs ∷ []
+    to-advance g st cs =
+        val TF.the-row k (kval k) ∷ val TG.the-row g (gval g) ∷ val usize n (vint w64 n) ∷ shr u64 s0 constants ∷ shr u64 s1
+        functions ∷ shr u8 s2 text ∷ shr u8 s3 main ∷ shr u8 s4 other ∷ mut u64 s5 st ∷ mut u64 s6 cs ∷ []
 
     abbrev Told : Going → List ℕ → List ℕ → Event → List ℕ → List ℕ → Type 0
     Told g st cs e st′ cs′ = Said k n constants functions text main other g st cs e st′ cs′
@@ -342,27 +375,39 @@ module _ {M : Type 1} (𝓤 : URA M) (H : Heap 𝓤) (A : Atoms 𝓤) (W : Given
     call-advance : (g : Going) (st cs : List ℕ) → IsGoing g → length st ≡ s5 .count → length cs ≡ s6 .count
         → ((w : World) × (ds : List Frame) × Ready w ds k g (codeIn functions main other (g .function)) constants functions (take n text) st cs) × (n ≤ length text)
         → Rule 𝓤 H A W (to-advance g st cs) Advance TE.the-row eval (λ e ts. Told g st cs e (ts .1 .1 .1 .1 .1 .1 .1 .1 .0) (ts .1 .1 .1 .1 .1 .1 .1 .1 .1 .0))
-    call-advance g st cs isg e5 e6 ask = call-with 𝓤 H A W (to-advance g st cs) Advance TE.the-row eval (λ e ts. Told g st cs e (ts .1 .1 .1 .1 .1 .1 .1 .1 .0) (ts .1 .1 .1 .1 .1 .1 .1 .1 .1 .0)) (TE′.lowers .val-is) (λ ns. passing (lent (to-advance g st cs) ns)) (λ ns. refl)
-        (λ ns. asked W (lent (to-advance g st cs) ns) ask) (λ ns w. id⊢ 𝓤 _) (LL.makes TF.the-type TF′.the-plain 𝓤 H A k _ is-k, (LL.makes TG.the-type TG′.the-plain 𝓤 H A g _ isg, (uint-makes 𝓤 H A W w64 n _ is-n, tt)))
-        ((refl, room0), ((refl, room1), ((refl, room2), ((refl, room3), ((refl, room4), ((e5, room5), ((e6, room6), tt)))))))
+    call-advance g st cs isg e5 e6 ask =
+        call-with 𝓤 H A W (to-advance g st cs) Advance TE.the-row eval
+        (λ e ts. Told g st cs e (ts .1 .1 .1 .1 .1 .1 .1 .1 .0) (ts .1 .1 .1 .1 .1 .1 .1 .1 .1 .0)) (TE′.lowers .val-is)
+        (λ ns. passing (lent (to-advance g st cs) ns)) (λ ns. refl) (λ ns. asked W (lent (to-advance g st cs) ns) ask)
+        (λ ns w. id⊢ 𝓤 _) (
+          LL.makes TF.the-type TF′.the-plain 𝓤 H A k _ is-k,
+          (LL.makes TG.the-type TG′.the-plain 𝓤 H A g _ isg, (uint-makes 𝓤 H A W w64 n _ is-n, tt)),
+        ) ((refl, room0), ((refl, room1), ((refl, room2), ((refl, room3), ((refl, room4), ((e5, room5), ((e6, room6), tt)))))))
 
     -- the loop's state: the course, the stores, the frames, and what is known of them
     abbrev State : Type 0
-    State = (c : Course) × (st : List ℕ) × (cs : List ℕ) × (fs : List Frame) × (IsCourse c × (length st ≡ s5 .count) × (length cs ≡ s6 .count) × (length fs ≡ s7 .count) × Came (c .on) c st cs fs)
+    State =
+        (c : Course) × (st : List ℕ) × (cs : List ℕ) × (fs : List Frame) ×
+        (IsCourse c × (length st ≡ s5 .count) × (length cs ≡ s6 .count) × (length fs ≡ s7 .count) × Came (c .on) c st cs fs)
 
     module _ {w : World} (under : Under w k start n constants functions text main other stack₀ cells₀ frames₀) (ls : Blocks (code.function .locals)) where
       abbrev held : Course → List (Option Val)
-      held c = none ∷ some (kval k) ∷ some (gval start) ∷ some (vint w64 n) ∷ some (sval s0) ∷ some (sval s1) ∷ some (sval s2) ∷ some (sval s3) ∷ some (sval s4) ∷ some (sval s5) ∷ some (sval s6) ∷ some (sval s7) ∷ some (cval c) ∷ []
+      held c =
+          none ∷ some (kval k) ∷ some (gval start) ∷ some (vint w64 n) ∷ some (sval s0) ∷ some (sval s1) ∷ some (sval s2) ∷ some
+          (sval s3) ∷ some (sval s4) ∷ some (sval s5) ∷ some (sval s6) ∷ some (sval s7) ∷ some (cval c) ∷ []
 
       abbrev loop : Loop A 𝓣
-      loop = record {
-        State = State;
-        measure = λ x. weight (x .0);
-        inv = λ x. ‵ (Locals (code.function .locals) ls (held (x .0))) ∷ ‵ (Holds (stores (x .1) (x .2))) ∷ ‵ (Holds (frames (x .3))) ∷ [];
-        env = envAt (code.function .locals) ls;
-        rest = cm.t-3;
-        end = atRet (envAt (code.function .locals) ls) Post;
-      }
+      loop =
+          record {
+            State = State;
+            measure = λ x. weight (x .0);
+            inv =
+                λ x. ‵ (Locals (code.function .locals) ls (held (x .0))) ∷ ‵ (Holds (stores (x .1) (x .2))) ∷ ‵
+                (Holds (frames (x .3))) ∷ [];
+            env = envAt (code.function .locals) ls;
+            rest = cm.t-3;
+            end = atRet (envAt (code.function .locals) ls) Post;
+          }
 
       turn : (x : State) → Sq W (loop .inv x) (runs (𝓣 .C) (𝓣 .Λ) (loop .env) cm.turn-1 (Turn loop x))
       turn (c, st, cs, fs, (isc, e5, e6, e7, came)) =
@@ -410,25 +455,80 @@ module _ {M : Type 1} (𝓤 : URA M) (H : Heap 𝓤) (A : Atoms 𝓤) (W : Given
 
     walk : (w : World) × Under w k start n constants functions text main other stack₀ cells₀ frames₀ → ent 𝓤 (onEntry 𝓤 H A me.signature (lfts x0) (shares x0) (denots x0) (valss x0)) (WpFn 𝓤 H (𝓣 .C) (𝓣 .Λ) code.function (values x0) Post)
     walk can =
-        qed W (‵ (Toks x0) ∷ ‵ (Owns x0) ∷ []) ∵ takes ! x0 (splits ! (stores stack₀ cells₀) (frames frames₀) (enters ! (𝓣 .C) (𝓣 .Λ) code.function (values x0) Post
-        (fixed-typed k is-k, (going-typed start is-start, ((tt, record { fits = is-n .1 }), ((tt, (tt, (record { fits = room0 .0 }, tt))), ((tt, (tt, (record { fits = room1 .0 }, tt))), ((tt, (tt, (record { fits = room2 .0 }, tt))), ((tt, (tt, (record { fits = room3 .0 }, tt))), ((tt, (tt, (record { fits = room4 .0 }, tt))), ((tt, (tt, (record { fits = room5 .0 }, tt))), ((tt, (tt, (record { fits = room6 .0 }, tt))), ((tt, (tt, (record { fits = room7 .0 }, tt))), tt))))))))))) (λ ls.
-        nothing ! $ move ! (1 ∷ []) $ call-begun start is-start .calls ! (fmOf 𝓤 H (W .laws) 𝓣) k-begun refl (λ c us ec lens isc. lands-in ! (course-typed c isc) $ move ! (1 ∷ []) $ drop ! $
-        rounds ! (loop (can .1) ls) (turn (can .1) ls) (c, stack₀, cells₀, frames₀, (isc, refl, refl, refl, subst (λ (r : Course). Came (r .on) r stack₀ cells₀ frames₀) (sym ec) (λ w at. gone-none k n constants functions text main other at)))))))
+        qed W (‵ (Toks x0) ∷ ‵ (Owns x0) ∷ []) ∵ takes ! x0
+        (splits ! (stores stack₀ cells₀) (frames frames₀)
+        (enters ! (𝓣 .C) (𝓣 .Λ) code.function (values x0) Post (
+          fixed-typed k is-k,
+          (
+            going-typed start is-start,
+            (
+              (tt, record { fits = is-n .1 }),
+              (
+                (tt, (tt, (record { fits = room0 .0 }, tt))),
+                (
+                  (tt, (tt, (record { fits = room1 .0 }, tt))),
+                  (
+                    (tt, (tt, (record { fits = room2 .0 }, tt))),
+                    (
+                      (tt, (tt, (record { fits = room3 .0 }, tt))),
+                      (
+                        (tt, (tt, (record { fits = room4 .0 }, tt))),
+                        (
+                          (tt, (tt, (record { fits = room5 .0 }, tt))),
+                          ((tt, (tt, (record { fits = room6 .0 }, tt))), ((tt, (tt, (record { fits = room7 .0 }, tt))), tt)),
+                        ),
+                      ),
+                    ),
+                  ),
+                ),
+              ),
+            ),
+          ),
+        )
+        (λ ls. nothing ! $ move ! (1 ∷ []) $ call-begun start is-start .calls ! (fmOf 𝓤 H (W .laws) 𝓣) k-begun refl
+        (λ c us ec lens isc. lands-in ! (course-typed c isc) $ move ! (1 ∷ []) $ drop ! $ rounds ! (loop (can .1) ls)
+        (turn (can .1) ls) (
+          c,
+          stack₀,
+          cells₀,
+          frames₀,
+          (
+            isc,
+            refl,
+            refl,
+            refl,
+            subst (λ (r : Course). Came (r .on) r stack₀ cells₀ frames₀) (sym ec)
+                (λ w at. gone-none k n constants functions text main other at),
+          ),
+        )))))
 
 pub turns-spec : {M : Type 1} → stated.statement M
 unfolding code.routine tablesOf
 turns-spec 𝓤 H 𝓜 𝓖 𝓡 =
     let W : Given 𝓤 H (𝓖 .A) = givenOf 𝓤 H 𝓜 𝓖 in
     closed kinds TC.the-row 𝓤 H 𝓜 𝓖 𝓡 code.env #me code.function (code.unfolded 𝓤 H 𝓜 𝓡) (me.clauses 𝓤 H (𝓖 .A) (𝓜 .mem) (𝓡 .run))
-    (λ κs qs a g is. needs 𝓤 ((w : World) × Under w (a .0) (a .1 .0) (a .1 .1 .0) (now (a .1 .1 .1 .0)) (now (a .1 .1 .1 .1 .0)) (now (a .1 .1 .1 .1 .1 .0)) (now (a .1 .1 .1 .1 .1 .1 .0)) (now (a .1 .1 .1 .1 .1 .1 .1 .0)) (now (a .1 .1 .1 .1 .1 .1 .1 .1 .0)) (now (a .1 .1 .1 .1 .1 .1 .1 .1 .1 .0)) (now (a .1 .1 .1 .1 .1 .1 .1 .1 .1 .1 .0))) _
+    (λ κs qs a g is. needs 𝓤
+    ((w : World) × Under w (a .0) (a .1 .0) (a .1 .1 .0) (now (a .1 .1 .1 .0)) (now (a .1 .1 .1 .1 .0))
+    (now (a .1 .1 .1 .1 .1 .0)) (now (a .1 .1 .1 .1 .1 .1 .0)) (now (a .1 .1 .1 .1 .1 .1 .1 .0))
+    (now (a .1 .1 .1 .1 .1 .1 .1 .1 .0)) (now (a .1 .1 .1 .1 .1 .1 .1 .1 .1 .0)) (now (a .1 .1 .1 .1 .1 .1 .1 .1 .1 .1 .0))) _
     (walk 𝓤 H (𝓖 .A) W (𝓜 .mem) (𝓡 .run) (tablesOf 𝓤 H 𝓜 (tables 𝓤 H 𝓜 𝓡 code.env))
-    (cited 𝓤 H (Read 𝓤 H (𝓖 .A) W (𝓜 .mem) (𝓡 .run)) 𝓜 𝓡 code.env #read read-def.routine code.calls-frames·read-frame (read-thm.met 𝓤 H 𝓜 𝓖 𝓡))
-    (cited 𝓤 H (Write 𝓤 H (𝓖 .A) W (𝓜 .mem) (𝓡 .run)) 𝓜 𝓡 code.env #write write-def.routine code.calls-frames·write-frame (write-thm.met 𝓤 H 𝓜 𝓖 𝓡))
-    (cited 𝓤 H (Begun 𝓤 H (𝓖 .A) W (𝓜 .mem) (𝓡 .run)) 𝓜 𝓡 code.env #begun begun-def.routine code.calls-turns·begun (begun-thm.met 𝓤 H 𝓜 𝓖 𝓡))
-    (cited 𝓤 H (Advance 𝓤 H (𝓖 .A) W (𝓜 .mem) (𝓡 .run)) 𝓜 𝓡 code.env #advance advance-def.routine code.calls-turns·advance (advance-thm.met 𝓤 H 𝓜 𝓖 𝓡))
-    (cited 𝓤 H (Overs 𝓤 H (𝓖 .A) W (𝓜 .mem) (𝓡 .run)) 𝓜 𝓡 code.env #over over-def.routine code.calls-turns·over (over-thm.met 𝓤 H 𝓜 𝓖 𝓡))
-    (cited 𝓤 H (FrameOf 𝓤 H (𝓖 .A) W (𝓜 .mem) (𝓡 .run)) 𝓜 𝓡 code.env #frame-of frame-of-def.routine code.calls-turns·frame-of (frame-of-thm.met 𝓤 H 𝓜 𝓖 𝓡))
-    (cited 𝓤 H (Enter 𝓤 H (𝓖 .A) W (𝓜 .mem) (𝓡 .run)) 𝓜 𝓡 code.env #enter enter-def.routine code.calls-turns·entered (enter-thm.met 𝓤 H 𝓜 𝓖 𝓡))
-    (cited 𝓤 H (CallerAt 𝓤 H (𝓖 .A) W (𝓜 .mem) (𝓡 .run)) 𝓜 𝓡 code.env #caller-at caller-at-def.routine code.calls-turns·caller-at (caller-at-thm.met 𝓤 H 𝓜 𝓖 𝓡))
-    (cited 𝓤 H (Resume 𝓤 H (𝓖 .A) W (𝓜 .mem) (𝓡 .run)) 𝓜 𝓡 code.env #resume resume-def.routine code.calls-turns·resumed (resume-thm.met 𝓤 H 𝓜 𝓖 𝓡))
-    (cited 𝓤 H (Stop 𝓤 H (𝓖 .A) W (𝓜 .mem) (𝓡 .run)) 𝓜 𝓡 code.env #stop stop-def.routine code.calls-turns·stopped (stop-thm.met 𝓤 H 𝓜 𝓖 𝓡)) κs qs a is))
+    (cited 𝓤 H (Read 𝓤 H (𝓖 .A) W (𝓜 .mem) (𝓡 .run)) 𝓜 𝓡 code.env #read read-def.routine code.calls-frames·read-frame
+    (read-thm.met 𝓤 H 𝓜 𝓖 𝓡))
+    (cited 𝓤 H (Write 𝓤 H (𝓖 .A) W (𝓜 .mem) (𝓡 .run)) 𝓜 𝓡 code.env #write write-def.routine code.calls-frames·write-frame
+    (write-thm.met 𝓤 H 𝓜 𝓖 𝓡))
+    (cited 𝓤 H (Begun 𝓤 H (𝓖 .A) W (𝓜 .mem) (𝓡 .run)) 𝓜 𝓡 code.env #begun begun-def.routine code.calls-turns·begun
+    (begun-thm.met 𝓤 H 𝓜 𝓖 𝓡))
+    (cited 𝓤 H (Advance 𝓤 H (𝓖 .A) W (𝓜 .mem) (𝓡 .run)) 𝓜 𝓡 code.env #advance advance-def.routine code.calls-turns·advance
+    (advance-thm.met 𝓤 H 𝓜 𝓖 𝓡))
+    (cited 𝓤 H (Overs 𝓤 H (𝓖 .A) W (𝓜 .mem) (𝓡 .run)) 𝓜 𝓡 code.env #over over-def.routine code.calls-turns·over
+    (over-thm.met 𝓤 H 𝓜 𝓖 𝓡))
+    (cited 𝓤 H (FrameOf 𝓤 H (𝓖 .A) W (𝓜 .mem) (𝓡 .run)) 𝓜 𝓡 code.env #frame-of frame-of-def.routine code.calls-turns·frame-of
+    (frame-of-thm.met 𝓤 H 𝓜 𝓖 𝓡))
+    (cited 𝓤 H (Enter 𝓤 H (𝓖 .A) W (𝓜 .mem) (𝓡 .run)) 𝓜 𝓡 code.env #enter enter-def.routine code.calls-turns·entered
+    (enter-thm.met 𝓤 H 𝓜 𝓖 𝓡))
+    (cited 𝓤 H (CallerAt 𝓤 H (𝓖 .A) W (𝓜 .mem) (𝓡 .run)) 𝓜 𝓡 code.env #caller-at caller-at-def.routine code.calls-turns·caller-at
+    (caller-at-thm.met 𝓤 H 𝓜 𝓖 𝓡))
+    (cited 𝓤 H (Resume 𝓤 H (𝓖 .A) W (𝓜 .mem) (𝓡 .run)) 𝓜 𝓡 code.env #resume resume-def.routine code.calls-turns·resumed
+    (resume-thm.met 𝓤 H 𝓜 𝓖 𝓡))
+    (cited 𝓤 H (Stop 𝓤 H (𝓖 .A) W (𝓜 .mem) (𝓡 .run)) 𝓜 𝓡 code.env #stop stop-def.routine code.calls-turns·stopped
+    (stop-thm.met 𝓤 H 𝓜 𝓖 𝓡)) κs qs a is))

@@ -11,55 +11,65 @@ pop-requires : tie.Need-pop-requires
 pop-requires c κs = search needs
 
 enum-known-v : tie.Need-enum-known-v
-enum-known-v c = search needs
+enum-known-v c = search
 
 enum-told : tie.Need-enum-told
-enum-told c = search needs
+enum-told c = search
 
 same-length : tie.Need-same-length
-same-length c = search needs
+same-length c = search
 
 returns : tie.Need-returns
-returns c = field-none (c .before .before .before .before .before .before .pre .1) (c .before .before .pop .ensures) _ (c .enum-told .given .1)
+returns c = search field-none
 
 enum-known-v-2 : tie.Need-enum-known-v-2
-enum-known-v-2 c = search needs
+enum-known-v-2 c = search
 
 same-length-2 : tie.Need-same-length-2
-same-length-2 c = search needs
+same-length-2 c = search
 
 returns-2 : tie.Need-returns-2
-returns-2 c = field-wrong (c .before .before .before .before .before .before .before .before .pre .1) (c .before .before .before .before .pop .ensures) _ (c .before .before .v .given .1) (no-struct _ (c .match2 .keys2))
+returns-2 c = search (field-wrong, no-struct)
 
 cast-field : tie.Need-cast-field
 cast-field c = search needs
 
 field-requires : tie.Need-field-requires
-field-requires c κs = field-pre (c .before .before .before .before .before .before .before .before .before .before .pre .1) (c .before .before .before .before .before .before .pop .ensures) (c .before .before .before .before .before .before .before .before .before .before .args .a) (c .before .before .before .before .v .given .1) (c .before .v2 .given .1)
+field-requires c κs = search field-pre
 
 enum-known-f : tie.Need-enum-known-f
-enum-known-f c = search needs
+enum-known-f c = search
 
 enum-known-x : tie.Need-enum-known-x
-enum-known-x c = search needs
+enum-known-x c = search
 
 sub-write-value : tie.Need-sub-write-value
-sub-write-value c = omega (arith, got-some _ _ (c .before .before .before .before .before .before .before .before .before .before .before .pop .ensures) (c .before .before .before .before .before .before .before .before .before .v .given .1))
+sub-write-value c = search (got-some, needs)
 
 write-value-requires : tie.Need-write-value-requires
-write-value-requires c κs = omega (arith, got-some _ _ (c .before .before .before .before .before .before .before .before .before .before .before .pop .ensures) (c .before .before .before .before .before .before .before .before .before .v .given .1), c .before .before .before .before .before .before .before .before .before .before .before .before .before .before .before .pre .1 .stack .count, c .before .before .before .before .before .before .before .before .before .before .before .before .before .before .before .pre .1 .stack .room)
+write-value-requires c κs =
+    omega (
+      arith,
+      let at-v = c .before .before .before .before .before .before .before .before .before in
+          let at-pop = at-v .before .before in
+          got-some _ _ (at-pop .pop .ensures) (at-v .v .given .1),
+      c .before .before .before .before .before .before .before .before .before .before .before .before .before .before .before
+          .pre .1 .stack .count,
+      c .before .before .before .before .before .before .before .before .before .before .before .before .before .before .before
+          .pre .1 .stack .room,
+    )
 
 same-length-3 : tie.Need-same-length-3
-same-length-3 c = search needs
+same-length-3 c = search
 
 returns-3 : tie.Need-returns-3
-returns-3 c = field-bad (c .before .before .before .before .before .before .before .before .before .before .before .before .before .before .pre .1) (c .before .before .before .before .before .before .before .before .before .before .pop .ensures) _ (c .before .before .before .before .before .before .before .before .v .given .1) (c .before .before .before .before .before .v2 .given .1) (c .before .before .before .field .ensures) (c .before .f .given .1)
+returns-3 c = search field-bad
 
 same-length-4 : tie.Need-same-length-4
-same-length-4 c = search needs
+same-length-4 c = search
 
 returns-4 : tie.Need-returns-4
-returns-4 c = field-got (c .before .before .before .before .before .before .before .before .before .before .before .before .before .before .before .before .before .before .pre .1) (c .before .before .before .before .before .before .before .before .before .before .before .before .before .before .pop .ensures) _ (c .before .before .before .before .before .before .before .before .before .before .before .before .v .given .1) (c .before .before .before .before .before .before .before .before .before .v2 .given .1) (c .before .before .before .before .before .before .before .field .ensures) (c .before .before .before .before .before .x .given .1) (c .before .before .write-value .ensures)
+returns-4 c = search field-got
 
 pub access-struct-field-spec : {M : Type 1} → statement M
 access-struct-field-spec =

@@ -5,7 +5,7 @@ use Rattle.arms.proofs.frames.call.Statement.{statement}
 use Rattle.arms.proofs.frames.call.Tie as tie
 
 returns : tie.Need-returns
-returns c = λ u d. no-number (c .before .before .before .pre) d _ _ (c .if1 .taken)
+returns c = search no-number
 
 enters-requires : tie.Need-enters-requires
 enters-requires c κs = search needs

@@ -12,46 +12,53 @@ pop-requires : tie.Need-pop-requires
 pop-requires c κs = search needs
 
 enum-known-v : tie.Need-enum-known-v
-enum-known-v c = search needs
+enum-known-v c = search
 
 enum-told : tie.Need-enum-told
-enum-told c = search needs
+enum-told c = search
 
 same-length : tie.Need-same-length
-same-length c = search needs
+same-length c = search
 
 returns : tie.Need-returns
-returns c = returns-none (c .before .before .before .before .before .pre) (c .before .before .pop .ensures) (c .enum-told .given .1)
+returns c = search returns-none
 
 sub-below : tie.Need-sub-below
-sub-below c = omega (arith, got-some _ _ (c .before .before .before .pop .ensures) (c .before .v .given .1))
+sub-below c = search (got-some, needs)
 
 kind-of-requires : tie.Need-kind-of-requires
-kind-of-requires c κs = search needs
+kind-of-requires c κs = search
 
 payload-of-requires : tie.Need-payload-of-requires
-payload-of-requires c κs = search needs
+payload-of-requires c κs = search
 
 same-length-2 : tie.Need-same-length-2
-same-length-2 c = search needs
+same-length-2 c = search
 
 returns-2 : tie.Need-returns-2
-returns-2 c = returns-last (c .before .before .before .before .before .before .before .before .before .before .pre) (c .before .before .before .before .before .before .before .pop .ensures) (c .before .before .before .before .before .v .given .1) (c .before .before .if1 .taken) refl (c .before .kind-of .ensures) (c .payload-of .ensures)
+returns-2 c = search returns-last
 
 smaller-requires : tie.Need-smaller-requires
-smaller-requires c κs = search needs
+smaller-requires c κs = search
 
 add-count : tie.Need-add-count
 add-count c = search needs
 
 write-value-requires : tie.Need-write-value-requires
-write-value-requires c κs = omega (arith, got-some _ _ (c .before .before .before .before .before .before .before .pop .ensures) (c .before .before .before .before .before .v .given .1), c .before .smaller .ensures)
+write-value-requires c κs =
+    omega (
+      arith,
+      let at-v = c .before .before .before .before .before in
+          let at-pop = at-v .before .before in
+          got-some _ _ (at-pop .pop .ensures) (at-v .v .given .1),
+      c .before .smaller .ensures,
+    )
 
 same-length-3 : tie.Need-same-length-3
-same-length-3 c = search needs
+same-length-3 c = search
 
 returns-3 : tie.Need-returns-3
-returns-3 c = returns-back (c .before .before .before .before .before .before .before .before .before .before .before .before .before .pre) (c .before .before .before .before .before .before .before .before .before .before .pop .ensures) (c .before .before .before .before .before .before .before .before .v .given .1) (c .before .before .before .before .before .if1 .left) (c .before .before .before .before .smaller .ensures) (add-one _) (c .before .before .write-value .ensures)
+returns-3 c = search (returns-back, add-one)
 
 pub go-back-spec : {M : Type 1} → statement M
 go-back-spec =

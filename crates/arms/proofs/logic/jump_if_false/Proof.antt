@@ -11,31 +11,37 @@ pop-requires : tie.Need-pop-requires
 pop-requires c κs = search needs
 
 enum-known-v : tie.Need-enum-known-v
-enum-known-v c = search needs
+enum-known-v c = search
 
 enum-told : tie.Need-enum-told
-enum-told c = search needs
+enum-told c = search
 
 returns : tie.Need-returns
-returns c = one-none (c .before .before .before .before .pre .0) (c .before .before .pop .ensures) (jumps-if-false _) (c .enum-told .given .1)
+returns c =
+    one-none (c .before .before .before .before .pre .0) (c .before .before .pop .ensures) (jumps-if-false _)
+    (c .enum-told .given .1)
 
 enum-known-v-2 : tie.Need-enum-known-v-2
-enum-known-v-2 c = search needs
+enum-known-v-2 c = search
 
 returns-2 : tie.Need-returns-2
-returns-2 c = one-wrong (c .before .before .before .before .before .before .pre .0) (c .before .before .before .before .pop .ensures) (jumps-if-false _) (c .before .before .v .given .1) (no-boolean _ (c .match2 .keys2))
+returns-2 c =
+    let at-pop = c .before .before .before .before in
+    let at-start = at-pop .before .before in
+    one-wrong (at-start .pre .0) (at-pop .pop .ensures) (jumps-if-false _) (c .before .before .v .given .1)
+    (no-boolean _ (c .match2 .keys2))
 
 sub-count : tie.Need-sub-count
-sub-count c = omega (arith, got-some _ _ (c .before .before .before .before .before .before .pop .ensures) (c .before .before .before .before .v .given .1))
+sub-count c = search (got-some, needs)
 
 returns-3 : tie.Need-returns-3
-returns-3 c = stays (c .before .before .before .before .before .before .before .before .before .pre .0) (c .before .before .before .before .before .before .before .pop .ensures) (c .before .before .before .before .before .v .given .1) _ (c .before .before .v2 .given .1) refl (c .if1 .taken)
+returns-3 c = search stays
 
 add-position : tie.Need-add-position
 add-position c = search needs
 
 returns-4 : tie.Need-returns-4
-returns-4 c = jumps-on (c .before .before .before .before .before .before .before .before .before .before .pre .0) (c .before .before .before .before .before .before .before .before .pop .ensures) (c .before .before .before .before .before .before .v .given .1) _ (c .before .before .before .v2 .given .1) refl (c .before .if1 .left) refl
+returns-4 c = search jumps-on
 
 pub jump-if-false-spec : {M : Type 1} → statement M
 jump-if-false-spec =

@@ -11,34 +11,41 @@ two-booleans-requires : tie.Need-two-booleans-requires
 two-booleans-requires c κs = search needs
 
 enum-known-f : tie.Need-enum-known-f
-enum-known-f c = search needs
+enum-known-f c = search
 
 enum-known-x : tie.Need-enum-known-x
-enum-known-x c = search needs
+enum-known-x c = search
 
 sub-count : tie.Need-sub-count
 sub-count c = omega (arith, two-booleans _ _ (c .before .before .before .two-booleans .ensures) (c .before .x .given .1))
 
 sub-write-value : tie.Need-sub-write-value
-sub-write-value c = omega (arith, two-booleans _ _ (c .before .before .before .before .two-booleans .ensures) (c .before .before .x .given .1))
+sub-write-value c =
+    omega (arith, two-booleans _ _ (c .before .before .before .before .two-booleans .ensures) (c .before .before .x .given .1))
 
 joined-requires : tie.Need-joined-requires
-joined-requires c κs = search needs
+joined-requires c κs = search
 
 write-value-requires : tie.Need-write-value-requires
-write-value-requires c κs = omega (arith, two-booleans _ _ (c .before .before .before .before .before .two-booleans .ensures) (c .before .before .before .x .given .1))
+write-value-requires c κs =
+    omega (
+      arith,
+      let at-x = c .before .before .before in
+          let at-two-booleans = at-x .before .before in
+          two-booleans _ _ (at-two-booleans .two-booleans .ensures) (at-x .x .given .1),
+    )
 
 same-length : tie.Need-same-length
-same-length c = search needs
+same-length c = search
 
 returns : tie.Need-returns
-returns c = logic-bad (c .before .before .before .before .before .before .pre) (c .before .before .before .two-booleans .ensures) _ (c .before .f .given .1)
+returns c = search logic-bad
 
 same-length-2 : tie.Need-same-length-2
-same-length-2 c = search needs
+same-length-2 c = search
 
 returns-2 : tie.Need-returns-2
-returns-2 c = joined (c .before .before .before .before .before .before .before .before .before .before .before .pre) (c .before .before .before .before .before .before .before .before .two-booleans .ensures) _ (c .before .before .before .before .before .before .x .given .1) (left-place _) refl (c .before .before .before .joined .ensures) (c .before .before .write-value .ensures)
+returns-2 c = search (joined, left-place)
 
 pub logical-spec : {M : Type 1} → statement M
 logical-spec =

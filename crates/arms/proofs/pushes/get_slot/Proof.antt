@@ -12,13 +12,18 @@ read-value-requires : tie.Need-read-value-requires
 read-value-requires c κs = search needs
 
 push-requires : tie.Need-push-requires
-push-requires c κs = search needs
+push-requires c κs = search
 
 same-length : tie.Need-same-length
-same-length c = search needs
+same-length c = search
 
 returns-2 : tie.Need-returns-2
-returns-2 c = λ u d. found (c .before .before .before .before .before .before .before .before .before .pre) d (gets-slot u _) (λ x cs. slot _ _ _ (c .before .before .before .before .before .before .if1 .left) (c .before .before .before .before .read-value .ensures)) (c .before .before .push .ensures u d)
+returns-2 c =
+    let at-read-value = c .before .before .before .before in
+    let at-if1 = at-read-value .before .before in
+    let at-start = at-if1 .before .before .before in
+    λ u d. found (at-start .pre) d (gets-slot u _) (λ x cs. slot _ _ _ (at-if1 .if1 .left) (at-read-value .read-value .ensures))
+    (c .before .before .push .ensures u d)
 
 pub get-slot-spec : {M : Type 1} → statement M
 get-slot-spec =

@@ -7,7 +7,7 @@ use Rattle.arms.proofs.pushes.push.Statement.{statement}
 use Rattle.arms.proofs.pushes.push.Tie as tie
 
 returns : tie.Need-returns
-returns c = λ u d. full (c .before .before .before .pre) d _ (omega arith)
+returns c = search (full, needs)
 
 add-count : tie.Need-add-count
 add-count c = search needs
@@ -16,10 +16,10 @@ write-value-requires : tie.Need-write-value-requires
 write-value-requires c κs = search needs
 
 same-length : tie.Need-same-length
-same-length c = search needs
+same-length c = search
 
 returns-2 : tie.Need-returns-2
-returns-2 c = λ u d. pushes (c .before .before .before .before .before .before .before .pre) d (c .before .before .before .before .if1 .left) (c .before .before .write-value .ensures) (add-one _)
+returns-2 c = search (pushes, add-one)
 
 pub push-spec : {M : Type 1} → statement M
 push-spec = tie.close (tie.spec returns add-count write-value-requires same-length returns-2)

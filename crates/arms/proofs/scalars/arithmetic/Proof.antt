@@ -11,43 +11,61 @@ two-scalars-requires : tie.Need-two-scalars-requires
 two-scalars-requires c κs = search needs
 
 enum-known-f : tie.Need-enum-known-f
-enum-known-f c = search needs
+enum-known-f c = search
 
 enum-known-x : tie.Need-enum-known-x
-enum-known-x c = search needs
+enum-known-x c = search
 
 zero-divisor-requires : tie.Need-zero-divisor-requires
-zero-divisor-requires c κs = search needs
+zero-divisor-requires c κs = search
 
 same-length : tie.Need-same-length
-same-length c = search needs
+same-length c = search
 
 returns : tie.Need-returns
-returns c = zero-divided (c .before .before .before .before .before .before .before .before .pre) (c .before .before .before .before .before .two-scalars .ensures) (c .before .before .before .x .given .1) _ (c .before .zero-divisor .ensures) (c .if1 .taken)
+returns c = search zero-divided
 
 sub-count : tie.Need-sub-count
-sub-count c = omega (arith, two-scalars _ _ (c .before .before .before .before .before .two-scalars .ensures) (c .before .before .before .x .given .1))
+sub-count c =
+    omega (
+      arith,
+      let at-x = c .before .before .before in
+          let at-two-scalars = at-x .before .before in
+          two-scalars _ _ (at-two-scalars .two-scalars .ensures) (at-x .x .given .1),
+    )
 
 sub-write-value : tie.Need-sub-write-value
-sub-write-value c = omega (arith, two-scalars _ _ (c .before .before .before .before .before .before .two-scalars .ensures) (c .before .before .before .before .x .given .1))
+sub-write-value c =
+    omega (
+      arith,
+      let at-x = c .before .before .before .before in
+          let at-two-scalars = at-x .before .before in
+          two-scalars _ _ (at-two-scalars .two-scalars .ensures) (at-x .x .given .1),
+    )
 
 arithmetic-requires : tie.Need-arithmetic-requires
-arithmetic-requires c κs = search needs
+arithmetic-requires c κs = search
 
 write-value-requires : tie.Need-write-value-requires
-write-value-requires c κs = omega (arith, two-scalars _ _ (c .before .before .before .before .before .before .before .two-scalars .ensures) (c .before .before .before .before .before .x .given .1))
+write-value-requires c κs =
+    omega (
+      arith,
+      let at-x = c .before .before .before .before .before in
+          let at-two-scalars = at-x .before .before in
+          two-scalars _ _ (at-two-scalars .two-scalars .ensures) (at-x .x .given .1),
+    )
 
 same-length-2 : tie.Need-same-length-2
-same-length-2 c = search needs
+same-length-2 c = search
 
 returns-2 : tie.Need-returns-2
-returns-2 c = arithmetic-bad (c .before .before .before .before .before .before .pre) (c .before .before .before .two-scalars .ensures) (c .before .f .given .1) _
+returns-2 c = search arithmetic-bad
 
 same-length-3 : tie.Need-same-length-3
-same-length-3 c = search needs
+same-length-3 c = search
 
 returns-3 : tie.Need-returns-3
-returns-3 c = computed (c .before .before .before .before .before .before .before .before .before .before .before .before .before .pre) (c .before .before .before .before .before .before .before .before .before .before .two-scalars .ensures) (c .before .before .before .before .before .before .before .before .x .given .1) (left-place _) refl _ (c .before .before .before .before .before .before .zero-divisor .ensures) (c .before .before .before .before .before .if1 .left) (c .before .before .before .arithmetic .ensures) (c .before .before .write-value .ensures)
+returns-3 c = search (computed, left-place)
 
 pub arithmetic-spec : {M : Type 1} → statement M
 arithmetic-spec =
