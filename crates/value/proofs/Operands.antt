@@ -15,10 +15,10 @@ use Rattle.model.specs.declared.Fault.{Fault}
 use Rattle.model.specs.declared.Fault.the-variants as f
 use Rattle.model.specs.declared.Found.{Found}
 use Rattle.model.specs.declared.Found.the-variants as g
-use Rattle.value.specs.declared.Scalars.{Scalars}
-use Rattle.value.specs.declared.Scalars.the-variants as s
-use Rattle.value.specs.declared.Booleans.{Booleans}
-use Rattle.value.specs.declared.Booleans.the-variants as b
+use Rattle.value.specs.declared.pops.Scalars.{Scalars}
+use Rattle.value.specs.declared.pops.Scalars.the-variants as s
+use Rattle.value.specs.declared.pops.Booleans.{Booleans}
+use Rattle.value.specs.declared.pops.Booleans.the-variants as b
 use Rattle.model.specs.Values.{ifScalar, ifBoolean, popping, poppingScalar, poppingBoolean, valueAt, vals}
 use Rattle.value.specs.Links.{onScalars, onBooleans, booleansOf, popOf, scalarsOf}
 

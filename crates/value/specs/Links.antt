@@ -13,10 +13,10 @@ use Rattle.model.specs.declared.Fault.the-variants as f
 use Rattle.model.specs.declared.Found.{Found}
 use Rattle.model.specs.declared.Found.the-variants as g
 use Rattle.model.specs.declared.Value.the-variants as v
-use Rattle.value.specs.declared.Scalars.{Scalars}
-use Rattle.value.specs.declared.Scalars.the-variants as s
-use Rattle.value.specs.declared.Booleans.{Booleans}
-use Rattle.value.specs.declared.Booleans.the-variants as b
+use Rattle.value.specs.declared.pops.Scalars.{Scalars}
+use Rattle.value.specs.declared.pops.Scalars.the-variants as s
+use Rattle.value.specs.declared.pops.Booleans.{Booleans}
+use Rattle.value.specs.declared.pops.Booleans.the-variants as b
 use Rattle.model.specs.Basics.{if_then_else_}
 use Rattle.model.specs.Values.{valueOf, kind, payload, putWords, popping, poppingScalar, poppingBoolean}
 use Rattle.model.specs.Heap.{Cell, item, head, putCell}

@@ -2,17 +2,3 @@
 pub mod words; // words.rt: values and cells in stores, two words to a place
 pub mod scalars; // scalars.rt: one binary64 operation each
 pub mod pops; // pops.rt: operands from the top of a stack
-
-use model::Fault;
-
-// Two popped scalars, the left one first, or the fault.
-pub enum Scalars {
-    Two(f64, f64),
-    Bad(Fault),
-}
-
-// Two popped booleans, the left one first, or the fault.
-pub enum Booleans {
-    Two(bool, bool),
-    Bad(Fault),
-}

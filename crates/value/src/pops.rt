@@ -1,6 +1,4 @@
 // Operands from the top of a stack of sp values: too few values is judged before the kind, and the right operand before the left.
-use crate::Booleans;
-use crate::Scalars;
 use crate::words;
 use model::Fault;
 use model::Found;
@@ -10,6 +8,18 @@ ghost use Prim.Native.Nat.{_*_, _≤_};
 ghost use lib.ListN.{length};
 ghost use Rattle.model.specs.Values.{vals};
 ghost use Rattle.value.specs.Links.{booleansOf, popOf, scalarsOf};
+
+// Two popped scalars, the left one first, or the fault.
+pub enum Scalars {
+    Two(f64, f64),
+    Bad(Fault),
+}
+
+// Two popped booleans, the left one first, or the fault.
+pub enum Booleans {
+    Two(bool, bool),
+    Bad(Fault),
+}
 
 // The value on top.
 pub fn pop(stack: &[u64], sp: usize) -> Found

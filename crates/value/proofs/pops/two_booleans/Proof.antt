@@ -1,6 +1,6 @@
 -- `value::pops::two_booleans` meets its contract.
 use borrow.Author.Needs.{needs}
-use Rattle.value.specs.declared.Booleans.the-variants as s
+use Rattle.value.specs.declared.pops.Booleans.the-variants as s
 use Rattle.model.specs.Values.{ifBoolean, poppingBoolean}
 use Rattle.value.specs.Links.{booleansOf}
 use Rattle.value.proofs.Operands.{none, got-top, got-some, no-right, wrong-right, no-left, wrong-left, two-got, is-boolean, no-boolean}

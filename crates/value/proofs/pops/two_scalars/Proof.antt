@@ -1,6 +1,6 @@
 -- `value::pops::two_scalars` meets its contract.
 use borrow.Author.Needs.{needs}
-use Rattle.value.specs.declared.Scalars.the-variants as s
+use Rattle.value.specs.declared.pops.Scalars.the-variants as s
 use Rattle.model.specs.Values.{ifScalar, poppingScalar}
 use Rattle.value.specs.Links.{scalarsOf}
 use Rattle.value.proofs.Operands.{none, got-top, got-some, no-right, wrong-right, no-left, wrong-left, two-got, is-scalar, no-scalar}
