@@ -111,11 +111,14 @@ holds of-main c s = mainOk (s .functions) (s .text)
 holds of-codes c s = insideCodes c (s .functions) (s .main) (s .other)
 holds of-places c s = insideCodes c (s .functions) (s .mainPlaces) (s .otherPlaces)
 
+abbrev pub andAll : Bool → List Clause → Counts → Stores → Bool
+andAll b [] c s = b
+andAll b (x ∷ xs) c s = andAll (b && holds x c s) xs c s
+
 -- all of these clauses hold
 abbrev pub allHold : List Clause → Counts → Stores → Bool
 allHold [] c s = true
-allHold (x ∷ []) c s = holds x c s
-allHold (x ∷ (y ∷ xs)) c s = holds x c s && allHold (y ∷ xs) c s
+allHold (x ∷ xs) c s = andAll (holds x c s) xs c s
 
 -- the entries that judge a program
 pub data Judge : Type 0 where

@@ -4,12 +4,11 @@ use mathlib.Core.Bool.{Bool, true, false}
 use mathlib.Core.List.{List, _∷_}
 use Prim.Native.Nat.{ℕ, _+_, _-_}
 use native.Mathlib.Omega.{arith}
-use Rattle.model.specs.declared.Last.{Last}
-use Rattle.model.specs.declared.Last.the-variants.{Nothing}
+use Rattle.model.specs.declared.Tally.{Tally}
 use Rattle.model.specs.declared.Fault.the-variants as f
 use Rattle.model.specs.Values.{faultNumber}
 use Rattle.model.specs.Steps.{World, State, Outcome, went, returned, faulted, codeOf, stepOf}
-use Rattle.model.specs.Runs.{Machine, begin, Mark, mark, Ended, ended, stopped, over, endOf, Entry, traceOf, fault as faulting, settle, runOf}
+use Rattle.model.specs.Runs.{Machine, begin, Progress, atStart, Ended, ended, stopped, over, endOf, Entry, traceOf, fault as faulting, tally, settle, runOf}
 use Rattle.rules.specs.Paths.{endFrom, Steps, none, on, ret, By, more, moreEnd, Paid}
 use Rattle.rules.proofs.Does.{Does, fault, spent, full, push, answer, compare, fall, leap, call, build, field, back, home, Stepped, unpaid, unread, ran, step-does}
 use Rattle.rules.proofs.Ends.{end-of}
@@ -49,43 +48,42 @@ module _ (w : World) (d : ℕ) where
   unfolding over codeOf
   over-more s b o = o
 
-  path-more : {n : ℕ} {a b : Last} {m k : Mark} {s t : State} → Steps w n a m s b k t → Steps w n a m (more d s) b k (more d t)
+  path-more : {n : ℕ} {m k : Progress} {s t : State} → Steps w n m s k t → Steps w n m (more d s) k (more d t)
   path-more none = none
   path-more (on {s = s} {s' = s'} o q p) = on (over-more s false o) (subst (λ (x : Outcome). More d x (stepOf w (more d s))) q (step-more w s d)) (path-more p)
   path-more (ret {s = s} {s' = s'} o q p) = ret (over-more s false o) (subst (λ (x : Outcome). More d x (stepOf w (more d s))) q (step-more w s d)) (path-more p)
 
-  by-more : (a : Last) (m : Mark) (s : State) (e : Ended) → Paid e → By w a m s e → By w a m (more d s) (moreEnd d e)
-  by-more a m s (ended b t) h r = record { steps = r .steps; kept = r .kept; path = path-more (r .path); over = over-more t true (r .over) }
-  by-more a m s (stopped n t k) h r = record {
+  by-more : (m : Progress) (s : State) (e : Ended) → Paid e → By w m s e → By w m (more d s) (moreEnd d e)
+  by-more m s (ended k t) h r = record { steps = r .steps; path = path-more (r .path); over = over-more t true (r .over) }
+  by-more m s (stopped n t k) h r = record {
     steps = r .steps;
-    answer = r .answer;
     at = more d (r .at);
     path = path-more (r .path);
     goes-on = over-more (r .at) false (r .goes-on);
     stops = subst (λ (x : Outcome). More d x (stepOf w (more d (r .at)))) (r .stops) (step-more w (r .at) d) h;
   }
 
-  pub run-more : (a : Last) (m : Mark) (s : State) → Paid (endFrom w a m s) → endFrom w a m (more d s) ≡ moreEnd d (endFrom w a m s)
-  run-more a m s h = path-run w a m (more d s) _ (by-more a m s (endFrom w a m s) h (run-by w a m s))
+  pub run-more : (m : Progress) (s : State) → Paid (endFrom w m s) → endFrom w m (more d s) ≡ moreEnd d (endFrom w m s)
+  run-more m s h = path-run w m (more d s) _ (by-more m s (endFrom w m s) h (run-by w m s))
 
   -- ---- a whole run
 
   module _ (m : Machine) (u : ℕ) where
-    paid : (e : Ended) → ((i : ℕ) (bt : List Entry) → settle w m u e .reply ≡ faulting 13 i bt → ⊥) → Paid e
+    paid : (e : Ended) → ((i : Tally) (bt : List Entry) → settle w m u e .reply ≡ faulting 13 i bt → ⊥) → Paid e
     unfolding settle faultNumber
-    paid (ended b t) h = tt
-    paid (stopped n t k) h = λ q. h (u - t .units) (traceOf (w .functions) (t .frame ∷ t .callers)) (rw q)
+    paid (ended k t) h = tt
+    paid (stopped n t k) h = λ q. h (tally (u - t .units) k) (traceOf (w .functions) (t .frame ∷ t .callers)) (rw q)
 
     settle-more : (e : Ended) → settle w m (u + d) (moreEnd d e) ≡ settle w m u e
     unfolding settle
-    settle-more (ended b t) = let z : u + d - (t .units + d) ≡ u - t .units = omega arith in rw z
+    settle-more (ended k t) = let z : u + d - (t .units + d) ≡ u - t .units = omega arith in rw z
     settle-more (stopped n t k) = let z : u + d - (t .units + d) ≡ u - t .units = omega arith in rw z
 
     -- a run that is not out of units answers and leaves the same with more
-    pub more-units : ((i : ℕ) (bt : List Entry) → runOf w m u .reply ≡ faulting 13 i bt → ⊥) → runOf w m (u + d) ≡ runOf w m u
+    pub more-units : ((i : Tally) (bt : List Entry) → runOf w m u .reply ≡ faulting 13 i bt → ⊥) → runOf w m (u + d) ≡ runOf w m u
     unfolding runOf
     more-units h =
         let s = begin m u in
         let e = end-of w s in
-        let p : Paid (endFrom w Nothing (mark s) s) = subst Paid e (paid (endOf w s) h) in
-        ap (settle w m (u + d)) (end-of w (more d s) ∙ run-more Nothing (mark s) s p ∙ ap (moreEnd d) (sym e)) ∙ settle-more (endOf w s)
+        let p : Paid (endFrom w (atStart s) s) = subst Paid e (paid (endOf w s) h) in
+        ap (settle w m (u + d)) (end-of w (more d s) ∙ run-more (atStart s) s p ∙ ap (moreEnd d) (sym e)) ∙ settle-more (endOf w s)

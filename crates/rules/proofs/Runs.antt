@@ -6,11 +6,9 @@ use Prim.Native.Nat.{ℕ}
 use native.Mathlib.Omega.{arith}
 use lib.ListN.{length}
 use Rattle.model.specs.declared.Value.{Value}
-use Rattle.model.specs.declared.Last.{Last}
-use Rattle.model.specs.declared.Last.the-variants.{Nothing}
 use Rattle.model.specs.declared.Fault.{Fault}
 use Rattle.model.specs.Steps.{World, State, went, returned, stepOf}
-use Rattle.model.specs.Runs.{Machine, begin, Mark, mark, Ended, ended, stopped, over, endOf, traceable, recovered, settle, runOf}
+use Rattle.model.specs.Runs.{Machine, begin, Progress, atStart, counted, Ended, ended, stopped, over, endOf, traceable, recovered, settle, runOf}
 use Rattle.rules.specs.Sane.{SaneWorld, CallersFit, Rooted, Sane, SaneMark, Returns, Faults, Kept}
 use Rattle.rules.specs.Paths.{Grows, endFrom, Steps, none, on, ret, EndedBy, StoppedBy}
 use Rattle.rules.proofs.Ends.{end-of}
@@ -32,8 +30,11 @@ other-units n s = record {
   root = s .root;
 }
 
-pub mark-sane : {w : World} {s : State} → Sane w s → SaneMark w (mark s)
+pub mark-sane : {w : World} {s : State} → Sane w s → SaneMark w (atStart s)
 mark-sane s = record { cells = s .cells; heap = s .heap; last = s .last }
+
+returned-mark : {w : World} (v : Value) (m : Progress) {s : State} → Sane w s → SaneMark w (counted v m s)
+returned-mark v m s = record { cells = s .cells; heap = s .heap; last = s .last }
 
 -- ---- along a path
 
@@ -44,31 +45,31 @@ module _ (w : World) (good : SaneWorld w) where
   returned-sane : (s s' : State) (x : Value) → Sane w s → over w s ≡ false → stepOf w s ≡ returned x s' → Sane w s'
   returned-sane s s' x a o q = let r : Returns w s x s' = subst (Kept w s) q (step-keeps w s good a o) in r .sane
 
-  pub path-sane : {n : ℕ} {a b : Last} {m k : Mark} {s t : State} → Sane w s → Steps w n a m s b k t → Sane w t
+  pub path-sane : {n : ℕ} {m k : Progress} {s t : State} → Sane w s → Steps w n m s k t → Sane w t
   path-sane h none = h
   path-sane h (on {s = s} {s' = s'} o q p) = path-sane (went-sane s s' h o q) p
   path-sane h (ret {s = s} {s' = s'} {v = x} o q p) = path-sane (returned-sane s s' x h o q) p
 
   -- the mark of a path from a good mark is good
-  pub path-mark : {n : ℕ} {a b : Last} {m k : Mark} {s t : State} → Sane w s → SaneMark w m → Steps w n a m s b k t → SaneMark w k
+  pub path-mark : {n : ℕ} {m k : Progress} {s t : State} → Sane w s → SaneMark w m → Steps w n m s k t → SaneMark w k
   path-mark h g none = g
   path-mark h g (on {s = s} {s' = s'} o q p) = path-mark (went-sane s s' h o q) g p
-  path-mark h g (ret {s = s} {s' = s'} {v = x} o q p) = let z = returned-sane s s' x h o q in path-mark z (mark-sane z) p
+  path-mark h g (ret {m = m} {s = s} {s' = s'} {v = x} o q p) = let z = returned-sane s s' x h o q in path-mark z (returned-mark x m z) p
 
   -- ---- a run
 
-  pub run-sane : (a : Last) (m : Mark) (s : State) {b : Last} {t : State} → Sane w s → endFrom w a m s ≡ ended b t → Sane w t
-  run-sane a m s {b} {t} h q = let r : EndedBy w a m s b t = run-path w a m s q in path-sane h (r .path)
+  pub run-sane : (m : Progress) (s : State) {k : Progress} {t : State} → Sane w s → endFrom w m s ≡ ended k t → Sane w t
+  run-sane m s {k} {t} h q = let r : EndedBy w m s k t = run-path w m s q in path-sane h (r .path)
 
   -- the backtrace of a fault stands
-  pub run-traced : (a : Last) (m : Mark) (s : State) {n : Fault} {t : State} {k : Mark} → Sane w s → endFrom w a m s ≡ stopped n t k → traceable (w .functions) (t .frame ∷ t .callers) ≡ true
-  run-traced a m s {n} {t} {k} h q =
-      let r : StoppedBy w a m s n t k = run-path w a m s q in
+  pub run-traced : (m : Progress) (s : State) {n : Fault} {t : State} {k : Progress} → Sane w s → endFrom w m s ≡ stopped n t k → traceable (w .functions) (t .frame ∷ t .callers) ≡ true
+  run-traced m s {n} {t} {k} h q =
+      let r : StoppedBy w m s n t k = run-path w m s q in
       let f : Faults w (r .at) t = subst (Kept w (r .at)) (r .stops) (step-keeps w (r .at) good (path-sane h (r .path)) (r .goes-on)) in
       f .traced
 
   -- the starting stack over a good mark that has the starting cells at its front
-  pub recover-sane : (m : Machine) (u n : ℕ) (k : Mark) → Sane w (begin m u) → SaneMark w k → Grows (m .heap) (k .heap) → Sane w (begin (recovered w m k) n)
+  pub recover-sane : (m : Machine) (u n : ℕ) (k : Progress) → Sane w (begin m u) → SaneMark w k → Grows (m .heap) (k .heap) → Sane w (begin (recovered w m k) n)
   unfolding recovered CallersFit Rooted
   recover-sane m u n k h g l = record {
     stack = h .stack;
@@ -88,15 +89,15 @@ module _ (w : World) (good : SaneWorld w) where
 
   module _ (m : Machine) (u : ℕ) (h : Sane w (begin m u)) where
     -- what a fault leaves is in good order
-    pub recovered-sane : {n : Fault} {t : State} {k : Mark} → endOf w (begin m u) ≡ stopped n t k → (i : ℕ) → Sane w (begin (recovered w m k) i)
+    pub recovered-sane : {n : Fault} {t : State} {k : Progress} → endOf w (begin m u) ≡ stopped n t k → (i : ℕ) → Sane w (begin (recovered w m k) i)
     recovered-sane {n} {t} {k} q i =
         let s = begin m u in
-        let r : StoppedBy w Nothing (mark s) s n t k = run-path w Nothing (mark s) s (sym (end-of w s) ∙ q) in
+        let r : StoppedBy w (atStart s) s n t k = run-path w (atStart s) s (sym (end-of w s) ∙ q) in
         recover-sane m u i k h (path-mark h (mark-sane h) (r .path)) (mark-grows w (marked s) (r .path))
 
     settled-sane : (e : Ended) → endOf w (begin m u) ≡ e → (i : ℕ) → Sane w (begin (settle w m u e .machine) i)
     unfolding settle
-    settled-sane (ended b t) q i = other-units i (run-sane Nothing (mark (begin m u)) (begin m u) h (sym (end-of w (begin m u)) ∙ q))
+    settled-sane (ended k t) q i = other-units i (run-sane (atStart (begin m u)) (begin m u) h (sym (end-of w (begin m u)) ∙ q))
     settled-sane (stopped n t k) q i = recovered-sane q i
 
     -- so is what any run leaves

@@ -11,7 +11,7 @@ use Rattle.model.specs.declared.Frame.{Frame}
 use Rattle.model.specs.Heap.{Cell, heapOk, placedBelow}
 use Rattle.model.specs.Programs.{Function, functionAt}
 use Rattle.model.specs.Steps.{World, State, Outcome, went, returned, faulted}
-use Rattle.model.specs.Runs.{Mark, traceable}
+use Rattle.model.specs.Runs.{Progress, traceable}
 
 -- every value is placed in the heap, over t bytes of text
 unfoldable pub AllPlaced : ℕ → List Cell → List Value → Type 0
@@ -64,7 +64,7 @@ pub record Sane (w : World) (s : State) : Type 0 where
   pub root : Rooted (s .frame) (s .callers)
 
 -- what a fault goes back to
-pub record SaneMark (w : World) (m : Mark) : Type 0 where
+pub record SaneMark (w : World) (m : Progress) : Type 0 where
   pub cells : length (m .heap) ≤ w .cellRoom
   pub heap : heapOk (length (w .text)) (m .heap) ≡ true
   pub last : LastPlaced (length (w .text)) (m .heap) (m .last)
