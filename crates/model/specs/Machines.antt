@@ -60,17 +60,15 @@ machineIn m l = record {
 unfoldable pub worldOf : Vm → Stores → Lent → World
 worldOf m s l = worldIn (m .program) s (places 2 (l .stack)) (frameRoom (l .frames)) (places 2 (l .cells))
 
--- ---- [order.machine] a machine's good order, over a program's: all of it is judged by a run
+-- ---- [order.machine] the good order that a run judges: the whole program's, and then the machine's cells, stack, last result and frames
 
-unfoldable pub machineOk : Vm → Stores → Lent → Bool
-machineOk m s l =
-    cellsOk (m .program .text) (m .cells) (l .cells)
+unfoldable pub runOrder : Vm → Stores → Lent → Bool
+runOrder m s l =
+    programOk (m .program) s
+    && cellsOk (m .program .text) (m .cells) (l .cells)
     && stackOk (m .program .text) (heapOf (m .cells) (l .cells)) (m .stack) (l .stack)
     && lastOk (m .program .text) (heapOf (m .cells) (l .cells)) (m .last)
     && frameStoreOk (functionsFrom (m .program .functions) 0 s) (places 2 (l .stack)) (m .frames) (l .frames)
-
-unfoldable pub runOrder : Vm → Stores → Lent → Bool
-runOrder m s l = programOk (m .program) s && machineOk m s l
 
 -- 17: the copy store is shorter than the stack store, or the backtrace store than the frame store
 unfoldable pub tooShort : Lent → Bool
@@ -187,5 +185,5 @@ newMachineOf s rs = startWith (asLoaded (newOf s .answer)) (newOf s .stores) s r
 -- all that an example computes with here
 unfoldable pub computes : Type 1
 unfolding frameRoom innermost callersIn machineIn worldOf runOrder tooShort runAnswer copyAfter entryWords traceOfReply traceAfter entriesIn answerIn
-    traceOrder putTrace backtraceIn fresh startWith loadMachineOf asLoaded newMachineOf machineOk
+    traceOrder putTrace backtraceIn fresh startWith loadMachineOf asLoaded newMachineOf
 computes = Type 0

@@ -64,7 +64,7 @@ module _ (w : World) where
           stops = r .stops;
           number = cc;
           units = ap (λ (x : Tally). x .spent) same;
-          returns = ap (λ (x : Tally). x .returns) same ∙ returns-counted w (r .path);
+          returns = ap (λ (x : Tally). x .returns) same ∙ returns-counted w (r .path) ∙ omega arith;
           traced = cc;
           leaves = left;
           later = (λ calls. ap (repliesOf calls) left);

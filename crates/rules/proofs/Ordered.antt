@@ -16,14 +16,14 @@ use Rattle.model.specs.Values.{places, kindAt, payloadAt, valueAt, vals, exactV
 use Rattle.model.specs.Heap.{Cell, cellsFrom, heapOf, blocksFrom, heapOk, exactCells, placedBelow}
 use Rattle.model.specs.Runs.{begin, runOf}
 use Rattle.model.specs.Stores.{Stores, functionsFrom, worldIn}
-use Rattle.model.specs.Orders.{cellsOk, stackOk, lastOk, frameStoreOk}
+use Rattle.model.specs.Orders.{programOk, cellsOk, stackOk, lastOk, frameStoreOk}
 use Rattle.model.specs.Machines.{Lent, frameRoom, innermost, callersIn, machineIn, worldOf, runOrder}
 use Rattle.value.proofs.Coding.{and-left, and-right}
 use Rattle.value.proofs.Stores.{length-vals, vals-slot}
 use Rattle.cells.proofs.Order.{Placed, and-both}
 use Rattle.cells.proofs.Stands.{length-heap}
 use Rattle.rules.specs.Sane.{AllPlaced, LastPlaced, SaneWorld, CallersFit, Rooted, Sane}
-use Rattle.rules.specs.Ordered.{CodeBytes, runProgram, Ordered, Exact, Beside, Fresh}
+use Rattle.rules.specs.Ordered.{CodeBytes, Ordered, Exact, Beside, Fresh}
 use Rattle.rules.proofs.Tests.{every-of, every-to}
 use Rattle.rules.proofs.Placed.{all-at}
 use Rattle.rules.proofs.Runs.{ran-sane}
@@ -34,9 +34,9 @@ use Rattle.rules.proofs.Frames.{some-frame, frames-counted, frames-in, 
 
 module _ (m : Vm) (s : Stores) (l : Lent) where
   pub order-of : runOrder m s l ≡ true → Ordered m s l
-  unfolding runOrder runProgram
+  unfolding runOrder
   order-of e =
-      let program = runProgram (m .program) s in
+      let program = programOk (m .program) s in
       let cells = cellsOk (m .program .text) (m .cells) (l .cells) in
       let stack = stackOk (m .program .text) (heapOf (m .cells) (l .cells)) (m .stack) (l .stack) in
       let last = lastOk (m .program .text) (heapOf (m .cells) (l .cells)) (m .last) in
@@ -53,9 +53,9 @@ module _ (m : Vm) (s : Stores) (l : Lent) where
       }
 
   pub order-to : Ordered m s l → runOrder m s l ≡ true
-  unfolding runOrder runProgram
+  unfolding runOrder
   order-to o =
-      let program = runProgram (m .program) s in
+      let program = programOk (m .program) s in
       let cells = cellsOk (m .program .text) (m .cells) (l .cells) in
       let stack = stackOk (m .program .text) (heapOf (m .cells) (l .cells)) (m .stack) (l .stack) in
       let last = lastOk (m .program .text) (heapOf (m .cells) (l .cells)) (m .last) in
@@ -127,7 +127,7 @@ module _ (t : ℕ) (H : List Cell) where
 
 module _ (m : Vm) (s : Stores) (l : Lent) where
   -- the world's text is as long as the counts say
-  pub text-length : runProgram (m .program) s ≡ true → length (worldOf m s l .text) ≡ m .program .text
+  pub text-length : programOk (m .program) s ≡ true → length (worldOf m s l .text) ≡ m .program .text
   unfolding worldOf worldIn
   text-length e = length-text (m .program) s (parts-of (m .program) s e)
 
@@ -168,7 +168,7 @@ module _ (m : Vm) (s : Stores) (l : Lent) where
 
   -- ---- and back
 
-  pub sane-ordered : (u : ℕ) → runProgram (m .program) s ≡ true → Exact m l → Sane (worldOf m s l) (begin (machineIn m l) u) → runOrder m s l ≡ true
+  pub sane-ordered : (u : ℕ) → programOk (m .program) s ≡ true → Exact m l → Sane (worldOf m s l) (begin (machineIn m l) u) → runOrder m s l ≡ true
   unfolding worldOf worldIn machineIn
   sane-ordered u e x h =
       let t = text-length e in
@@ -204,7 +204,7 @@ fresh-exact : {m : Vm} {l : Lent} → Fresh m l → Exact m l
 unfolding exactCells
 fresh-exact f = record { cells = rw (f .cells); stack = (λ i h. absurd (let z : ⊥ = omega (arith, f .stack) in z)); frames = omega (arith, f .frames) }
 
-module _ (m : Vm) (s : Stores) (l : Lent) (p : runProgram (m .program) s ≡ true) (f : Fresh m l) where
+module _ (m : Vm) (s : Stores) (l : Lent) (p : programOk (m .program) s ≡ true) (f : Fresh m l) where
   pub fresh-sane : (u : ℕ) → Sane (worldOf m s l) (begin (machineIn m l) u)
   unfolding worldOf worldIn machineIn innermost callersIn frameRoom vals heapOf cellsFrom heapOk blocksFrom AllPlaced LastPlaced CallersFit Rooted
   fresh-sane u = record {

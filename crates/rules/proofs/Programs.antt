@@ -20,7 +20,7 @@ use Rattle.model.specs.Orders.{countsOk, textOk, insideText, constantOk, consta
 use Rattle.value.proofs.Coding.{and-left, and-right}
 use Rattle.cells.proofs.Order.{Placed, and-both, by-less}
 use Rattle.rules.specs.Sane.{AllPlaced, CodesFit, SaneWorld}
-use Rattle.rules.specs.Ordered.{CodeBytes, runProgram}
+use Rattle.rules.specs.Ordered.{CodeBytes}
 use Rattle.rules.proofs.Tests.{every-of}
 
 zero-add : (i : ℕ) → 0 + i ≡ i
@@ -108,7 +108,7 @@ module _ (c : Counts) (fs : List ℕ) (ok : functionsOk c fs ≡ true) where
 
 -- ---- a program
 
--- what a run's good order says of a program
+-- what good order says of a program, as far as the world is made of it
 pub record Parts (c : Counts) (s : Stores) : Type 0 where
   pub counts : countsOk c ≡ true
   pub text : textOk c (s .text) ≡ true
@@ -117,28 +117,30 @@ pub record Parts (c : Counts) (s : Stores) : Type 0 where
   pub codes : insideCodes c (s .functions) (s .main) (s .other) ≡ true
   pub places : insideCodes c (s .functions) (s .mainPlaces) (s .otherPlaces) ≡ true
 
-pub parts-of : (c : Counts) (s : Stores) → runProgram c s ≡ true → Parts c s
-unfolding runProgram
+pub parts-of : (c : Counts) (s : Stores) → programOk c s ≡ true → Parts c s
+unfolding programOk
 parts-of c s e =
     let counts = countsOk c in
     let text = textOk c (s .text) in
     let constants = constantsOk c (s .constants) in
+    let structs = structsOk c (s .structs) (s .text) in
     let functions = functionsOk c (s .functions) in
     let main = mainOk (s .functions) (s .text) in
     let codes = insideCodes c (s .functions) (s .main) (s .other) in
     let places = insideCodes c (s .functions) (s .mainPlaces) (s .otherPlaces) in
-    let e6 = and-left (counts && text && constants && functions && main && codes) places e in
-    let e5 = and-left (counts && text && constants && functions && main) codes e6 in
-    let e4 = and-left (counts && text && constants && functions) main e5 in
-    let e3 = and-left (counts && text && constants) functions e4 in
+    let e7 = and-left (counts && text && constants && structs && functions && main && codes) places e in
+    let e6 = and-left (counts && text && constants && structs && functions && main) codes e7 in
+    let e5 = and-left (counts && text && constants && structs && functions) main e6 in
+    let e4 = and-left (counts && text && constants && structs) functions e5 in
+    let e3 = and-left (counts && text && constants) structs e4 in
     let e2 = and-left (counts && text) constants e3 in
     record {
       counts = and-left counts text e2;
       text = and-right counts text e2;
       constants = and-right (counts && text) constants e3;
-      functions = and-right (counts && text && constants) functions e4;
-      codes = and-right (counts && text && constants && functions && main) codes e6;
-      places = and-right (counts && text && constants && functions && main && codes) places e;
+      functions = and-right (counts && text && constants && structs) functions e5;
+      codes = and-right (counts && text && constants && structs && functions && main) codes e7;
+      places = and-right (counts && text && constants && structs && functions && main && codes) places e;
     }
 
 module _ (c : Counts) (s : Stores) (p : Parts c s) where
@@ -216,7 +218,7 @@ module _ (s : Stores) (b : CodeBytes s) where
 
 -- ---- the world of a program in good order
 
-pub program-world : (c : Counts) (s : Stores) (stackRoom frameRoom cellRoom : ℕ) → runProgram c s ≡ true → CodeBytes s → SaneWorld (worldIn c s stackRoom frameRoom cellRoom)
+pub program-world : (c : Counts) (s : Stores) (stackRoom frameRoom cellRoom : ℕ) → programOk c s ≡ true → CodeBytes s → SaneWorld (worldIn c s stackRoom frameRoom cellRoom)
 unfolding worldIn
 program-world c s stackRoom frameRoom cellRoom e b =
     let p = parts-of c s e in
@@ -225,23 +227,3 @@ program-world c s stackRoom frameRoom cellRoom e b =
       codes = codes-fit c s p (c .functions) 0 (omega arith);
       bytes = code-bytes s b (c .functions);
     }
-
--- ---- the whole of a program's good order is more than a run judges
-
-kept-and : (x y z : Bool) → (x ≡ true → y ≡ true) → x && z ≡ true → y && z ≡ true
-kept-and x y z f e = and-both y z (f (and-left x z e)) (and-right x z e)
-
-pub program-runs : (c : Counts) (s : Stores) → programOk c s ≡ true → runProgram c s ≡ true
-unfolding programOk runProgram
-program-runs c s e =
-    let first = countsOk c && textOk c (s .text) && constantsOk c (s .constants) in
-    let structs = structsOk c (s .structs) (s .text) in
-    let functions = functionsOk c (s .functions) in
-    let main = mainOk (s .functions) (s .text) in
-    let codes = insideCodes c (s .functions) (s .main) (s .other) in
-    let places = insideCodes c (s .functions) (s .mainPlaces) (s .otherPlaces) in
-    kept-and (first && structs && functions && main && codes) (first && functions && main && codes) places
-    (kept-and (first && structs && functions && main) (first && functions && main) codes
-    (kept-and (first && structs && functions) (first && functions) main
-    (kept-and (first && structs) first functions (and-left first structs))))
-    e

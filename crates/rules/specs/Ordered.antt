@@ -1,16 +1,15 @@
 -- Good order as a run judges it, in parts; and what a machine needs to be in good order beside one that is.
 use mathlib.Core.Path.{_≡_}
-use mathlib.Core.Bool.{Bool, true, _&&_}
+use mathlib.Core.Bool.{true}
 use Prim.Native.Nat.{ℕ, _≤_, _<_}
 use lib.ListN.{length, getD}
-use Rattle.model.specs.declared.Counts.{Counts}
 use Rattle.model.specs.declared.Vm.{Vm}
 use Rattle.model.specs.declared.Last.the-variants.{Nothing}
 use Rattle.model.specs.Values.{places, kindAt, payloadAt, exactValue}
 use Rattle.model.specs.Heap.{heapOf, exactCells}
 use Rattle.model.specs.Runs.{root}
 use Rattle.model.specs.Stores.{Stores, functionsFrom}
-use Rattle.model.specs.Orders.{countsOk, textOk, constantsOk, functionsOk, mainOk, insideCodes, cellsOk, stackOk, lastOk, frameStoreOk}
+use Rattle.model.specs.Orders.{programOk, cellsOk, stackOk, lastOk, frameStoreOk}
 use Rattle.model.specs.Machines.{Lent}
 
 -- what the type of a byte slice says of the two code stores
@@ -18,20 +17,9 @@ pub record CodeBytes (s : Stores) : Type 0 where
   pub main : (j : ℕ) → j < length (s .main) → getD (s .main) j 0 < 256
   pub other : (j : ℕ) → j < length (s .other) → getD (s .other) j 0 < 256
 
--- what a run judges of the program
-unfoldable pub runProgram : Counts → Stores → Bool
-runProgram c s =
-    countsOk c
-    && textOk c (s .text)
-    && constantsOk c (s .constants)
-    && functionsOk c (s .functions)
-    && mainOk (s .functions) (s .text)
-    && insideCodes c (s .functions) (s .main) (s .other)
-    && insideCodes c (s .functions) (s .mainPlaces) (s .otherPlaces)
-
 -- all that a run judges: the program, then the machine's four parts
 pub record Ordered (m : Vm) (s : Stores) (l : Lent) : Type 0 where
-  pub program : runProgram (m .program) s ≡ true
+  pub program : programOk (m .program) s ≡ true
   pub cells : cellsOk (m .program .text) (m .cells) (l .cells) ≡ true
   pub stack : stackOk (m .program .text) (heapOf (m .cells) (l .cells)) (m .stack) (l .stack) ≡ true
   pub last : lastOk (m .program .text) (heapOf (m .cells) (l .cells)) (m .last) ≡ true
