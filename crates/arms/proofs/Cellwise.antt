@@ -52,7 +52,7 @@ withLeft l g = record {
   kind = g .kind;
   payload = g .payload;
   mark = g .mark;
-  answered = g .answered;
+  returns = g .returns;
 }
 
 -- the machine with u cells taken
@@ -68,13 +68,13 @@ withUsed u g = record {
   kind = g .kind;
   payload = g .payload;
   mark = g .mark;
-  answered = g .answered;
+  returns = g .returns;
 }
 
 -- the rule goes another way to the same outcome
 pub same-block : {rule other : State → Outcome} {k : Fixed} {g : Going} {s x : List ℕ} {r : Answer} {t y : List ℕ}
     → ((cs : List Frame) → other (stateOf g s x cs) ≡ rule (stateOf g s x cs)) → BlockPost rule k g s x r t y → BlockPost other k g s x r t y
-same-block e p = record { means = λ cs h. p .means cs h ∙ sym (e cs); within = p .within; kept = p .kept; cells = p .cells; before = p .before }
+same-block e p = record { means = λ cs h. p .means cs h ∙ sym (e cs); within = p .within; kept = p .kept; cells = p .cells; before = p .before; caller = p .caller }
 
 -- ---- an arm that ends as one does that is lent the stack alone
 
@@ -85,14 +85,15 @@ module _ {rule other : State → Outcome} {k : Fixed} {g : Going} {s x : List �
   goes-on {y = y} e q c b p = record {
     means = λ cs d. p .means y cs (d ∙ sym (q .callers)) ∙ sym (e cs);
     within = p .within;
-    kept = record { callers = p .kept .callers ∙ q .callers; mark = p .kept .mark ∙ q .mark; answered = p .kept .answered ∙ q .answered };
+    kept = record { callers = p .kept .callers ∙ q .callers; mark = p .kept .mark ∙ q .mark; returns = p .kept .returns ∙ q .returns };
     cells = record { count = rw (p .used) (c .count); exact = rw (p .used) (c .exact) };
     before = b;
+    caller = p .caller;
   }
 
   -- or from where it is
   pub stands : CellsWithin g x → ((cs : List Frame) → rule (stateOf g s x cs) ≡ other (stateOf g s x cs)) → ArmPost other k g s r t → BlockPost rule k g s x r t x
-  stands c e p = goes-on e (record { callers = refl; mark = refl; answered = refl }) c (λ n h. refl) p
+  stands c e p = goes-on e (record { callers = refl; mark = refl; returns = refl }) c (λ n h. refl) p
 
 -- what an arm ensures that is lent the stack alone, said with the cells
 pub arm-block : {rule : State → Outcome} {k : Fixed} {g : Going} {s x : List ℕ} {r : Answer} {t : List ℕ}
@@ -174,7 +175,7 @@ module _ (text : List ℕ) {k : Fixed} {g : Going} {s x : List ℕ} (b : Blocks 
             → ((cs : List Frame) → byVerdict t (vals (g .sp - 1 - 1) s) (stateOf g s x cs) d ≡ other (stateOf (withLeft l g) s x cs))
             → ArmPost other k (withLeft l g) s r w → BlockPost (equalStep t u) k g s x r w x
         spends l o a =
-            goes-on (λ cs. judged cs ∙ o cs) (record { callers = refl; mark = refl; answered = refl }) (record { count = b .cells .count; exact = b .cells .exact })
+            goes-on (λ cs. judged cs ∙ o cs) (record { callers = refl; mark = refl; returns = refl }) (record { count = b .cells .count; exact = b .cells .exact })
             (λ n i. refl) a
 
         still : (l : ℕ) → Within k (withLeft l g) s
@@ -292,7 +293,7 @@ module _ {m : ℕ} {k : Fixed} {g : Going} {s x : List ℕ} (b : Blocks m k g s 
           let z = took in
           goes-on
           (λ cs. rw (length-vals (g .sp) s, le-ltb (g .sp) n enough, room, ← new .means, length-heap (g .used) x, vals-drop n (g .sp) s, h))
-          (record { callers = refl; mark = refl; answered = refl })
+          (record { callers = refl; mark = refl; returns = refl })
           (record { count = omega arith; exact = z .exact (b .cells .exact) })
           stay
           p

@@ -2,7 +2,7 @@
 use mathlib.Core.Path.{_≡_, refl, sym, _∙_}
 use mathlib.Core.Bool.{Bool, true, false, not}
 use mathlib.Core.List.{List, [], _∷_}
-use Prim.Native.Nat.{ℕ, suc, _+_, _-_, _≤_, _<_, min}
+use Prim.Native.Nat.{ℕ, zero, suc, _+_, _-_, _≤_, _<_, min}
 use native.Mathlib.Omega.{arith}
 use borrow.Author.Tests.{lt-ltb, le-ltb, le-leb, lt-leb}
 use lib.Ieee as Ieee
@@ -30,7 +30,7 @@ use Rattle.model.specs.Heap.{item}
 use Rattle.model.specs.Programs.{functionNamed}
 use Rattle.model.specs.Emission.{toldName}
 use Rattle.model.specs.Steps.{World, State, Outcome, went, faulted, withStack, at, position, pushing, onFound, constantOf, slotOf, lastOf, loadStep, slotStep, lastStep, negateStep, arithmeticStep, orderingStep, logicStep, notStep, jumpStep, jumpIfFalseStep, enter, callStep, enterNamed, callCallableStep, returnTo, returnStep}
-use Rattle.value.specs.Links.{PayloadOf, Written, booleansOf, popOf, scalarsOf}
+use Rattle.value.specs.Links.{Written, booleansOf, popOf, scalarsOf}
 use Rattle.value.proofs.Stores.{length-vals, pushed}
 use Rattle.value.proofs.Operands.{got-some, is-boolean}
 use Rattle.arms.specs.declared.Fixed.{Fixed}
@@ -40,7 +40,6 @@ use Rattle.arms.specs.declared.Answer.the-variants.{Went, Returned, Call
 use Rattle.arms.specs.Links.{stateOf, outcomeOf, Within, Suits, ArmPost}
 use Rattle.arms.proofs.Keeping.{place, fewer, topped}
 use Rattle.program.proofs.Searching.{told-none, told-some}
-use Rattle.value.proofs.Lasts.{last-words}
 use Rattle.arms.proofs.Rules.{no-top, top, no-scalars, scalars, two-scalars, no-booleans, booleans, two-booleans, cut-vals, is-reference}
 
 -- the machine with n values on its stack, at position i, and with the last result in the words a and b
@@ -56,7 +55,7 @@ withWords n i a b g = record {
   kind = a;
   payload = b;
   mark = g .mark;
-  answered = g .answered;
+  returns = g .returns;
 }
 
 abbrev pub withCount : ℕ → Going → Going
@@ -65,7 +64,7 @@ withCount n g = withWords n (g .position) (g .kind) (g .payload) g
 -- the rule goes another way to the same outcome
 pub same-rule : {rule other : State → Outcome} {k : Fixed} {g : Going} {s : List ℕ} {r : Answer} {t : List ℕ}
     → ((x : List ℕ) (cs : List Frame) → other (stateOf g s x cs) ≡ rule (stateOf g s x cs)) → ArmPost rule k g s r t → ArmPost other k g s r t
-same-rule e p = record { means = λ x cs h. p .means x cs h ∙ sym (e x cs); within = p .within; kept = p .kept; used = p .used }
+same-rule e p = record { means = λ x cs h. p .means x cs h ∙ sym (e x cs); within = p .within; kept = p .kept; used = p .used; caller = p .caller }
 
 module _ {k : Fixed} {g : Going} {s : List ℕ} (w : Within k g s) where
   -- a fault, and nothing is changed
@@ -75,8 +74,9 @@ module _ {k : Fixed} {g : Going} {s : List ℕ} (w : Within k g s) where
   refused e = record {
     means = λ x cs h. sym (e x cs h);
     within = w;
-    kept = record { callers = refl; mark = refl; answered = refl };
+    kept = record { callers = refl; mark = refl; returns = refl };
     used = refl;
+    caller = tt;
   }
 
   -- values are dropped, and the position is another
@@ -86,8 +86,9 @@ module _ {k : Fixed} {g : Going} {s : List ℕ} (w : Within k g s) where
   moved l e = record {
     means = λ x cs h. sym (e x cs);
     within = fewer w l refl;
-    kept = record { callers = refl; mark = refl; answered = refl };
+    kept = record { callers = refl; mark = refl; returns = refl };
     used = refl;
+    caller = tt;
   }
 
   -- a value is written on top of the i values that are left
@@ -101,8 +102,9 @@ module _ {k : Fixed} {g : Going} {s : List ℕ} (w : Within k g s) where
     settled q = record {
       means = λ x cs h. rw values (sym (q x cs));
       within = topped w p l h e refl;
-      kept = record { callers = refl; mark = refl; answered = refl };
+      kept = record { callers = refl; mark = refl; returns = refl };
       used = refl;
+      caller = tt;
     }
 
 -- ---- pushes
@@ -162,8 +164,9 @@ module _ {k : Fixed} {g : Going} {s : List ℕ} (w : Within k g s) {u : World} (
       enters o = record {
         means = λ x cs d. sym (rw (length-vals m s, le-ltb m n h, c .frameRoom, d, lt-leb (k .frames) (suc (g .callers)) (omega arith)));
         within = fewer w l refl;
-        kept = record { callers = refl; mark = refl; answered = refl };
+        kept = record { callers = refl; mark = refl; returns = refl };
         used = refl;
+        caller = tt;
       }
 
   module _ (i n : ℕ) where
@@ -305,6 +308,10 @@ module _ {k : Fixed} {g : Going} {s : List ℕ} (w : Within k g s) where
 
 -- ---- returns
 
+some-caller : (n : ℕ) → (n ≡ 0 → ⊥) → 0 < n
+some-caller zero z = absurd (z refl)
+some-caller (suc n) z = omega arith
+
 module _ {k : Fixed} {g : Going} {s : List ℕ} (w : Within k g s) {r : Found} (p : r ≡ popOf (vals (g .sp) s)) where
   pub returns-none : {t : Fault} → r ≡ Bad t → ArmPost returnStep k g s (Stopped g f.TooFewValues) s
   unfolding returnStep
@@ -312,21 +319,22 @@ module _ {k : Fixed} {g : Going} {s : List ℕ} (w : Within k g s) {r : Found} (
 
   module _ {v : Value} (e : r ≡ Got v) where
     -- with one frame
-    module _ {n a b : ℕ} (z : g .callers ≡ 0) (c : n ≡ g .sp - 1) (d : a ≡ kind v) (q : PayloadOf v b) where
+    module _ {n : ℕ} (z : g .callers ≡ 0) (c : n ≡ g .sp - 1) where
       abbrev at-root : Answer
-      at-root = Returned (record { going = withWords n (g .position) a b g; value = v })
+      at-root = Returned (record { going = withCount n g; value = v })
 
       root-means : (x : List ℕ) (cs : List Frame) → length cs ≡ g .callers → outcomeOf cs at-root s x ≡ returnStep (stateOf g s x cs)
       unfolding returnStep returnTo
-      root-means x [] h = rw (c, d, q .is, last-words v (q .fine)) (sym (top (g .sp) s p _ _ e))
+      root-means x [] h = rw c (sym (top (g .sp) s p _ _ e))
       root-means x (f ∷ cs) h = absurd (let z : ⊥ = omega arith in z)
 
       pub returns-last : ArmPost returnStep k g s at-root s
       returns-last = record {
         means = root-means;
         within = fewer w (omega arith) refl;
-        kept = record { callers = refl; mark = refl; answered = refl };
+        kept = record { callers = refl; mark = refl; returns = refl };
         used = refl;
+        caller = tt;
       }
 
     -- with a caller
@@ -344,6 +352,7 @@ module _ {k : Fixed} {g : Going} {s : List ℕ} (w : Within k g s) {r : Found} (
       returns-back = record {
         means = back-means;
         within = topped w q (omega arith) inside d refl;
-        kept = record { callers = refl; mark = refl; answered = refl };
+        kept = record { callers = refl; mark = refl; returns = refl };
         used = refl;
+        caller = some-caller (g .callers) z;
       }

@@ -13,7 +13,7 @@ use Rattle.model.specs.Values.{vals, places, valueAt, kindAt, payloadAt, exactV
 use Rattle.model.specs.Heap.{heapOf, heapOk, placedBelow, exactCells}
 use Rattle.model.specs.Stores.{Stores}
 use Rattle.model.specs.Emission.{namesFrom}
-use Rattle.model.specs.Steps.{World, State, Outcome, went, returned, faulted, withFrames}
+use Rattle.model.specs.Steps.{World, State, Outcome, went, returned, faulted, withFrames, withLast}
 use Rattle.value.specs.Links.{lastIn}
 use Rattle.arms.specs.declared.Fixed.{Fixed}
 use Rattle.arms.specs.declared.Going.{Going}
@@ -32,7 +32,7 @@ stateOf g s x cs = record { stack = vals (g .sp) s; frame = frameIn g; callers =
 abbrev pub entered : ℕ → ℕ → Frame
 entered i b = record { function = i; position = 0; base = b }
 
--- back in the caller; there is one, since a Return with one frame is no Back
+-- back in the caller; there is one (`HasCaller`)
 abbrev pub backTo : List Frame → State → Outcome
 backTo [] t = faulted f.FramesFull t
 backTo (c ∷ cs) t = went (withFrames c cs t)
@@ -40,7 +40,7 @@ backTo (c ∷ cs) t = went (withFrames c cs t)
 -- what an answer and the stores then stand for
 abbrev pub outcomeOf : List Frame → Answer → List ℕ → List ℕ → Outcome
 outcomeOf cs (Went g) s x = went (stateOf g s x cs)
-outcomeOf cs (Returned c) s x = returned (c .value) (stateOf (c .going) s x cs)
+outcomeOf cs (Returned c) s x = returned (c .value) (withLast (c .value) (stateOf (c .going) s x cs))
 outcomeOf cs (Call g i b) s x = went (withFrames (entered i b) (frameIn g ∷ cs) (stateOf g s x cs))
 outcomeOf cs (Back g) s x = backTo cs (stateOf g s x cs)
 outcomeOf cs (Stopped g n) s x = faulted n (stateOf g s x cs)
@@ -82,7 +82,15 @@ goingIn (Stopped g n) = g
 pub record Kept (g : Going) (n : Going) : Type 0 where
   pub callers : n .callers ≡ g .callers
   pub mark : n .mark ≡ g .mark
-  pub answered : n .answered ≡ g .answered
+  pub returns : n .returns ≡ g .returns
+
+-- a Return to a caller has one
+abbrev pub HasCaller : Answer → Type 0
+HasCaller (Went g) = Unit
+HasCaller (Returned c) = Unit
+HasCaller (Call g i b) = Unit
+HasCaller (Back g) = 0 < g .callers
+HasCaller (Stopped g n) = Unit
 
 -- what an arm ensures that is lent the stack alone: whatever the cells are, they stay
 pub record ArmPost (rule : State → Outcome) (k : Fixed) (g : Going) (s : List ℕ) (r : Answer) (s' : List ℕ) : Type 0 where
@@ -90,6 +98,7 @@ pub record ArmPost (rule : State → Outcome) (k : Fixed) (g : Going) (s : List 
   pub within : Within k (goingIn r) s'
   pub kept : Kept g (goingIn r)
   pub used : goingIn r .used ≡ g .used
+  pub caller : HasCaller r
 
 -- the taken cells are within the store, and in exact words
 pub record CellsWithin (g : Going) (x : List ℕ) : Type 0 where
@@ -110,6 +119,7 @@ pub record BlockPost (rule : State → Outcome) (k : Fixed) (g : Going) (s x : L
   pub kept : Kept g (goingIn r)
   pub cells : CellsWithin (goingIn r) x'
   pub before : (n : ℕ) → n ≤ g .used → heapOf n x' ≡ heapOf n x
+  pub caller : HasCaller r
 
 -- the value of Equal, or of NotEqual, from the verdict
 unfoldable pub verdictBy : Bool → Bool → Bool

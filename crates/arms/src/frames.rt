@@ -82,7 +82,7 @@ fn smaller(a: usize, b: usize) -> usize
     if a < b { a } else { b }
 }
 
-// Return: with one frame the value is the last result; otherwise it stands where the callee's frame began, or lower if the stack is shorter.
+// Return: with one frame the value is the run's to take; otherwise it stands where the callee's frame began, or lower if the stack is shorter.
 pub fn go_back(k: Fixed, g: Going, stack: &mut [u64]) -> Answer
     requires { ⌜ Within k g (now stack) ⌝ }
     ensures { λ r. ⌜ ArmPost returnStep k g (now (stack .entry)) r (now (stack .exit)) ⌝ }
@@ -93,12 +93,7 @@ pub fn go_back(k: Fixed, g: Going, stack: &mut [u64]) -> Answer
     };
     let below = sp - 1;
     if g.callers == 0 {
-        let going = Going {
-            sp: below,
-            kind: words::kind_of(v),
-            payload: words::payload_of(v),
-            ..g
-        };
+        let going = Going { sp: below, ..g };
         return Answer::Returned(Completed { going, value: v });
     }
     let at = smaller(g.base, below);

@@ -19,7 +19,7 @@ pub struct Fixed {
 
 // What a step changes, in plain words: the values on the stack, the current frame, how many callers it has, the cells taken, the units left, and
 // the last result as a kind and a payload (kind 7: none). `mark` is how many cells were taken at the run's last root Return, or at its start,
-// and `answered` is 1 once there was one.
+// and `returns` how many there were.
 pub struct Going {
     pub sp: usize,
     pub function: usize,
@@ -31,10 +31,10 @@ pub struct Going {
     pub kind: u64,
     pub payload: u64,
     pub mark: usize,
-    pub answered: u64,
+    pub returns: u64,
 }
 
-// A completed root Return: the machine after it, and its value.
+// A completed root Return: the machine after it, which has yet to take its value for the last result, and that value.
 pub struct Completed {
     pub going: Going,
     pub value: Value,

@@ -8,20 +8,20 @@ use Rattle.model.specs.declared.Vm.{Vm}
 use Rattle.model.specs.declared.Last.{Last}
 use Rattle.model.specs.declared.Last.the-variants.{Nothing, Is}
 use Rattle.model.specs.declared.Frame.{Frame}
+use Rattle.model.specs.declared.Tally.{Tally}
 use Rattle.model.specs.declared.RunResult.{RunResult}
 use Rattle.model.specs.declared.RunResult.the-variants as r
 use Rattle.model.specs.Values.{places, kind}
 use Rattle.model.specs.Heap.{heapOf}
 use Rattle.model.specs.Stores.{Stores}
-use Rattle.model.specs.Orders.{cellsOk, stackOk, lastOk}
+use Rattle.model.specs.Orders.{programOk, cellsOk, stackOk, lastOk}
 use Rattle.model.specs.Machines.{Lent, frameRoom, tooShort}
-use Rattle.rules.specs.Ordered.{runProgram}
 use Rattle.arms.specs.declared.Fixed.{Fixed}
 use Rattle.arms.specs.declared.Going.{Going}
 use Rattle.value.specs.Links.{lastIn}
 use Rattle.steps.specs.Links.{answerIn}
 
--- what a run is lent of the program: all but the struct names
+-- a program's stores
 unfoldable pub programLent : List ℕ → List ℕ → List ℕ → List ℕ → List ℕ → List ℕ → List ℕ → List ℕ → Stores
 programLent structs constants functions text main mainPlaces other otherPlaces = record {
   constants = constants;
@@ -37,7 +37,7 @@ programLent structs constants functions text main mainPlaces other otherPlaces =
 -- the good order that a run judges, but for the frames
 unfoldable pub restOrder : Vm → Stores → List ℕ → List ℕ → Bool
 restOrder m s stack cells =
-    runProgram (m .program) s
+    programOk (m .program) s
     && cellsOk (m .program .text) (m .cells) cells
     && stackOk (m .program .text) (heapOf (m .cells) cells) (m .stack) stack
     && lastOk (m .program .text) (heapOf (m .cells) cells) (m .last)
@@ -65,7 +65,7 @@ pub record Begun (m : Vm) (f : Frame) (u : ℕ) (g : Going) : Type 0 where
   pub units : g .units ≡ u
   pub last : lastIn (g .kind) (g .payload) ≡ m .last
   pub mark : g .mark ≡ m .cells
-  pub answered : g .answered ≡ 0
+  pub returns : g .returns ≡ 0
 
 -- ---- what a run answers
 
@@ -77,16 +77,20 @@ vmWith m stack frames cells last = record { program = m .program; stack = stack;
 unfoldable pub vmEnded : Vm → Going → Vm
 vmEnded m g = vmWith m (g .sp) (suc (g .callers)) (g .used) (lastIn (g .kind) (g .payload))
 
-unfoldable pub resultBy : Last → Vm → ℕ → RunResult
-resultBy Nothing m n = r.Continue m n
-resultBy (Is v) m n = r.Value m v n
+unfoldable pub resultBy : Last → Vm → Tally → RunResult
+resultBy Nothing m t = r.Continue m t
+resultBy (Is v) m t = r.Value m v t
+
+-- what a run did that was given u units
+abbrev pub tallyOf : ℕ → Going → Tally
+tallyOf u g = record { spent = u - g .units; returns = g .returns }
 
 unfoldable pub endedWith : Vm → ℕ → Going → RunResult
-endedWith m u g = resultBy (answerIn g) (vmEnded m g) (u - g .units)
+endedWith m u g = resultBy (answerIn g) (vmEnded m g) (tallyOf u g)
 
 -- the machine that a fault leaves: the stack of the start, one frame, the mark's cells and last result
 unfoldable pub vmFaulted : Vm → Going → Vm
 vmFaulted m g = vmWith m (m .stack) 1 (g .mark) (lastIn (g .kind) (g .payload))
 
 unfoldable pub faultedWith : Vm → ℕ → Going → ℕ → RunResult
-faultedWith m u g n = r.Fault (vmFaulted m g) n (u - g .units) (suc (g .callers))
+faultedWith m u g n = r.Fault (vmFaulted m g) n (tallyOf u g) (suc (g .callers))

@@ -7,12 +7,14 @@ use model::Counts;
 use model::Frame;
 use model::Last;
 use model::RunResult;
+use model::Tally;
 use model::Vm;
 use program::order::constants_ok;
 use program::order::counts_ok;
 use program::order::functions_ok;
 use program::order::inside_codes;
 use program::order::main_ok;
+use program::order::structs_ok;
 use program::order::text_ok;
 use program::words::first;
 use program::words::lesser;
@@ -26,18 +28,16 @@ use value::words::last_payload;
 use value::words::value_of;
 ghost use mathlib.Core.Path.{_≡_};
 ghost use mathlib.Core.Bool.{_&&_};
-ghost use mathlib.Core.List.{List};
-ghost use Prim.Native.Nat.{ℕ, _-_, _*_, _≤_, _<_, _^_};
+ghost use Prim.Native.Nat.{_-_, _*_, _≤_, _<_, _^_};
 ghost use lib.ListN.{length, take};
 ghost use Rattle.model.specs.Values.{kindAt, payloadAt, valueAt, exactValue};
 ghost use Rattle.model.specs.Heap.{heapOf, placedBelow};
 ghost use Rattle.model.specs.Emission.{written};
 ghost use Rattle.model.specs.Stores.{size, codeWord};
-ghost use Rattle.model.specs.Orders.{cellsOk, stackOk, lastOk};
+ghost use Rattle.model.specs.Orders.{programOk, cellsOk, stackOk, lastOk};
 ghost use Rattle.model.specs.Runs.{root};
 ghost use Rattle.model.specs.Machines.{fresh};
-ghost use Rattle.rules.specs.Ordered.{runProgram};
-ghost use Rattle.ends.specs.Links.{programLent, restOrder, ShortPost, FixedPost, Begun, vmWith, endedWith, faultedWith};
+ghost use Rattle.ends.specs.Links.{programLent, restOrder, ShortPost, FixedPost, Begun, vmWith, tallyOf, endedWith, faultedWith};
 
 // ---- before the loop
 
@@ -58,6 +58,7 @@ pub fn fresh_vm(c: Counts) -> Vm
 fn program_ok(
     c: Counts,
     constants: &[u64],
+    structs: &[u64],
     functions: &[u64],
     text: &[u8],
     main: &[u8],
@@ -65,11 +66,12 @@ fn program_ok(
     other: &[u8],
     other_places: &[u32],
 ) -> bool
-    ensures { λ r. ⌜ ((structs : List ℕ) → r ≡ runProgram c (programLent structs (now (constants .entry)) (now (functions .entry)) (now (text .entry)) (now (main .entry)) (now («main_places» .entry)) (now (other .entry)) (now («other_places» .entry)))) ⌝ }
+    ensures { λ r. ⌜ r ≡ programOk c (programLent (now (structs .entry)) (now (constants .entry)) (now (functions .entry)) (now (text .entry)) (now (main .entry)) (now («main_places» .entry)) (now (other .entry)) (now («other_places» .entry))) ⌝ }
 {
     counts_ok(c)
         & text_ok(c, text)
         & constants_ok(c, constants)
+        & structs_ok(c, structs, text)
         & functions_ok(c, functions)
         & main_ok(functions, text)
         & inside_codes(c, functions, main.len(), other.len())
@@ -131,6 +133,7 @@ fn last_ok(texts: usize, used: usize, cells: &[u64], last: Last) -> bool
 pub fn judge(
     m: Vm,
     constants: &[u64],
+    structs: &[u64],
     functions: &[u64],
     text: &[u8],
     main: &[u8],
@@ -140,12 +143,13 @@ pub fn judge(
     stack: &[u64],
     cells: &[u64],
 ) -> bool
-    ensures { λ r. ⌜ ((structs : List ℕ) → r ≡ restOrder m (programLent structs (now (constants .entry)) (now (functions .entry)) (now (text .entry)) (now (main .entry)) (now («main_places» .entry)) (now (other .entry)) (now («other_places» .entry))) (now (stack .entry)) (now (cells .entry))) ⌝ }
+    ensures { λ r. ⌜ r ≡ restOrder m (programLent (now (structs .entry)) (now (constants .entry)) (now (functions .entry)) (now (text .entry)) (now (main .entry)) (now («main_places» .entry)) (now (other .entry)) (now («other_places» .entry))) (now (stack .entry)) (now (cells .entry)) ⌝ }
 {
     let c = m.program;
     let whole = program_ok(
         c,
         constants,
+        structs,
         functions,
         text,
         main,
@@ -228,7 +232,7 @@ pub fn begin(m: Vm, f: Frame, units: u64) -> Going
         kind: last_kind(last),
         payload: last_payload(last),
         mark: m.cells,
-        answered: 0,
+        returns: 0,
     }
 }
 
@@ -248,6 +252,17 @@ fn vm_with(m: Vm, stack: usize, frames: usize, cells: usize, last: Last) -> Vm
     }
 }
 
+// What a run did that was given these units: how many it spent, and the root Returns that it completed.
+fn tally(units: u64, g: Going) -> Tally
+    requires { ⌜ g .units ≤ units ⌝ }
+    ensures { λ r. ⌜ r ≡ tallyOf units g ⌝ }
+{
+    Tally {
+        spent: units - g.units,
+        returns: g.returns,
+    }
+}
+
 // What a run answers that has ended: the value of its last root Return, or "continue".
 pub fn ended(m: Vm, units: u64, g: Going) -> RunResult
     requires { ⌜ (g .units ≤ units) × (g .callers < 2 ^ 32) ⌝ }
@@ -255,14 +270,14 @@ pub fn ended(m: Vm, units: u64, g: Going) -> RunResult
 {
     let last = last_in(g.kind, g.payload);
     let left = vm_with(m, g.sp, g.callers + 1, g.used, last);
-    let spent = units - g.units;
-    let answered = g.answered;
-    if answered == 0 {
-        return RunResult::Continue(left, spent);
+    let did = tally(units, g);
+    let returns = g.returns;
+    if returns == 0 {
+        return RunResult::Continue(left, did);
     }
     match last {
-        Last::Nothing => RunResult::Continue(left, spent),
-        Last::Is(v) => RunResult::Value(left, v, spent),
+        Last::Nothing => RunResult::Continue(left, did),
+        Last::Is(v) => RunResult::Value(left, v, did),
     }
 }
 
@@ -273,9 +288,9 @@ pub fn faulted(m: Vm, units: u64, g: Going, fault: u8) -> RunResult
 {
     let last = last_in(g.kind, g.payload);
     let left = vm_with(m, m.stack, 1, g.mark, last);
-    let spent = units - g.units;
+    let did = tally(units, g);
     let traced = g.callers + 1;
-    RunResult::Fault(left, fault, spent, traced)
+    RunResult::Fault(left, fault, did, traced)
 }
 
 // The frame that a fault leaves: function 0 at the end of main.

@@ -4,14 +4,13 @@
 --     run-under     the loop may begin
 -- Assumes nothing.
 use mathlib.Core.Path.{_≡_, refl}
-use Prim.Native.Nat.{ℕ, _-_}
+use Prim.Native.Nat.{ℕ, _-_, _<_, _^_}
 use native.Mathlib.Omega.{arith}
 use lib.ListN.{getD}
 use Rattle.model.specs.declared.Vm.{Vm}
-use Rattle.model.specs.declared.Last.the-variants.{Nothing}
 use Rattle.model.specs.Values.{places}
 use Rattle.model.specs.Steps.{State}
-use Rattle.model.specs.Runs.{begin, mark, endOf}
+use Rattle.model.specs.Runs.{begin, atStart, endOf}
 use Rattle.model.specs.Stores.{Stores}
 use Rattle.model.specs.Machines.{Lent, frameRoom, machineIn, worldOf}
 use Rattle.rules.specs.Paths.{endFrom}
@@ -24,7 +23,7 @@ use Rattle.arms.specs.declared.Fixed.{Fixed}
 use Rattle.arms.specs.declared.Going.{Going}
 use Rattle.arms.specs.Links.{stateOf}
 use Rattle.arms.proofs.Keeping.{exact-all}
-use Rattle.steps.specs.Links.{answerIn, markIn}
+use Rattle.steps.specs.Links.{answerIn, progressIn}
 use Rattle.turns.specs.Links.{Under}
 use Rattle.ends.specs.Links.{Begun}
 use Rattle.machine.specs.Links.{Granted}
@@ -36,6 +35,7 @@ pub record Begins (m : Vm) (s : Stores) (l : Lent) (u : ℕ) (k : Fixed) (g : Go
   pub granted : Granted m s l
   pub bytes : CodeBytes s
   pub fixed : FixedIn m l k
+  pub fits : u < 2 ^ 64
   pub begun : Begun m (getD (l .frames) (m .frames - 1) noFrame) u g
 
 module _ (m : Vm) (s : Stores) (l : Lent) (u : ℕ) (k : Fixed) (g : Going) (h : Begins m s l u k g) where
@@ -50,15 +50,12 @@ module _ (m : Vm) (s : Stores) (l : Lent) (u : ℕ) (k : Fixed) (g : Going) (h :
       let n = lengths-of m s l (h .granted) in
       rw (callers-are (m .frames) (l .frames) refl (let z = n .current in omega arith), innermost-is (m .frames) (l .frames) refl, b .sp, b .function, b .position, b .base, b .callers, b .used, b .units, b .last)
 
-  no-answer : answerIn g ≡ Nothing
+  same-progress : progressIn g (l .cells) ≡ atStart start
   unfolding answerIn
-  no-answer = rw (h .begun .answered)
+  same-progress = rw (h .begun .returns, h .begun .mark, h .begun .used)
 
-  same-mark : markIn g (l .cells) ≡ mark start
-  same-mark = rw (h .begun .mark, h .begun .used)
-
-  pub begins-end : endOf (worldOf m s l) (begin (machineIn m l) u) ≡ endFrom (worldOf m s l) (answerIn g) (markIn g (l .cells)) start
-  begins-end = rw (start-is, no-answer, same-mark) (end-of (worldOf m s l) start)
+  pub begins-end : endOf (worldOf m s l) (begin (machineIn m l) u) ≡ endFrom (worldOf m s l) (progressIn g (l .cells)) start
+  begins-end = rw (start-is, same-progress) (end-of (worldOf m s l) start)
 
   pub run-under : Under (worldOf m s l) k g (m .program .text) (s .constants) (s .functions) (s .text) (s .main) (s .other) (l .stack) (l .cells) (l .frames)
   unfolding frameRoom places
@@ -77,6 +74,7 @@ module _ (m : Vm) (s : Stores) (l : Lent) (u : ℕ) (k : Fixed) (g : Going) (h :
           stack = record { count = omega arith; room = omega arith; exact = rw (b .sp) (exact-all (m .stack) (l .stack) (exact .stack)); callers = omega arith };
           cells = record { count = rw (b .used) (n .cells); exact = rw (b .used) (exact .cells) };
           mark = omega arith;
+          returns = omega (arith, b .returns, b .units, h .fits);
         };
         sane = rw start-is at (order-sane m s l o u);
       }

@@ -21,10 +21,9 @@ use Rattle.model.specs.Basics.{everyFrom}
 use Rattle.model.specs.Values.{places, mostPlaces}
 use Rattle.model.specs.Heap.{heapOf, heapOk, exactCells}
 use Rattle.model.specs.Stores.{Stores, functionsFrom}
-use Rattle.model.specs.Orders.{cellsOk, stackOk, lastOk, functionOk, functionsOk, framesOk, frameStoreOk}
+use Rattle.model.specs.Orders.{programOk, cellsOk, stackOk, lastOk, functionOk, functionsOk, framesOk, frameStoreOk}
 use Rattle.model.specs.Machines.{Lent, frameRoom, runOrder, tooShort, refused, runAnswer, copyAfter, traceAfter, answerIn, RunPost}
 use Rattle.value.proofs.Coding.{and-left}
-use Rattle.rules.specs.Ordered.{runProgram}
 use Rattle.rules.proofs.Programs.{Parts, length-functions, parts-of, code-size}
 use Rattle.rules.proofs.Frames.{some-frame}
 use Rattle.rules.proofs.Ordered.{order-of}
@@ -54,13 +53,13 @@ functions-there c s p = leb-true _ _ (and-left (leb (c .functions) (places 2 (s 
 
 module _ (m : Vm) (s : Stores) (l : Lent) where
   rest-order : runOrder m s l ≡ (restOrder m s (l .stack) (l .cells) && frameStoreOk (functionsFrom (m .program .functions) 0 s) (places 2 (l .stack)) (m .frames) (l .frames))
-  unfolding runOrder restOrder runProgram
+  unfolding runOrder restOrder
   rest-order = refl
 
-  rest-program : restOrder m s (l .stack) (l .cells) ≡ true → runProgram (m .program) s ≡ true
+  rest-program : restOrder m s (l .stack) (l .cells) ≡ true → programOk (m .program) s ≡ true
   unfolding restOrder
   rest-program e =
-      let program = runProgram (m .program) s in
+      let program = programOk (m .program) s in
       let cells = cellsOk (m .program .text) (m .cells) (l .cells) in
       let stack = stackOk (m .program .text) (heapOf (m .cells) (l .cells)) (m .stack) (l .stack) in
       let last = lastOk (m .program .text) (heapOf (m .cells) (l .cells)) (m .last) in

@@ -18,6 +18,7 @@ use Rattle.model.specs.declared.Last.the-variants.{Nothing, Is}
 use Rattle.model.specs.declared.Fault.{Fault}
 use Rattle.model.specs.declared.Fault.the-variants as f
 use Rattle.model.specs.declared.Frame.{Frame}
+use Rattle.model.specs.declared.Tally.{Tally}
 use Rattle.model.specs.declared.RunResult.{RunResult}
 use Rattle.model.specs.declared.RunResult.the-variants as r
 use Rattle.model.specs.Basics.{written}
@@ -36,10 +37,10 @@ use Rattle.arms.specs.declared.Fixed.{Fixed}
 use Rattle.arms.specs.declared.Going.{Going}
 use Rattle.arms.specs.Links.{frameIn, stateOf}
 use Rattle.arms.proofs.Keeping.{exact-at}
-use Rattle.steps.specs.Links.{answerIn, markIn}
+use Rattle.steps.specs.Links.{answerIn, progressIn}
 use Rattle.turns.specs.declared.Course.{Course}
 use Rattle.turns.specs.Links.{Ends, over, stop, TurnsPost}
-use Rattle.ends.specs.Links.{vmEnded, resultBy, endedWith, vmFaulted, faultedWith}
+use Rattle.ends.specs.Links.{vmEnded, resultBy, tallyOf, endedWith, vmFaulted, faultedWith}
 use Rattle.machine.specs.Links.{runLent, Granted}
 use Rattle.frames.proofs.Callers.{innermost-is, callers-are, callers-kept, length-callers}
 use Rattle.machine.proofs.Copies.{restored-at, same-kind, same-payload, same-vals}
@@ -57,24 +58,24 @@ pub record Came (m : Vm) (s : Stores) (l : Lent) (u : ℕ) (k : Fixed) (g : Goin
 -- ---- answers
 
 -- the answer of a run that has ended, in stores l
-result-is : (l : Lent) (a : Last) (m : Vm) (n : ℕ) → mc.answerIn l (resultBy a m n) ≡ ranAs m l (answered a n)
+result-is : (l : Lent) (a : Last) (m : Vm) (n : Tally) → mc.answerIn l (resultBy a m n) ≡ ranAs m l (answered a n)
 unfolding mc.answerIn resultBy answered
 result-is l Nothing m n = refl
 result-is l (Is x) m n = refl
 
-result-left : (s : Stores) (l l' : Lent) (a : Last) (m : Vm) (n : ℕ) → runOrder m s l' ≡ true → Left s l (resultBy a m n) l'
+result-left : (s : Stores) (l l' : Lent) (a : Last) (m : Vm) (n : Tally) → runOrder m s l' ≡ true → Left s l (resultBy a m n) l'
 unfolding resultBy
 result-left s l l' Nothing m n e = e
 result-left s l l' (Is x) m n e = e
 
 -- the answer of a run that has stopped
-fault-is : (l : Lent) (m : Vm) {n i : ℕ} (spent j : ℕ) {es : List Entry} {x : Machine} → n ≡ i → entriesIn j 0 (l .backtrace) ≡ es → machineIn m l ≡ x
-    → mc.answerIn l (r.Fault m n spent j) ≡ ran (m .program) (record { reply = fault i spent es; machine = x })
+fault-is : (l : Lent) (m : Vm) {n i : ℕ} (did : Tally) (j : ℕ) {es : List Entry} {x : Machine} → n ≡ i → entriesIn j 0 (l .backtrace) ≡ es → machineIn m l ≡ x
+    → mc.answerIn l (r.Fault m n did j) ≡ ran (m .program) (record { reply = fault i did es; machine = x })
 unfolding mc.answerIn
-fault-is l m spent j e t q = rw (e, t, q)
+fault-is l m did j e t q = rw (e, t, q)
 
 -- a run that has ended writes no backtrace
-no-trace : (a : Last) (n : ℕ) → entryWords (traceOfReply (answered a n)) ≡ []
+no-trace : (a : Last) (n : Tally) → entryWords (traceOfReply (answered a n)) ≡ []
 unfolding entryWords traceOfReply answered
 no-trace Nothing n = refl
 no-trace (Is x) n = refl
@@ -164,7 +165,7 @@ module _ (m : Vm) (s : Stores) (l : Lent) (u : ℕ) (k : Fixed) (g : Going) (c :
   -- ---- ended
 
   module _ (no : c .fault ≡ 0) where
-    is-ended : Ends (worldOf m s l) ranEnd c stack cells frames → ranEnd ≡ ended (answerIn now) (stateOf now stack cells callers)
+    is-ended : Ends (worldOf m s l) ranEnd c stack cells frames → ranEnd ≡ ended (progressIn now cells) (stateOf now stack cells callers)
     is-ended (over n e z) = e
     is-ended (stop x n e t) = absurd (some-fault x (sym n ∙ no))
 
@@ -195,13 +196,13 @@ module _ (m : Vm) (s : Stores) (l : Lent) (u : ℕ) (k : Fixed) (g : Going) (c :
     pub run-ended : RunPost m s l u (endedWith m u now) lentEnded
     unfolding endedWith
     run-ended =
-        let q = run-is m s l u (ended (answerIn now) (stateOf now stack cells callers)) (h .begins .granted) (is-ended ends) in
+        let q = run-is m s l u (ended (progressIn now cells) (stateOf now stack cells callers)) (h .begins .granted) (is-ended ends) in
         posted m s l u _ (endedWith m u now) lentEnded q
-        (result-is lentEnded (answerIn now) (vmEnded m now) (u - now .units) ∙ unfold settle vmEnded in rw machine-ended)
+        (result-is lentEnded (answerIn now) (vmEnded m now) (tallyOf u now) ∙ unfold settle vmEnded in rw machine-ended)
         (unfold runLent in refl)
-        (unfold settle runLent written in rw (no-trace (answerIn now) (u - now .units)))
+        (unfold settle runLent written in rw (no-trace (answerIn now) (tallyOf u now)))
         rooms-ended
-        (result-left s l lentEnded (answerIn now) (vmEnded m now) (u - now .units) order-ended)
+        (result-left s l lentEnded (answerIn now) (vmEnded m now) (tallyOf u now) order-ended)
 
   -- ---- stopped
 
@@ -210,7 +211,7 @@ module _ (m : Vm) (s : Stores) (l : Lent) (u : ℕ) (k : Fixed) (g : Going) (c :
     record Stop : Type 0 where
       number : Fault
       told : c .fault ≡ faultNumber number
-      end : ranEnd ≡ stopped number (stateOf now stack cells callers) (markIn now cells)
+      end : ranEnd ≡ stopped number (stateOf now stack cells callers) (progressIn now cells)
       traced : traceable (functionsFrom (m .program .functions) 0 s) (frameIn now ∷ callers) ≡ true
 
     is-stopped : Ends (worldOf m s l) ranEnd c stack cells frames → Stop
@@ -253,7 +254,7 @@ module _ (m : Vm) (s : Stores) (l : Lent) (u : ℕ) (k : Fixed) (g : Going) (c :
     main-length : length (functionAt (functionsFrom (m .program .functions) 0 s) 0 .code) ≡ size (codeWord (s .functions) 0)
     main-length = code-size (m .program) s parts 0 (has-main (m .program) s parts)
 
-    machine-stopped : machineIn (vmFaulted m now) lentStopped ≡ recovered (worldOf m s l) (machineIn m l) (markIn now cells)
+    machine-stopped : machineIn (vmFaulted m now) lentStopped ≡ recovered (worldOf m s l) (machineIn m l) (progressIn now cells)
     unfolding machineIn vmFaulted runLent recovered worldOf worldIn
     machine-stopped =
         let there : 0 < length frames = let z = callers-there in omega arith in
@@ -298,9 +299,9 @@ module _ (m : Vm) (s : Stores) (l : Lent) (u : ℕ) (k : Fixed) (g : Going) (c :
 
     pub run-faulted : RunPost m s l u (faultedWith m u now (c .fault)) lentStopped
     run-faulted =
-        let q = run-is m s l u (stopped (stops .number) (stateOf now stack cells callers) (markIn now cells)) (h .begins .granted) (stops .end) in
+        let q = run-is m s l u (stopped (stops .number) (stateOf now stack cells callers) (progressIn now cells)) (h .begins .granted) (stops .end) in
         posted m s l u _ (faultedWith m u now (c .fault)) lentStopped q
-        (unfold faultedWith settle vmFaulted worldOf worldIn runLent in fault-is lentStopped (vmFaulted m now) (u - now .units) (suc (now .callers)) (stops .told) told-entries machine-stopped)
+        (unfold faultedWith settle vmFaulted worldOf worldIn runLent in fault-is lentStopped (vmFaulted m now) (tallyOf u now) (suc (now .callers)) (stops .told) told-entries machine-stopped)
         (unfold runLent in refl)
         (unfold settle runLent traceOfReply worldOf worldIn in rw told-words)
         rooms-stopped

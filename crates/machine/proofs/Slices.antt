@@ -31,64 +31,64 @@ use Rattle.machine.proofs.Begins.{Begins, run-under}
 use Rattle.machine.proofs.Settles as se
 use Rattle.machine.proofs.Settles.{Came}
 
-module _ (p : Passing) (structs : List ℕ) where
+module _ (p : Passing) where
   -- ---- its start
 
-  module _ (allowed : Granted (m p) (stores p structs) (lent₀ p)) where
+  module _ (allowed : Granted (m p) (stores p) (lent₀ p)) where
     pub copy-ready : (2 * m p .stack ≤ length (stack p)) × (2 * m p .stack ≤ length (copy p))
     unfolding runLent
-    copy-ready = let n = gr.lengths-of (m p) (stores p structs) (lent₀ p) allowed in (n .stack, n .copy)
+    copy-ready = let n = gr.lengths-of (m p) (stores p) (lent₀ p) allowed in (n .stack, n .copy)
 
     pub current-ready : m p .frames - 1 < length (frames p)
     unfolding runLent
-    current-ready = gr.lengths-of (m p) (stores p structs) (lent₀ p) allowed .current
+    current-ready = gr.lengths-of (m p) (stores p) (lent₀ p) allowed .current
 
     module _ (k : Fixed) (g : Going) where
       pub begins : ((j : ℕ) → j < length (main p) → getD (main p) j 0 < 256) → ((j : ℕ) → j < length (other p) → getD (other p) j 0 < 256)
-          → k .constants ≡ m p .program .constants → k .structs ≡ m p .program .structs → k .functions ≡ m p .program .functions → k .slots ≡ places 2 (stack p) → k .frames ≡ frameRoom (frames p)
-          → Begun (m p) (getD (frames p) (m p .frames - 1) noFrame) (units p) g → Begins (m p) (stores p structs) (lent₀ p) (units p) k g
+          → units p < 2 ^ 64 → k .constants ≡ m p .program .constants → k .structs ≡ m p .program .structs → k .functions ≡ m p .program .functions → k .slots ≡ places 2 (stack p) → k .frames ≡ frameRoom (frames p)
+          → Begun (m p) (getD (frames p) (m p .frames - 1) noFrame) (units p) g → Begins (m p) (stores p) (lent₀ p) (units p) k g
       unfolding programLent runLent
-      begins a b c s f n r h = record { granted = allowed; bytes = record { main = a; other = b }; fixed = record { constants = c; structs = s; functions = f; slots = n; frames = r }; begun = h }
+      begins a b u c s f n r h = record { granted = allowed; bytes = record { main = a; other = b }; fits = u; fixed = record { constants = c; structs = s; functions = f; slots = n; frames = r }; begun = h }
 
   -- ---- the loop
 
-  module _ {k : Fixed} {g : Going} (h : Begins (m p) (stores p structs) (lent₀ p) (units p) k g) where
-    pub under : Under (worldOf (m p) (stores p structs) (lent₀ p)) k g (m p .program .text) (constants p) (functions p) (text p) (main p) (other p) (stack p) (cells p) (frames p)
+  module _ {k : Fixed} {g : Going} (h : Begins (m p) (stores p) (lent₀ p) (units p) k g) where
+    pub under : Under (worldOf (m p) (stores p) (lent₀ p)) k g (m p .program .text) (constants p) (functions p) (text p) (main p) (other p) (stack p) (cells p) (frames p)
     unfolding programLent runLent
-    under = run-under (m p) (stores p structs) (lent₀ p) (units p) k g h
+    under = run-under (m p) (stores p) (lent₀ p) (units p) k g h
 
-    pub came : {c : Course} {stack' cells' : List ℕ} {frames' : List Frame} → TurnsPost (worldOf (m p) (stores p structs) (lent₀ p)) k g (stack p) (cells p) (frames p) c stack' cells' frames'
-        → length stack' ≡ length (stack p) → length cells' ≡ length (cells p) → length frames' ≡ length (frames p) → Came (m p) (stores p structs) (lent₀ p) (units p) k g c stack' cells' frames'
+    pub came : {c : Course} {stack' cells' : List ℕ} {frames' : List Frame} → TurnsPost (worldOf (m p) (stores p) (lent₀ p)) k g (stack p) (cells p) (frames p) c stack' cells' frames'
+        → length stack' ≡ length (stack p) → length cells' ≡ length (cells p) → length frames' ≡ length (frames p) → Came (m p) (stores p) (lent₀ p) (units p) k g c stack' cells' frames'
     unfolding runLent
     came t a b f = record { begins = h; turns = t; stackRoom = a; cellRoom = b; framesRoom = f }
 
   -- ---- behind the loop
 
-  module _ {k : Fixed} {g : Going} {c : Course} {stack' cells' : List ℕ} {frames' : List Frame} (h : Came (m p) (stores p structs) (lent₀ p) (units p) k g c stack' cells' frames') where
+  module _ {k : Fixed} {g : Going} {c : Course} {stack' cells' : List ℕ} {frames' : List Frame} (h : Came (m p) (stores p) (lent₀ p) (units p) k g c stack' cells' frames') where
     pub units-ready : c .going .units ≤ units p
-    units-ready = se.units-left (m p) (stores p structs) (lent₀ p) (units p) k g c stack' cells' frames' h
+    units-ready = se.units-left (m p) (stores p) (lent₀ p) (units p) k g c stack' cells' frames' h
 
     pub callers-ready : c .going .callers < 2 ^ 32
-    callers-ready = se.callers-small (m p) (stores p structs) (lent₀ p) (units p) k g c stack' cells' frames' h
+    callers-ready = se.callers-small (m p) (stores p) (lent₀ p) (units p) k g c stack' cells' frames' h
 
     pub frame-ready : c .going .callers < length frames'
-    frame-ready = se.callers-there (m p) (stores p structs) (lent₀ p) (units p) k g c stack' cells' frames' h
+    frame-ready = se.callers-there (m p) (stores p) (lent₀ p) (units p) k g c stack' cells' frames' h
 
     pub trace-ready : (c .fault ≡ 0 → ⊥) → TraceFits (functions p) (mainPlaces p) (otherPlaces p) (frameIn (c .going)) (c .going .callers) frames' (length (backtrace p))
     unfolding programLent runLent
-    trace-ready some = se.trace-ready (m p) (stores p structs) (lent₀ p) (units p) k g c stack' cells' frames' h some
+    trace-ready some = se.trace-ready (m p) (stores p) (lent₀ p) (units p) k g c stack' cells' frames' h some
 
     module _ {copy' : List ℕ} (copied : copy' ≡ written (copy p) 0 (take (2 * m p .stack) (stack p))) where
       pub ended : c .fault ≡ 0 → {frames″ : List Frame} → frames″ ≡ set frames' (c .going .callers) (frameIn (c .going)) → {r : RunResult} → r ≡ endedWith (m p) (units p) (c .going)
-          → RunPost (m p) (stores p structs) (lent₀ p) (units p) r (runLent stack' cells' frames″ copy' (backtrace p))
-      ended e f a = rw (f, a, copied) (unfold runLent in se.run-ended (m p) (stores p structs) (lent₀ p) (units p) k g c stack' cells' frames' h e)
+          → RunPost (m p) (stores p) (lent₀ p) (units p) r (runLent stack' cells' frames″ copy' (backtrace p))
+      ended e f a = rw (f, a, copied) (unfold runLent in se.run-ended (m p) (stores p) (lent₀ p) (units p) k g c stack' cells' frames' h e)
 
       pub back-ready : (2 * m p .stack ≤ length copy') × (2 * m p .stack ≤ length stack')
-      back-ready = rw copied (unfold runLent in (se.copy-there (m p) (stores p structs) (lent₀ p) (units p) k g c stack' cells' frames' h, se.stack-there (m p) (stores p structs) (lent₀ p) (units p) k g c stack' cells' frames' h))
+      back-ready = rw copied (unfold runLent in (se.copy-there (m p) (stores p) (lent₀ p) (units p) k g c stack' cells' frames' h, se.stack-there (m p) (stores p) (lent₀ p) (units p) k g c stack' cells' frames' h))
 
       pub faulted : (c .fault ≡ 0 → ⊥) → {backtrace' : List ℕ} → backtrace' ≡ written (backtrace p) 0 (traceWords (functions p) (mainPlaces p) (otherPlaces p) (frameIn (c .going) ∷ callersOf (c .going .callers) frames'))
           → {stack″ : List ℕ} → stack″ ≡ written stack' 0 (take (2 * m p .stack) copy')
           → {frames″ : List Frame} → frames″ ≡ set frames' 0 (root (size (codeWord (functions p) 0)))
           → {r : RunResult} → r ≡ faultedWith (m p) (units p) (c .going) (c .fault)
-          → RunPost (m p) (stores p structs) (lent₀ p) (units p) r (runLent stack″ cells' frames″ copy' backtrace')
-      faulted some t b f a = rw (t, b, f, a, copied) (unfold programLent runLent in se.run-faulted (m p) (stores p structs) (lent₀ p) (units p) k g c stack' cells' frames' h some)
+          → RunPost (m p) (stores p) (lent₀ p) (units p) r (runLent stack″ cells' frames″ copy' backtrace')
+      faulted some t b f a = rw (t, b, f, a, copied) (unfold programLent runLent in se.run-faulted (m p) (stores p) (lent₀ p) (units p) k g c stack' cells' frames' h some)

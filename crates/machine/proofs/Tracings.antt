@@ -162,26 +162,26 @@ module _ (m : Vm) (structs constants functions text main mainPlaces other otherP
     unfolding programLent places
     enough = let z = functions-there (bare c) without-constants parts in omega arith
 
-    module _ (frames : List Frame) where
-      by-words : framesGood functions (c .functions) mostPlaces n frames ≡ frameStoreOk fs mostPlaces n frames
-      by-words = frames-are-good functions (c .functions) mostPlaces fs (length-functions stores (c .functions) 0) sizes n frames
+    module _ (slots : ℕ) (frames : List Frame) where
+      by-words : framesGood functions (c .functions) slots n frames ≡ frameStoreOk fs slots n frames
+      by-words = frames-are-good functions (c .functions) slots fs (length-functions stores (c .functions) 0) sizes n frames
 
-      module _ (good : frameStoreOk fs mostPlaces n frames ≡ true) where
+      module _ (good : frameStoreOk fs slots n frames ≡ true) where
         some : 1 ≤ n
-        some = some-frame fs mostPlaces n frames good
+        some = some-frame fs slots n frames good
 
         there : n ≤ length frames
         unfolding frameStoreOk
-        there = omega (arith, leb-true n (min (length frames) mostPlaces) (and-left (leb n (min (length frames) mostPlaces)) (framesOk fs mostPlaces (take n frames)) good))
+        there = omega (arith, leb-true n (min (length frames) mostPlaces) (and-left (leb n (min (length frames) mostPlaces)) (framesOk fs slots (take n frames)) good))
 
         known-at : (i : ℕ) → i < n → getD frames i noFrame .function < c .functions
         unfolding framesGood placeGood
         known-at i h =
             let room = leb 1 n && leb n (min (length frames) mostPlaces) in
-            let at : ℕ → Bool = (λ j. placeGood functions (c .functions) mostPlaces n j (getD frames j noFrame)) in
+            let at : ℕ → Bool = (λ j. placeGood functions (c .functions) slots n j (getD frames j noFrame)) in
             let r = getD frames i noFrame in
             let e = every-of at n 0 (and-right room (everyFrom n 0 at) (by-words ∙ good)) i (omega arith) (omega arith) in
-            function-known (c .functions) mostPlaces r (and-left (frameGood (c .functions) mostPlaces r) (firstGood i r) (and-left (frameGood (c .functions) mostPlaces r && firstGood i r) (callerGood functions n i r) e))
+            function-known (c .functions) slots r (and-left (frameGood (c .functions) slots r) (firstGood i r) (and-left (frameGood (c .functions) slots r && firstGood i r) (callerGood functions n i r) e))
 
         all-known : AllKnown (c .functions) (framesIn n frames)
         unfolding framesIn
@@ -221,44 +221,44 @@ module _ (m : Vm) (structs constants functions text main mainPlaces other otherP
 
   -- ---- by the tests
 
-  by-parts : (frames : List Frame) → traceOrder m stores frames ≡ (traceProgram c stores && frameStoreOk fs mostPlaces n frames)
+  by-parts : (stack : List ℕ) (frames : List Frame) → traceOrder m stores stack frames ≡ (traceProgram c stores && frameStoreOk fs (places 2 stack) n frames)
   unfolding traceOrder traceProgram
-  by-parts frames = refl
+  by-parts stack frames = refl
 
   pub functions-counted : (b : Bool) → b ≡ traceProgram c stores → 2 * (if b then c .functions else 0) ≤ length functions
   functions-counted true e = enough (sym e)
   functions-counted false e = omega arith
 
-  pub frames-judged : (frames : List Frame) (b f : Bool) → b ≡ traceProgram c stores → f ≡ framesGood functions (if b then c .functions else 0) mostPlaces n frames → (b && f) ≡ traceOrder m stores frames
-  frames-judged frames true f e g = g ∙ by-words (sym e) frames ∙ sym (by-parts frames ∙ ap (λ (b : Bool). b && frameStoreOk fs mostPlaces n frames) (sym e))
-  frames-judged frames false f e g = sym (by-parts frames ∙ ap (λ (b : Bool). b && frameStoreOk fs mostPlaces n frames) (sym e))
+  pub frames-judged : (stack : List ℕ) (frames : List Frame) (b f : Bool) → b ≡ traceProgram c stores → f ≡ framesGood functions (if b then c .functions else 0) (places 2 stack) n frames → (b && f) ≡ traceOrder m stores stack frames
+  frames-judged stack frames true f e g = g ∙ by-words (sym e) (places 2 stack) frames ∙ sym (by-parts stack frames ∙ ap (λ (b : Bool). b && frameStoreOk fs (places 2 stack) n frames) (sym e))
+  frames-judged stack frames false f e g = sym (by-parts stack frames ∙ ap (λ (b : Bool). b && frameStoreOk fs (places 2 stack) n frames) (sym e))
 
-  module _ (frames : List Frame) (out : List ℕ) {w : ℕ} (told : w ≡ traceRefusal (traceOrder m stores frames) n out) where
+  module _ (stack : List ℕ) (frames : List Frame) (out : List ℕ) {w : ℕ} (told : w ≡ traceRefusal (traceOrder m stores stack frames) n out) where
     module _ (none : w ≡ 0) where
-      order : traceOrder m stores frames ≡ true
+      order : traceOrder m stores stack frames ≡ true
       unfolding traceRefusal
-      order = none-good (traceOrder m stores frames) (ltb (places 2 out) n) (sym told ∙ none) .0
+      order = none-good (traceOrder m stores stack frames) (ltb (places 2 out) n) (sym told ∙ none) .0
 
       room : ltb (places 2 out) n ≡ false
       unfolding traceRefusal
-      room = none-good (traceOrder m stores frames) (ltb (places 2 out) n) (sym told ∙ none) .1
+      room = none-good (traceOrder m stores stack frames) (ltb (places 2 out) n) (sym told ∙ none) .1
 
       program : traceProgram c stores ≡ true
-      program = and-left (traceProgram c stores) (frameStoreOk fs mostPlaces n frames) (sym (by-parts frames) ∙ order)
+      program = and-left (traceProgram c stores) (frameStoreOk fs (places 2 stack) n frames) (sym (by-parts stack frames) ∙ order)
 
-      framed : frameStoreOk fs mostPlaces n frames ≡ true
-      framed = and-right (traceProgram c stores) (frameStoreOk fs mostPlaces n frames) (sym (by-parts frames) ∙ order)
+      framed : frameStoreOk fs (places 2 stack) n frames ≡ true
+      framed = and-right (traceProgram c stores) (frameStoreOk fs (places 2 stack) n frames) (sym (by-parts stack frames) ∙ order)
 
       pub trace-ready : Traceable functions mainPlaces otherPlaces n frames (length out)
       unfolding places
-      trace-ready = ready program frames framed (omega (arith, ltb-false (places 2 out) n room))
+      trace-ready = ready program (places 2 stack) frames framed (omega (arith, ltb-false (places 2 out) n room))
 
-      pub trace-is : traceInto functions mainPlaces otherPlaces n frames out ≡ backtraceIn m stores frames out
+      pub trace-is : traceInto functions mainPlaces otherPlaces n frames out ≡ backtraceIn m stores stack frames out
       unfolding backtraceIn framesIn
       trace-is =
-          let k : n - 1 ≤ length frames = omega (arith, there program frames framed) in
-          written-is program frames framed (traceGood functions (framesIn n frames)) refl out ∙ rw (order, room, innermost-is n frames refl, callers-are n frames refl k)
+          let k : n - 1 ≤ length frames = omega (arith, there program (places 2 stack) frames framed) in
+          written-is program (places 2 stack) frames framed (traceGood functions (framesIn n frames)) refl out ∙ rw (order, room, innermost-is n frames refl, callers-are n frames refl k)
 
-    pub trace-refused : (w ≡ 0 → ⊥) → refused-with w out ≡ backtraceIn m stores frames out
+    pub trace-refused : (w ≡ 0 → ⊥) → refused-with w out ≡ backtraceIn m stores stack frames out
     unfolding backtraceIn traceRefusal
-    trace-refused some = refused-by (traceOrder m stores frames) (ltb (places 2 out) n) _ out told some
+    trace-refused some = refused-by (traceOrder m stores stack frames) (ltb (places 2 out) n) _ out told some

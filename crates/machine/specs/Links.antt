@@ -1,6 +1,6 @@
 -- What a machine's entries are lent, and their contracts in parts.
 use mathlib.Core.Path.{_≡_}
-use mathlib.Core.Bool.{Bool, true, false, _&&_}
+use mathlib.Core.Bool.{Bool, true, false}
 use mathlib.Core.List.{List, _∷_}
 use Prim.Native.Nat.{ℕ, _-_, _≤_}
 use lib.Dec.{ltb}
@@ -15,8 +15,8 @@ use Rattle.model.specs.declared.Started.the-variants as st
 use Rattle.model.specs.Basics.{if_then_else_}
 use Rattle.model.specs.Values.{places}
 use Rattle.model.specs.Stores.{Stores}
-use Rattle.model.specs.Orders.{insideCodes}
-use Rattle.model.specs.Loading.{OutRes, listOrder}
+use Rattle.model.specs.Orders.{traces, judgedBy}
+use Rattle.model.specs.Loading.{OutRes}
 use Rattle.model.specs.Machines.{Lent, runOrder, tooShort, RunPost, StartRes}
 use Rattle.frames.specs.Links.{noFrame, callersOf, traceWords, written, traceGood, TraceFits}
 
@@ -42,7 +42,7 @@ pub record RunJudged (m : Vm) (s : Stores) (l : Lent) (n : ℕ) : Type 0 where
 
 -- what a backtrace judges of the program
 unfoldable pub traceProgram : Counts → Stores → Bool
-traceProgram c s = listOrder c s && insideCodes c (s .functions) (s .mainPlaces) (s .otherPlaces)
+traceProgram c s = judgedBy traces c s
 
 -- n frames, the innermost first
 unfoldable pub framesIn : ℕ → List Frame → List Frame

@@ -35,6 +35,7 @@ pub fn run(
     m: Vm,
     units: u64,
     constants: &[u64],
+    structs: &[u64],
     functions: &[u64],
     text: &[u8],
     main: &[u8],
@@ -47,13 +48,14 @@ pub fn run(
     copy: &mut [u64],
     backtrace: &mut [u32],
 ) -> RunResult
-    ensures { λ r. ⌜ ((structs : List ℕ) → RunPost m (programLent structs (now (constants .entry)) (now (functions .entry)) (now (text .entry)) (now (main .entry)) (now («main_places» .entry)) (now (other .entry)) (now («other_places» .entry))) (runLent (now (stack .entry)) (now (cells .entry)) (now (frames .entry)) (now (copy .entry)) (now (backtrace .entry))) units r (runLent (now (stack .exit)) (now (cells .exit)) (now (frames .exit)) (now (copy .exit)) (now (backtrace .exit)))) ⌝ }
+    ensures { λ r. ⌜ RunPost m (programLent (now (structs .entry)) (now (constants .entry)) (now (functions .entry)) (now (text .entry)) (now (main .entry)) (now («main_places» .entry)) (now (other .entry)) (now («other_places» .entry))) (runLent (now (stack .entry)) (now (cells .entry)) (now (frames .entry)) (now (copy .entry)) (now (backtrace .entry))) units r (runLent (now (stack .exit)) (now (cells .exit)) (now (frames .exit)) (now (copy .exit)) (now (backtrace .exit))) ⌝ }
 {
     let why = run_refusal(
         m,
         copy.len(),
         backtrace.len(),
         constants,
+        structs,
         functions,
         text,
         main,
@@ -69,6 +71,7 @@ pub fn run(
             m,
             units,
             constants,
+            structs,
             functions,
             text,
             main,
@@ -96,10 +99,11 @@ pub fn backtrace(
     main_places: &[u32],
     other: &[u8],
     other_places: &[u32],
+    stack: &[u64],
     frames: &[Frame],
     out: &mut [u32],
 ) -> Told
-    ensures { λ r. ⌜ ((structs constants : List ℕ) → record { answer = r; out = now (out .exit) } ≡ backtraceIn m (programLent structs constants (now (functions .entry)) (now (text .entry)) (now (main .entry)) (now («main_places» .entry)) (now (other .entry)) (now («other_places» .entry))) (now (frames .entry)) (now (out .entry))) ⌝ }
+    ensures { λ r. ⌜ ((structs constants : List ℕ) → record { answer = r; out = now (out .exit) } ≡ backtraceIn m (programLent structs constants (now (functions .entry)) (now (text .entry)) (now (main .entry)) (now («main_places» .entry)) (now (other .entry)) (now («other_places» .entry))) (now (stack .entry)) (now (frames .entry)) (now (out .entry))) ⌝ }
 {
     let n = m.frames;
     let good = trace_order(
@@ -110,6 +114,7 @@ pub fn backtrace(
         main_places,
         other,
         other_places,
+        stack,
         frames,
     );
     let why = trace_refusal(good, n, out.len());

@@ -56,6 +56,7 @@ pub fn run_refusal(
     copies: usize,
     entries: usize,
     constants: &[u64],
+    structs: &[u64],
     functions: &[u64],
     text: &[u8],
     main: &[u8],
@@ -66,12 +67,13 @@ pub fn run_refusal(
     cells: &[u64],
     frames: &[Frame],
 ) -> u8
-    ensures { λ r. ⌜ ((structs copy backtrace : List ℕ) → length copy ≡ copies → length backtrace ≡ entries → RunJudged m (programLent structs (now (constants .entry)) (now (functions .entry)) (now (text .entry)) (now (main .entry)) (now («main_places» .entry)) (now (other .entry)) (now («other_places» .entry))) (runLent (now (stack .entry)) (now (cells .entry)) (now (frames .entry)) copy backtrace) r) ⌝ }
+    ensures { λ r. ⌜ ((copy backtrace : List ℕ) → length copy ≡ copies → length backtrace ≡ entries → RunJudged m (programLent (now (structs .entry)) (now (constants .entry)) (now (functions .entry)) (now (text .entry)) (now (main .entry)) (now («main_places» .entry)) (now (other .entry)) (now («other_places» .entry))) (runLent (now (stack .entry)) (now (cells .entry)) (now (frames .entry)) copy backtrace) r) ⌝ }
 {
     let n = m.frames;
     let good = judge(
         m,
         constants,
+        structs,
         functions,
         text,
         main,
@@ -174,11 +176,13 @@ fn stop(
     answer
 }
 
-// The run itself, in good order and with stores that are long enough.
+// The run itself, in good order and with stores that are long enough. It is lent the struct names too, which it does not read, so that what it promises is
+// of the whole program.
 pub fn go(
     m: Vm,
     units: u64,
     constants: &[u64],
+    structs: &[u64],
     functions: &[u64],
     text: &[u8],
     main: &[u8],
@@ -191,8 +195,8 @@ pub fn go(
     copy: &mut [u64],
     backtrace: &mut [u32],
 ) -> RunResult
-    requires { ⌜ ((structs : List ℕ) → Granted m (programLent structs (now constants) (now functions) (now text) (now main) (now «main_places») (now other) (now «other_places»)) (runLent (now stack) (now cells) (now frames) (now copy) (now backtrace))) ⌝ }
-    ensures { λ r. ⌜ ((structs : List ℕ) → RunPost m (programLent structs (now (constants .entry)) (now (functions .entry)) (now (text .entry)) (now (main .entry)) (now («main_places» .entry)) (now (other .entry)) (now («other_places» .entry))) (runLent (now (stack .entry)) (now (cells .entry)) (now (frames .entry)) (now (copy .entry)) (now (backtrace .entry))) units r (runLent (now (stack .exit)) (now (cells .exit)) (now (frames .exit)) (now (copy .exit)) (now (backtrace .exit)))) ⌝ }
+    requires { ⌜ Granted m (programLent (now structs) (now constants) (now functions) (now text) (now main) (now «main_places») (now other) (now «other_places»)) (runLent (now stack) (now cells) (now frames) (now copy) (now backtrace)) ⌝ }
+    ensures { λ r. ⌜ RunPost m (programLent (now (structs .entry)) (now (constants .entry)) (now (functions .entry)) (now (text .entry)) (now (main .entry)) (now («main_places» .entry)) (now (other .entry)) (now («other_places» .entry))) (runLent (now (stack .entry)) (now (cells .entry)) (now (frames .entry)) (now (copy .entry)) (now (backtrace .entry))) units r (runLent (now (stack .exit)) (now (cells .exit)) (now (frames .exit)) (now (copy .exit)) (now (backtrace .exit))) ⌝ }
 {
     let k = fixed(m, stack.len(), frames.len());
     let begun = start(m, units, stack, frames, copy);

@@ -1,4 +1,4 @@
-// The backtrace of a machine's frames: judging what it is lent, and writing.
+// The backtrace of a machine's frames: judging what it is lent, and writing. Of the stack its room is looked at alone: bases lie within it.
 use ends::innermost_at;
 use frames::backtrace::trace;
 use frames::backtrace::traceable;
@@ -20,7 +20,6 @@ ghost use Prim.Native.Nat.{ℕ};
 ghost use lib.ListN.{length};
 ghost use Rattle.model.specs.declared.Told.the-variants as t;
 ghost use Rattle.model.specs.Basics.{if_then_else_};
-ghost use Rattle.model.specs.Values.{mostPlaces};
 ghost use Rattle.model.specs.Machines.{traceOrder};
 ghost use Rattle.ends.specs.Links.{programLent};
 ghost use Rattle.machine.specs.Links.{traceProgram, traceRefusal, Traceable, traceInto};
@@ -56,13 +55,6 @@ pub fn counted(good: bool, m: Vm) -> usize
     0
 }
 
-// A backtrace is lent no stack store: of any store this many places count.
-fn most() -> usize
-    ensures { λ r. ⌜ r ≡ mostPlaces ⌝ }
-{
-    0xFFFF_FFFF
-}
-
 pub fn both(a: bool, b: bool) -> bool
     ensures { λ r. ⌜ r ≡ (a && b) ⌝ }
 {
@@ -78,14 +70,15 @@ pub fn trace_order(
     main_places: &[u32],
     other: &[u8],
     other_places: &[u32],
+    stack: &[u64],
     frames: &[Frame],
 ) -> bool
-    ensures { λ r. ⌜ ((structs constants : List ℕ) → r ≡ traceOrder m (programLent structs constants (now (functions .entry)) (now (text .entry)) (now (main .entry)) (now («main_places» .entry)) (now (other .entry)) (now («other_places» .entry))) (now (frames .entry))) ⌝ }
+    ensures { λ r. ⌜ ((structs constants : List ℕ) → r ≡ traceOrder m (programLent structs constants (now (functions .entry)) (now (text .entry)) (now (main .entry)) (now («main_places» .entry)) (now (other .entry)) (now («other_places» .entry))) (now (stack .entry)) (now (frames .entry))) ⌝ }
 {
     let n = m.frames;
     let good = trace_program(m, functions, text, main, main_places, other, other_places);
     let count = counted(good, m);
-    let slots = most();
+    let slots = room(stack.len(), 2);
     let fine = frames_ok(functions, count, slots, n, frames);
     let all = both(good, fine);
     all

@@ -2,18 +2,18 @@
 use mathlib.Core.Path.{_≡_, refl, sym, ap, subst, _∙_}
 use mathlib.Core.Bool.{false}
 use mathlib.Core.List.{List, [], _∷_}
-use Prim.Native.Nat.{ℕ, _≤_, _<_}
+use Prim.Native.Nat.{ℕ, suc, _+_, _≤_, _<_, _^_}
+use native.Mathlib.Numerals.{add-one}
 use native.Mathlib.Omega.{arith}
-use borrow.Author.Tests.{le-leb, lt-leb}
+use borrow.Author.Tests.{le-leb, lt-leb, ne-eqb}
 use lib.ListN.{length, length-append}
-use Rattle.model.specs.declared.Last.{Last}
 use Rattle.model.specs.declared.Last.the-variants.{Is}
 use Rattle.model.specs.declared.Fault.{Fault}
-use Rattle.model.specs.declared.Fault.the-variants as f
 use Rattle.model.specs.declared.Frame.{Frame}
+use Rattle.model.specs.Values.{kind, payload}
 use Rattle.model.specs.Heap.{Cell, heapOf}
-use Rattle.model.specs.Steps.{World, State, Outcome, went, returned, faulted, codeOf, stepOf}
-use Rattle.model.specs.Runs.{Mark, stopped, over, next}
+use Rattle.model.specs.Steps.{World, State, Outcome, went, returned, faulted, withLast, codeOf, stepOf}
+use Rattle.model.specs.Runs.{Progress, stopped, over, next}
 use Rattle.cells.proofs.Stands.{length-heap}
 use Rattle.program.proofs.Parts.{places-same}
 use Rattle.rules.specs.Sane as sane
@@ -29,11 +29,12 @@ use Rattle.arms.specs.declared.Going.{Going}
 use Rattle.arms.specs.declared.Completed.{Completed}
 use Rattle.arms.specs.declared.Answer.{Answer}
 use Rattle.arms.specs.declared.Answer.the-variants as r
-use Rattle.value.specs.Links.{lastIn}
-use Rattle.arms.specs.Links.{stateOf, outcomeOf, backTo, goingIn, Kept, BlockPost}
+use Rattle.value.specs.Links.{PayloadOf, lastIn}
+use Rattle.value.proofs.Lasts.{last-words}
+use Rattle.arms.specs.Links.{stateOf, outcomeOf, goingIn, Kept, BlockPost}
 use Rattle.steps.specs.declared.Event.{Event}
 use Rattle.steps.specs.declared.Event.the-variants.{Over, Call, Back, Stopped}
-use Rattle.steps.specs.Links.{Lent, Ready, answerIn, markIn, backIn, afterEvent, goingAt, SaneAt, ExecPost}
+use Rattle.steps.specs.Links.{Lent, Ready, answerIn, progressIn, CountedPost, backIn, afterEvent, goingAt, SaneAt, ExecPost}
 
 -- ---- a step that keeps the callers keeps the function
 
@@ -79,36 +80,34 @@ lent-on {x = x} {x' = x'} l e = record {
   sane = l .sane;
 }
 
-ends-same : (w : World) {a b : Last} {m n : Mark} → a ≡ b → m ≡ n → (t : State) → endFrom w a m t ≡ endFrom w b n t
-ends-same w p q t = rw (p, q)
-
-marks-same : {H K : List Cell} {a b : Last} → H ≡ K → a ≡ b → _≡_ {A = Mark} (record { heap = H; last = a }) (record { heap = K; last = b })
-marks-same p q = rw (p, q)
+ends-same : (w : World) {m n : Progress} → m ≡ n → (t : State) → endFrom w m t ≡ endFrom w n t
+ends-same w q t = rw q
 
 -- the answer is of another name
 pub told : {rule : State → Outcome} {k : Fixed} {g : Going} {s x : List ℕ} {r q : Answer} {t y : List ℕ} → r ≡ q → BlockPost rule k g s x r t y → BlockPost rule k g s x q t y
 told e p = rw e at p
 
--- a completed root Return: the last result is the answer, and a fault goes back to here
-abbrev pub answeredIn : Going → Going
-answeredIn n = record {
-  sp = n .sp;
-  function = n .function;
-  position = n .position;
-  base = n .base;
-  callers = n .callers;
-  used = n .used;
-  units = n .units;
-  kind = n .kind;
-  payload = n .payload;
-  mark = n .used;
-  answered = 1;
-}
+-- the words of a completed root Return's value
+pub counts-it : (d : Completed) {a b n : ℕ} → a ≡ kind (d .value) → PayloadOf (d .value) b → n ≡ d .going .returns + 1
+    → CountedPost d (record {
+      sp = d .going .sp;
+      function = d .going .function;
+      position = d .going .position;
+      base = d .going .base;
+      callers = d .going .callers;
+      used = d .going .used;
+      units = d .going .units;
+      kind = a;
+      payload = b;
+      mark = d .going .used;
+      returns = n;
+    })
+counts-it d p q e = record { is = rw (p, q .is, e, add-one); fine = q .fine }
 
 -- the run goes on in n, s', x' as it did in g, s, x
 pub record Came (w : World) (cs : List Frame) (k : Fixed) (code constants functions text : List ℕ) (g : Going) (s x : List ℕ) (n : Going) (s' x' : List ℕ) : Type 0 where
   pub ready : Ready w cs k n code constants functions text s' x'
-  pub means : endFrom w (answerIn g) (markIn g x) (stateOf g s x cs) ≡ endFrom w (answerIn n) (markIn n x') (stateOf n s' x' cs)
+  pub means : endFrom w (progressIn g x) (stateOf g s x cs) ≡ endFrom w (progressIn n x') (stateOf n s' x' cs)
   pub callers : n .callers ≡ g .callers
   pub units : n .units ≤ g .units
   pub mark : g .mark ≤ n .mark
@@ -151,7 +150,7 @@ module _ {w : World} {cs : List Frame} {k : Fixed} {code constants functions tex
     pub ends-over : length code ≤ g .position → ExecPost w cs k g s x (Over g) s x
     unfolding over codeOf afterEvent
     ends-over h = record {
-      means = end-over w _ _ (stateOf g s x cs) (rw (at .coded) (le-leb _ _ h));
+      means = end-over w _ (stateOf g s x cs) (rw (at .coded) (le-leb _ _ h));
       fits = at .fits;
       sane = at .sane;
       callers = refl;
@@ -180,31 +179,32 @@ module _ {w : World} {cs : List Frame} {k : Fixed} {code constants functions tex
       called : SameCalled cs (g .function) (outcomeOf cs r s' x')
       called = subst (SameCalled cs (g .function)) outcome (stepped-called (step-one w (stateOf g s x cs)))
 
-      follows : endFrom w (answerIn g) (markIn g x) (stateOf g s x cs) ≡ next (endFrom w) (answerIn g) (markIn g x) (outcomeOf cs r s' x')
-      follows = end-step w _ _ (stateOf g s x cs) inside ∙ ap (next (endFrom w) (answerIn g) (markIn g x)) outcome
+      follows : endFrom w (progressIn g x) (stateOf g s x cs) ≡ next (endFrom w) (progressIn g x) (outcomeOf cs r s' x')
+      follows = end-step w _ (stateOf g s x cs) inside ∙ ap (next (endFrom w) (progressIn g x)) outcome
 
       before-mark : (i : ℕ) → i ≤ g .mark → heapOf i x' ≡ heapOf i x
       before-mark i l = p .before i (let z = at .fits .mark in omega arith)
 
-      -- the answer and the mark stay where the last result does
+      -- how far the run has come stays so where the last result does
       module _ {n : Going} (c : Kept g n) (e : lastIn (n .kind) (n .payload) ≡ lastIn (g .kind) (g .payload)) where
-        same-answer : answerIn g ≡ answerIn n
+        same-progress : progressIn g x ≡ progressIn n x'
         unfolding answerIn
-        same-answer = rw (c .answered, e)
-
-        same-mark : markIn g x ≡ markIn n x'
-        same-mark = marks-same (sym (before-mark (g .mark) (omega arith)) ∙ rw (c .mark)) (sym e)
+        same-progress = rw (c .returns, e, c .mark, before-mark (g .mark) (omega arith))
 
         marked : Grows (heapOf (g .used) x) (heapOf (n .used) x') → n .mark ≤ n .used
         marked z = let a = grown z in let b = length-heap (g .used) x in let d = length-heap (n .used) x' in let q = at .fits .mark in let m = c .mark in omega arith
 
+      -- a root Return has spent a unit
+      few : {n : Going} → Kept g n → n .units ≤ g .units → n .returns + n .units < 2 ^ 64
+      few c l = let a = c .returns in let b = at .fits .returns in omega arith
+
       -- what the run comes to where the step leaves the function
       leaves : (e : Event) → goingAt e ≡ goingIn r → lastIn (goingIn r .kind) (goingIn r .payload) ≡ lastIn (g .kind) (g .payload)
           → Grows (heapOf (g .used) x) (heapOf (goingIn r .used) x') → goingIn r .units ≤ g .units
-          → endFrom w (answerIn g) (markIn g x) (stateOf g s x cs) ≡ afterEvent w cs e s' x' → SaneAt w cs (g .units) e s' x' → ExecPost w cs k g s x e s' x'
+          → endFrom w (progressIn g x) (stateOf g s x cs) ≡ afterEvent w cs e s' x' → SaneAt w cs (g .units) e s' x' → ExecPost w cs k g s x e s' x'
       leaves e q l z u m i = record {
         means = m;
-        fits = rw q (record { stack = p .within; cells = p .cells; mark = marked (p .kept) l z });
+        fits = rw q (record { stack = p .within; cells = p .cells; mark = marked (p .kept) l z; returns = few (p .kept) u });
         sane = i;
         callers = rw q (p .kept .callers);
         units = rw q u;
@@ -223,10 +223,10 @@ module _ {w : World} {cs : List Frame} {k : Fixed} {code constants functions tex
               lent = lent-on (at .lent) e;
               callers = at .callers ∙ sym (p .kept .callers);
               coded = rw (called h p refl) (at .coded);
-              fits = record { stack = p .within; cells = p .cells; mark = marked h p (p .kept) (a .1) (a .0) };
+              fits = record { stack = p .within; cells = p .cells; mark = marked h p (p .kept) (a .1) (a .0); returns = few h p (p .kept) (omega arith) };
               sane = kept h p;
             };
-            means = follows h p ∙ ends-same w (same-answer h p (p .kept) (a .1)) (same-mark h p (p .kept) (a .1)) _;
+            means = follows h p ∙ ends-same w (same-progress h p (p .kept) (a .1)) _;
             callers = p .kept .callers;
             units = omega arith;
             mark = let m = p .kept .mark in omega arith;
@@ -239,7 +239,7 @@ module _ {w : World} {cs : List Frame} {k : Fixed} {code constants functions tex
           let a : Adds (heapOf (g .used) x) (lastIn (g .kind) (g .payload)) (outcomeOf cs (r.Call n i b) s' x') = adds h p in
           let l : n .units < g .units = spends h p in
           leaves h p (Call n i b) refl (a .1) (a .0) (omega arith)
-          (follows h p ∙ ends-same w (same-answer h p (p .kept) (a .1)) (same-mark h p (p .kept) (a .1)) _) (l, kept h p)
+          (follows h p ∙ ends-same w (same-progress h p (p .kept) (a .1)) _) (l, kept h p)
 
       pub stops : {m : Fault} → BlockPost (stepOf w) k g s x (r.Stopped n m) s' x' → ExecPost w cs k g s x (Stopped n m) s' x'
       unfolding next afterEvent
@@ -247,16 +247,17 @@ module _ {w : World} {cs : List Frame} {k : Fixed} {code constants functions tex
           let a : Adds (heapOf (g .used) x) (lastIn (g .kind) (g .payload)) (faulted m (stateOf n s' x' cs)) = adds h p in
           let l : n .units ≤ g .units = spends h p in
           leaves h p (Stopped n m) refl (a .1) (a .0) l
-          (follows h p ∙ ap (stopped m (stateOf n s' x' cs)) (same-mark h p (p .kept) (a .1))) (kept h p .traced)
+          (follows h p ∙ ap (stopped m (stateOf n s' x' cs)) (same-progress h p (p .kept) (a .1))) (kept h p .traced)
 
-    pub returned-on : g .position < length code → {d : Completed} {s' x' : List ℕ} → BlockPost (stepOf w) k g s x (r.Returned d) s' x' → length x' ≡ length x
-        → Came w cs k code constants functions text g s x (answeredIn (d .going)) s' x'
+    pub returned-on : g .position < length code → {d : Completed} {n : Going} {s' x' : List ℕ} → BlockPost (stepOf w) k g s x (r.Returned d) s' x' → CountedPost d n → length x' ≡ length x
+        → Came w cs k code constants functions text g s x n s' x'
     unfolding next answerIn
-    returned-on h {d} {s'} {x'} p e =
-        let q : sane.Returns w (stateOf g s x cs) (d .value) (stateOf (d .going) s' x' cs) = kept h p in
-        let a : (heapOf (d .going .used) x' ≡ heapOf (g .used) x) × (lastIn (d .going .kind) (d .going .payload) ≡ Is (d .value)) = adds h p in
+    returned-on h {d} {n} {s'} {x'} p c e =
+        let q : sane.Returns w (stateOf g s x cs) (d .value) (withLast (d .value) (stateOf (d .going) s' x' cs)) = kept h p in
+        let a : (heapOf (d .going .used) x' ≡ heapOf (g .used) x) × (Is (d .value) ≡ Is (d .value)) = adds h p in
         let l : d .going .units < g .units = spends h p in
-        record {
+        let last : lastIn (kind (d .value)) (payload (d .value)) ≡ Is (d .value) = last-words (d .value) (c .fine) in
+        rw (c .is) (record {
           ready = record {
             lent = lent-on (at .lent) e;
             callers = at .callers ∙ sym (p .kept .callers);
@@ -265,42 +266,27 @@ module _ {w : World} {cs : List Frame} {k : Fixed} {code constants functions tex
               stack = record { count = p .within .count; room = p .within .room; exact = p .within .exact; callers = p .within .callers };
               cells = record { count = p .cells .count; exact = p .cells .exact };
               mark = omega arith;
+              returns = let y = p .kept .returns in let b = at .fits .returns in omega arith;
             };
-            sane = q .sane;
+            sane = rw last (q .sane);
           };
-          means = follows h p ∙ ends-same w (sym (a .1)) refl _;
+          means = follows h p ∙ rw (last, p .kept .returns, ne-eqb (suc (g .returns)) 0 (λ e. omega arith));
           callers = p .kept .callers;
           units = omega arith;
           mark = let m = at .fits .mark in let y = ap length (a .0) in let b = length-heap (g .used) x in let c = length-heap (d .going .used) x' in omega arith;
           before = before-mark h p;
-        }
+        })
 
--- ---- a return to the caller, if there is one
-
-only-none : (cs : List Frame) → length cs ≡ 0 → (t : State) → faulted f.FramesFull t ≡ backTo cs t
-only-none [] e t = refl
-only-none (c ∷ cs) e t = absurd (let z : ⊥ = omega arith in z)
-
-pub back-none : {rule : State → Outcome} {k : Fixed} {g : Going} {s x : List ℕ} {n : Going} {t y : List ℕ}
-    → n .callers ≡ 0 → BlockPost rule k g s x (r.Back n) t y → BlockPost rule k g s x (r.Stopped n f.FramesFull) t y
-back-none e p = record {
-  means = λ cs l. only-none cs (l ∙ sym (p .kept .callers) ∙ e) _ ∙ p .means cs l;
-  within = p .within;
-  kept = p .kept;
-  cells = p .cells;
-  before = p .before;
-}
+-- ---- a return to the caller: there is one
 
 pub back-out : {w : World} (cs : List Frame) {k : Fixed} {g : Going} {code constants functions text s x : List ℕ} → Ready w cs k g code constants functions text s x
-    → g .position < length code → {n : Going} {s' x' : List ℕ} → (n .callers ≡ 0 → ⊥) → BlockPost (stepOf w) k g s x (r.Back n) s' x'
-    → ExecPost w cs k g s x (Back n) s' x'
+    → g .position < length code → {n : Going} {s' x' : List ℕ} → BlockPost (stepOf w) k g s x (r.Back n) s' x' → ExecPost w cs k g s x (Back n) s' x'
 unfolding next afterEvent backIn
-back-out [] at h b p = absurd (b (p .kept .callers ∙ sym (at .callers)))
-back-out {w} (c ∷ cs) {g = g} {x = x} at h {n} {s'} {x'} b p =
+back-out [] at h p = absurd (let y : ⊥ = omega (arith, p .caller, p .kept .callers, at .callers) in y)
+back-out {w} (c ∷ cs) {g = g} {x = x} at h {n} {s'} {x'} p =
     let a : Adds (heapOf (g .used) x) (lastIn (g .kind) (g .payload)) (outcomeOf (c ∷ cs) (r.Back n) s' x') = adds at h p in
     let l : n .units < g .units = spends at h p in
-    leaves at h p (Back n) refl (a .1) (a .0) (omega arith)
-    (follows at h p ∙ ends-same w (same-answer at h p (p .kept) (a .1)) (same-mark at h p (p .kept) (a .1)) _) (l, kept at h p)
+    leaves at h p (Back n) refl (a .1) (a .0) (omega arith) (follows at h p ∙ ends-same w (same-progress at h p (p .kept) (a .1)) _) (l, kept at h p)
 
 -- ---- a step that goes on spends a unit
 
@@ -309,5 +295,9 @@ module _ {w : World} {cs : List Frame} {k : Fixed} {g : Going} {code constants f
   pub went-less : {n : Going} → BlockPost (stepOf w) k g s x (r.Went n) s' x' → n .units < g .units
   went-less p = spends at h p
 
-  pub returned-less : {d : Completed} → BlockPost (stepOf w) k g s x (r.Returned d) s' x' → d .going .units < g .units
-  returned-less p = spends at h p
+  pub returned-less : {d : Completed} {n : Going} → BlockPost (stepOf w) k g s x (r.Returned d) s' x' → CountedPost d n → n .units < g .units
+  returned-less p c = rw (c .is) (spends at h p)
+
+  -- so their number fits a word
+  pub returned-fits : {d : Completed} → BlockPost (stepOf w) k g s x (r.Returned d) s' x' → d .going .returns + 1 < 2 ^ 64
+  returned-fits {d} p = let l : d .going .units < g .units = spends at h p in omega (arith, p .kept .returns, at .fits .returns)

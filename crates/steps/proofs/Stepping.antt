@@ -50,7 +50,7 @@ placedAt i u g = record {
   kind = g .kind;
   payload = g .payload;
   mark = g .mark;
-  answered = g .answered;
+  returns = g .returns;
 }
 
 -- no opcode reads more than three operands
@@ -83,9 +83,10 @@ module _ {g : Going} (i u : ℕ) where
   goes-on e p = record {
     means = λ cs h. p .means cs h ∙ sym (e cs);
     within = p .within;
-    kept = record { callers = p .kept .callers; mark = p .kept .mark; answered = p .kept .answered };
+    kept = record { callers = p .kept .callers; mark = p .kept .mark; returns = p .kept .returns };
     cells = p .cells;
     before = p .before;
+    caller = p .caller;
   }
 
 module _ {w : World} {cs : List Frame} {k : Fixed} {g : Going} {code constants functions text s x : List ℕ} (at : Ready w cs k g code constants functions text s x) where

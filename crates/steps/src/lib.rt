@@ -1,5 +1,6 @@
 // A step, and the steps inside one function: the run goes from call to return through `exec`.
 use arms::Answer;
+use arms::Completed;
 use arms::Fixed;
 use arms::Going;
 use arms::blocks;
@@ -10,16 +11,17 @@ use arms::scalars;
 use model::Decoded;
 use model::Fault;
 use model::Op;
+use value::words;
 ghost use mathlib.Core.Path.{_≡_};
 ghost use mathlib.Core.Bool.{true, false};
 ghost use mathlib.Core.List.{List};
-ghost use Prim.Native.Nat.{_+_, _*_, _≤_, _<_};
+ghost use Prim.Native.Nat.{_+_, _*_, _≤_, _<_, _^_};
 ghost use lib.ListN.{length, getD};
 ghost use Rattle.model.specs.declared.Frame.{Frame};
 ghost use Rattle.model.specs.Programs.{wordAt};
 ghost use Rattle.model.specs.Steps.{World, execOf, stepOf};
 ghost use Rattle.arms.specs.Links.{Blocks, BlockPost};
-ghost use Rattle.steps.specs.Links.{Lent, Ready, ExecPost};
+ghost use Rattle.steps.specs.Links.{Lent, Ready, CountedPost, ExecPost};
 
 // What the steps inside one function come to: the end of its code, a call, a return to the caller, or a fault.
 pub enum Event {
@@ -178,6 +180,25 @@ fn step(
     }
 }
 
+// A completed root Return has counted: its value is the last result, and a fault goes back to here.
+fn counted(done: Completed) -> Going
+    requires { ⌜ done .going .returns + 1 < 2 ^ 64 ⌝ }
+    ensures { λ r. ⌜ CountedPost done r ⌝ }
+{
+    let v = done.value;
+    let next = done.going;
+    let kind = words::kind_of(v);
+    let payload = words::payload_of(v);
+    let returns = next.returns + 1;
+    Going {
+        kind,
+        payload,
+        mark: next.used,
+        returns,
+        ..next
+    }
+}
+
 // The steps inside the current function.
 pub fn exec(
     k: Fixed,
@@ -199,21 +220,12 @@ pub fn exec(
                 g = next;
             }
             Answer::Returned(done) => {
-                let next = done.going;
-                g = Going {
-                    mark: next.used,
-                    answered: 1,
-                    ..next
-                };
+                g = counted(done);
             }
             Answer::Call(next, i, base) => {
                 return Event::Call(next, i, base);
             }
             Answer::Back(next) => {
-                // With no caller a Back stands for this fault, so that an Event::Back always has one.
-                if next.callers == 0 {
-                    return Event::Stopped(next, Fault::FramesFull);
-                }
                 return Event::Back(next);
             }
             Answer::Stopped(next, fault) => {

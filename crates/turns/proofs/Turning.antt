@@ -26,7 +26,7 @@ use Rattle.arms.specs.declared.Going.{Going}
 use Rattle.arms.specs.Links.{stateOf, frameIn, entered}
 use Rattle.steps.specs.declared.Event.{Event}
 use Rattle.steps.specs.declared.Event.the-variants.{Over, Call, Back, Stopped}
-use Rattle.steps.specs.Links.{Ready, answerIn, markIn, backIn, afterEvent, SaneBack, goingAt, ExecPost}
+use Rattle.steps.specs.Links.{Ready, answerIn, progressIn, backIn, afterEvent, SaneBack, goingAt, ExecPost}
 use Rattle.steps.proofs.Following.{lent-on}
 use Rattle.turns.specs.declared.Course.{Course}
 use Rattle.turns.specs.Links.{codeIn, Under, Ends, TurnsPost, goesOn, isOver, isStopped, inFrame}
@@ -55,9 +55,9 @@ taken-count n text h = let z = length-take n text in omega arith
 
 -- where there is a caller, a Back goes on in it
 back-means : {w : World} {cs : List Frame} {k : Fixed} {g : Going} {s x : List ℕ} {m : Going} {s' x' : List ℕ} (c : Frame) (ds : List Frame) → cs ≡ c ∷ ds → ExecPost w cs k g s x (Back m) s' x'
-    → endFrom w (answerIn g) (markIn g x) (stateOf g s x cs) ≡ endFrom w (answerIn m) (markIn m x') (withFrames c ds (stateOf m s' x' ds))
+    → endFrom w (progressIn g x) (stateOf g s x cs) ≡ endFrom w (progressIn m x') (withFrames c ds (stateOf m s' x' ds))
 unfolding afterEvent backIn
-back-means {w} {m = m} {s' = s'} {x' = x'} c ds e p = p .means ∙ ap (λ (cs : List Frame). backIn w cs (answerIn m) (markIn m x') (stateOf m s' x' cs)) e
+back-means {w} {m = m} {s' = s'} {x' = x'} c ds e p = p .means ∙ ap (λ (cs : List Frame). backIn w cs (progressIn m x') (stateOf m s' x' cs)) e
 
 back-sane : {w : World} {cs : List Frame} {k : Fixed} {g : Going} {s x : List ℕ} {m : Going} {s' x' : List ℕ} (c : Frame) (ds : List Frame) → cs ≡ c ∷ ds → ExecPost w cs k g s x (Back m) s' x'
     → Sane w (withFrames c ds (stateOf m s' x' ds))
@@ -89,7 +89,7 @@ module _ (k : Fixed) (n : ℕ) (constants functions text main other : List ℕ) 
   -- the run goes on in h, s', x', frames' as it did in g, s, x, frames
   pub record Gone (w : World) (g : Going) (s x : List ℕ) (frames : List Frame) (h : Going) (s' x' : List ℕ) (frames' : List Frame) : Type 0 where
     pub under : Under w k h n constants functions text main other s' x' frames'
-    pub means : endFrom w (answerIn g) (markIn g x) (stateOf g s x (callersOf (g .callers) frames)) ≡ endFrom w (answerIn h) (markIn h x') (stateOf h s' x' (callersOf (h .callers) frames'))
+    pub means : endFrom w (progressIn g x) (stateOf g s x (callersOf (g .callers) frames)) ≡ endFrom w (progressIn h x') (stateOf h s' x' (callersOf (h .callers) frames'))
     pub units : h .units ≤ g .units
     pub mark : g .mark ≤ h .mark
     pub before : (i : ℕ) → i ≤ g .mark → heapOf i x' ≡ heapOf i x
@@ -132,10 +132,11 @@ module _ (k : Fixed) (n : ℕ) (constants functions text main other : List ℕ) 
             stack = record { count = p .fits .stack .count; room = p .fits .stack .room; exact = p .fits .stack .exact; callers = more };
             cells = record { count = p .fits .cells .count; exact = p .fits .cells .exact };
             mark = p .fits .mark;
+            returns = p .fits .returns;
           };
           sane = subst (λ (cs : List Frame). Sane w (withFrames (entered i b) cs (stateOf m s' x' cs))) (sym callers) (p .sane .1);
         };
-        means = p .means ∙ ap (λ (cs : List Frame). endFrom w (answerIn m) (markIn m x') (withFrames (entered i b) cs (stateOf m s' x' cs))) (sym callers);
+        means = p .means ∙ ap (λ (cs : List Frame). endFrom w (progressIn m x') (withFrames (entered i b) cs (stateOf m s' x' cs))) (sym callers);
         units = p .units;
         mark = p .mark;
         before = p .before;
@@ -159,6 +160,7 @@ module _ (k : Fixed) (n : ℕ) (constants functions text main other : List ℕ) 
             stack = record { count = p .fits .stack .count; room = p .fits .stack .room; exact = p .fits .stack .exact; callers = let a = p .fits .stack .callers in omega arith };
             cells = record { count = p .fits .cells .count; exact = p .fits .cells .exact };
             mark = p .fits .mark;
+            returns = p .fits .returns;
           };
           sane = back-sane (getD frames j noFrame) (callersOf j frames) callers p;
         };
@@ -174,7 +176,7 @@ module _ (k : Fixed) (n : ℕ) (constants functions text main other : List ℕ) 
       ends-over : {m : Going} → ExecPost w (callersOf (g .callers) frames) k g s x (Over m) s' x' → TurnsPost w k g s x frames (isOver m) s' x' frames
       unfolding afterEvent
       ends-over {m} p = record {
-        ends = ends.over refl (p .means ∙ ap (λ (i : ℕ). ended (answerIn m) (stateOf m s' x' (callersOf i frames))) (sym (p .callers))) (subst (λ (i : ℕ). Sane w (stateOf m s' x' (callersOf i frames))) (sym (p .callers)) (p .sane));
+        ends = ends.over refl (p .means ∙ ap (λ (i : ℕ). ended (progressIn m x') (stateOf m s' x' (callersOf i frames))) (sym (p .callers))) (subst (λ (i : ℕ). Sane w (stateOf m s' x' (callersOf i frames))) (sym (p .callers)) (p .sane));
         fits = p .fits;
         units = p .units;
         mark = p .mark;
@@ -184,7 +186,7 @@ module _ (k : Fixed) (n : ℕ) (constants functions text main other : List ℕ) 
       ends-stopped : {m : Going} {f : Fault} → ExecPost w (callersOf (g .callers) frames) k g s x (Stopped m f) s' x' → TurnsPost w k g s x frames (isStopped m f) s' x' frames
       unfolding afterEvent
       ends-stopped {m} {f} p = record {
-        ends = ends.stop f refl (p .means ∙ ap (λ (i : ℕ). stopped f (stateOf m s' x' (callersOf i frames)) (markIn m x')) (sym (p .callers))) (subst (λ (i : ℕ). traceable (w .functions) (frameIn m ∷ callersOf i frames) ≡ true) (sym (p .callers)) (p .sane));
+        ends = ends.stop f refl (p .means ∙ ap (λ (i : ℕ). stopped f (stateOf m s' x' (callersOf i frames)) (progressIn m x')) (sym (p .callers))) (subst (λ (i : ℕ). traceable (w .functions) (frameIn m ∷ callersOf i frames) ≡ true) (sym (p .callers)) (p .sane));
         fits = p .fits;
         units = p .units;
         mark = p .mark;

@@ -20,7 +20,7 @@ use Rattle.frames.specs.Links.{callersOf}
 use Rattle.arms.specs.declared.Fixed.{Fixed}
 use Rattle.arms.specs.declared.Going.{Going}
 use Rattle.arms.specs.Links.{stateOf, frameIn}
-use Rattle.steps.specs.Links.{Lent, Fits, answerIn, markIn}
+use Rattle.steps.specs.Links.{Lent, Fits, progressIn}
 use Rattle.turns.specs.declared.Course.{Course}
 
 -- the code of function i, by its word: main and the others have separate stores
@@ -39,16 +39,16 @@ pub record Under (w : World) (k : Fixed) (g : Going) (n : ℕ) (constants functi
 -- the end e of a run as its course says it, with the stores and the frames as they then are
 pub data Ends (w : World) (e : Ended) (c : Course) (s x : List ℕ) (frames : List Frame) : Type 0 where
   over : c .fault ≡ 0
-      → e ≡ ended (answerIn (c .going)) (stateOf (c .going) s x (callersOf (c .going .callers) frames))
+      → e ≡ ended (progressIn (c .going) x) (stateOf (c .going) s x (callersOf (c .going .callers) frames))
       → Sane w (stateOf (c .going) s x (callersOf (c .going .callers) frames))
       → Ends w e c s x frames
   stop : (f : Fault) → c .fault ≡ faultNumber f
-      → e ≡ stopped f (stateOf (c .going) s x (callersOf (c .going .callers) frames)) (markIn (c .going) x)
+      → e ≡ stopped f (stateOf (c .going) s x (callersOf (c .going .callers) frames)) (progressIn (c .going) x)
       → traceable (w .functions) (frameIn (c .going) ∷ callersOf (c .going .callers) frames) ≡ true
       → Ends w e c s x frames
 
 pub record TurnsPost (w : World) (k : Fixed) (g : Going) (s x : List ℕ) (frames : List Frame) (r : Course) (s' x' : List ℕ) (frames' : List Frame) : Type 0 where
-  pub ends : Ends w (endFrom w (answerIn g) (markIn g x) (stateOf g s x (callersOf (g .callers) frames))) r s' x' frames'
+  pub ends : Ends w (endFrom w (progressIn g x) (stateOf g s x (callersOf (g .callers) frames))) r s' x' frames'
   pub fits : Fits k (r .going) s' x'
   pub units : r .going .units ≤ g .units
   pub mark : g .mark ≤ r .going .mark
@@ -78,5 +78,5 @@ inFrame g n f = record {
   kind = g .kind;
   payload = g .payload;
   mark = g .mark;
-  answered = g .answered;
+  returns = g .returns;
 }

@@ -13,8 +13,8 @@ add-vm-with c = search needs
 vm-with-requires : tie.Need-vm-with-requires
 vm-with-requires c κs = search
 
-sub-spent : tie.Need-sub-spent
-sub-spent c = search
+tally-requires : tie.Need-tally-requires
+tally-requires c κs = search
 
 returns : tie.Need-returns
 returns c = search ends-unanswered
@@ -38,7 +38,7 @@ ended-spec =
     last-in-requires
     add-vm-with
     vm-with-requires
-    sub-spent
+    tally-requires
     returns
     enum-told
     enum-known-last

@@ -10,8 +10,8 @@ last-in-requires c κs = search
 vm-with-requires : tie.Need-vm-with-requires
 vm-with-requires c κs = search
 
-sub-spent : tie.Need-sub-spent
-sub-spent c = search
+tally-requires : tie.Need-tally-requires
+tally-requires c κs = search
 
 add-traced : tie.Need-add-traced
 add-traced c = search needs
@@ -20,4 +20,4 @@ returns : tie.Need-returns
 returns c = search faults
 
 pub faulted-spec : {M : Type 1} → statement M
-faulted-spec = tie.close (tie.spec last-in-requires vm-with-requires sub-spent add-traced returns)
+faulted-spec = tie.close (tie.spec last-in-requires vm-with-requires tally-requires add-traced returns)

@@ -9,15 +9,13 @@ program-ok-requires : tie.Need-program-ok-requires
 program-ok-requires c κs = search
 
 returns : tie.Need-returns
-returns c = λ structs. not-whole _ _ _ _ (c .before .program-ok .ensures structs) (not-true _ (c .if1 .taken))
+returns c = search (not-whole, not-true)
 
 cells-ok-requires : tie.Need-cells-ok-requires
 cells-ok-requires c κs = search
 
 returns-2 : tie.Need-returns-2
-returns-2 c =
-    λ structs. not-exact _ _ _ _ (c .before .before .before .program-ok .ensures structs)
-    (not-false _ (c .before .before .if1 .left)) (c .before .cells-ok .ensures) (not-true _ (c .if2 .taken))
+returns-2 c = search (not-exact, not-true, not-false)
 
 stack-ok-requires : tie.Need-stack-ok-requires
 stack-ok-requires c κs = search (cells-fit, not-false)
@@ -26,13 +24,7 @@ last-ok-requires : tie.Need-last-ok-requires
 last-ok-requires c κs = search (cells-fit, not-false)
 
 returns-3 : tie.Need-returns-3
-returns-3 c =
-    let at-cells-ok = c .before .before .before in
-    let at-if1 = at-cells-ok .before in
-    let at-program-ok = at-if1 .before in
-    λ structs. rest-is _ _ _ _ (at-program-ok .program-ok .ensures structs) (not-false _ (at-if1 .if1 .left))
-    (at-cells-ok .cells-ok .ensures) (not-false _ (c .before .before .if2 .left)) (c .before .stack-ok .ensures)
-    (c .last-ok .ensures)
+returns-3 c = search (rest-is, not-false)
 
 pub judge-spec : {M : Type 1} → statement M
 judge-spec =

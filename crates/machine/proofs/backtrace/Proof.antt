@@ -37,8 +37,8 @@ use Rattle.machine.proofs.backtrace as me
 use Rattle.machine.proofs.backtrace.Statement as stated
 use Rattle.machine.proofs.backtrace.Code as code
 
-abbrev kinds : List (Kind 8)
-kinds = own VmRow vmVal vm-tells (λ x f. refl) ∷ shared 0 tt u64 ∷ shared 1 tt u8 ∷ shared 2 tt u8 ∷ shared 3 tt u32 ∷ shared 4 tt u8 ∷ shared 5 tt u32 ∷ shared 6 tt R ∷ unique 7 tt u32 ∷ []
+abbrev kinds : List (Kind 9)
+kinds = own VmRow vmVal vm-tells (λ x f. refl) ∷ shared 0 tt u64 ∷ shared 1 tt u8 ∷ shared 2 tt u8 ∷ shared 3 tt u32 ∷ shared 4 tt u8 ∷ shared 5 tt u32 ∷ shared 6 tt u64 ∷ shared 7 tt R ∷ unique 8 tt u32 ∷ []
 
 module _ {M : Type 1} (𝓤 : URA M) (H : Heap 𝓤) (A : Atoms 𝓤) (W : Given 𝓤 H A) (mem : Memory → SProp 𝓤) (run : Routine → Fun 𝓤) where
   abbrev Judge : Contract 𝓤
@@ -54,85 +54,94 @@ module _ {M : Type 1} (𝓤 : URA M) (H : Heap 𝓤) (A : Atoms 𝓤) (W : Given
   Not = tripleOf 𝓤 H A not.signature (not.spec 𝓤 H A mem run)
 
   module _ (𝓣 : Tables 𝓤 H) (known-judge : Triple 𝓤 (𝓣 .C #judge) Judge) (known-why : Triple 𝓤 (𝓣 .C #why) Why) (known-put : Triple 𝓤 (𝓣 .C #put) Put) (known-not : Triple 𝓤 (𝓣 .C #not) Not)
-      (κs : Lfts 8) (qs : Shares 8) (a : Passed kinds ToldRow κs) (is : Known kinds ToldRow κs a) where
+      (κs : Lfts 9) (qs : Shares 9) (a : Passed kinds ToldRow κs) (is : Known kinds ToldRow κs a) where
     -- the parameters
     abbrev m : Vm
     m = a .0
 
-    abbrev s0 : Sl
-    s0 = sl (κs .0) (qs .0) (a .1 .0)
-
-    abbrev s1 : Sl
-    s1 = sl (κs .1 .0) (qs .1 .0) (a .1 .1 .0)
-
-    abbrev s2 : Sl
-    s2 = sl (κs .1 .1 .0) (qs .1 .1 .0) (a .1 .1 .1 .0)
-
-    abbrev s3 : Sl
-    s3 = sl (κs .1 .1 .1 .0) (qs .1 .1 .1 .0) (a .1 .1 .1 .1 .0)
-
-    abbrev s4 : Sl
-    s4 = sl (κs .1 .1 .1 .1 .0) (qs .1 .1 .1 .1 .0) (a .1 .1 .1 .1 .1 .0)
-
-    abbrev s5 : Sl
-    s5 = sl (κs .1 .1 .1 .1 .1 .0) (qs .1 .1 .1 .1 .1 .0) (a .1 .1 .1 .1 .1 .1 .0)
-
-    abbrev s6 : Sl
-    s6 = sl (κs .1 .1 .1 .1 .1 .1 .0) (qs .1 .1 .1 .1 .1 .1 .0) (a .1 .1 .1 .1 .1 .1 .1 .0)
-
-    abbrev s7 : Sl
-    s7 = sl (κs .1 .1 .1 .1 .1 .1 .1 .0) (qs .1 .1 .1 .1 .1 .1 .1 .0) (a .1 .1 .1 .1 .1 .1 .1 .1 .0)
+    abbrev functions-at : Sl
+    functions-at = sl (κs .0) (qs .0) (a .1 .0)
 
     abbrev functions : List ℕ
     functions = now (a .1 .0)
 
+    abbrev functions-room : Room u64 (functions-at .count)
+    functions-room = is .1 .0 .0 .1
+
+    abbrev text-at : Sl
+    text-at = sl (κs .1 .0) (qs .1 .0) (a .1 .1 .0)
+
     abbrev text : List ℕ
     text = now (a .1 .1 .0)
+
+    abbrev text-room : Room u8 (text-at .count)
+    text-room = is .1 .1 .0 .0 .1
+
+    abbrev main-at : Sl
+    main-at = sl (κs .1 .1 .0) (qs .1 .1 .0) (a .1 .1 .1 .0)
 
     abbrev main : List ℕ
     main = now (a .1 .1 .1 .0)
 
+    abbrev main-room : Room u8 (main-at .count)
+    main-room = is .1 .1 .1 .0 .0 .1
+
+    abbrev main-places-at : Sl
+    main-places-at = sl (κs .1 .1 .1 .0) (qs .1 .1 .1 .0) (a .1 .1 .1 .1 .0)
+
     abbrev mainPlaces : List ℕ
     mainPlaces = now (a .1 .1 .1 .1 .0)
+
+    abbrev main-places-room : Room u32 (main-places-at .count)
+    main-places-room = is .1 .1 .1 .1 .0 .0 .1
+
+    abbrev other-at : Sl
+    other-at = sl (κs .1 .1 .1 .1 .0) (qs .1 .1 .1 .1 .0) (a .1 .1 .1 .1 .1 .0)
 
     abbrev other : List ℕ
     other = now (a .1 .1 .1 .1 .1 .0)
 
+    abbrev other-room : Room u8 (other-at .count)
+    other-room = is .1 .1 .1 .1 .1 .0 .0 .1
+
+    abbrev other-places-at : Sl
+    other-places-at = sl (κs .1 .1 .1 .1 .1 .0) (qs .1 .1 .1 .1 .1 .0) (a .1 .1 .1 .1 .1 .1 .0)
+
     abbrev otherPlaces : List ℕ
     otherPlaces = now (a .1 .1 .1 .1 .1 .1 .0)
 
+    abbrev other-places-room : Room u32 (other-places-at .count)
+    other-places-room = is .1 .1 .1 .1 .1 .1 .0 .0 .1
+
+    abbrev stack-at : Sl
+    stack-at = sl (κs .1 .1 .1 .1 .1 .1 .0) (qs .1 .1 .1 .1 .1 .1 .0) (a .1 .1 .1 .1 .1 .1 .1 .0)
+
+    abbrev stack : List ℕ
+    stack = now (a .1 .1 .1 .1 .1 .1 .1 .0)
+
+    abbrev stack-room : Room u64 (stack-at .count)
+    stack-room = is .1 .1 .1 .1 .1 .1 .1 .0 .0 .1
+
+    abbrev frames-at : Sl
+    frames-at = sl (κs .1 .1 .1 .1 .1 .1 .1 .0) (qs .1 .1 .1 .1 .1 .1 .1 .0) (a .1 .1 .1 .1 .1 .1 .1 .1 .0)
+
     abbrev frames : List Frame
-    frames = now (a .1 .1 .1 .1 .1 .1 .1 .0)
+    frames = now (a .1 .1 .1 .1 .1 .1 .1 .1 .0)
+
+    abbrev frames-room : Room R (frames-at .count)
+    frames-room = is .1 .1 .1 .1 .1 .1 .1 .1 .0 .0 .1
+
+    abbrev out-at : Sl
+    out-at = sl (κs .1 .1 .1 .1 .1 .1 .1 .1 .0) (qs .1 .1 .1 .1 .1 .1 .1 .1 .0) (a .1 .1 .1 .1 .1 .1 .1 .1 .1 .0)
 
     abbrev out : List ℕ
-    out = now (a .1 .1 .1 .1 .1 .1 .1 .1 .0)
+    out = now (a .1 .1 .1 .1 .1 .1 .1 .1 .1 .0)
 
-    abbrev room0 : Room u64 (s0 .count)
-    room0 = is .1 .0 .0 .1
-
-    abbrev room1 : Room u8 (s1 .count)
-    room1 = is .1 .1 .0 .0 .1
-
-    abbrev room2 : Room u8 (s2 .count)
-    room2 = is .1 .1 .1 .0 .0 .1
-
-    abbrev room3 : Room u32 (s3 .count)
-    room3 = is .1 .1 .1 .1 .0 .0 .1
-
-    abbrev room4 : Room u8 (s4 .count)
-    room4 = is .1 .1 .1 .1 .1 .0 .0 .1
-
-    abbrev room5 : Room u32 (s5 .count)
-    room5 = is .1 .1 .1 .1 .1 .1 .0 .0 .1
-
-    abbrev room6 : Room R (s6 .count)
-    room6 = is .1 .1 .1 .1 .1 .1 .1 .0 .0 .1
-
-    abbrev room7 : Room u32 (s7 .count)
-    room7 = is .1 .1 .1 .1 .1 .1 .1 .1 .0 .0 .1
+    abbrev out-room : Room u32 (out-at .count)
+    out-room = is .1 .1 .1 .1 .1 .1 .1 .1 .1 .0 .0 .1
 
     abbrev slices : List ℕ → List Arg
-    slices out′ = shr u64 s0 functions ∷ shr u8 s1 text ∷ shr u8 s2 main ∷ shr u32 s3 mainPlaces ∷ shr u8 s4 other ∷ shr u32 s5 otherPlaces ∷ shr R s6 frames ∷ mut u32 s7 out′ ∷ []
+    slices out′ = shr u64 functions-at functions ∷ shr u8 text-at text ∷ shr u8 main-at main ∷ shr u32 main-places-at mainPlaces ∷ shr u8 other-at other ∷ shr u32 other-places-at otherPlaces ∷ shr u64 stack-at stack ∷ shr R frames-at frames ∷ mut u32 out-at out′ ∷ []
 
     abbrev xs : List ℕ → List Arg
     xs out′ = val VmRow m (vmVal m) ∷ slices out′
@@ -140,32 +149,32 @@ module _ {M : Type 1} (𝓤 : URA M) (H : Heap 𝓤) (A : Atoms 𝓤) (W : Given
     abbrev Post : Val → SProp 𝓤
     Post = walkOf 𝓤 H A me.ended (stays kinds) (me.clauses 𝓤 H A mem run) .post (passing (xs out))
 
-    exits : (r : Told) (out′ : List ℕ) → Is ToldRow r (toldVal r ∷ []) → length out′ ≡ s7 .count → ((structs constants : List ℕ) → record { answer = r; out = out′ } ≡ backtraceIn m (programLent structs constants functions text main mainPlaces other otherPlaces) frames out) → ent 𝓤 (⋆ 𝓤 H A (‵ (Holds (slices out′)) ∷ [])) (Post (toldVal r))
+    exits : (r : Told) (out′ : List ℕ) → Is ToldRow r (toldVal r ∷ []) → length out′ ≡ out-at .count → ((structs constants : List ℕ) → record { answer = r; out = out′ } ≡ backtraceIn m (programLent structs constants functions text main mainPlaces other otherPlaces) stack frames out) → ent 𝓤 (⋆ 𝓤 H A (‵ (Holds (slices out′)) ∷ [])) (Post (toldVal r))
     exits r out′ isr len-out said =
-        qed W (‵ (Holds (slices out′)) ∷ []) ∵ suffices ! _ (ends-at 𝓤 H A me.ended (stays kinds) (me.clauses 𝓤 H A mem run) W (passing (xs out)) (toldVal r) r (tt, (tt, (tt, (tt, (tt, (tt, (tt, (tt, (out′, tt))))))))) (tt, (tt, (tt, (tt, (tt, (tt, (tt, (tt, (len-out, tt)))))))))) $ says ! said $
+        qed W (‵ (Holds (slices out′)) ∷ []) ∵ suffices ! _ (ends-at 𝓤 H A me.ended (stays kinds) (me.clauses 𝓤 H A mem run) W (passing (xs out)) (toldVal r) r (tt, (tt, (tt, (tt, (tt, (tt, (tt, (tt, (tt, (out′, tt)))))))))) (tt, (tt, (tt, (tt, (tt, (tt, (tt, (tt, (tt, (len-out, tt))))))))))) $ says ! said $
         gives ! (xs out′) (vm-makes 𝓤 H A W m _ (is .0), tt) (frame ! $ owned ! ToldRow (Is ToldRow) (told-makes 𝓤 H A W) r _ isr $ keep ! (1 ∷ 0 ∷ []) $ done !)
 
     -- the calls
     abbrev to-judge : List Arg
-    to-judge = val VmRow m (vmVal m) ∷ shr u64 s0 functions ∷ shr u8 s1 text ∷ shr u8 s2 main ∷ shr u32 s3 mainPlaces ∷ shr u8 s4 other ∷ shr u32 s5 otherPlaces ∷ shr R s6 frames ∷ []
+    to-judge = val VmRow m (vmVal m) ∷ shr u64 functions-at functions ∷ shr u8 text-at text ∷ shr u8 main-at main ∷ shr u32 main-places-at mainPlaces ∷ shr u8 other-at other ∷ shr u32 other-places-at otherPlaces ∷ shr u64 stack-at stack ∷ shr R frames-at frames ∷ []
 
-    call-judge : Rule 𝓤 H A W to-judge Judge Boolean vbool (λ b zs. ((structs constants : List ℕ) → b ≡ traceOrder m (programLent structs constants functions text main mainPlaces other otherPlaces) frames))
-    call-judge = call-with 𝓤 H A W to-judge Judge Boolean vbool (λ b zs. ((structs constants : List ℕ) → b ≡ traceOrder m (programLent structs constants functions text main mainPlaces other otherPlaces) frames)) bool-tells (λ ns. passing (lent to-judge ns)) (λ ns. refl)
-        (λ ns. unasked W (lent to-judge ns)) (λ ns w. id⊢ 𝓤 _) (vm-makes 𝓤 H A W m _ (is .0), tt) ((refl, room0), ((refl, room1), ((refl, room2), ((refl, room3), ((refl, room4), ((refl, room5), ((refl, room6), tt)))))))
+    call-judge : Rule 𝓤 H A W to-judge Judge Boolean vbool (λ b zs. ((structs constants : List ℕ) → b ≡ traceOrder m (programLent structs constants functions text main mainPlaces other otherPlaces) stack frames))
+    call-judge = call-with 𝓤 H A W to-judge Judge Boolean vbool (λ b zs. ((structs constants : List ℕ) → b ≡ traceOrder m (programLent structs constants functions text main mainPlaces other otherPlaces) stack frames)) bool-tells (λ ns. passing (lent to-judge ns)) (λ ns. refl)
+        (λ ns. unasked W (lent to-judge ns)) (λ ns w. id⊢ 𝓤 _) (vm-makes 𝓤 H A W m _ (is .0), tt) ((refl, functions-room), ((refl, text-room), ((refl, main-room), ((refl, main-places-room), ((refl, other-room), ((refl, other-places-room), ((refl, stack-room), ((refl, frames-room), tt))))))))
 
     abbrev to-why : Bool → List Arg
-    to-why b = val Boolean b (vbool b) ∷ val usize (m .frames) (vint w64 (m .frames)) ∷ val usize (s7 .count) (vint w64 (s7 .count)) ∷ []
+    to-why b = val Boolean b (vbool b) ∷ val usize (m .frames) (vint w64 (m .frames)) ∷ val usize (out-at .count) (vint w64 (out-at .count)) ∷ []
 
-    call-why : (b : Bool) → Is Boolean b (vbool b ∷ []) → Rule 𝓤 H A W (to-why b) Why u8 (vint w8) (λ w zs. ((os : List ℕ) → length os ≡ s7 .count → w ≡ traceRefusal b (m .frames) os))
-    call-why b isb = call-with 𝓤 H A W (to-why b) Why u8 (vint w8) (λ w zs. ((os : List ℕ) → length os ≡ s7 .count → w ≡ traceRefusal b (m .frames) os)) (uint-tells w8) (λ ns. passing (lent (to-why b) ns)) (λ ns. refl)
-        (λ ns. unasked W (lent (to-why b) ns)) (λ ns w. id⊢ 𝓤 _) (bool-makes 𝓤 H A W b _ isb, (uint-makes 𝓤 H A W w64 (m .frames) _ (refl, frames-fit m (is .0)), (uint-makes 𝓤 H A W w64 (s7 .count) _ (refl, room7 .0), tt))) tt
+    call-why : (b : Bool) → Is Boolean b (vbool b ∷ []) → Rule 𝓤 H A W (to-why b) Why u8 (vint w8) (λ w zs. ((os : List ℕ) → length os ≡ out-at .count → w ≡ traceRefusal b (m .frames) os))
+    call-why b isb = call-with 𝓤 H A W (to-why b) Why u8 (vint w8) (λ w zs. ((os : List ℕ) → length os ≡ out-at .count → w ≡ traceRefusal b (m .frames) os)) (uint-tells w8) (λ ns. passing (lent (to-why b) ns)) (λ ns. refl)
+        (λ ns. unasked W (lent (to-why b) ns)) (λ ns w. id⊢ 𝓤 _) (bool-makes 𝓤 H A W b _ isb, (uint-makes 𝓤 H A W w64 (m .frames) _ (refl, frames-fit m (is .0)), (uint-makes 𝓤 H A W w64 (out-at .count) _ (refl, out-room .0), tt))) tt
 
     abbrev to-put : List Arg
-    to-put = val usize (m .frames) (vint w64 (m .frames)) ∷ shr u64 s0 functions ∷ shr u32 s3 mainPlaces ∷ shr u32 s5 otherPlaces ∷ shr R s6 frames ∷ mut u32 s7 out ∷ []
+    to-put = val usize (m .frames) (vint w64 (m .frames)) ∷ shr u64 functions-at functions ∷ shr u32 main-places-at mainPlaces ∷ shr u32 other-places-at otherPlaces ∷ shr R frames-at frames ∷ mut u32 out-at out ∷ []
 
     call-put : Traceable functions mainPlaces otherPlaces (m .frames) frames (length out) → Rule 𝓤 H A W to-put Put ToldRow toldVal (λ r zs. record { answer = r; out = zs .1 .1 .1 .1 .1 .0 } ≡ traceInto functions mainPlaces otherPlaces (m .frames) frames out)
     call-put can = call-with 𝓤 H A W to-put Put ToldRow toldVal (λ r zs. record { answer = r; out = zs .1 .1 .1 .1 .1 .0 } ≡ traceInto functions mainPlaces otherPlaces (m .frames) frames out) told-tells (λ ns. passing (lent to-put ns)) (λ ns. refl)
-        (λ ns. asked W (lent to-put ns) can) (λ ns w. id⊢ 𝓤 _) (uint-makes 𝓤 H A W w64 (m .frames) _ (refl, frames-fit m (is .0)), tt) ((refl, room0), ((refl, room3), ((refl, room5), ((refl, room6), ((refl, room7), tt)))))
+        (λ ns. asked W (lent to-put ns) can) (λ ns w. id⊢ 𝓤 _) (uint-makes 𝓤 H A W w64 (m .frames) _ (refl, frames-fit m (is .0)), tt) ((refl, functions-room), ((refl, main-places-room), ((refl, other-places-room), ((refl, frames-room), ((refl, out-room), tt)))))
 
     abbrev to-not : ℕ → List Arg
     to-not w = val u8 w (vint w8 w) ∷ []
@@ -177,14 +186,14 @@ module _ {M : Type 1} (𝓤 : URA M) (H : Heap 𝓤) (A : Atoms 𝓤) (W : Given
     walk : ent 𝓤 (onEntry 𝓤 H A me.signature (lfts (xs out)) (shares (xs out)) (denots (xs out)) (valss (xs out))) (WpFn 𝓤 H (𝓣 .C) (𝓣 .Λ) code.function (values (xs out)) Post)
     walk =
         qed W (‵ (Toks (xs out)) ∷ ‵ (Owns (xs out)) ∷ []) ∵ takes ! (xs out) (enters ! (𝓣 .C) (𝓣 .Λ) code.function (values (xs out)) Post
-        (vm-typed 𝓤 H A W m (is .0), ((tt, (tt, (record { fits = room0 .0 }, tt))), ((tt, (tt, (record { fits = room1 .0 }, tt))), ((tt, (tt, (record { fits = room2 .0 }, tt))), ((tt, (tt, (record { fits = room3 .0 }, tt))), ((tt, (tt, (record { fits = room4 .0 }, tt))), ((tt, (tt, (record { fits = room5 .0 }, tt))), ((tt, (tt, (record { fits = room6 .0 }, tt))), ((tt, (tt, (record { fits = room7 .0 }, tt))), tt))))))))) (λ ls.
+        (vm-typed 𝓤 H A W m (is .0), ((tt, (tt, (record { fits = functions-room .0 }, tt))), ((tt, (tt, (record { fits = text-room .0 }, tt))), ((tt, (tt, (record { fits = main-room .0 }, tt))), ((tt, (tt, (record { fits = main-places-room .0 }, tt))), ((tt, (tt, (record { fits = other-room .0 }, tt))), ((tt, (tt, (record { fits = other-places-room .0 }, tt))), ((tt, (tt, (record { fits = stack-room .0 }, tt))), ((tt, (tt, (record { fits = frames-room .0 }, tt))), ((tt, (tt, (record { fits = out-room .0 }, tt))), tt)))))))))) (λ ls.
         sets ! (of-opd ! (of ! refl)) (tt, record { fits = frames-fit m (is .0) }) $
-        calls-on ! (true ∷ true ∷ true ∷ true ∷ true ∷ true ∷ true ∷ []) (slices out) (call-judge) (λ zs. slices out) refl (λ zs. refl) (λ zs. refl) fm known-judge refl (λ b zs eb lens isb. lands-in ! (tt, tt) $
-        sets ! (of-opd ! (of ! refl)) (tt, record { fits = room7 .0 }) $
+        calls-on ! (true ∷ true ∷ true ∷ true ∷ true ∷ true ∷ true ∷ true ∷ []) (slices out) (call-judge) (λ zs. slices out) refl (λ zs. refl) (λ zs. refl) fm known-judge refl (λ b zs eb lens isb. lands-in ! (tt, tt) $
+        sets ! (of-opd ! (of ! refl)) (tt, record { fits = out-room .0 }) $
         calls-on ! [] (slices out) (call-why b isb) (λ zs. slices out) refl (λ zs. refl) (λ zs. refl) fm known-why refl (λ w zs₁ ew lens₁ isw. lands-in ! (tt, record { fits = isw .1 }) $
         sets ! (bin ! (of ! refl) (of ! refl) tt) (tt, tt) $ returns-if ! 𝓣 (of ! refl)
-        (λ on. sets ! (addr ! (behind ! refl refl)) (tt, tt) $ sets ! (agg ! (ofs ! refl)) (tt, (tt, (record { fits = room7 .0 }, tt))) $
-        calls-on ! (true ∷ false ∷ false ∷ true ∷ false ∷ true ∷ true ∷ true ∷ []) (slices out) (call-put (ready b w eb ew (is-zero w on))) (λ zs. slices (zs .1 .1 .1 .1 .1 .0)) refl (λ zs. refl) (λ zs. refl) fm known-put refl (λ r zs₂ er lens₂ isr. lands-in ! (told-typed 𝓤 H A W r isr) $
+        (λ on. sets ! (addr ! (behind ! refl refl)) (tt, tt) $ sets ! (agg ! (ofs ! refl)) (tt, (tt, (record { fits = out-room .0 }, tt))) $
+        calls-on ! (true ∷ false ∷ false ∷ true ∷ false ∷ true ∷ false ∷ true ∷ true ∷ []) (slices out) (call-put (ready b w eb ew (is-zero w on))) (λ zs. slices (zs .1 .1 .1 .1 .1 .0)) refl (λ zs. refl) (λ zs. refl) fm known-put refl (λ r zs₂ er lens₂ isr. lands-in ! (told-typed 𝓤 H A W r isr) $
         sets ! (of-opd ! (of ! refl)) (told-typed 𝓤 H A W r isr) $ leaves ! refl $ by ! (exits r (zs₂ .1 .1 .1 .1 .1 .0) isr (lens₂ .0) (λ structs constants. er ∙ traced b w eb ew (is-zero w on) structs constants))))
         (λ off. calls-on ! [] (slices out) (call-not w isw) (λ zs. slices out) refl (λ zs. refl) (λ zs. refl) fm known-not refl (λ r zs₂ er lens₂ isr. lands-in ! (told-typed 𝓤 H A W r isr) $
         sets ! (of-opd ! (of ! refl)) (told-typed 𝓤 H A W r isr) $ leaves ! refl $ by ! (exits r out isr refl (λ structs constants. ap (λ (x : Told). record { answer = x; out = out }) er ∙ not-traced b w eb ew (not-zero w off) structs constants))))))))
@@ -192,17 +201,17 @@ module _ {M : Type 1} (𝓤 : URA M) (H : Heap 𝓤) (A : Atoms 𝓤) (W : Given
         fm : FmC 𝓤 H (W .laws) (𝓣 .C)
         fm = fmOf 𝓤 H (W .laws) 𝓣
 
-        why-is : (b : Bool) (w : ℕ) → ((structs constants : List ℕ) → b ≡ traceOrder m (programLent structs constants functions text main mainPlaces other otherPlaces) frames) → ((os : List ℕ) → length os ≡ s7 .count → w ≡ traceRefusal b (m .frames) os) → (structs constants : List ℕ) → w ≡ traceRefusal (traceOrder m (programLent structs constants functions text main mainPlaces other otherPlaces) frames) (m .frames) out
+        why-is : (b : Bool) (w : ℕ) → ((structs constants : List ℕ) → b ≡ traceOrder m (programLent structs constants functions text main mainPlaces other otherPlaces) stack frames) → ((os : List ℕ) → length os ≡ out-at .count → w ≡ traceRefusal b (m .frames) os) → (structs constants : List ℕ) → w ≡ traceRefusal (traceOrder m (programLent structs constants functions text main mainPlaces other otherPlaces) stack frames) (m .frames) out
         why-is b w eb ew structs constants = ew out refl ∙ ap (λ (x : Bool). traceRefusal x (m .frames) out) (eb structs constants)
 
-        ready : (b : Bool) (w : ℕ) → ((structs constants : List ℕ) → b ≡ traceOrder m (programLent structs constants functions text main mainPlaces other otherPlaces) frames) → ((os : List ℕ) → length os ≡ s7 .count → w ≡ traceRefusal b (m .frames) os) → w ≡ 0 → Traceable functions mainPlaces otherPlaces (m .frames) frames (length out)
-        ready b w eb ew z = trace-ready m [] [] functions text main mainPlaces other otherPlaces frames out (why-is b w eb ew [] []) z
+        ready : (b : Bool) (w : ℕ) → ((structs constants : List ℕ) → b ≡ traceOrder m (programLent structs constants functions text main mainPlaces other otherPlaces) stack frames) → ((os : List ℕ) → length os ≡ out-at .count → w ≡ traceRefusal b (m .frames) os) → w ≡ 0 → Traceable functions mainPlaces otherPlaces (m .frames) frames (length out)
+        ready b w eb ew z = trace-ready m [] [] functions text main mainPlaces other otherPlaces stack frames out (why-is b w eb ew [] []) z
 
-        traced : (b : Bool) (w : ℕ) → ((structs constants : List ℕ) → b ≡ traceOrder m (programLent structs constants functions text main mainPlaces other otherPlaces) frames) → ((os : List ℕ) → length os ≡ s7 .count → w ≡ traceRefusal b (m .frames) os) → w ≡ 0 → (structs constants : List ℕ) → traceInto functions mainPlaces otherPlaces (m .frames) frames out ≡ backtraceIn m (programLent structs constants functions text main mainPlaces other otherPlaces) frames out
-        traced b w eb ew z structs constants = trace-is m structs constants functions text main mainPlaces other otherPlaces frames out (why-is b w eb ew structs constants) z
+        traced : (b : Bool) (w : ℕ) → ((structs constants : List ℕ) → b ≡ traceOrder m (programLent structs constants functions text main mainPlaces other otherPlaces) stack frames) → ((os : List ℕ) → length os ≡ out-at .count → w ≡ traceRefusal b (m .frames) os) → w ≡ 0 → (structs constants : List ℕ) → traceInto functions mainPlaces otherPlaces (m .frames) frames out ≡ backtraceIn m (programLent structs constants functions text main mainPlaces other otherPlaces) stack frames out
+        traced b w eb ew z structs constants = trace-is m structs constants functions text main mainPlaces other otherPlaces stack frames out (why-is b w eb ew structs constants) z
 
-        not-traced : (b : Bool) (w : ℕ) → ((structs constants : List ℕ) → b ≡ traceOrder m (programLent structs constants functions text main mainPlaces other otherPlaces) frames) → ((os : List ℕ) → length os ≡ s7 .count → w ≡ traceRefusal b (m .frames) os) → (w ≡ 0 → ⊥) → (structs constants : List ℕ) → record { answer = t.Refused w; out = out } ≡ backtraceIn m (programLent structs constants functions text main mainPlaces other otherPlaces) frames out
-        not-traced b w eb ew z structs constants = trace-refused m structs constants functions text main mainPlaces other otherPlaces frames out (why-is b w eb ew structs constants) z
+        not-traced : (b : Bool) (w : ℕ) → ((structs constants : List ℕ) → b ≡ traceOrder m (programLent structs constants functions text main mainPlaces other otherPlaces) stack frames) → ((os : List ℕ) → length os ≡ out-at .count → w ≡ traceRefusal b (m .frames) os) → (w ≡ 0 → ⊥) → (structs constants : List ℕ) → record { answer = t.Refused w; out = out } ≡ backtraceIn m (programLent structs constants functions text main mainPlaces other otherPlaces) stack frames out
+        not-traced b w eb ew z structs constants = trace-refused m structs constants functions text main mainPlaces other otherPlaces stack frames out (why-is b w eb ew structs constants) z
 
 pub backtrace-spec : {M : Type 1} → stated.statement M
 unfolding code.routine tablesOf

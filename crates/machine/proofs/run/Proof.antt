@@ -12,7 +12,7 @@ use Rattle.machine.proofs.Rows.{VmRow, vmVal, vm-typed, vm-makes, Resul
 use Rattle.model.specs.declared.RunResult.the-variants as v
 use Rattle.model.specs.Machines.{RunPost}
 use Rattle.machine.specs.Links.{runLent, Granted, RunJudged}
-use Rattle.machine.proofs.Parameters.{kinds, Passing, m, units, constants, functions, text, main, mainPlaces, other, otherPlaces, stack, cells, frames, copy, backtrace, slices, xs, stores, lent₀, slices₀, xs₀, s0, s1, s2, s3, s4, s5, s6, s7, s8, s9, s10, s11, room0, room1, room2, room3, room4, room5, room6, room7, room8, room9, room10, room11}
+use Rattle.machine.proofs.Parameters.{kinds, Passing, m, units, constants, structs, functions, text, main, mainPlaces, other, otherPlaces, stack, cells, frames, copy, backtrace, slices, xs, stores, lent₀, slices₀, xs₀, constants-at, structs-at, functions-at, text-at, main-at, main-places-at, other-at, other-places-at, stack-at, cells-at, frames-at, copy-at, backtrace-at, constants-room, structs-room, functions-room, text-room, main-room, main-places-room, other-room, other-places-room, stack-room, cells-room, frames-room, copy-room, backtrace-room}
 use Rattle.machine.proofs.Tests.{is-zero, not-zero}
 use Rattle.machine.proofs.running.run_refusal as why
 use Rattle.machine.proofs.running.run_refusal.Symbol as why-def
@@ -46,25 +46,25 @@ module _ {M : Type 1} (𝓤 : URA M) (H : Heap 𝓤) (A : Atoms 𝓤) (W : Given
     abbrev Post : Val → SProp 𝓤
     Post = walkOf 𝓤 H A me.ended (stays kinds) (me.clauses 𝓤 H A mem run) .post (passing (xs₀ p))
 
-    exits : (r : RunResult) (stack′ : List ℕ) (cells′ : List ℕ) (frames′ : List Frame) (copy′ : List ℕ) (backtrace′ : List ℕ) → Is ResultRow r (resultVal r ∷ []) → length stack′ ≡ s7 p .count → length cells′ ≡ s8 p .count → length frames′ ≡ s9 p .count → length copy′ ≡ s10 p .count → length backtrace′ ≡ s11 p .count → ((structs : List ℕ) → RunPost (m p) (stores p structs) (lent₀ p) (units p) r (runLent stack′ cells′ frames′ copy′ backtrace′)) → ent 𝓤 (⋆ 𝓤 H A (‵ (Holds (slices p stack′ cells′ frames′ copy′ backtrace′)) ∷ [])) (Post (resultVal r))
+    exits : (r : RunResult) (stack′ : List ℕ) (cells′ : List ℕ) (frames′ : List Frame) (copy′ : List ℕ) (backtrace′ : List ℕ) → Is ResultRow r (resultVal r ∷ []) → length stack′ ≡ stack-at p .count → length cells′ ≡ cells-at p .count → length frames′ ≡ frames-at p .count → length copy′ ≡ copy-at p .count → length backtrace′ ≡ backtrace-at p .count → RunPost (m p) (stores p) (lent₀ p) (units p) r (runLent stack′ cells′ frames′ copy′ backtrace′) → ent 𝓤 (⋆ 𝓤 H A (‵ (Holds (slices p stack′ cells′ frames′ copy′ backtrace′)) ∷ [])) (Post (resultVal r))
     exits r stack′ cells′ frames′ copy′ backtrace′ isr len-stack len-cells len-frames len-copy len-backtrace said =
-        qed W (‵ (Holds (slices p stack′ cells′ frames′ copy′ backtrace′)) ∷ []) ∵ suffices ! _ (ends-at 𝓤 H A me.ended (stays kinds) (me.clauses 𝓤 H A mem run) W (passing (xs₀ p)) (resultVal r) r (tt, (tt, (tt, (tt, (tt, (tt, (tt, (tt, (tt, (stack′, (cells′, (frames′, (copy′, (backtrace′, tt)))))))))))))) (tt, (tt, (tt, (tt, (tt, (tt, (tt, (tt, (tt, (len-stack, (len-cells, (len-frames, (len-copy, (len-backtrace, tt))))))))))))))) $ says ! said $
+        qed W (‵ (Holds (slices p stack′ cells′ frames′ copy′ backtrace′)) ∷ []) ∵ suffices ! _ (ends-at 𝓤 H A me.ended (stays kinds) (me.clauses 𝓤 H A mem run) W (passing (xs₀ p)) (resultVal r) r (tt, (tt, (tt, (tt, (tt, (tt, (tt, (tt, (tt, (tt, (stack′, (cells′, (frames′, (copy′, (backtrace′, tt))))))))))))))) (tt, (tt, (tt, (tt, (tt, (tt, (tt, (tt, (tt, (tt, (len-stack, (len-cells, (len-frames, (len-copy, (len-backtrace, tt)))))))))))))))) $ says ! said $
         gives ! (xs p stack′ cells′ frames′ copy′ backtrace′) (vm-makes 𝓤 H A W (m p) _ (p .is .0), (uint-makes 𝓤 H A W w64 (units p) _ (p .is .1 .0), tt)) (frame ! $ owned ! ResultRow (Is ResultRow) (result-makes 𝓤 H A W) r _ isr $ keep ! (1 ∷ 0 ∷ []) $ done !)
 
     -- the calls
     abbrev to-why : List Arg
-    to-why = val VmRow (m p) (vmVal (m p)) ∷ val usize (s10 p .count) (vint w64 (s10 p .count)) ∷ val usize (s11 p .count) (vint w64 (s11 p .count)) ∷ shr u64 (s0 p) (constants p) ∷ shr u64 (s1 p) (functions p) ∷ shr u8 (s2 p) (text p) ∷ shr u8 (s3 p) (main p) ∷ shr u32 (s4 p) (mainPlaces p) ∷ shr u8 (s5 p) (other p) ∷ shr u32 (s6 p) (otherPlaces p) ∷ peek u64 (s7 p) (stack p) ∷ peek u64 (s8 p) (cells p) ∷ peek R (s9 p) (frames p) ∷ []
+    to-why = val VmRow (m p) (vmVal (m p)) ∷ val usize (copy-at p .count) (vint w64 (copy-at p .count)) ∷ val usize (backtrace-at p .count) (vint w64 (backtrace-at p .count)) ∷ shr u64 (constants-at p) (constants p) ∷ shr u64 (structs-at p) (structs p) ∷ shr u64 (functions-at p) (functions p) ∷ shr u8 (text-at p) (text p) ∷ shr u8 (main-at p) (main p) ∷ shr u32 (main-places-at p) (mainPlaces p) ∷ shr u8 (other-at p) (other p) ∷ shr u32 (other-places-at p) (otherPlaces p) ∷ peek u64 (stack-at p) (stack p) ∷ peek u64 (cells-at p) (cells p) ∷ peek R (frames-at p) (frames p) ∷ []
 
-    call-why : Rule 𝓤 H A W to-why Why u8 (vint w8) (λ n zs. ((structs cs bs : List ℕ) → length cs ≡ s10 p .count → length bs ≡ s11 p .count → RunJudged (m p) (stores p structs) (runLent (stack p) (cells p) (frames p) cs bs) n))
-    call-why = call-with 𝓤 H A W to-why Why u8 (vint w8) (λ n zs. ((structs cs bs : List ℕ) → length cs ≡ s10 p .count → length bs ≡ s11 p .count → RunJudged (m p) (stores p structs) (runLent (stack p) (cells p) (frames p) cs bs) n)) (uint-tells w8) (λ ns. passing (lent to-why ns)) (λ ns. refl)
-        (λ ns. unasked W (lent to-why ns)) (λ ns w. id⊢ 𝓤 _) (vm-makes 𝓤 H A W (m p) _ (p .is .0), (uint-makes 𝓤 H A W w64 (s10 p .count) _ (refl, room10 p .0), (uint-makes 𝓤 H A W w64 (s11 p .count) _ (refl, room11 p .0), tt))) ((refl, room0 p), ((refl, room1 p), ((refl, room2 p), ((refl, room3 p), ((refl, room4 p), ((refl, room5 p), ((refl, room6 p), ((refl, room7 p), ((refl, room8 p), ((refl, room9 p), tt))))))))))
+    call-why : Rule 𝓤 H A W to-why Why u8 (vint w8) (λ n zs. ((cs bs : List ℕ) → length cs ≡ copy-at p .count → length bs ≡ backtrace-at p .count → RunJudged (m p) (stores p) (runLent (stack p) (cells p) (frames p) cs bs) n))
+    call-why = call-with 𝓤 H A W to-why Why u8 (vint w8) (λ n zs. ((cs bs : List ℕ) → length cs ≡ copy-at p .count → length bs ≡ backtrace-at p .count → RunJudged (m p) (stores p) (runLent (stack p) (cells p) (frames p) cs bs) n)) (uint-tells w8) (λ ns. passing (lent to-why ns)) (λ ns. refl)
+        (λ ns. unasked W (lent to-why ns)) (λ ns w. id⊢ 𝓤 _) (vm-makes 𝓤 H A W (m p) _ (p .is .0), (uint-makes 𝓤 H A W w64 (copy-at p .count) _ (refl, copy-room p .0), (uint-makes 𝓤 H A W w64 (backtrace-at p .count) _ (refl, backtrace-room p .0), tt))) ((refl, constants-room p), ((refl, structs-room p), ((refl, functions-room p), ((refl, text-room p), ((refl, main-room p), ((refl, main-places-room p), ((refl, other-room p), ((refl, other-places-room p), ((refl, stack-room p), ((refl, cells-room p), ((refl, frames-room p), tt)))))))))))
 
     abbrev to-go : List Arg
-    to-go = val VmRow (m p) (vmVal (m p)) ∷ val u64 (units p) (vint w64 (units p)) ∷ shr u64 (s0 p) (constants p) ∷ shr u64 (s1 p) (functions p) ∷ shr u8 (s2 p) (text p) ∷ shr u8 (s3 p) (main p) ∷ shr u32 (s4 p) (mainPlaces p) ∷ shr u8 (s5 p) (other p) ∷ shr u32 (s6 p) (otherPlaces p) ∷ mut u64 (s7 p) (stack p) ∷ mut u64 (s8 p) (cells p) ∷ mut R (s9 p) (frames p) ∷ mut u64 (s10 p) (copy p) ∷ mut u32 (s11 p) (backtrace p) ∷ []
+    to-go = val VmRow (m p) (vmVal (m p)) ∷ val u64 (units p) (vint w64 (units p)) ∷ shr u64 (constants-at p) (constants p) ∷ shr u64 (structs-at p) (structs p) ∷ shr u64 (functions-at p) (functions p) ∷ shr u8 (text-at p) (text p) ∷ shr u8 (main-at p) (main p) ∷ shr u32 (main-places-at p) (mainPlaces p) ∷ shr u8 (other-at p) (other p) ∷ shr u32 (other-places-at p) (otherPlaces p) ∷ mut u64 (stack-at p) (stack p) ∷ mut u64 (cells-at p) (cells p) ∷ mut R (frames-at p) (frames p) ∷ mut u64 (copy-at p) (copy p) ∷ mut u32 (backtrace-at p) (backtrace p) ∷ []
 
-    call-go : ((structs : List ℕ) → Granted (m p) (stores p structs) (lent₀ p)) → Rule 𝓤 H A W to-go Go ResultRow resultVal (λ r zs. ((structs : List ℕ) → RunPost (m p) (stores p structs) (lent₀ p) (units p) r (runLent (zs .1 .1 .1 .1 .1 .1 .1 .1 .1 .0) (zs .1 .1 .1 .1 .1 .1 .1 .1 .1 .1 .0) (zs .1 .1 .1 .1 .1 .1 .1 .1 .1 .1 .1 .0) (zs .1 .1 .1 .1 .1 .1 .1 .1 .1 .1 .1 .1 .0) (zs .1 .1 .1 .1 .1 .1 .1 .1 .1 .1 .1 .1 .1 .0))))
-    call-go can = call-with 𝓤 H A W to-go Go ResultRow resultVal (λ r zs. ((structs : List ℕ) → RunPost (m p) (stores p structs) (lent₀ p) (units p) r (runLent (zs .1 .1 .1 .1 .1 .1 .1 .1 .1 .0) (zs .1 .1 .1 .1 .1 .1 .1 .1 .1 .1 .0) (zs .1 .1 .1 .1 .1 .1 .1 .1 .1 .1 .1 .0) (zs .1 .1 .1 .1 .1 .1 .1 .1 .1 .1 .1 .1 .0) (zs .1 .1 .1 .1 .1 .1 .1 .1 .1 .1 .1 .1 .1 .0)))) result-tells (λ ns. passing (lent to-go ns)) (λ ns. refl)
-        (λ ns. asked W (lent to-go ns) can) (λ ns w. id⊢ 𝓤 _) (vm-makes 𝓤 H A W (m p) _ (p .is .0), (uint-makes 𝓤 H A W w64 (units p) _ (p .is .1 .0), tt)) ((refl, room0 p), ((refl, room1 p), ((refl, room2 p), ((refl, room3 p), ((refl, room4 p), ((refl, room5 p), ((refl, room6 p), ((refl, room7 p), ((refl, room8 p), ((refl, room9 p), ((refl, room10 p), ((refl, room11 p), tt))))))))))))
+    call-go : Granted (m p) (stores p) (lent₀ p) → Rule 𝓤 H A W to-go Go ResultRow resultVal (λ r zs. RunPost (m p) (stores p) (lent₀ p) (units p) r (runLent (zs .1 .1 .1 .1 .1 .1 .1 .1 .1 .1 .0) (zs .1 .1 .1 .1 .1 .1 .1 .1 .1 .1 .1 .0) (zs .1 .1 .1 .1 .1 .1 .1 .1 .1 .1 .1 .1 .0) (zs .1 .1 .1 .1 .1 .1 .1 .1 .1 .1 .1 .1 .1 .0) (zs .1 .1 .1 .1 .1 .1 .1 .1 .1 .1 .1 .1 .1 .1 .0)))
+    call-go can = call-with 𝓤 H A W to-go Go ResultRow resultVal (λ r zs. RunPost (m p) (stores p) (lent₀ p) (units p) r (runLent (zs .1 .1 .1 .1 .1 .1 .1 .1 .1 .1 .0) (zs .1 .1 .1 .1 .1 .1 .1 .1 .1 .1 .1 .0) (zs .1 .1 .1 .1 .1 .1 .1 .1 .1 .1 .1 .1 .0) (zs .1 .1 .1 .1 .1 .1 .1 .1 .1 .1 .1 .1 .1 .0) (zs .1 .1 .1 .1 .1 .1 .1 .1 .1 .1 .1 .1 .1 .1 .0))) result-tells (λ ns. passing (lent to-go ns)) (λ ns. refl)
+        (λ ns. asked W (lent to-go ns) can) (λ ns w. id⊢ 𝓤 _) (vm-makes 𝓤 H A W (m p) _ (p .is .0), (uint-makes 𝓤 H A W w64 (units p) _ (p .is .1 .0), tt)) ((refl, constants-room p), ((refl, structs-room p), ((refl, functions-room p), ((refl, text-room p), ((refl, main-room p), ((refl, main-places-room p), ((refl, other-room p), ((refl, other-places-room p), ((refl, stack-room p), ((refl, cells-room p), ((refl, frames-room p), ((refl, copy-room p), ((refl, backtrace-room p), tt)))))))))))))
 
     abbrev to-not : ℕ → List Arg
     to-not n = val u8 n (vint w8 n) ∷ []
@@ -76,16 +76,16 @@ module _ {M : Type 1} (𝓤 : URA M) (H : Heap 𝓤) (A : Atoms 𝓤) (W : Given
     walk : ent 𝓤 (onEntry 𝓤 H A me.signature (lfts (xs₀ p)) (shares (xs₀ p)) (denots (xs₀ p)) (valss (xs₀ p))) (WpFn 𝓤 H (𝓣 .C) (𝓣 .Λ) code.function (values (xs₀ p)) Post)
     walk =
         qed W (‵ (Toks (xs₀ p)) ∷ ‵ (Owns (xs₀ p)) ∷ []) ∵ takes ! (xs₀ p) (enters ! (𝓣 .C) (𝓣 .Λ) code.function (values (xs₀ p)) Post
-        (vm-typed 𝓤 H A W (m p) (p .is .0), ((tt, record { fits = (p .is .1 .0) .1 }), ((tt, (tt, (record { fits = room0 p .0 }, tt))), ((tt, (tt, (record { fits = room1 p .0 }, tt))), ((tt, (tt, (record { fits = room2 p .0 }, tt))), ((tt, (tt, (record { fits = room3 p .0 }, tt))), ((tt, (tt, (record { fits = room4 p .0 }, tt))), ((tt, (tt, (record { fits = room5 p .0 }, tt))), ((tt, (tt, (record { fits = room6 p .0 }, tt))), ((tt, (tt, (record { fits = room7 p .0 }, tt))), ((tt, (tt, (record { fits = room8 p .0 }, tt))), ((tt, (tt, (record { fits = room9 p .0 }, tt))), ((tt, (tt, (record { fits = room10 p .0 }, tt))), ((tt, (tt, (record { fits = room11 p .0 }, tt))), tt)))))))))))))) (λ ls.
-        sets ! (of-opd ! (of ! refl)) (tt, record { fits = room10 p .0 }) $ sets ! (of-opd ! (of ! refl)) (tt, record { fits = room11 p .0 }) $ sets ! (addr ! (behind ! refl refl)) (tt, tt) $ sets ! (agg ! (ofs ! refl)) (tt, (tt, (record { fits = room7 p .0 }, tt))) $ sets ! (addr ! (behind ! refl refl)) (tt, tt) $ sets ! (agg ! (ofs ! refl)) (tt, (tt, (record { fits = room8 p .0 }, tt))) $ sets ! (addr ! (behind ! refl refl)) (tt, tt) $ sets ! (agg ! (ofs ! refl)) (tt, (tt, (record { fits = room9 p .0 }, tt))) $
-        calls-on ! (true ∷ true ∷ true ∷ true ∷ true ∷ true ∷ true ∷ true ∷ true ∷ true ∷ []) (slices₀ p) (call-why) (λ zs. slices₀ p) refl (λ zs. refl) (λ zs. refl) fm known-why refl (λ n zs en lens isn. lands-in ! (tt, record { fits = isn .1 }) $
+        (vm-typed 𝓤 H A W (m p) (p .is .0), ((tt, record { fits = (p .is .1 .0) .1 }), ((tt, (tt, (record { fits = constants-room p .0 }, tt))), ((tt, (tt, (record { fits = structs-room p .0 }, tt))), ((tt, (tt, (record { fits = functions-room p .0 }, tt))), ((tt, (tt, (record { fits = text-room p .0 }, tt))), ((tt, (tt, (record { fits = main-room p .0 }, tt))), ((tt, (tt, (record { fits = main-places-room p .0 }, tt))), ((tt, (tt, (record { fits = other-room p .0 }, tt))), ((tt, (tt, (record { fits = other-places-room p .0 }, tt))), ((tt, (tt, (record { fits = stack-room p .0 }, tt))), ((tt, (tt, (record { fits = cells-room p .0 }, tt))), ((tt, (tt, (record { fits = frames-room p .0 }, tt))), ((tt, (tt, (record { fits = copy-room p .0 }, tt))), ((tt, (tt, (record { fits = backtrace-room p .0 }, tt))), tt))))))))))))))) (λ ls.
+        sets ! (of-opd ! (of ! refl)) (tt, record { fits = copy-room p .0 }) $ sets ! (of-opd ! (of ! refl)) (tt, record { fits = backtrace-room p .0 }) $ sets ! (addr ! (behind ! refl refl)) (tt, tt) $ sets ! (agg ! (ofs ! refl)) (tt, (tt, (record { fits = stack-room p .0 }, tt))) $ sets ! (addr ! (behind ! refl refl)) (tt, tt) $ sets ! (agg ! (ofs ! refl)) (tt, (tt, (record { fits = cells-room p .0 }, tt))) $ sets ! (addr ! (behind ! refl refl)) (tt, tt) $ sets ! (agg ! (ofs ! refl)) (tt, (tt, (record { fits = frames-room p .0 }, tt))) $
+        calls-on ! (true ∷ true ∷ true ∷ true ∷ true ∷ true ∷ true ∷ true ∷ true ∷ true ∷ true ∷ []) (slices₀ p) (call-why) (λ zs. slices₀ p) refl (λ zs. refl) (λ zs. refl) fm known-why refl (λ n zs en lens isn. lands-in ! (tt, record { fits = isn .1 }) $
         sets ! (bin ! (of ! refl) (of ! refl) tt) (tt, tt) $ returns-if ! 𝓣 (of ! refl)
-        (λ on. sets ! (addr ! (behind ! refl refl)) (tt, tt) $ sets ! (agg ! (ofs ! refl)) (tt, (tt, (record { fits = room7 p .0 }, tt))) $ sets ! (addr ! (behind ! refl refl)) (tt, tt) $ sets ! (agg ! (ofs ! refl)) (tt, (tt, (record { fits = room8 p .0 }, tt))) $ sets ! (addr ! (behind ! refl refl)) (tt, tt) $ sets ! (agg ! (ofs ! refl)) (tt, (tt, (record { fits = room9 p .0 }, tt))) $ sets ! (addr ! (behind ! refl refl)) (tt, tt) $ sets ! (agg ! (ofs ! refl)) (tt, (tt, (record { fits = room10 p .0 }, tt))) $ sets ! (addr ! (behind ! refl refl)) (tt, tt) $ sets ! (agg ! (ofs ! refl)) (tt, (tt, (record { fits = room11 p .0 }, tt))) $
-        calls-on ! (true ∷ true ∷ true ∷ true ∷ true ∷ true ∷ true ∷ true ∷ true ∷ true ∷ true ∷ true ∷ []) (slices₀ p) (call-go (λ structs. en structs (copy p) (backtrace p) refl refl .grants (is-zero n on))) (λ zs. slices p (zs .1 .1 .1 .1 .1 .1 .1 .1 .1 .0) (zs .1 .1 .1 .1 .1 .1 .1 .1 .1 .1 .0) (zs .1 .1 .1 .1 .1 .1 .1 .1 .1 .1 .1 .0) (zs .1 .1 .1 .1 .1 .1 .1 .1 .1 .1 .1 .1 .0) (zs .1 .1 .1 .1 .1 .1 .1 .1 .1 .1 .1 .1 .1 .0)) refl (λ zs. refl) (λ zs. refl) fm known-go refl (λ r zs₁ er lens₁ isr. lands-in ! (result-typed 𝓤 H A W r isr) $
-        sets ! (of-opd ! (of ! refl)) (result-typed 𝓤 H A W r isr) $ leaves ! refl $ by ! (exits r (zs₁ .1 .1 .1 .1 .1 .1 .1 .1 .1 .0) (zs₁ .1 .1 .1 .1 .1 .1 .1 .1 .1 .1 .0) (zs₁ .1 .1 .1 .1 .1 .1 .1 .1 .1 .1 .1 .0) (zs₁ .1 .1 .1 .1 .1 .1 .1 .1 .1 .1 .1 .1 .0) (zs₁ .1 .1 .1 .1 .1 .1 .1 .1 .1 .1 .1 .1 .1 .0) isr (lens₁ .0) (lens₁ .1 .0) (lens₁ .1 .1 .0) (lens₁ .1 .1 .1 .0) (lens₁ .1 .1 .1 .1 .0) er)))
+        (λ on. sets ! (addr ! (behind ! refl refl)) (tt, tt) $ sets ! (agg ! (ofs ! refl)) (tt, (tt, (record { fits = stack-room p .0 }, tt))) $ sets ! (addr ! (behind ! refl refl)) (tt, tt) $ sets ! (agg ! (ofs ! refl)) (tt, (tt, (record { fits = cells-room p .0 }, tt))) $ sets ! (addr ! (behind ! refl refl)) (tt, tt) $ sets ! (agg ! (ofs ! refl)) (tt, (tt, (record { fits = frames-room p .0 }, tt))) $ sets ! (addr ! (behind ! refl refl)) (tt, tt) $ sets ! (agg ! (ofs ! refl)) (tt, (tt, (record { fits = copy-room p .0 }, tt))) $ sets ! (addr ! (behind ! refl refl)) (tt, tt) $ sets ! (agg ! (ofs ! refl)) (tt, (tt, (record { fits = backtrace-room p .0 }, tt))) $
+        calls-on ! (true ∷ true ∷ true ∷ true ∷ true ∷ true ∷ true ∷ true ∷ true ∷ true ∷ true ∷ true ∷ true ∷ []) (slices₀ p) (call-go (en (copy p) (backtrace p) refl refl .grants (is-zero n on))) (λ zs. slices p (zs .1 .1 .1 .1 .1 .1 .1 .1 .1 .1 .0) (zs .1 .1 .1 .1 .1 .1 .1 .1 .1 .1 .1 .0) (zs .1 .1 .1 .1 .1 .1 .1 .1 .1 .1 .1 .1 .0) (zs .1 .1 .1 .1 .1 .1 .1 .1 .1 .1 .1 .1 .1 .0) (zs .1 .1 .1 .1 .1 .1 .1 .1 .1 .1 .1 .1 .1 .1 .0)) refl (λ zs. refl) (λ zs. refl) fm known-go refl (λ r zs₁ er lens₁ isr. lands-in ! (result-typed 𝓤 H A W r isr) $
+        sets ! (of-opd ! (of ! refl)) (result-typed 𝓤 H A W r isr) $ leaves ! refl $ by ! (exits r (zs₁ .1 .1 .1 .1 .1 .1 .1 .1 .1 .1 .0) (zs₁ .1 .1 .1 .1 .1 .1 .1 .1 .1 .1 .1 .0) (zs₁ .1 .1 .1 .1 .1 .1 .1 .1 .1 .1 .1 .1 .0) (zs₁ .1 .1 .1 .1 .1 .1 .1 .1 .1 .1 .1 .1 .1 .0) (zs₁ .1 .1 .1 .1 .1 .1 .1 .1 .1 .1 .1 .1 .1 .1 .0) isr (lens₁ .0) (lens₁ .1 .0) (lens₁ .1 .1 .0) (lens₁ .1 .1 .1 .0) (lens₁ .1 .1 .1 .1 .0) er)))
         (λ off. calls-on ! [] (slices₀ p) (call-not n isn) (λ zs. slices₀ p) refl (λ zs. refl) (λ zs. refl) fm known-not refl (λ r zs₁ er lens₁ isr. lands-in ! (result-typed 𝓤 H A W r isr) $
         sets ! (of-opd ! (of ! refl)) (result-typed 𝓤 H A W r isr) $ leaves ! refl $ by ! (exits r (stack p) (cells p) (frames p) (copy p) (backtrace p) isr refl refl refl refl refl
-        (λ structs. subst (λ (x : RunResult). RunPost (m p) (stores p structs) (lent₀ p) (units p) x (lent₀ p)) (sym er) (en structs (copy p) (backtrace p) refl refl .refuses (not-zero n off) (units p)))))))))
+        (subst (λ (x : RunResult). RunPost (m p) (stores p) (lent₀ p) (units p) x (lent₀ p)) (sym er) (en (copy p) (backtrace p) refl refl .refuses (not-zero n off) (units p)))))))))
       where
         fm : FmC 𝓤 H (W .laws) (𝓣 .C)
         fm = fmOf 𝓤 H (W .laws) 𝓣

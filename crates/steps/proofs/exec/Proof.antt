@@ -6,7 +6,7 @@ use lib.ListN.{length}
 use Rattle.model.specs.declared.Frame.{Frame}
 use Rattle.model.specs.Steps.{World}
 use Rattle.steps.specs.Links.{Ready}
-use Rattle.steps.proofs.Following.{Came, came-none, came-on, ends-on, ends-over, told, went-on, went-less, returned-on, returned-less, calls-out, stops, back-none, back-out}
+use Rattle.steps.proofs.Following.{Came, came-none, came-on, ends-on, ends-over, told, went-on, went-less, returned-on, returned-less, returned-fits, calls-out, stops, back-out}
 use Rattle.steps.proofs.exec.Statement.{statement}
 use Rattle.steps.proofs.exec.Tie as tie
 
@@ -58,6 +58,15 @@ loop-again c =
 enum-known-done : tie.Need-enum-known-done Inv-loop μ-loop
 enum-known-done c = search
 
+counted-requires : tie.Need-counted-requires Inv-loop μ-loop
+counted-requires c κs =
+    let at-step = c .before .before .before .before .before .before .before in
+    let at-if1 = at-step .before .before .before in
+    let at-loop = at-if1 .before .before in
+    let at-start = at-loop .before .before .before .before .before .before .before in
+    let z = at-loop .loop .inv .1 _ _ (at-start .pre .2) in
+    returned-fits (z .ready) (at-if1 .if1 .taken) (told (c .before .done .given .1) (at-step .step .ensures _ _ (z .ready)))
+
 loop-less-2 : tie.Need-loop-less-2 Inv-loop μ-loop
 loop-less-2 c =
     let at-step = c .before .before .before .before .before .before .before .before in
@@ -66,7 +75,7 @@ loop-less-2 c =
     let at-start = at-loop .before .before .before .before .before .before .before in
     let z = at-loop .loop .inv .1 _ _ (at-start .pre .2) in
     returned-less (z .ready) (at-if1 .if1 .taken)
-    (told (c .before .before .done .given .1) (at-step .step .ensures _ _ (z .ready)))
+    (told (c .before .before .done .given .1) (at-step .step .ensures _ _ (z .ready))) (c .counted .ensures)
 
 loop-again-2 : tie.Need-loop-again-2 Inv-loop μ-loop
 loop-again-2 c =
@@ -79,7 +88,8 @@ loop-again-2 c =
       λ w cs at. let z = at-loop .loop .inv .1 w cs at in
           came-on z
           (returned-on (z .ready) (at-if1 .if1 .taken)
-          (told (c .before .before .done .given .1) (at-step .step .ensures w cs (z .ready))) (at-cells .cells .given)),
+          (told (c .before .before .done .given .1) (at-step .step .ensures w cs (z .ready))) (c .counted .ensures)
+          (at-cells .cells .given)),
     )
 
 enum-known-next-2 : tie.Need-enum-known-next-2 Inv-loop μ-loop
@@ -98,7 +108,7 @@ returns c =
     let at-loop = at-if1 .before .before in
     λ w cs at. let z = at-loop .loop .inv .1 w cs at in
     ends-on z
-    (calls-out (z .ready) (at-if1 .if1 .taken) (told (c .before .next3 .given .1) (at-step .step .ensures w cs (z .ready))))
+    (calls-out (z .ready) (at-if1 .if1 .taken) (told (c .before .next2 .given .1) (at-step .step .ensures w cs (z .ready))))
 
 enum-known-next-3 : tie.Need-enum-known-next-3 Inv-loop μ-loop
 enum-known-next-3 c = search
@@ -111,14 +121,15 @@ same-length-4 c = search needs
 
 returns-2 : tie.Need-returns-2 Inv-loop μ-loop
 returns-2 c =
-    let at-next4 = c .before .before .before in
-    let at-step = at-next4 .before .before .before .before .before .before in
+    let at-step = c .before .before .before .before .before .before .before in
     let at-if1 = at-step .before .before .before in
     let at-loop = at-if1 .before .before in
     λ w cs at. let z = at-loop .loop .inv .1 w cs at in
     ends-on z
-    (stops (z .ready) (at-if1 .if1 .taken)
-    (back-none (c .if2 .taken) (told (at-next4 .next4 .given .1) (at-step .step .ensures w cs (z .ready)))))
+    (back-out cs (z .ready) (at-if1 .if1 .taken) (told (c .before .next3 .given .1) (at-step .step .ensures w cs (z .ready))))
+
+enum-known-next-4 : tie.Need-enum-known-next-4 Inv-loop μ-loop
+enum-known-next-4 c = search
 
 same-length-5 : tie.Need-same-length-5 Inv-loop μ-loop
 same-length-5 c = search needs
@@ -128,40 +139,20 @@ same-length-6 c = search needs
 
 returns-3 : tie.Need-returns-3 Inv-loop μ-loop
 returns-3 c =
-    let at-next4 = c .before .before .before in
-    let at-step = at-next4 .before .before .before .before .before .before in
-    let at-if1 = at-step .before .before .before in
-    let at-loop = at-if1 .before .before in
-    λ w cs at. let z = at-loop .loop .inv .1 w cs at in
-    ends-on z
-    (back-out cs (z .ready) (at-if1 .if1 .taken) (c .if2 .left)
-    (told (at-next4 .next4 .given .1) (at-step .step .ensures w cs (z .ready))))
-
-enum-known-next-4 : tie.Need-enum-known-next-4 Inv-loop μ-loop
-enum-known-next-4 c = search
-
-same-length-7 : tie.Need-same-length-7 Inv-loop μ-loop
-same-length-7 c = search needs
-
-same-length-8 : tie.Need-same-length-8 Inv-loop μ-loop
-same-length-8 c = search needs
-
-returns-4 : tie.Need-returns-4 Inv-loop μ-loop
-returns-4 c =
     let at-step = c .before .before .before .before .before .before .before in
     let at-if1 = at-step .before .before .before in
     let at-loop = at-if1 .before .before in
     λ w cs at. let z = at-loop .loop .inv .1 w cs at in
-    ends-on z (stops (z .ready) (at-if1 .if1 .taken) (told (c .before .next5 .given .1) (at-step .step .ensures w cs (z .ready))))
+    ends-on z (stops (z .ready) (at-if1 .if1 .taken) (told (c .before .next4 .given .1) (at-step .step .ensures w cs (z .ready))))
 
-same-length-9 : tie.Need-same-length-9 Inv-loop μ-loop
-same-length-9 c = search
+same-length-7 : tie.Need-same-length-7 Inv-loop μ-loop
+same-length-7 c = search
 
-same-length-10 : tie.Need-same-length-10 Inv-loop μ-loop
-same-length-10 c = search
+same-length-8 : tie.Need-same-length-8 Inv-loop μ-loop
+same-length-8 c = search
 
-returns-5 : tie.Need-returns-5 Inv-loop μ-loop
-returns-5 c = λ w cs at. let z = c .before .before .loop .inv .1 w cs at in ends-on z (ends-over (z .ready) (c .if1 .left))
+returns-4 : tie.Need-returns-4 Inv-loop μ-loop
+returns-4 c = λ w cs at. let z = c .before .before .loop .inv .1 w cs at in ends-on z (ends-over (z .ready) (c .if1 .left))
 
 pub exec-spec : {M : Type 1} → statement M
 exec-spec =
@@ -175,6 +166,7 @@ exec-spec =
     loop-less
     loop-again
     enum-known-done
+    counted-requires
     loop-less-2
     loop-again-2
     enum-known-next-2
@@ -185,13 +177,10 @@ exec-spec =
     same-length-3
     same-length-4
     returns-2
+    enum-known-next-4
     same-length-5
     same-length-6
     returns-3
-    enum-known-next-4
     same-length-7
     same-length-8
-    returns-4
-    same-length-9
-    same-length-10
-    returns-5)
+    returns-4)

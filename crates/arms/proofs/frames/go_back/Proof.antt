@@ -26,12 +26,6 @@ returns c = search returns-none
 sub-below : tie.Need-sub-below
 sub-below c = search (got-some, needs)
 
-kind-of-requires : tie.Need-kind-of-requires
-kind-of-requires c κs = search
-
-payload-of-requires : tie.Need-payload-of-requires
-payload-of-requires c κs = search
-
 same-length-2 : tie.Need-same-length-2
 same-length-2 c = search
 
@@ -70,8 +64,6 @@ go-back-spec =
     same-length
     returns
     sub-below
-    kind-of-requires
-    payload-of-requires
     same-length-2
     returns-2
     smaller-requires

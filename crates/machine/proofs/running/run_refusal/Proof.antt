@@ -45,8 +45,8 @@ use Rattle.machine.proofs.running.run_refusal as me
 use Rattle.machine.proofs.running.run_refusal.Statement as stated
 use Rattle.machine.proofs.running.run_refusal.Code as code
 
-abbrev kinds : List (Kind 10)
-kinds = own VmRow vmVal vm-tells (λ x f. refl) ∷ number ∷ number ∷ shared 0 tt u64 ∷ shared 1 tt u64 ∷ shared 2 tt u8 ∷ shared 3 tt u8 ∷ shared 4 tt u32 ∷ shared 5 tt u8 ∷ shared 6 tt u32 ∷ shared 7 tt u64 ∷ shared 8 tt u64 ∷ shared 9 tt R ∷ []
+abbrev kinds : List (Kind 11)
+kinds = own VmRow vmVal vm-tells (λ x f. refl) ∷ number ∷ number ∷ shared 0 tt u64 ∷ shared 1 tt u64 ∷ shared 2 tt u64 ∷ shared 3 tt u8 ∷ shared 4 tt u8 ∷ shared 5 tt u32 ∷ shared 6 tt u8 ∷ shared 7 tt u32 ∷ shared 8 tt u64 ∷ shared 9 tt u64 ∷ shared 10 tt R ∷ []
 
 module _ {M : Type 1} (𝓤 : URA M) (H : Heap 𝓤) (A : Atoms 𝓤) (W : Given 𝓤 H A) (mem : Memory → SProp 𝓤) (run : Routine → Fun 𝓤) where
   abbrev Judge : Contract 𝓤
@@ -68,7 +68,7 @@ module _ {M : Type 1} (𝓤 : URA M) (H : Heap 𝓤) (A : Atoms 𝓤) (W : Given
   Why = tripleOf 𝓤 H A why.signature (why.spec 𝓤 H A mem run)
 
   module _ (𝓣 : Tables 𝓤 H) (known-judge : Triple 𝓤 (𝓣 .C #judge) Judge) (known-count : Triple 𝓤 (𝓣 .C #count) Count) (known-slots : Triple 𝓤 (𝓣 .C #slots) Slots) (known-good : Triple 𝓤 (𝓣 .C #good) Good) (known-short : Triple 𝓤 (𝓣 .C #short) Short) (known-why : Triple 𝓤 (𝓣 .C #why) Why)
-      (κs : Lfts 10) (qs : Shares 10) (a : Passed kinds u8 κs) (is : Known kinds u8 κs a) where
+      (κs : Lfts 11) (qs : Shares 11) (a : Passed kinds u8 κs) (is : Known kinds u8 κs a) where
     -- the parameters
     abbrev m : Vm
     m = a .0
@@ -79,98 +79,107 @@ module _ {M : Type 1} (𝓤 : URA M) (H : Heap 𝓤) (A : Atoms 𝓤) (W : Given
     abbrev entries : ℕ
     entries = a .1 .1 .0
 
-    abbrev s0 : Sl
-    s0 = sl (κs .0) (qs .0) (a .1 .1 .1 .0)
-
-    abbrev s1 : Sl
-    s1 = sl (κs .1 .0) (qs .1 .0) (a .1 .1 .1 .1 .0)
-
-    abbrev s2 : Sl
-    s2 = sl (κs .1 .1 .0) (qs .1 .1 .0) (a .1 .1 .1 .1 .1 .0)
-
-    abbrev s3 : Sl
-    s3 = sl (κs .1 .1 .1 .0) (qs .1 .1 .1 .0) (a .1 .1 .1 .1 .1 .1 .0)
-
-    abbrev s4 : Sl
-    s4 = sl (κs .1 .1 .1 .1 .0) (qs .1 .1 .1 .1 .0) (a .1 .1 .1 .1 .1 .1 .1 .0)
-
-    abbrev s5 : Sl
-    s5 = sl (κs .1 .1 .1 .1 .1 .0) (qs .1 .1 .1 .1 .1 .0) (a .1 .1 .1 .1 .1 .1 .1 .1 .0)
-
-    abbrev s6 : Sl
-    s6 = sl (κs .1 .1 .1 .1 .1 .1 .0) (qs .1 .1 .1 .1 .1 .1 .0) (a .1 .1 .1 .1 .1 .1 .1 .1 .1 .0)
-
-    abbrev s7 : Sl
-    s7 = sl (κs .1 .1 .1 .1 .1 .1 .1 .0) (qs .1 .1 .1 .1 .1 .1 .1 .0) (a .1 .1 .1 .1 .1 .1 .1 .1 .1 .1 .0)
-
-    abbrev s8 : Sl
-    s8 = sl (κs .1 .1 .1 .1 .1 .1 .1 .1 .0) (qs .1 .1 .1 .1 .1 .1 .1 .1 .0) (a .1 .1 .1 .1 .1 .1 .1 .1 .1 .1 .1 .0)
-
-    abbrev s9 : Sl
-    s9 = sl (κs .1 .1 .1 .1 .1 .1 .1 .1 .1 .0) (qs .1 .1 .1 .1 .1 .1 .1 .1 .1 .0) (a .1 .1 .1 .1 .1 .1 .1 .1 .1 .1 .1 .1 .0)
+    abbrev constants-at : Sl
+    constants-at = sl (κs .0) (qs .0) (a .1 .1 .1 .0)
 
     abbrev constants : List ℕ
     constants = now (a .1 .1 .1 .0)
 
+    abbrev constants-room : Room u64 (constants-at .count)
+    constants-room = is .1 .1 .1 .0 .0 .1
+
+    abbrev structs-at : Sl
+    structs-at = sl (κs .1 .0) (qs .1 .0) (a .1 .1 .1 .1 .0)
+
+    abbrev structs : List ℕ
+    structs = now (a .1 .1 .1 .1 .0)
+
+    abbrev structs-room : Room u64 (structs-at .count)
+    structs-room = is .1 .1 .1 .1 .0 .0 .1
+
+    abbrev functions-at : Sl
+    functions-at = sl (κs .1 .1 .0) (qs .1 .1 .0) (a .1 .1 .1 .1 .1 .0)
+
     abbrev functions : List ℕ
-    functions = now (a .1 .1 .1 .1 .0)
+    functions = now (a .1 .1 .1 .1 .1 .0)
+
+    abbrev functions-room : Room u64 (functions-at .count)
+    functions-room = is .1 .1 .1 .1 .1 .0 .0 .1
+
+    abbrev text-at : Sl
+    text-at = sl (κs .1 .1 .1 .0) (qs .1 .1 .1 .0) (a .1 .1 .1 .1 .1 .1 .0)
 
     abbrev text : List ℕ
-    text = now (a .1 .1 .1 .1 .1 .0)
+    text = now (a .1 .1 .1 .1 .1 .1 .0)
+
+    abbrev text-room : Room u8 (text-at .count)
+    text-room = is .1 .1 .1 .1 .1 .1 .0 .0 .1
+
+    abbrev main-at : Sl
+    main-at = sl (κs .1 .1 .1 .1 .0) (qs .1 .1 .1 .1 .0) (a .1 .1 .1 .1 .1 .1 .1 .0)
 
     abbrev main : List ℕ
-    main = now (a .1 .1 .1 .1 .1 .1 .0)
+    main = now (a .1 .1 .1 .1 .1 .1 .1 .0)
+
+    abbrev main-room : Room u8 (main-at .count)
+    main-room = is .1 .1 .1 .1 .1 .1 .1 .0 .0 .1
+
+    abbrev main-places-at : Sl
+    main-places-at = sl (κs .1 .1 .1 .1 .1 .0) (qs .1 .1 .1 .1 .1 .0) (a .1 .1 .1 .1 .1 .1 .1 .1 .0)
 
     abbrev mainPlaces : List ℕ
-    mainPlaces = now (a .1 .1 .1 .1 .1 .1 .1 .0)
+    mainPlaces = now (a .1 .1 .1 .1 .1 .1 .1 .1 .0)
+
+    abbrev main-places-room : Room u32 (main-places-at .count)
+    main-places-room = is .1 .1 .1 .1 .1 .1 .1 .1 .0 .0 .1
+
+    abbrev other-at : Sl
+    other-at = sl (κs .1 .1 .1 .1 .1 .1 .0) (qs .1 .1 .1 .1 .1 .1 .0) (a .1 .1 .1 .1 .1 .1 .1 .1 .1 .0)
 
     abbrev other : List ℕ
-    other = now (a .1 .1 .1 .1 .1 .1 .1 .1 .0)
+    other = now (a .1 .1 .1 .1 .1 .1 .1 .1 .1 .0)
+
+    abbrev other-room : Room u8 (other-at .count)
+    other-room = is .1 .1 .1 .1 .1 .1 .1 .1 .1 .0 .0 .1
+
+    abbrev other-places-at : Sl
+    other-places-at = sl (κs .1 .1 .1 .1 .1 .1 .1 .0) (qs .1 .1 .1 .1 .1 .1 .1 .0) (a .1 .1 .1 .1 .1 .1 .1 .1 .1 .1 .0)
 
     abbrev otherPlaces : List ℕ
-    otherPlaces = now (a .1 .1 .1 .1 .1 .1 .1 .1 .1 .0)
+    otherPlaces = now (a .1 .1 .1 .1 .1 .1 .1 .1 .1 .1 .0)
+
+    abbrev other-places-room : Room u32 (other-places-at .count)
+    other-places-room = is .1 .1 .1 .1 .1 .1 .1 .1 .1 .1 .0 .0 .1
+
+    abbrev stack-at : Sl
+    stack-at = sl (κs .1 .1 .1 .1 .1 .1 .1 .1 .0) (qs .1 .1 .1 .1 .1 .1 .1 .1 .0) (a .1 .1 .1 .1 .1 .1 .1 .1 .1 .1 .1 .0)
 
     abbrev stack : List ℕ
-    stack = now (a .1 .1 .1 .1 .1 .1 .1 .1 .1 .1 .0)
+    stack = now (a .1 .1 .1 .1 .1 .1 .1 .1 .1 .1 .1 .0)
+
+    abbrev stack-room : Room u64 (stack-at .count)
+    stack-room = is .1 .1 .1 .1 .1 .1 .1 .1 .1 .1 .1 .0 .0 .1
+
+    abbrev cells-at : Sl
+    cells-at = sl (κs .1 .1 .1 .1 .1 .1 .1 .1 .1 .0) (qs .1 .1 .1 .1 .1 .1 .1 .1 .1 .0) (a .1 .1 .1 .1 .1 .1 .1 .1 .1 .1 .1 .1 .0)
 
     abbrev cells : List ℕ
-    cells = now (a .1 .1 .1 .1 .1 .1 .1 .1 .1 .1 .1 .0)
+    cells = now (a .1 .1 .1 .1 .1 .1 .1 .1 .1 .1 .1 .1 .0)
+
+    abbrev cells-room : Room u64 (cells-at .count)
+    cells-room = is .1 .1 .1 .1 .1 .1 .1 .1 .1 .1 .1 .1 .0 .0 .1
+
+    abbrev frames-at : Sl
+    frames-at = sl (κs .1 .1 .1 .1 .1 .1 .1 .1 .1 .1 .0) (qs .1 .1 .1 .1 .1 .1 .1 .1 .1 .1 .0) (a .1 .1 .1 .1 .1 .1 .1 .1 .1 .1 .1 .1 .1 .0)
 
     abbrev frames : List Frame
-    frames = now (a .1 .1 .1 .1 .1 .1 .1 .1 .1 .1 .1 .1 .0)
+    frames = now (a .1 .1 .1 .1 .1 .1 .1 .1 .1 .1 .1 .1 .1 .0)
 
-    abbrev room0 : Room u64 (s0 .count)
-    room0 = is .1 .1 .1 .0 .0 .1
-
-    abbrev room1 : Room u64 (s1 .count)
-    room1 = is .1 .1 .1 .1 .0 .0 .1
-
-    abbrev room2 : Room u8 (s2 .count)
-    room2 = is .1 .1 .1 .1 .1 .0 .0 .1
-
-    abbrev room3 : Room u8 (s3 .count)
-    room3 = is .1 .1 .1 .1 .1 .1 .0 .0 .1
-
-    abbrev room4 : Room u32 (s4 .count)
-    room4 = is .1 .1 .1 .1 .1 .1 .1 .0 .0 .1
-
-    abbrev room5 : Room u8 (s5 .count)
-    room5 = is .1 .1 .1 .1 .1 .1 .1 .1 .0 .0 .1
-
-    abbrev room6 : Room u32 (s6 .count)
-    room6 = is .1 .1 .1 .1 .1 .1 .1 .1 .1 .0 .0 .1
-
-    abbrev room7 : Room u64 (s7 .count)
-    room7 = is .1 .1 .1 .1 .1 .1 .1 .1 .1 .1 .0 .0 .1
-
-    abbrev room8 : Room u64 (s8 .count)
-    room8 = is .1 .1 .1 .1 .1 .1 .1 .1 .1 .1 .1 .0 .0 .1
-
-    abbrev room9 : Room R (s9 .count)
-    room9 = is .1 .1 .1 .1 .1 .1 .1 .1 .1 .1 .1 .1 .0 .0 .1
+    abbrev frames-room : Room R (frames-at .count)
+    frames-room = is .1 .1 .1 .1 .1 .1 .1 .1 .1 .1 .1 .1 .1 .0 .0 .1
 
     abbrev slices : List Arg
-    slices = shr u64 s0 constants ∷ shr u64 s1 functions ∷ shr u8 s2 text ∷ shr u8 s3 main ∷ shr u32 s4 mainPlaces ∷ shr u8 s5 other ∷ shr u32 s6 otherPlaces ∷ shr u64 s7 stack ∷ shr u64 s8 cells ∷ shr R s9 frames ∷ []
+    slices = shr u64 constants-at constants ∷ shr u64 structs-at structs ∷ shr u64 functions-at functions ∷ shr u8 text-at text ∷ shr u8 main-at main ∷ shr u32 main-places-at mainPlaces ∷ shr u8 other-at other ∷ shr u32 other-places-at otherPlaces ∷ shr u64 stack-at stack ∷ shr u64 cells-at cells ∷ shr R frames-at frames ∷ []
 
     abbrev xs : List Arg
     xs = val VmRow m (vmVal m) ∷ val usize copies (vint w64 copies) ∷ val usize entries (vint w64 entries) ∷ slices
@@ -178,18 +187,18 @@ module _ {M : Type 1} (𝓤 : URA M) (H : Heap 𝓤) (A : Atoms 𝓤) (W : Given
     abbrev Post : Val → SProp 𝓤
     Post = walkOf 𝓤 H A me.ended (stays kinds) (me.clauses 𝓤 H A mem run) .post (passing xs)
 
-    exits : (r : ℕ) → Is u8 r (vint w8 r ∷ []) → ((structs copy backtrace : List ℕ) → length copy ≡ copies → length backtrace ≡ entries → RunJudged m (programLent structs constants functions text main mainPlaces other otherPlaces) (runLent stack cells frames copy backtrace) r) → ent 𝓤 (⋆ 𝓤 H A (‵ (Holds slices) ∷ [])) (Post (vint w8 r))
+    exits : (r : ℕ) → Is u8 r (vint w8 r ∷ []) → ((copy backtrace : List ℕ) → length copy ≡ copies → length backtrace ≡ entries → RunJudged m (programLent structs constants functions text main mainPlaces other otherPlaces) (runLent stack cells frames copy backtrace) r) → ent 𝓤 (⋆ 𝓤 H A (‵ (Holds slices) ∷ [])) (Post (vint w8 r))
     exits r isr said =
-        qed W (‵ (Holds slices) ∷ []) ∵ suffices ! _ (ends-at 𝓤 H A me.ended (stays kinds) (me.clauses 𝓤 H A mem run) W (passing xs) (vint w8 r) r (tt, (tt, (tt, (tt, (tt, (tt, (tt, (tt, (tt, (tt, (tt, (tt, (tt, tt))))))))))))) (tt, (tt, (tt, (tt, (tt, (tt, (tt, (tt, (tt, (tt, (tt, (tt, (tt, tt)))))))))))))) $ says ! said $
+        qed W (‵ (Holds slices) ∷ []) ∵ suffices ! _ (ends-at 𝓤 H A me.ended (stays kinds) (me.clauses 𝓤 H A mem run) W (passing xs) (vint w8 r) r (tt, (tt, (tt, (tt, (tt, (tt, (tt, (tt, (tt, (tt, (tt, (tt, (tt, (tt, tt)))))))))))))) (tt, (tt, (tt, (tt, (tt, (tt, (tt, (tt, (tt, (tt, (tt, (tt, (tt, (tt, tt))))))))))))))) $ says ! said $
         gives ! xs (vm-makes 𝓤 H A W m _ (is .0), (uint-makes 𝓤 H A W w64 copies _ (is .1 .0), (uint-makes 𝓤 H A W w64 entries _ (is .1 .1 .0), tt))) (frame ! $ owned ! u8 (Is u8) (uint-makes 𝓤 H A W w8) r _ isr $ keep ! (1 ∷ 0 ∷ []) $ done !)
 
     -- the calls
     abbrev to-judge : List Arg
-    to-judge = val VmRow m (vmVal m) ∷ shr u64 s0 constants ∷ shr u64 s1 functions ∷ shr u8 s2 text ∷ shr u8 s3 main ∷ shr u32 s4 mainPlaces ∷ shr u8 s5 other ∷ shr u32 s6 otherPlaces ∷ shr u64 s7 stack ∷ shr u64 s8 cells ∷ []
+    to-judge = val VmRow m (vmVal m) ∷ shr u64 constants-at constants ∷ shr u64 structs-at structs ∷ shr u64 functions-at functions ∷ shr u8 text-at text ∷ shr u8 main-at main ∷ shr u32 main-places-at mainPlaces ∷ shr u8 other-at other ∷ shr u32 other-places-at otherPlaces ∷ shr u64 stack-at stack ∷ shr u64 cells-at cells ∷ []
 
-    call-judge : Rule 𝓤 H A W to-judge Judge Boolean vbool (λ b zs. ((structs : List ℕ) → b ≡ restOrder m (programLent structs constants functions text main mainPlaces other otherPlaces) stack cells))
-    call-judge = call-with 𝓤 H A W to-judge Judge Boolean vbool (λ b zs. ((structs : List ℕ) → b ≡ restOrder m (programLent structs constants functions text main mainPlaces other otherPlaces) stack cells)) bool-tells (λ ns. passing (lent to-judge ns)) (λ ns. refl)
-        (λ ns. unasked W (lent to-judge ns)) (λ ns w. id⊢ 𝓤 _) (vm-makes 𝓤 H A W m _ (is .0), tt) ((refl, room0), ((refl, room1), ((refl, room2), ((refl, room3), ((refl, room4), ((refl, room5), ((refl, room6), ((refl, room7), ((refl, room8), tt)))))))))
+    call-judge : Rule 𝓤 H A W to-judge Judge Boolean vbool (λ b zs. b ≡ restOrder m (programLent structs constants functions text main mainPlaces other otherPlaces) stack cells)
+    call-judge = call-with 𝓤 H A W to-judge Judge Boolean vbool (λ b zs. b ≡ restOrder m (programLent structs constants functions text main mainPlaces other otherPlaces) stack cells) bool-tells (λ ns. passing (lent to-judge ns)) (λ ns. refl)
+        (λ ns. unasked W (lent to-judge ns)) (λ ns w. id⊢ 𝓤 _) (vm-makes 𝓤 H A W m _ (is .0), tt) ((refl, constants-room), ((refl, structs-room), ((refl, functions-room), ((refl, text-room), ((refl, main-room), ((refl, main-places-room), ((refl, other-room), ((refl, other-places-room), ((refl, stack-room), ((refl, cells-room), tt))))))))))
 
     abbrev to-count : Bool → List Arg
     to-count b = val Boolean b (vbool b) ∷ val VmRow m (vmVal m) ∷ []
@@ -199,25 +208,25 @@ module _ {M : Type 1} (𝓤 : URA M) (H : Heap 𝓤) (A : Atoms 𝓤) (W : Given
         (λ ns. unasked W (lent (to-count b) ns)) (λ ns w. id⊢ 𝓤 _) (bool-makes 𝓤 H A W b _ isb, (vm-makes 𝓤 H A W m _ (is .0), tt)) tt
 
     abbrev to-slots : List Arg
-    to-slots = val usize (s7 .count) (vint w64 (s7 .count)) ∷ val usize 2 (vint w64 2) ∷ []
+    to-slots = val usize (stack-at .count) (vint w64 (stack-at .count)) ∷ val usize 2 (vint w64 2) ∷ []
 
-    call-slots : Rule 𝓤 H A W to-slots Slots usize (vint w64) (λ p zs. ((os : List ℕ) → length os ≡ s7 .count → p ≡ places 2 os))
-    call-slots = call-with 𝓤 H A W to-slots Slots usize (vint w64) (λ p zs. ((os : List ℕ) → length os ≡ s7 .count → p ≡ places 2 os)) (uint-tells w64) (λ ns. passing (lent to-slots ns)) (λ ns. refl)
-        (λ ns. asked W (lent to-slots ns) (omega arith)) (λ ns w. id⊢ 𝓤 _) (uint-makes 𝓤 H A W w64 (s7 .count) _ (refl, room7 .0), (uint-makes 𝓤 H A W w64 2 _ (refl, omega arith), tt)) tt
+    call-slots : Rule 𝓤 H A W to-slots Slots usize (vint w64) (λ p zs. ((os : List ℕ) → length os ≡ stack-at .count → p ≡ places 2 os))
+    call-slots = call-with 𝓤 H A W to-slots Slots usize (vint w64) (λ p zs. ((os : List ℕ) → length os ≡ stack-at .count → p ≡ places 2 os)) (uint-tells w64) (λ ns. passing (lent to-slots ns)) (λ ns. refl)
+        (λ ns. asked W (lent to-slots ns) (omega arith)) (λ ns w. id⊢ 𝓤 _) (uint-makes 𝓤 H A W w64 (stack-at .count) _ (refl, stack-room .0), (uint-makes 𝓤 H A W w64 2 _ (refl, omega arith), tt)) tt
 
     abbrev to-good : ℕ → ℕ → List Arg
-    to-good k p = shr u64 s1 functions ∷ val usize k (vint w64 k) ∷ val usize p (vint w64 p) ∷ val usize (m .frames) (vint w64 (m .frames)) ∷ shr R s9 frames ∷ []
+    to-good k p = shr u64 functions-at functions ∷ val usize k (vint w64 k) ∷ val usize p (vint w64 p) ∷ val usize (m .frames) (vint w64 (m .frames)) ∷ shr R frames-at frames ∷ []
 
     call-good : (k : ℕ) (p : ℕ) → k < 2 ^ 64 → p < 2 ^ 64 → 2 * k ≤ length functions → Rule 𝓤 H A W (to-good k p) Good Boolean vbool (λ f zs. f ≡ framesGood functions k p (m .frames) frames)
     call-good k p fits fitp there = call-with 𝓤 H A W (to-good k p) Good Boolean vbool (λ f zs. f ≡ framesGood functions k p (m .frames) frames) bool-tells (λ ns. passing (lent (to-good k p) ns)) (λ ns. refl)
-        (λ ns. asked W (lent (to-good k p) ns) there) (λ ns w. id⊢ 𝓤 _) (uint-makes 𝓤 H A W w64 k _ (refl, fits), (uint-makes 𝓤 H A W w64 p _ (refl, fitp), (uint-makes 𝓤 H A W w64 (m .frames) _ (refl, frames-fit m (is .0)), tt))) ((refl, room1), ((refl, room9), tt))
+        (λ ns. asked W (lent (to-good k p) ns) there) (λ ns w. id⊢ 𝓤 _) (uint-makes 𝓤 H A W w64 k _ (refl, fits), (uint-makes 𝓤 H A W w64 p _ (refl, fitp), (uint-makes 𝓤 H A W w64 (m .frames) _ (refl, frames-fit m (is .0)), tt))) ((refl, functions-room), ((refl, frames-room), tt))
 
     abbrev to-short : List Arg
-    to-short = val usize (s7 .count) (vint w64 (s7 .count)) ∷ val usize (s9 .count) (vint w64 (s9 .count)) ∷ val usize copies (vint w64 copies) ∷ val usize entries (vint w64 entries) ∷ []
+    to-short = val usize (stack-at .count) (vint w64 (stack-at .count)) ∷ val usize (frames-at .count) (vint w64 (frames-at .count)) ∷ val usize copies (vint w64 copies) ∷ val usize entries (vint w64 entries) ∷ []
 
-    call-short : Rule 𝓤 H A W to-short Short Boolean vbool (λ s zs. ShortPost (s7 .count) (s9 .count) copies entries s)
-    call-short = call-with 𝓤 H A W to-short Short Boolean vbool (λ s zs. ShortPost (s7 .count) (s9 .count) copies entries s) bool-tells (λ ns. passing (lent to-short ns)) (λ ns. refl)
-        (λ ns. unasked W (lent to-short ns)) (λ ns w. id⊢ 𝓤 _) (uint-makes 𝓤 H A W w64 (s7 .count) _ (refl, room7 .0), (uint-makes 𝓤 H A W w64 (s9 .count) _ (refl, room9 .0), (uint-makes 𝓤 H A W w64 copies _ (is .1 .0), (uint-makes 𝓤 H A W w64 entries _ (is .1 .1 .0), tt)))) tt
+    call-short : Rule 𝓤 H A W to-short Short Boolean vbool (λ s zs. ShortPost (stack-at .count) (frames-at .count) copies entries s)
+    call-short = call-with 𝓤 H A W to-short Short Boolean vbool (λ s zs. ShortPost (stack-at .count) (frames-at .count) copies entries s) bool-tells (λ ns. passing (lent to-short ns)) (λ ns. refl)
+        (λ ns. unasked W (lent to-short ns)) (λ ns w. id⊢ 𝓤 _) (uint-makes 𝓤 H A W w64 (stack-at .count) _ (refl, stack-room .0), (uint-makes 𝓤 H A W w64 (frames-at .count) _ (refl, frames-room .0), (uint-makes 𝓤 H A W w64 copies _ (is .1 .0), (uint-makes 𝓤 H A W w64 entries _ (is .1 .1 .0), tt)))) tt
 
     abbrev to-why : Bool → Bool → Bool → List Arg
     to-why b f s = val Boolean b (vbool b) ∷ val Boolean f (vbool f) ∷ val Boolean s (vbool s) ∷ []
@@ -229,14 +238,14 @@ module _ {M : Type 1} (𝓤 : URA M) (H : Heap 𝓤) (A : Atoms 𝓤) (W : Given
     walk : ent 𝓤 (onEntry 𝓤 H A me.signature (lfts xs) (shares xs) (denots xs) (valss xs)) (WpFn 𝓤 H (𝓣 .C) (𝓣 .Λ) code.function (values xs) Post)
     walk =
         qed W (‵ (Toks xs) ∷ ‵ (Owns xs) ∷ []) ∵ takes ! xs (enters ! (𝓣 .C) (𝓣 .Λ) code.function (values xs) Post
-        (vm-typed 𝓤 H A W m (is .0), ((tt, record { fits = (is .1 .0) .1 }), ((tt, record { fits = (is .1 .1 .0) .1 }), ((tt, (tt, (record { fits = room0 .0 }, tt))), ((tt, (tt, (record { fits = room1 .0 }, tt))), ((tt, (tt, (record { fits = room2 .0 }, tt))), ((tt, (tt, (record { fits = room3 .0 }, tt))), ((tt, (tt, (record { fits = room4 .0 }, tt))), ((tt, (tt, (record { fits = room5 .0 }, tt))), ((tt, (tt, (record { fits = room6 .0 }, tt))), ((tt, (tt, (record { fits = room7 .0 }, tt))), ((tt, (tt, (record { fits = room8 .0 }, tt))), ((tt, (tt, (record { fits = room9 .0 }, tt))), tt))))))))))))) (λ ls.
+        (vm-typed 𝓤 H A W m (is .0), ((tt, record { fits = (is .1 .0) .1 }), ((tt, record { fits = (is .1 .1 .0) .1 }), ((tt, (tt, (record { fits = constants-room .0 }, tt))), ((tt, (tt, (record { fits = structs-room .0 }, tt))), ((tt, (tt, (record { fits = functions-room .0 }, tt))), ((tt, (tt, (record { fits = text-room .0 }, tt))), ((tt, (tt, (record { fits = main-room .0 }, tt))), ((tt, (tt, (record { fits = main-places-room .0 }, tt))), ((tt, (tt, (record { fits = other-room .0 }, tt))), ((tt, (tt, (record { fits = other-places-room .0 }, tt))), ((tt, (tt, (record { fits = stack-room .0 }, tt))), ((tt, (tt, (record { fits = cells-room .0 }, tt))), ((tt, (tt, (record { fits = frames-room .0 }, tt))), tt)))))))))))))) (λ ls.
         sets ! (of-opd ! (of ! refl)) (tt, record { fits = frames-fit m (is .0) }) $
-        calls-on ! (true ∷ true ∷ true ∷ true ∷ true ∷ true ∷ true ∷ true ∷ true ∷ []) slices (call-judge) (λ zs. slices) refl (λ zs. refl) (λ zs. refl) fm known-judge refl (λ b zs eb lens isb. lands-in ! (tt, tt) $
+        calls-on ! (true ∷ true ∷ true ∷ true ∷ true ∷ true ∷ true ∷ true ∷ true ∷ true ∷ []) slices (call-judge) (λ zs. slices) refl (λ zs. refl) (λ zs. refl) fm known-judge refl (λ b zs eb lens isb. lands-in ! (tt, tt) $
         calls-on ! [] slices (call-count b isb) (λ zs. slices) refl (λ zs. refl) (λ zs. refl) fm known-count refl (λ k zs₁ ek lens₁ isk. lands-in ! (tt, record { fits = isk .1 }) $
-        sets ! (of-opd ! (of ! refl)) (tt, record { fits = room7 .0 }) $
+        sets ! (of-opd ! (of ! refl)) (tt, record { fits = stack-room .0 }) $
         calls-on ! [] slices (call-slots) (λ zs. slices) refl (λ zs. refl) (λ zs. refl) fm known-slots refl (λ p zs₂ ep lens₂ isp. lands-in ! (tt, record { fits = isp .1 }) $
-        calls-on ! (false ∷ true ∷ false ∷ false ∷ false ∷ false ∷ false ∷ false ∷ false ∷ true ∷ []) slices (call-good k p (isk .1) (isp .1) (there b k eb ek)) (λ zs. slices) refl (λ zs. refl) (λ zs. refl) fm known-good refl (λ f zs₃ ef lens₃ isf. lands-in ! (tt, tt) $
-        sets ! (of-opd ! (of ! refl)) (tt, record { fits = room7 .0 }) $ sets ! (of-opd ! (of ! refl)) (tt, record { fits = room9 .0 }) $
+        calls-on ! (false ∷ false ∷ true ∷ false ∷ false ∷ false ∷ false ∷ false ∷ false ∷ false ∷ true ∷ []) slices (call-good k p (isk .1) (isp .1) (there b k eb ek)) (λ zs. slices) refl (λ zs. refl) (λ zs. refl) fm known-good refl (λ f zs₃ ef lens₃ isf. lands-in ! (tt, tt) $
+        sets ! (of-opd ! (of ! refl)) (tt, record { fits = stack-room .0 }) $ sets ! (of-opd ! (of ! refl)) (tt, record { fits = frames-room .0 }) $
         calls-on ! [] slices (call-short) (λ zs. slices) refl (λ zs. refl) (λ zs. refl) fm known-short refl (λ s zs₄ es lens₄ iss. lands-in ! (tt, tt) $
         calls-on ! [] slices (call-why b f s isb isf iss) (λ zs. slices) refl (λ zs. refl) (λ zs. refl) fm known-why refl (λ r zs₅ er lens₅ isr. lands-in ! (tt, record { fits = isr .1 }) $
         sets ! (of-opd ! (of ! refl)) (tt, record { fits = isr .1 }) $ leaves ! refl $ by ! (exits r isr (judged b k p f s r eb ek ep ef es er))))))))))
@@ -244,13 +253,13 @@ module _ {M : Type 1} (𝓤 : URA M) (H : Heap 𝓤) (A : Atoms 𝓤) (W : Given
         fm : FmC 𝓤 H (W .laws) (𝓣 .C)
         fm = fmOf 𝓤 H (W .laws) 𝓣
 
-        there : (b : Bool) (k : ℕ) → ((structs : List ℕ) → b ≡ restOrder m (programLent structs constants functions text main mainPlaces other otherPlaces) stack cells) → k ≡ (if b then m .program .functions else 0) → 2 * k ≤ length functions
-        there b k eb ek = subst (λ (j : ℕ). 2 * j ≤ length functions) (sym ek) (functions-counted m [] constants functions text main mainPlaces other otherPlaces stack cells frames [] [] b (eb []))
+        there : (b : Bool) (k : ℕ) → b ≡ restOrder m (programLent structs constants functions text main mainPlaces other otherPlaces) stack cells → k ≡ (if b then m .program .functions else 0) → 2 * k ≤ length functions
+        there b k eb ek = subst (λ (j : ℕ). 2 * j ≤ length functions) (sym ek) (functions-counted m structs constants functions text main mainPlaces other otherPlaces stack cells frames [] [] b eb)
 
-        judged : (b : Bool) (k p : ℕ) (f s : Bool) (r : ℕ) → ((structs : List ℕ) → b ≡ restOrder m (programLent structs constants functions text main mainPlaces other otherPlaces) stack cells) → k ≡ (if b then m .program .functions else 0) → ((os : List ℕ) → length os ≡ s7 .count → p ≡ places 2 os) → f ≡ framesGood functions k p (m .frames) frames → ShortPost (s7 .count) (s9 .count) copies entries s → r ≡ refusalBy b f s
-            → (structs copy backtrace : List ℕ) → length copy ≡ copies → length backtrace ≡ entries → RunJudged m (programLent structs constants functions text main mainPlaces other otherPlaces) (runLent stack cells frames copy backtrace) r
-        judged b k p f s r eb ek ep ef es er structs copy backtrace ec et = subst (RunJudged m (programLent structs constants functions text main mainPlaces other otherPlaces) (runLent stack cells frames copy backtrace)) (sym er)
-            (run-judged m structs constants functions text main mainPlaces other otherPlaces stack cells frames copy backtrace b f s (eb structs) (ef ∙ ap (λ (j : ℕ). framesGood functions j p (m .frames) frames) ek ∙ ap (λ (j : ℕ). framesGood functions (if b then m .program .functions else 0) j (m .frames) frames) (ep stack refl)) (too-short m structs constants functions text main mainPlaces other otherPlaces stack cells frames copy backtrace es ec et))
+        judged : (b : Bool) (k p : ℕ) (f s : Bool) (r : ℕ) → b ≡ restOrder m (programLent structs constants functions text main mainPlaces other otherPlaces) stack cells → k ≡ (if b then m .program .functions else 0) → ((os : List ℕ) → length os ≡ stack-at .count → p ≡ places 2 os) → f ≡ framesGood functions k p (m .frames) frames → ShortPost (stack-at .count) (frames-at .count) copies entries s → r ≡ refusalBy b f s
+            → (copy backtrace : List ℕ) → length copy ≡ copies → length backtrace ≡ entries → RunJudged m (programLent structs constants functions text main mainPlaces other otherPlaces) (runLent stack cells frames copy backtrace) r
+        judged b k p f s r eb ek ep ef es er copy backtrace ec et = subst (RunJudged m (programLent structs constants functions text main mainPlaces other otherPlaces) (runLent stack cells frames copy backtrace)) (sym er)
+            (run-judged m structs constants functions text main mainPlaces other otherPlaces stack cells frames copy backtrace b f s eb (ef ∙ ap (λ (j : ℕ). framesGood functions j p (m .frames) frames) ek ∙ ap (λ (j : ℕ). framesGood functions (if b then m .program .functions else 0) j (m .frames) frames) (ep stack refl)) (too-short m structs constants functions text main mainPlaces other otherPlaces stack cells frames copy backtrace es ec et))
 
 pub run-refusal-spec : {M : Type 1} → stated.statement M
 unfolding code.routine tablesOf

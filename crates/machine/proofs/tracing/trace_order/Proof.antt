@@ -10,7 +10,8 @@ use Rattle.frames.proofs.Frames.{R}
 use Rattle.machine.proofs.Rows.{VmRow, vmVal, vm-tells, frames-fit, vm-typed, vm-makes}
 use mathlib.Core.Bool.{_&&_}
 use Rattle.model.specs.Basics.{if_then_else_}
-use Rattle.model.specs.Values.{mostPlaces}
+use native.Mathlib.Omega.{arith}
+use Rattle.model.specs.Values.{places}
 use Rattle.model.specs.Machines.{traceOrder}
 use Rattle.frames.specs.Links.{framesGood}
 use Rattle.ends.specs.Links.{programLent}
@@ -24,10 +25,10 @@ use Rattle.machine.proofs.tracing.counted as count
 use Rattle.machine.proofs.tracing.counted.Symbol as count-def
 use Rattle.machine.proofs.tracing.counted.Symbol.{name as #count}
 use Rattle.machine.proofs.tracing.counted.Met as count-thm
-use Rattle.machine.proofs.tracing.most as most
-use Rattle.machine.proofs.tracing.most.Symbol as most-def
-use Rattle.machine.proofs.tracing.most.Symbol.{name as #most}
-use Rattle.machine.proofs.tracing.most.Met as most-thm
+use Rattle.program.proofs.words.room as slots
+use Rattle.program.proofs.words.room.Symbol as slots-def
+use Rattle.program.proofs.words.room.Symbol.{name as #slots}
+use Rattle.program.proofs.words.room.Met as slots-thm
 use Rattle.frames.proofs.order.frames_ok as good
 use Rattle.frames.proofs.order.frames_ok.Symbol as good-def
 use Rattle.frames.proofs.order.frames_ok.Symbol.{name as #good}
@@ -41,8 +42,8 @@ use Rattle.machine.proofs.tracing.trace_order as me
 use Rattle.machine.proofs.tracing.trace_order.Statement as stated
 use Rattle.machine.proofs.tracing.trace_order.Code as code
 
-abbrev kinds : List (Kind 7)
-kinds = own VmRow vmVal vm-tells (λ x f. refl) ∷ shared 0 tt u64 ∷ shared 1 tt u8 ∷ shared 2 tt u8 ∷ shared 3 tt u32 ∷ shared 4 tt u8 ∷ shared 5 tt u32 ∷ shared 6 tt R ∷ []
+abbrev kinds : List (Kind 8)
+kinds = own VmRow vmVal vm-tells (λ x f. refl) ∷ shared 0 tt u64 ∷ shared 1 tt u8 ∷ shared 2 tt u8 ∷ shared 3 tt u32 ∷ shared 4 tt u8 ∷ shared 5 tt u32 ∷ shared 6 tt u64 ∷ shared 7 tt R ∷ []
 
 module _ {M : Type 1} (𝓤 : URA M) (H : Heap 𝓤) (A : Atoms 𝓤) (W : Given 𝓤 H A) (mem : Memory → SProp 𝓤) (run : Routine → Fun 𝓤) where
   abbrev Whole : Contract 𝓤
@@ -51,8 +52,8 @@ module _ {M : Type 1} (𝓤 : URA M) (H : Heap 𝓤) (A : Atoms 𝓤) (W : Given
   abbrev Count : Contract 𝓤
   Count = tripleOf 𝓤 H A count.signature (count.spec 𝓤 H A mem run)
 
-  abbrev Most : Contract 𝓤
-  Most = tripleOf 𝓤 H A most.signature (most.spec 𝓤 H A mem run)
+  abbrev Slots : Contract 𝓤
+  Slots = tripleOf 𝓤 H A slots.signature (slots.spec 𝓤 H A mem run)
 
   abbrev Good : Contract 𝓤
   Good = tripleOf 𝓤 H A good.signature (good.spec 𝓤 H A mem run)
@@ -60,77 +61,86 @@ module _ {M : Type 1} (𝓤 : URA M) (H : Heap 𝓤) (A : Atoms 𝓤) (W : Given
   abbrev Both : Contract 𝓤
   Both = tripleOf 𝓤 H A both.signature (both.spec 𝓤 H A mem run)
 
-  module _ (𝓣 : Tables 𝓤 H) (known-whole : Triple 𝓤 (𝓣 .C #whole) Whole) (known-count : Triple 𝓤 (𝓣 .C #count) Count) (known-most : Triple 𝓤 (𝓣 .C #most) Most) (known-good : Triple 𝓤 (𝓣 .C #good) Good) (known-both : Triple 𝓤 (𝓣 .C #both) Both)
-      (κs : Lfts 7) (qs : Shares 7) (a : Passed kinds Boolean κs) (is : Known kinds Boolean κs a) where
+  module _ (𝓣 : Tables 𝓤 H) (known-whole : Triple 𝓤 (𝓣 .C #whole) Whole) (known-count : Triple 𝓤 (𝓣 .C #count) Count) (known-slots : Triple 𝓤 (𝓣 .C #slots) Slots) (known-good : Triple 𝓤 (𝓣 .C #good) Good) (known-both : Triple 𝓤 (𝓣 .C #both) Both)
+      (κs : Lfts 8) (qs : Shares 8) (a : Passed kinds Boolean κs) (is : Known kinds Boolean κs a) where
     -- the parameters
     abbrev m : Vm
     m = a .0
 
-    abbrev s0 : Sl
-    s0 = sl (κs .0) (qs .0) (a .1 .0)
-
-    abbrev s1 : Sl
-    s1 = sl (κs .1 .0) (qs .1 .0) (a .1 .1 .0)
-
-    abbrev s2 : Sl
-    s2 = sl (κs .1 .1 .0) (qs .1 .1 .0) (a .1 .1 .1 .0)
-
-    abbrev s3 : Sl
-    s3 = sl (κs .1 .1 .1 .0) (qs .1 .1 .1 .0) (a .1 .1 .1 .1 .0)
-
-    abbrev s4 : Sl
-    s4 = sl (κs .1 .1 .1 .1 .0) (qs .1 .1 .1 .1 .0) (a .1 .1 .1 .1 .1 .0)
-
-    abbrev s5 : Sl
-    s5 = sl (κs .1 .1 .1 .1 .1 .0) (qs .1 .1 .1 .1 .1 .0) (a .1 .1 .1 .1 .1 .1 .0)
-
-    abbrev s6 : Sl
-    s6 = sl (κs .1 .1 .1 .1 .1 .1 .0) (qs .1 .1 .1 .1 .1 .1 .0) (a .1 .1 .1 .1 .1 .1 .1 .0)
+    abbrev functions-at : Sl
+    functions-at = sl (κs .0) (qs .0) (a .1 .0)
 
     abbrev functions : List ℕ
     functions = now (a .1 .0)
 
+    abbrev functions-room : Room u64 (functions-at .count)
+    functions-room = is .1 .0 .0 .1
+
+    abbrev text-at : Sl
+    text-at = sl (κs .1 .0) (qs .1 .0) (a .1 .1 .0)
+
     abbrev text : List ℕ
     text = now (a .1 .1 .0)
+
+    abbrev text-room : Room u8 (text-at .count)
+    text-room = is .1 .1 .0 .0 .1
+
+    abbrev main-at : Sl
+    main-at = sl (κs .1 .1 .0) (qs .1 .1 .0) (a .1 .1 .1 .0)
 
     abbrev main : List ℕ
     main = now (a .1 .1 .1 .0)
 
+    abbrev main-room : Room u8 (main-at .count)
+    main-room = is .1 .1 .1 .0 .0 .1
+
+    abbrev main-places-at : Sl
+    main-places-at = sl (κs .1 .1 .1 .0) (qs .1 .1 .1 .0) (a .1 .1 .1 .1 .0)
+
     abbrev mainPlaces : List ℕ
     mainPlaces = now (a .1 .1 .1 .1 .0)
+
+    abbrev main-places-room : Room u32 (main-places-at .count)
+    main-places-room = is .1 .1 .1 .1 .0 .0 .1
+
+    abbrev other-at : Sl
+    other-at = sl (κs .1 .1 .1 .1 .0) (qs .1 .1 .1 .1 .0) (a .1 .1 .1 .1 .1 .0)
 
     abbrev other : List ℕ
     other = now (a .1 .1 .1 .1 .1 .0)
 
+    abbrev other-room : Room u8 (other-at .count)
+    other-room = is .1 .1 .1 .1 .1 .0 .0 .1
+
+    abbrev other-places-at : Sl
+    other-places-at = sl (κs .1 .1 .1 .1 .1 .0) (qs .1 .1 .1 .1 .1 .0) (a .1 .1 .1 .1 .1 .1 .0)
+
     abbrev otherPlaces : List ℕ
     otherPlaces = now (a .1 .1 .1 .1 .1 .1 .0)
 
+    abbrev other-places-room : Room u32 (other-places-at .count)
+    other-places-room = is .1 .1 .1 .1 .1 .1 .0 .0 .1
+
+    abbrev stack-at : Sl
+    stack-at = sl (κs .1 .1 .1 .1 .1 .1 .0) (qs .1 .1 .1 .1 .1 .1 .0) (a .1 .1 .1 .1 .1 .1 .1 .0)
+
+    abbrev stack : List ℕ
+    stack = now (a .1 .1 .1 .1 .1 .1 .1 .0)
+
+    abbrev stack-room : Room u64 (stack-at .count)
+    stack-room = is .1 .1 .1 .1 .1 .1 .1 .0 .0 .1
+
+    abbrev frames-at : Sl
+    frames-at = sl (κs .1 .1 .1 .1 .1 .1 .1 .0) (qs .1 .1 .1 .1 .1 .1 .1 .0) (a .1 .1 .1 .1 .1 .1 .1 .1 .0)
+
     abbrev frames : List Frame
-    frames = now (a .1 .1 .1 .1 .1 .1 .1 .0)
+    frames = now (a .1 .1 .1 .1 .1 .1 .1 .1 .0)
 
-    abbrev room0 : Room u64 (s0 .count)
-    room0 = is .1 .0 .0 .1
-
-    abbrev room1 : Room u8 (s1 .count)
-    room1 = is .1 .1 .0 .0 .1
-
-    abbrev room2 : Room u8 (s2 .count)
-    room2 = is .1 .1 .1 .0 .0 .1
-
-    abbrev room3 : Room u32 (s3 .count)
-    room3 = is .1 .1 .1 .1 .0 .0 .1
-
-    abbrev room4 : Room u8 (s4 .count)
-    room4 = is .1 .1 .1 .1 .1 .0 .0 .1
-
-    abbrev room5 : Room u32 (s5 .count)
-    room5 = is .1 .1 .1 .1 .1 .1 .0 .0 .1
-
-    abbrev room6 : Room R (s6 .count)
-    room6 = is .1 .1 .1 .1 .1 .1 .1 .0 .0 .1
+    abbrev frames-room : Room R (frames-at .count)
+    frames-room = is .1 .1 .1 .1 .1 .1 .1 .1 .0 .0 .1
 
     abbrev slices : List Arg
-    slices = shr u64 s0 functions ∷ shr u8 s1 text ∷ shr u8 s2 main ∷ shr u32 s3 mainPlaces ∷ shr u8 s4 other ∷ shr u32 s5 otherPlaces ∷ shr R s6 frames ∷ []
+    slices = shr u64 functions-at functions ∷ shr u8 text-at text ∷ shr u8 main-at main ∷ shr u32 main-places-at mainPlaces ∷ shr u8 other-at other ∷ shr u32 other-places-at otherPlaces ∷ shr u64 stack-at stack ∷ shr R frames-at frames ∷ []
 
     abbrev xs : List Arg
     xs = val VmRow m (vmVal m) ∷ slices
@@ -138,18 +148,18 @@ module _ {M : Type 1} (𝓤 : URA M) (H : Heap 𝓤) (A : Atoms 𝓤) (W : Given
     abbrev Post : Val → SProp 𝓤
     Post = walkOf 𝓤 H A me.ended (stays kinds) (me.clauses 𝓤 H A mem run) .post (passing xs)
 
-    exits : (r : Bool) → Is Boolean r (vbool r ∷ []) → ((structs constants : List ℕ) → r ≡ traceOrder m (programLent structs constants functions text main mainPlaces other otherPlaces) frames) → ent 𝓤 (⋆ 𝓤 H A (‵ (Holds slices) ∷ [])) (Post (vbool r))
+    exits : (r : Bool) → Is Boolean r (vbool r ∷ []) → ((structs constants : List ℕ) → r ≡ traceOrder m (programLent structs constants functions text main mainPlaces other otherPlaces) stack frames) → ent 𝓤 (⋆ 𝓤 H A (‵ (Holds slices) ∷ [])) (Post (vbool r))
     exits r isr said =
-        qed W (‵ (Holds slices) ∷ []) ∵ suffices ! _ (ends-at 𝓤 H A me.ended (stays kinds) (me.clauses 𝓤 H A mem run) W (passing xs) (vbool r) r (tt, (tt, (tt, (tt, (tt, (tt, (tt, (tt, tt)))))))) (tt, (tt, (tt, (tt, (tt, (tt, (tt, (tt, tt))))))))) $ says ! said $
+        qed W (‵ (Holds slices) ∷ []) ∵ suffices ! _ (ends-at 𝓤 H A me.ended (stays kinds) (me.clauses 𝓤 H A mem run) W (passing xs) (vbool r) r (tt, (tt, (tt, (tt, (tt, (tt, (tt, (tt, (tt, tt))))))))) (tt, (tt, (tt, (tt, (tt, (tt, (tt, (tt, (tt, tt)))))))))) $ says ! said $
         gives ! xs (vm-makes 𝓤 H A W m _ (is .0), tt) (frame ! $ owned ! Boolean (Is Boolean) (bool-makes 𝓤 H A W) r _ isr $ keep ! (1 ∷ 0 ∷ []) $ done !)
 
     -- the calls
     abbrev to-whole : List Arg
-    to-whole = val VmRow m (vmVal m) ∷ shr u64 s0 functions ∷ shr u8 s1 text ∷ shr u8 s2 main ∷ shr u32 s3 mainPlaces ∷ shr u8 s4 other ∷ shr u32 s5 otherPlaces ∷ []
+    to-whole = val VmRow m (vmVal m) ∷ shr u64 functions-at functions ∷ shr u8 text-at text ∷ shr u8 main-at main ∷ shr u32 main-places-at mainPlaces ∷ shr u8 other-at other ∷ shr u32 other-places-at otherPlaces ∷ []
 
     call-whole : Rule 𝓤 H A W to-whole Whole Boolean vbool (λ b zs. ((structs constants : List ℕ) → b ≡ traceProgram (m .program) (programLent structs constants functions text main mainPlaces other otherPlaces)))
     call-whole = call-with 𝓤 H A W to-whole Whole Boolean vbool (λ b zs. ((structs constants : List ℕ) → b ≡ traceProgram (m .program) (programLent structs constants functions text main mainPlaces other otherPlaces))) bool-tells (λ ns. passing (lent to-whole ns)) (λ ns. refl)
-        (λ ns. unasked W (lent to-whole ns)) (λ ns w. id⊢ 𝓤 _) (vm-makes 𝓤 H A W m _ (is .0), tt) ((refl, room0), ((refl, room1), ((refl, room2), ((refl, room3), ((refl, room4), ((refl, room5), tt))))))
+        (λ ns. unasked W (lent to-whole ns)) (λ ns w. id⊢ 𝓤 _) (vm-makes 𝓤 H A W m _ (is .0), tt) ((refl, functions-room), ((refl, text-room), ((refl, main-room), ((refl, main-places-room), ((refl, other-room), ((refl, other-places-room), tt))))))
 
     abbrev to-count : Bool → List Arg
     to-count b = val Boolean b (vbool b) ∷ val VmRow m (vmVal m) ∷ []
@@ -158,19 +168,19 @@ module _ {M : Type 1} (𝓤 : URA M) (H : Heap 𝓤) (A : Atoms 𝓤) (W : Given
     call-count b isb = call-with 𝓤 H A W (to-count b) Count usize (vint w64) (λ r zs. r ≡ (if b then m .program .functions else 0)) (uint-tells w64) (λ ns. passing (lent (to-count b) ns)) (λ ns. refl)
         (λ ns. unasked W (lent (to-count b) ns)) (λ ns w. id⊢ 𝓤 _) (bool-makes 𝓤 H A W b _ isb, (vm-makes 𝓤 H A W m _ (is .0), tt)) tt
 
-    abbrev to-most : List Arg
-    to-most = []
+    abbrev to-slots : List Arg
+    to-slots = val usize (stack-at .count) (vint w64 (stack-at .count)) ∷ val usize 2 (vint w64 2) ∷ []
 
-    call-most : Rule 𝓤 H A W to-most Most usize (vint w64) (λ r zs. r ≡ mostPlaces)
-    call-most = call-with 𝓤 H A W to-most Most usize (vint w64) (λ r zs. r ≡ mostPlaces) (uint-tells w64) (λ ns. passing (lent to-most ns)) (λ ns. refl)
-        (λ ns. unasked W (lent to-most ns)) (λ ns w. id⊢ 𝓤 _) tt tt
+    call-slots : Rule 𝓤 H A W to-slots Slots usize (vint w64) (λ p zs. ((os : List ℕ) → length os ≡ stack-at .count → p ≡ places 2 os))
+    call-slots = call-with 𝓤 H A W to-slots Slots usize (vint w64) (λ p zs. ((os : List ℕ) → length os ≡ stack-at .count → p ≡ places 2 os)) (uint-tells w64) (λ ns. passing (lent to-slots ns)) (λ ns. refl)
+        (λ ns. asked W (lent to-slots ns) (omega arith)) (λ ns w. id⊢ 𝓤 _) (uint-makes 𝓤 H A W w64 (stack-at .count) _ (refl, stack-room .0), (uint-makes 𝓤 H A W w64 2 _ (refl, omega arith), tt)) tt
 
     abbrev to-good : ℕ → ℕ → List Arg
-    to-good k p = shr u64 s0 functions ∷ val usize k (vint w64 k) ∷ val usize p (vint w64 p) ∷ val usize (m .frames) (vint w64 (m .frames)) ∷ shr R s6 frames ∷ []
+    to-good k p = shr u64 functions-at functions ∷ val usize k (vint w64 k) ∷ val usize p (vint w64 p) ∷ val usize (m .frames) (vint w64 (m .frames)) ∷ shr R frames-at frames ∷ []
 
     call-good : (k : ℕ) (p : ℕ) → k < 2 ^ 64 → p < 2 ^ 64 → 2 * k ≤ length functions → Rule 𝓤 H A W (to-good k p) Good Boolean vbool (λ b zs. b ≡ framesGood functions k p (m .frames) frames)
     call-good k p fits fitp there = call-with 𝓤 H A W (to-good k p) Good Boolean vbool (λ b zs. b ≡ framesGood functions k p (m .frames) frames) bool-tells (λ ns. passing (lent (to-good k p) ns)) (λ ns. refl)
-        (λ ns. asked W (lent (to-good k p) ns) there) (λ ns w. id⊢ 𝓤 _) (uint-makes 𝓤 H A W w64 k _ (refl, fits), (uint-makes 𝓤 H A W w64 p _ (refl, fitp), (uint-makes 𝓤 H A W w64 (m .frames) _ (refl, frames-fit m (is .0)), tt))) ((refl, room0), ((refl, room6), tt))
+        (λ ns. asked W (lent (to-good k p) ns) there) (λ ns w. id⊢ 𝓤 _) (uint-makes 𝓤 H A W w64 k _ (refl, fits), (uint-makes 𝓤 H A W w64 p _ (refl, fitp), (uint-makes 𝓤 H A W w64 (m .frames) _ (refl, frames-fit m (is .0)), tt))) ((refl, functions-room), ((refl, frames-room), tt))
 
     abbrev to-both : Bool → Bool → List Arg
     to-both b f = val Boolean b (vbool b) ∷ val Boolean f (vbool f) ∷ []
@@ -182,12 +192,13 @@ module _ {M : Type 1} (𝓤 : URA M) (H : Heap 𝓤) (A : Atoms 𝓤) (W : Given
     walk : ent 𝓤 (onEntry 𝓤 H A me.signature (lfts xs) (shares xs) (denots xs) (valss xs)) (WpFn 𝓤 H (𝓣 .C) (𝓣 .Λ) code.function (values xs) Post)
     walk =
         qed W (‵ (Toks xs) ∷ ‵ (Owns xs) ∷ []) ∵ takes ! xs (enters ! (𝓣 .C) (𝓣 .Λ) code.function (values xs) Post
-        (vm-typed 𝓤 H A W m (is .0), ((tt, (tt, (record { fits = room0 .0 }, tt))), ((tt, (tt, (record { fits = room1 .0 }, tt))), ((tt, (tt, (record { fits = room2 .0 }, tt))), ((tt, (tt, (record { fits = room3 .0 }, tt))), ((tt, (tt, (record { fits = room4 .0 }, tt))), ((tt, (tt, (record { fits = room5 .0 }, tt))), ((tt, (tt, (record { fits = room6 .0 }, tt))), tt)))))))) (λ ls.
+        (vm-typed 𝓤 H A W m (is .0), ((tt, (tt, (record { fits = functions-room .0 }, tt))), ((tt, (tt, (record { fits = text-room .0 }, tt))), ((tt, (tt, (record { fits = main-room .0 }, tt))), ((tt, (tt, (record { fits = main-places-room .0 }, tt))), ((tt, (tt, (record { fits = other-room .0 }, tt))), ((tt, (tt, (record { fits = other-places-room .0 }, tt))), ((tt, (tt, (record { fits = stack-room .0 }, tt))), ((tt, (tt, (record { fits = frames-room .0 }, tt))), tt))))))))) (λ ls.
         sets ! (of-opd ! (of ! refl)) (tt, record { fits = frames-fit m (is .0) }) $
         calls-on ! (true ∷ true ∷ true ∷ true ∷ true ∷ true ∷ []) slices (call-whole) (λ zs. slices) refl (λ zs. refl) (λ zs. refl) fm known-whole refl (λ b zs eb lens isb. lands-in ! (tt, tt) $
         calls-on ! [] slices (call-count b isb) (λ zs. slices) refl (λ zs. refl) (λ zs. refl) fm known-count refl (λ k zs₁ ek lens₁ isk. lands-in ! (tt, record { fits = isk .1 }) $
-        calls-on ! [] slices (call-most) (λ zs. slices) refl (λ zs. refl) (λ zs. refl) fm known-most refl (λ p zs₄ ep lens₄ isp. lands-in ! (tt, record { fits = isp .1 }) $
-        calls-on ! (true ∷ false ∷ false ∷ false ∷ false ∷ false ∷ true ∷ []) slices (call-good k p (isk .1) (isp .1) (there b k eb ek)) (λ zs. slices) refl (λ zs. refl) (λ zs. refl) fm known-good refl (λ f zs₂ ef lens₂ isf. lands-in ! (tt, tt) $
+        sets ! (of-opd ! (of ! refl)) (tt, record { fits = stack-room .0 }) $
+        calls-on ! [] slices (call-slots) (λ zs. slices) refl (λ zs. refl) (λ zs. refl) fm known-slots refl (λ p zs₄ ep lens₄ isp. lands-in ! (tt, record { fits = isp .1 }) $
+        calls-on ! (true ∷ false ∷ false ∷ false ∷ false ∷ false ∷ false ∷ true ∷ []) slices (call-good k p (isk .1) (isp .1) (there b k eb ek)) (λ zs. slices) refl (λ zs. refl) (λ zs. refl) fm known-good refl (λ f zs₂ ef lens₂ isf. lands-in ! (tt, tt) $
         calls-on ! [] slices (call-both b f isb isf) (λ zs. slices) refl (λ zs. refl) (λ zs. refl) fm known-both refl (λ r zs₃ er lens₃ isr. lands-in ! (tt, tt) $
         sets ! (of-opd ! (of ! refl)) (tt, tt) $ leaves ! refl $ by ! (exits r isr (judged b k p f r eb ek ep ef er)))))))))
       where
@@ -197,9 +208,9 @@ module _ {M : Type 1} (𝓤 : URA M) (H : Heap 𝓤) (A : Atoms 𝓤) (W : Given
         there : (b : Bool) (k : ℕ) → ((structs constants : List ℕ) → b ≡ traceProgram (m .program) (programLent structs constants functions text main mainPlaces other otherPlaces)) → k ≡ (if b then m .program .functions else 0) → 2 * k ≤ length functions
         there b k eb ek = subst (λ (j : ℕ). 2 * j ≤ length functions) (sym ek) (functions-counted m [] [] functions text main mainPlaces other otherPlaces b (eb [] []))
 
-        judged : (b : Bool) (k p : ℕ) (f r : Bool) → ((structs constants : List ℕ) → b ≡ traceProgram (m .program) (programLent structs constants functions text main mainPlaces other otherPlaces)) → k ≡ (if b then m .program .functions else 0) → p ≡ mostPlaces → f ≡ framesGood functions k p (m .frames) frames → r ≡ (b && f)
-            → (structs constants : List ℕ) → r ≡ traceOrder m (programLent structs constants functions text main mainPlaces other otherPlaces) frames
-        judged b k p f r eb ek ep ef er structs constants = er ∙ frames-judged m structs constants functions text main mainPlaces other otherPlaces frames b f (eb structs constants) (ef ∙ ap (λ (j : ℕ). framesGood functions j p (m .frames) frames) ek ∙ ap (λ (j : ℕ). framesGood functions (if b then m .program .functions else 0) j (m .frames) frames) ep)
+        judged : (b : Bool) (k p : ℕ) (f r : Bool) → ((structs constants : List ℕ) → b ≡ traceProgram (m .program) (programLent structs constants functions text main mainPlaces other otherPlaces)) → k ≡ (if b then m .program .functions else 0) → ((os : List ℕ) → length os ≡ stack-at .count → p ≡ places 2 os) → f ≡ framesGood functions k p (m .frames) frames → r ≡ (b && f)
+            → (structs constants : List ℕ) → r ≡ traceOrder m (programLent structs constants functions text main mainPlaces other otherPlaces) stack frames
+        judged b k p f r eb ek ep ef er structs constants = er ∙ frames-judged m structs constants functions text main mainPlaces other otherPlaces stack frames b f (eb structs constants) (ef ∙ ap (λ (j : ℕ). framesGood functions j p (m .frames) frames) ek ∙ ap (λ (j : ℕ). framesGood functions (if b then m .program .functions else 0) j (m .frames) frames) (ep stack refl))
 
 pub trace-order-spec : {M : Type 1} → stated.statement M
 unfolding code.routine tablesOf
@@ -210,6 +221,6 @@ trace-order-spec 𝓤 H 𝓜 𝓖 𝓡 =
     (walk 𝓤 H (𝓖 .A) W (𝓜 .mem) (𝓡 .run) (tablesOf 𝓤 H 𝓜 (tables 𝓤 H 𝓜 𝓡 code.env))
     (cited 𝓤 H (Whole 𝓤 H (𝓖 .A) W (𝓜 .mem) (𝓡 .run)) 𝓜 𝓡 code.env #whole whole-def.routine code.calls-machine·tracing·trace-program (whole-thm.met 𝓤 H 𝓜 𝓖 𝓡))
     (cited 𝓤 H (Count 𝓤 H (𝓖 .A) W (𝓜 .mem) (𝓡 .run)) 𝓜 𝓡 code.env #count count-def.routine code.calls-machine·tracing·counted (count-thm.met 𝓤 H 𝓜 𝓖 𝓡))
-    (cited 𝓤 H (Most 𝓤 H (𝓖 .A) W (𝓜 .mem) (𝓡 .run)) 𝓜 𝓡 code.env #most most-def.routine code.calls-machine·tracing·most (most-thm.met 𝓤 H 𝓜 𝓖 𝓡))
+    (cited 𝓤 H (Slots 𝓤 H (𝓖 .A) W (𝓜 .mem) (𝓡 .run)) 𝓜 𝓡 code.env #slots slots-def.routine code.calls-program·words·room (slots-thm.met 𝓤 H 𝓜 𝓖 𝓡))
     (cited 𝓤 H (Good 𝓤 H (𝓖 .A) W (𝓜 .mem) (𝓡 .run)) 𝓜 𝓡 code.env #good good-def.routine code.calls-frames·order·frames-ok (good-thm.met 𝓤 H 𝓜 𝓖 𝓡))
     (cited 𝓤 H (Both 𝓤 H (𝓖 .A) W (𝓜 .mem) (𝓡 .run)) 𝓜 𝓡 code.env #both both-def.routine code.calls-machine·tracing·both (both-thm.met 𝓤 H 𝓜 𝓖 𝓡)) κs qs a is))
