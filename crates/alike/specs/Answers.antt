@@ -2,6 +2,7 @@
 use mathlib.Core.Path.{_≡_}
 use mathlib.Core.List.{List, _++_}
 use Prim.Native.Nat.{ℕ}
+use Rattle.model.specs.declared.Tally.{Tally}
 use Rattle.model.specs.Heap.{Cell}
 use Rattle.model.specs.Trees.{Tree, meaning}
 use Rattle.model.specs.Steps.{World}
@@ -11,9 +12,9 @@ use Rattle.alike.specs.Alike.{Layout, laidOut, AlikeMachine}
 
 -- a reply that has the value's tree in place of the value
 pub data Meant : Type 0 where
-  value : Tree → ℕ → Meant
-  continue : ℕ → Meant
-  fault : ℕ → ℕ → List Entry → Meant
+  value : Tree → Tally → Meant
+  continue : Tally → Meant
+  fault : ℕ → Tally → List Entry → Meant
 
 unfoldable pub meantIn : List ℕ → List Cell → Reply → Meant
 meantIn t H (r.value x n) = value (meaning t H x) n

@@ -16,17 +16,17 @@ use Rattle.model.specs.declared.Emitted.the-variants as e
 use Rattle.model.specs.declared.Loaded.{Loaded}
 use Rattle.model.specs.declared.Loaded.the-variants as ld
 use Rattle.model.specs.Basics.{if_then_else_}
-use Rattle.model.specs.Values.{ifList, ifStruct, places, mostPlaces}
+use Rattle.model.specs.Values.{ifList, ifStruct, places}
 use Rattle.model.specs.Heap.{heapOf, headIn, placedBelow}
 use Rattle.model.specs.Stores.{Stores, functionsFrom}
-use Rattle.model.specs.Orders.{insideCodes, frameStoreOk}
+use Rattle.model.specs.Orders.{frameStoreOk, traces, judgedBy}
 use Rattle.model.specs.Emission.{Res}
-use Rattle.model.specs.Loading.{listOrder}
 use Rattle.model.specs.Machines.{Lent, traceOrder, backtraceIn, startWith, fresh, loadMachineOf, newMachineOf}
 use Rattle.model.specs.Readers.{stackValueOf, reads, headerAt, blockHeaderOf, elementShown, elementOf}
 use Rattle.value.proofs.Coding.{and-right}
 use Rattle.cells.proofs.Order.{Whole, Placed, list-of, struct-of}
 use Rattle.rules.proofs.Frames.{some-frame}
+use Rattle.program.proofs.Parts.{places-same}
 use Rattle.demands.specs.Host.{Held, Ask, new, load, addOp, addOp1, addOp2, addOp3, patch, addConstant, addStruct, beginFunction, endFunction, currentOffset, functionIdx, save, disassemble, backtrace, lastResult, stackValue, blockHeader, element, textBytes, Answer, put, shown, headed, Done, counted, withFrames, emits, starts, looks, done}
 use Rattle.demands.specs.Agree.{Alike, LentAlike, Agree}
 use Rattle.demands.proofs.Fronts.{places-alike, value-alike, shown-alike, heap-to, heap-alike, frames-alike, innermost-alike, callers-alike}
@@ -42,21 +42,21 @@ if-same false z h = refl
 
 -- ---- the backtrace
 
-module _ (m : Vm) (s : Stores) {fs fs' : List Frame} (k : Alike (m .frames) fs fs') where
-  trace-order-alike : traceOrder m s fs ≡ traceOrder m s fs'
+-- of the stack store the backtrace looks at the room alone
+module _ (m : Vm) (s : Stores) (st st' : List ℕ) (r : places 2 st ≡ places 2 st') {fs fs' : List Frame} (k : Alike (m .frames) fs fs') where
+  trace-order-alike : traceOrder m s st fs ≡ traceOrder m s st' fs'
   unfolding traceOrder
-  trace-order-alike = rw (frames-alike k (functionsFrom (m .program .functions) 0 s) mostPlaces)
+  trace-order-alike = rw (r, frames-alike k (functionsFrom (m .program .functions) 0 s) (places 2 st'))
 
-  has-frame : traceOrder m s fs ≡ true → 1 ≤ m .frames
+  has-frame : traceOrder m s st fs ≡ true → 1 ≤ m .frames
   unfolding traceOrder
   has-frame e =
-      let x = listOrder (m .program) s && insideCodes (m .program) (s .functions) (s .mainPlaces) (s .otherPlaces) in
       let gs = functionsFrom (m .program .functions) 0 s in
-      some-frame gs mostPlaces (m .frames) fs (and-right x (frameStoreOk gs mostPlaces (m .frames) fs) e)
+      some-frame gs (places 2 st) (m .frames) fs (and-right (judgedBy traces (m .program) s) (frameStoreOk gs (places 2 st) (m .frames) fs) e)
 
-  pub trace-alike : (out : List ℕ) → backtraceIn m s fs out ≡ backtraceIn m s fs' out
+  pub trace-alike : (out : List ℕ) → backtraceIn m s st fs out ≡ backtraceIn m s st' fs' out
   unfolding backtraceIn
-  trace-alike out = rw (← trace-order-alike) (if-same (traceOrder m s fs) _ (λ e. rw (innermost-alike k (has-frame e), callers-alike k)))
+  trace-alike out = rw (← trace-order-alike) (if-same (traceOrder m s st fs) _ (λ e. rw (innermost-alike k (has-frame e), callers-alike k)))
 
 module _ (m : Vm) (s : Stores) {l l' : Lent} (k : LentAlike m l l') where
   abbrev here : Lent → Held
@@ -159,7 +159,7 @@ module _ (m : Vm) (s : Stores) {l l' : Lent} (k : LentAlike m l l') where
   ask-alike (functionIdx text) = looks-alike refl
   ask-alike (save out) = looks-alike refl
   ask-alike (disassemble out) = looks-alike refl
-  ask-alike (backtrace out) = looks-alike (ap (put out) (trace-alike m s (k .frames) out))
+  ask-alike (backtrace out) = looks-alike (ap (put out) (trace-alike m s (l .stack) (l' .stack) (places-same 2 (l .stack) (l' .stack) (k .stack .room)) (k .frames) out))
   ask-alike lastResult = looks-alike refl
   ask-alike (stackValue i) = looks-alike (ap shown (value-shown i))
   ask-alike (blockHeader x) = looks-alike (ap headed (header-shown x))

@@ -17,7 +17,7 @@ use Rattle.model.specs.Basics.{if_then_else_}
 use Rattle.model.specs.Values.{places, putWords}
 use Rattle.model.specs.Programs.{Program, Function, functionAt, codeLimit, constantLimit, nameLimit}
 use Rattle.model.specs.Stores.{Stores, withConstants, withStructs, withFunctions, withText, size, codeWord, codeEnd, codeHere, placesHere, withCode, structsFrom, functionIn, functionsFrom, programIn}
-use Rattle.model.specs.Orders.{codeStart, programOk}
+use Rattle.model.specs.Orders.{codeStart, programOk, traces, judgedBy}
 use Rattle.model.specs.Emission.{Res, done, refuse, oneConstant, oneStruct, oneFunction, written, textRoom, sizeHere, endHere, codeRoom, longer, appended, codeOrder, emitIn, emitOf, patchOrder, patched, patchOf, withConstant, withTextConstant, constantAdded, constantOrder, addConstantOf, structAdded, structFound, structOrder, addStructOf, functionOrder, begun, beginFunctionOf, endFunctionOf, currentOffsetOf, namesFrom, functionIdxOf}
 use Rattle.model.specs.Loading.{saveOf, listOrder, listOf}
 use Rattle.model.specs.Machines.{traceOrder, backtraceIn}
@@ -27,7 +27,7 @@ use Rattle.program.proofs.Keeping.{Good, good-of}
 use Rattle.program.proofs.Writing.{length-written, length-words}
 use Rattle.program.proofs.Reading.{Reads, emit-reads, patch-reads, add-constant-reads}
 use Rattle.program.proofs.Naming.{struct-reads, begin-reads, end-reads}
-use Rattle.rules.proofs.Programs.{parts-of, code-size, program-runs}
+use Rattle.rules.proofs.Programs.{parts-of, code-size}
 use Rattle.demands.specs.Meant.{AsLong}
 use Rattle.demands.proofs.Fronts.{places-alike}
 
@@ -108,7 +108,7 @@ module _ {c : Counts} {s s' : Stores} (one : OneProgram c s s') where
 
   pub size-same : (i : ℕ) → i < c .functions → size (codeWord (s' .functions) i) ≡ size (codeWord (s .functions) i)
   size-same i h =
-      sym (code-size c s' (parts-of c s' (program-runs c s' (one .ok'))) i h) ∙ ap (λ (fs : List Function). length (functionAt fs i .code)) functions-same ∙ code-size c s (parts-of c s (program-runs c s (one .ok))) i h
+      sym (code-size c s' (parts-of c s' (one .ok')) i h) ∙ ap (λ (fs : List Function). length (functionAt fs i .code)) functions-same ∙ code-size c s (parts-of c s (one .ok)) i h
 
   ends-by : (i : ℕ) → i < c .functions → codeStart (s' .functions) i ≡ codeStart (s .functions) i → codeEnd (s' .functions) i ≡ codeEnd (s .functions) i
   unfolding codeEnd
@@ -270,10 +270,13 @@ module _ {c : Counts} {s s' : Stores} (one : OneProgram c s s') where
   unfolding listOrder
   list-order = rw (g .counts, g .text, g .functions, g .main, g .codes, g' .text, g' .functions, g' .main, g' .codes)
 
+  trace-order : judgedBy traces c s' ≡ judgedBy traces c s
+  trace-order = rw (g .counts, g .text, g .functions, g .main, g .codes, g .places, g' .text, g' .functions, g' .main, g' .codes, g' .places)
+
   pub list-same : (out : List ℕ) → listOf c s' out ≡ listOf c s out
   unfolding listOf
   list-same out = rw (list-order, one .same)
 
-  pub trace-same : (m : Vm) → m .program ≡ c → (frames : List Frame) (out : List ℕ) → backtraceIn m s' frames out ≡ backtraceIn m s frames out
+  pub trace-same : (m : Vm) → m .program ≡ c → (stack : List ℕ) (frames : List Frame) (out : List ℕ) → backtraceIn m s' stack frames out ≡ backtraceIn m s stack frames out
   unfolding backtraceIn traceOrder
-  trace-same m e frames out = rw (e, list-order, g .places, g' .places, functions-same)
+  trace-same m e stack frames out = rw (e, trace-order, functions-same)

@@ -3,11 +3,10 @@ use mathlib.Core.Path.{refl, ap, subst, _∙_}
 use mathlib.Core.List.{List, _∷_}
 use Prim.Native.Nat.{ℕ}
 use lib.ListN.{length}
-use Rattle.model.specs.declared.Last.{Last}
 use Rattle.model.specs.Heap.{Cell}
 use Rattle.model.specs.Trees.{meaning}
 use Rattle.model.specs.Steps.{World, State, went, returned}
-use Rattle.model.specs.Runs.{Mark}
+use Rattle.model.specs.Runs.{Progress}
 use Rattle.cells.proofs.Meaning.{equal-is-trees, new-list, new-struct, field-is, meaning-kept}
 use Rattle.rules.specs.Sane.{AllPlaced, Sane}
 use Rattle.rules.specs.Paths.{Grows, Adds, Steps, none, on, ret}
@@ -17,7 +16,7 @@ use Rattle.rules.proofs.Placed.{every-made}
 use Rattle.demands.specs.Trees.{means, AsTrees}
 
 -- the cells of a state stay, with more behind them
-path-grows : {w : World} {n : ℕ} {a b : Last} {m k : Mark} {s t : State} → Steps w n a m s b k t → Grows (s .heap) (t .heap)
+path-grows : {w : World} {n : ℕ} {m k : Progress} {s t : State} → Steps w n m s k t → Grows (s .heap) (t .heap)
 path-grows {s = s} none = grows-none (s .heap)
 path-grows {w} (on {s = s} {s' = s'} o q p) =
     let z : Adds (s .heap) (s .last) (went s') = subst (Adds (s .heap) (s .last)) q (step-adds w s) in grows-on (z .0) (path-grows p)

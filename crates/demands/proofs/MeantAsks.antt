@@ -41,6 +41,7 @@ use Rattle.demands.specs.Jobs.{makes, writes, looks, handed, jobOf, isMa
 use Rattle.demands.proofs.Fronts.{places-alike}
 use Rattle.demands.proofs.Fixed.{Standing, standing, split}
 use Rattle.demands.proofs.Fixed as fx
+use Rattle.program.proofs.Parts.{places-same}
 use Rattle.demands.proofs.Asks.{trace-alike}
 use Rattle.demands.proofs.Emitted.{Grows, emit-grows, patch-grows, constant-grows, struct-grows, begin-grows}
 use Rattle.demands.proofs.Refusing.{ask-says}
@@ -205,9 +206,12 @@ module _ {r : Bool} {h d : Held} (a : AlikeHeld r h d) where
     room = sym (a .frames);
   }
 
-  trace-told : (out : List ℕ) → backtraceIn (h .vm) (h .stores) (h .lent .frames) out ≡ backtraceIn (d .vm) (d .stores) (d .lent .frames) out
+  same-slots : places 2 (h .lent .stack) ≡ places 2 (d .lent .stack)
+  same-slots = places-same 2 (h .lent .stack) (d .lent .stack) (sym (a .stack))
+
+  trace-told : (out : List ℕ) → backtraceIn (h .vm) (h .stores) (h .lent .stack) (h .lent .frames) out ≡ backtraceIn (d .vm) (d .stores) (d .lent .stack) (d .lent .frames) out
   trace-told out =
-      trace-alike (h .vm) (h .stores) frame-store out ∙ sym (trace-same (one-program a) (h .vm) refl (d .lent .frames) out)
+      trace-alike (h .vm) (h .stores) (h .lent .stack) (d .lent .stack) same-slots frame-store out ∙ sym (trace-same (one-program a) (h .vm) refl (d .lent .stack) (d .lent .frames) out)
       ∙ (unfold backtraceIn traceOrder in rw (a .counts, frame-count))
 
   -- the last result

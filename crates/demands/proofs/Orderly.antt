@@ -24,7 +24,6 @@ use Rattle.model.specs.Emission.{Res, counts, newOf, addOpOf, addOp1Of, addOp2O
 use Rattle.model.specs.Loading.{LoadRes, roomFor, laid, countsFor, loadJudged, loadOf}
 use Rattle.model.specs.Machines.{tooShort, startWith, asLoaded, fresh, newMachineOf, loadMachineOf}
 use Rattle.rules.proofs.Ordered.{fresh-order}
-use Rattle.rules.proofs.Programs.{program-runs}
 use Rattle.program.proofs.Keeping.{Kept, emit-keeps}
 use Rattle.program.proofs.Growing.{constant-keeps, patch-keeps, end-keeps}
 use Rattle.program.proofs.Naming.{struct-keeps, new-keeps, begin-keeps}
@@ -66,7 +65,7 @@ module _ (h : Held) where
   unfolding starts startWith fresh
   fresh-in-order c s' f fs p = record {
     program = p;
-    machine = fresh-order (fresh c) s' (withFrames (root 0 ∷ fs) (h .lent)) (program-runs c s' p) (record { stack = refl; cells = refl; last = refl; frames = refl; room = omega arith; frame = refl });
+    machine = fresh-order (fresh c) s' (withFrames (root 0 ∷ fs) (h .lent)) p (record { stack = refl; cells = refl; last = refl; frames = refl; room = omega arith; frame = refl });
   }
 
   made : (a : Loaded) (s' : Stores) (fs : List Frame) → ((c : Counts) → a ≡ ld.Done c → programOk c s' ≡ true) → (m : Vm) → starts h (startWith a s' (h .stores) fs) .answer ≡ started (st.Done m)
@@ -110,7 +109,7 @@ module _ (h : Held) (o : InOrder h) where
   unfolding emits
   emits-by x (em.Done c n) q k g same = rw q (record {
     program = k .kept c n q;
-    machine = order-wider (h .vm) (h .stores) (h .lent) c (x .stores) (o .machine) (program-runs c (x .stores) (k .kept c n q)) (g .grown c n q);
+    machine = order-wider (h .vm) (h .stores) (h .lent) c (x .stores) (o .machine) (k .kept c n q) (g .grown c n q);
   })
   emits-by x (em.Refused n) q k g same = subst InOrder (sym (same n refl)) o
 

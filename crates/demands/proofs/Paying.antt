@@ -15,6 +15,7 @@ use Rattle.model.specs.declared.Decoded.{Decoded}
 use Rattle.model.specs.declared.Decoded.the-variants as d
 use Rattle.model.specs.declared.Value.{Value}
 use Rattle.model.specs.declared.Last.{Last}
+use Rattle.model.specs.declared.Tally.{Tally}
 use Rattle.model.specs.declared.Last.the-variants.{Nothing, Is}
 use Rattle.model.specs.declared.Frame.{Frame}
 use Rattle.model.specs.declared.Fault.{Fault}
@@ -28,13 +29,13 @@ use Rattle.model.specs.Heap.{Cell, headIn, deepest, blockOf, built, unbuilt, bu
 use Rattle.model.specs.Equality.{Same, same, sameOf}
 use Rattle.model.specs.Steps.{World, State, Outcome, went, returned, faulted, withStack, withHeap, withUnits, at, position, codeOf, pushing, onFound, constantOf, slotOf, lastOf, loadStep, slotStep, lastStep, negateStep, arithmeticStep, orderingStep, onSame, equalStep, logicStep, notStep, jumpStep, jumpIfFalseStep, enter, callStep, enterNamed, callCallableStep, onBuilt, buildStep, structStep, fieldStep, returnTo, returnStep, execOf, operandsThen, decodedThen, fetched, stepOf}
 use Rattle.rules.proofs.Combinators.{if-each, ifScalar-each, ifBoolean-each, ifReference-each, ifStruct-each}
-use Rattle.model.specs.Runs.{Machine, begin, machineOf, Mark, mark, Ended, ended, stopped, endOf, traceOf, fault, answered, recovered, settle, runOf}
-use Rattle.rules.specs.Paths.{Steps, none, on, ret, By, EndedBy, StoppedBy}
+use Rattle.model.specs.Runs.{Machine, begin, machineOf, Progress, atStart, Ended, ended, stopped, endOf, traceOf, fault, tally, answered, recovered, settle, runOf}
+use Rattle.rules.specs.Paths.{Steps, none, on, ret, rootReturns, By, EndedBy, StoppedBy}
 use Rattle.rules.proofs.Does.{Does, fault as failed, spent, full, push, answer, compare, fall, leap, call, build, field, back, home, Stepped, unpaid, unread, ran, step-one}
 use Rattle.rules.proofs.Ends.{end-of}
-use Rattle.rules.proofs.Paths.{run-path}
+use Rattle.rules.proofs.Paths.{run-path, returns-counted}
 use Rattle.rules.proofs.Spends.{faulted-spends}
-use Rattle.demands.specs.Units.{pairs, topPairs, pairsOf, pairsBy, pairsAt, Costs, Fee, one, all, spentOn, RunIs, ends, faults}
+use Rattle.demands.specs.Units.{pairs, topPairs, pairsOf, pairsBy, pairsAt, Costs, Fee, one, all, spentOn, didUntil, RunIs, ends, faults}
 
 -- ---- an instruction whose opcode has been fetched
 
@@ -253,7 +254,7 @@ module _ (w : World) (s : State) where
 
 -- ---- a path
 
-pub path-units : {w : World} {n : ℕ} {a b : Last} {m k : Mark} {s t : State} (p : Steps w n a m s b k t) → s .units ≡ t .units + spentOn p
+pub path-units : {w : World} {n : ℕ} {m k : Progress} {s t : State} (p : Steps w n m s k t) → s .units ≡ t .units + spentOn p
 path-units none = omega arith
 path-units {w} (on {s = s} o q p) = omega (arith, went-cost w s q, path-units p)
 path-units {w} (ret {s = s} o q p) = omega (arith, returned-cost w s q, path-units p)
@@ -261,25 +262,30 @@ path-units {w} (ret {s = s} o q p) = omega (arith, returned-cost w s q, path-uni
 -- ---- a run
 
 module _ (w : World) (m : Machine) (u : ℕ) where
-  run-ends : {b : Last} {t : State} → EndedBy w Nothing (mark (begin m u)) (begin m u) b t → RunIs w m u (settle w m u (ended b t))
-  unfolding settle
-  run-ends {b} {t} r =
-      let z : spentOn (r .path) ≡ u - t .units = omega (arith, path-units (r .path)) in
-      subst (λ (x : ℕ). RunIs w m u (record { reply = answered b x; machine = machineOf t })) z (ends (r .path) (r .over))
+  -- the units spent and the root Returns completed are those of the path
+  did-is : {n x y : ℕ} {k : Progress} {t : State} (p : Steps w n (atStart (begin m u)) (begin m u) k t) → x ≡ y → _≡_ {A = Tally} (record { spent = x; returns = rootReturns p }) (tally y k)
+  did-is {k = k} p e = let z : rootReturns p ≡ k .returns = omega (arith, returns-counted w p) in rw (e, z)
 
-  run-faults : {i : Fault} {t : State} {k : Mark} → StoppedBy w Nothing (mark (begin m u)) (begin m u) i t k → RunIs w m u (settle w m u (stopped i t k))
+  run-ends : {k : Progress} {t : State} → EndedBy w (atStart (begin m u)) (begin m u) k t → RunIs w m u (settle w m u (ended k t))
+  unfolding settle
+  run-ends {k} {t} r =
+      let z : spentOn (r .path) ≡ u - t .units = omega (arith, path-units (r .path)) in
+      subst (λ (x : Tally). RunIs w m u (record { reply = answered (k .answer) x; machine = machineOf t })) (did-is (r .path) z) (ends (r .path) (r .over))
+
+  run-faults : {i : Fault} {t : State} {k : Progress} → StoppedBy w (atStart (begin m u)) (begin m u) i t k → RunIs w m u (settle w m u (stopped i t k))
   unfolding settle
   run-faults {i} {t} {k} r =
       let s = r .at in
       let z : spentOn (r .path) + (s .units - t .units) ≡ u - t .units = omega (arith, path-units (r .path), faulted-spends w s (r .stops)) in
-      subst (λ (x : ℕ). RunIs w m u (record { reply = fault (faultNumber i) x (traceOf (w .functions) (t .frame ∷ t .callers)); machine = recovered w m k })) z
+      let y : didUntil (r .path) t ≡ tally (u - t .units) k = did-is (r .path) z in
+      subst (λ (x : Tally). RunIs w m u (record { reply = fault (faultNumber i) x (traceOf (w .functions) (t .frame ∷ t .callers)); machine = recovered w m k })) y
       (faults (r .path) (r .goes-on) (r .stops) (fault-fee w s (r .stops)))
 
-  run-by-steps : (e : Ended) → By w Nothing (mark (begin m u)) (begin m u) e → RunIs w m u (settle w m u e)
-  run-by-steps (ended b t) r = run-ends r
+  run-by-steps : (e : Ended) → By w (atStart (begin m u)) (begin m u) e → RunIs w m u (settle w m u e)
+  run-by-steps (ended k t) r = run-ends r
   run-by-steps (stopped i t k) r = run-faults r
 
-  -- a run is a path of written steps, and each unit is tied to one of them
+  -- a run is a path of written steps: each unit is tied to one of them, and so is each root Return that it tells
   pub run-is-steps : RunIs w m u (runOf w m u)
   unfolding runOf
-  run-is-steps = let s = begin m u in run-by-steps (endOf w s) (run-path w Nothing (mark s) s (sym (end-of w s)))
+  run-is-steps = let s = begin m u in run-by-steps (endOf w s) (run-path w (atStart s) s (sym (end-of w s)))

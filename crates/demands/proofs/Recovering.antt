@@ -6,9 +6,10 @@ use Prim.Native.Nat.{ℕ, suc, _*_}
 use lib.ListN.{length}
 use Rattle.model.specs.declared.Vm.{Vm}
 use Rattle.model.specs.declared.Last.{Last}
+use Rattle.model.specs.declared.Tally.{Tally}
 use Rattle.model.specs.declared.RunResult.the-variants as r
 use Rattle.model.specs.Steps.{World, State, returned}
-use Rattle.model.specs.Runs.{Machine, begin, Mark, mark, Entry, fault, Ran, recovered}
+use Rattle.model.specs.Runs.{Machine, begin, Progress, atStart, Entry, fault, Ran, recovered}
 use Rattle.model.specs.Stores.{Stores}
 use Rattle.model.specs.Machines.{Lent, innermost, machineIn, worldOf, entriesIn, answerIn, RunPost}
 use Rattle.rules.specs.Paths.{Adds}
@@ -29,22 +30,22 @@ use Rattle.demands.proofs.MeantChains.{chain-alike, self-alike}
 use Rattle.demands.proofs.Went.{Went, went}
 
 -- what the mark of a path kept
-kept-since : {w : World} {a : Last} {s t : State} {k : Mark} → Since w a (mark s) s k t → Kept w s t (k .last) (k .heap)
+kept-since : {w : World} {s t : State} {k : Progress} → Since w (atStart s) s k t → Kept w s t (k .last) (k .heap)
 kept-since (d.Since.start p) = start p
 kept-since {w} {s = s} {t = t} (d.Since.return {q = q} {q' = q'} {v = v} p o e z) =
     let x : Adds (q .heap) (q .last) (returned v q') = subst (Adds (q .heap) (q .last)) e (step-adds w q) in
     subst (λ (b : Last). Kept w s t b (q' .heap)) (sym (x .1)) (return p o e z)
 
-module _ (m : Vm) (s : Stores) (l : Lent) (u : ℕ) {m' : Vm} {n spent j : ℕ} {l' : Lent} (p : RunPost m s l u (r.Fault m' n spent j) l') where
+module _ (m : Vm) (s : Stores) (l : Lent) (u : ℕ) {m' : Vm} {n : ℕ} {did : Tally} {j : ℕ} {l' : Lent} (p : RunPost m s l u (r.Fault m' n did j) l') where
   abbrev trace : List Entry
   trace = entriesIn j 0 (l' .backtrace)
 
-  ran-so : Went m s l u (m' .program) (record { reply = fault n spent trace; machine = machineIn m' l' })
+  ran-so : Went m s l u (m' .program) (record { reply = fault n did trace; machine = machineIn m' l' })
   unfolding answerIn
   ran-so = went m s l u (p .answer)
 
-  by-rules : Recovered (worldOf m s l) (machineIn m l) u n spent trace
-  by-rules = run-recovered (worldOf m s l) (machineIn m l) u n spent trace (sym (ap (λ (x : Ran). x .reply) (ran-so .run)))
+  by-rules : Recovered (worldOf m s l) (machineIn m l) u n did trace
+  by-rules = run-recovered (worldOf m s l) (machineIn m l) u n did trace (sym (ap (λ (x : Ran). x .reply) (ran-so .run)))
 
   left-machine : machineIn m' l' ≡ recovered (worldOf m s l) (machineIn m l) (by-rules .kept)
   left-machine = ap (λ (x : Ran). x .machine) (ran-so .run) ∙ by-rules .leaves
@@ -70,7 +71,7 @@ module _ (m : Vm) (s : Stores) (l : Lent) (u : ℕ) {m' : Vm} {n spent j : ℕ} 
   one-frame = sym (counted (m' .frames) (l' .frames) (after .exact .frames) (after .frames)) ∙ ap (λ (x : Machine). suc (length (x .callers))) left-machine
 
   -- what a run that ends in a fault leaves
-  pub fault-leaves : Recovers m s l u m' n spent trace l'
+  pub fault-leaves : Recovers m s l u m' n did trace l'
   unfolding machineIn recovered innermost
   fault-leaves = record {
     rules = by-rules;
@@ -106,10 +107,10 @@ pub set-up-alike : (r : Bool) {x : Machine} {h k d : Held} → SetUp x h k → S
 set-up-alike r a b o o' = self-alike r o o' (b .program ∙ sym (a .program)) (b .stores ∙ sym (a .stores)) (rooms-same b a) (b .machine ∙ sym (a .machine))
 
 -- DEMAND 3
-pub fault-recovers : {h h' : Held} (u : ℕ) {n spent j : ℕ} → RunPost (h .vm) (h .stores) (h .lent) u (r.Fault (h' .vm) n spent j) (h' .lent) → h' .stores ≡ h .stores
-    → Demand3 u h n spent (entriesIn j 0 (h' .lent .backtrace)) h'
-fault-recovers {h} {h'} u {n} {spent} {j} p q =
-    let x : Recovers (h .vm) (h .stores) (h .lent) u (h' .vm) n spent (entriesIn j 0 (h' .lent .backtrace)) (h' .lent) = fault-leaves (h .vm) (h .stores) (h .lent) u p in
+pub fault-recovers : {h h' : Held} (u : ℕ) {n : ℕ} {did : Tally} {j : ℕ} → RunPost (h .vm) (h .stores) (h .lent) u (r.Fault (h' .vm) n did j) (h' .lent) → h' .stores ≡ h .stores
+    → Demand3 u h n did (entriesIn j 0 (h' .lent .backtrace)) h'
+fault-recovers {h} {h'} u {n} {did} {j} p q =
+    let x : Recovers (h .vm) (h .stores) (h .lent) u (h' .vm) n did (entriesIn j 0 (h' .lent .backtrace)) (h' .lent) = fault-leaves (h .vm) (h .stores) (h .lent) u p in
     let so : SetUp (recovered (worldOf (h .vm) (h .stores) (h .lent)) (machineIn (h .vm) (h .lent)) (x .rules .kept)) h h' =
     record { program = x .program; stores = q; rooms = ran-rooms (h .vm) (h .stores) u p; machine = x .leaves; order = rw q (x .order) } in
     record { leaves = x; later = λ a t p k. chain-alike a (λ e. e) t p k .says; exact = λ d b cs xs ys e f c k. chains-agree (set-up-agrees so b) c k .answers }

@@ -18,11 +18,11 @@ use Rattle.model.specs.Basics.{if_then_else_}
 use Rattle.model.specs.Heap.{Cell, item, head, cellIn, headIn, elementsIn, deepest, wholeBelow, placedBelow, elementBelow, elementsBelow, blockOk, blocksFrom, heapOk}
 use Rattle.model.specs.Steps.{World, State}
 use Rattle.model.specs.Stores.{Stores, worldIn}
+use Rattle.model.specs.Orders.{programOk}
 use Rattle.model.specs.Machines.{Lent, machineIn, worldOf, runOrder}
 use Rattle.value.proofs.Coding.{and-left, and-right}
 use Rattle.cells.proofs.Order.{and-both}
 use Rattle.rules.specs.Sane.{AllPlaced, LastPlaced, FrameFits, CallersFit, Sane}
-use Rattle.rules.specs.Ordered.{runProgram}
 use Rattle.rules.proofs.Ordered.{order-of, order-sane, order-exact, sane-ordered, text-length}
 use Rattle.rules.proofs.Programs.{length-functions, parts-of, code-size}
 use Rattle.demands.specs.Kept.{Grew, WorldGrew}
@@ -117,7 +117,7 @@ module _ {w w' : World} (g : WorldGrew w w') where
 abbrev pub withProgram : Counts → Vm → Vm
 withProgram c m = record { program = c; stack = m .stack; frames = m .frames; cells = m .cells; last = m .last }
 
-module _ (m : Vm) (s : Stores) (l : Lent) (c : Counts) (s' : Stores) (e : runOrder m s l ≡ true) (e' : runProgram c s' ≡ true) (g : Grew (m .program) s c s') where
+module _ (m : Vm) (s : Stores) (l : Lent) (c : Counts) (s' : Stores) (e : runOrder m s l ≡ true) (e' : programOk c s' ≡ true) (g : Grew (m .program) s c s') where
   world-grew : WorldGrew (worldOf m s l) (worldOf (withProgram c m) s' l)
   unfolding worldOf worldIn
   world-grew =

@@ -7,12 +7,13 @@ use Rattle.model.specs.declared.Vm.{Vm}
 use Rattle.model.specs.declared.Counts.{Counts}
 use Rattle.model.specs.declared.Last.{Last}
 use Rattle.model.specs.declared.Last.the-variants.{Nothing, Is}
+use Rattle.model.specs.declared.Tally.{Tally}
 use Rattle.model.specs.declared.Fault.{Fault}
 use Rattle.model.specs.declared.Fault.the-variants as f
 use Rattle.model.specs.declared.RunResult.{RunResult}
 use Rattle.model.specs.Values.{faultNumber}
 use Rattle.model.specs.Steps.{World, State}
-use Rattle.model.specs.Runs.{Machine, begin, Mark, Ended, ended, stopped, endOf, Entry, fault, Ran, answered, settle, runOf}
+use Rattle.model.specs.Runs.{Machine, begin, Progress, Ended, ended, stopped, endOf, Entry, fault, Ran, tally, answered, settle, runOf}
 use Rattle.model.specs.Stores.{Stores}
 use Rattle.model.specs.Machines.{Lent, machineIn, worldOf, ran, answerIn, RunPost}
 use Rattle.rules.specs.Paths.{Steps}
@@ -44,14 +45,14 @@ fault-known f.UnitsSpent = (omega arith, omega arith)
 fault-known f.NoFunction = (omega arith, omega arith)
 
 module _ (w : World) (m : Machine) (u : ℕ) where
-  answered-within : (a : Last) (i : ℕ) → i ≤ u → Within u (answered a i)
+  answered-within : (a : Last) (i : Tally) → i .spent ≤ u → Within u (answered a i)
   unfolding answered
   answered-within Nothing i h = h
   answered-within (Is x) i h = h
 
   settled-within : (e : Ended) → Within u (settle w m u e .reply)
   unfolding settle
-  settled-within (ended a t) = answered-within a (u - t .units) (omega arith)
+  settled-within (ended k t) = answered-within (k .answer) (tally (u - t .units) k) (omega arith)
   settled-within (stopped n t k) = (omega arith, fault-known n)
 
   run-within : Within u (runOf w m u .reply)
@@ -59,18 +60,18 @@ module _ (w : World) (m : Machine) (u : ℕ) where
   run-within = settled-within (endOf w (begin m u))
 
   -- fault 13 reports the whole budget
-  run-whole : (spent : ℕ) (es : List Entry) → runOf w m u .reply ≡ fault 13 spent es → spent ≡ u
-  run-whole spent es e = by (run-recovered w m u 13 spent es e)
+  run-whole : (did : Tally) (es : List Entry) → runOf w m u .reply ≡ fault 13 did es → did .spent ≡ u
+  run-whole did es e = by (run-recovered w m u 13 did es e)
     where
-      by : Recovered w m u 13 spent es → spent ≡ u
+      by : Recovered w m u 13 did es → did .spent ≡ u
       by r = fee r (fault-fee w (r .at) (r .stops))
         where
-          fee : (r : Recovered w m u 13 spent es) → Fee (r .at) (r .fault) (r .after) → spent ≡ u
+          fee : (r : Recovered w m u 13 did es) → Fee (r .at) (r .fault) (r .after) → did .spent ≡ u
           fee r (one h e) = absurd (h (sym (r .number)))
           fee r (all h e) = omega (arith, r .units)
 
 -- DEMAND 1: no code makes a run go on; with u units there is no path of more than u written steps
-pub steps-within : {w : World} {m : Machine} {u n : ℕ} {a b : Last} {j k : Mark} {t : State} → Steps w n a j (begin m u) b k t → n ≤ u
+pub steps-within : {w : World} {m : Machine} {u n : ℕ} {j k : Progress} {t : State} → Steps w n j (begin m u) k t → n ≤ u
 steps-within {w} p = omega (arith, path-spends w p)
 
 -- DEMAND 2
@@ -83,6 +84,6 @@ run-written m s l u p {c} {x} e =
       program = z .program;
       steps = rw (z .run) (run-is-steps w a u);
       within = rw (z .run) (run-within w a u);
-      whole = λ spent es q. run-whole w a u spent es (rw (← (z .run)) q);
+      whole = λ did es q. run-whole w a u did es (rw (← (z .run)) q);
       trees = λ b p. as-trees w _ (path-sane w (order-world m s l (z .order) b) (order-sane m s l (z .order) u) p);
     }

@@ -8,10 +8,11 @@ use Rattle.model.specs.declared.Value.{Value}
 use Rattle.model.specs.declared.Last.{Last}
 use Rattle.model.specs.declared.Last.the-variants.{Is}
 use Rattle.model.specs.declared.Vm.{Vm}
+use Rattle.model.specs.declared.Tally.{Tally}
 use Rattle.model.specs.Heap.{Cell, heapOf}
 use Rattle.model.specs.Programs.{functionAt}
 use Rattle.model.specs.Steps.{World, State, returned, stepOf}
-use Rattle.model.specs.Runs.{Machine, begin, Mark, over, root, Entry, recovered}
+use Rattle.model.specs.Runs.{Machine, begin, Progress, over, root, Entry, recovered}
 use Rattle.model.specs.Stores.{Stores}
 use Rattle.model.specs.Machines.{Lent, machineIn, worldOf, runOrder}
 use Rattle.rules.specs.Ordered.{CodeBytes}
@@ -28,12 +29,12 @@ pub data Kept (w : World) (s t : State) : Last → List Cell → Type 0 where
   -- no root Return was completed: the former ones
   start : Quiet w s t → Kept w s t (s .last) (s .heap)
   -- those of the last root Return completed before the cut, which returned v
-  return : {n : ℕ} {a b : Last} {m k : Mark} {q q' : State} {v : Value} → Steps w n a m s b k q → over w q ≡ false → stepOf w q ≡ returned v q' → Quiet w q' t → Kept w s t (Is v) (q' .heap)
+  return : {n : ℕ} {m k : Progress} {q q' : State} {v : Value} → Steps w n m s k q → over w q ≡ false → stepOf w q ≡ returned v q' → Quiet w q' t → Kept w s t (Is v) (q' .heap)
 
--- a run of m with u units that answered fault n, the units spent and a backtrace, and left m'. The program's stores are only read.
-pub record Recovers (m : Vm) (s : Stores) (l : Lent) (u : ℕ) (m' : Vm) (n spent : ℕ) (trace : List Entry) (l' : Lent) : Type 0 where
+-- a run of m with u units that answered fault n, what it did and a backtrace, and left m'. The program's stores are only read.
+pub record Recovers (m : Vm) (s : Stores) (l : Lent) (u : ℕ) (m' : Vm) (n : ℕ) (did : Tally) (trace : List Entry) (l' : Lent) : Type 0 where
   -- the written steps up to the cut, and the step that faulted there
-  pub rules : Recovered (worldOf m s l) (machineIn m l) u n spent trace
+  pub rules : Recovered (worldOf m s l) (machineIn m l) u n did trace
   -- the stack of its start, word by word
   pub height : m' .stack ≡ m .stack
   pub stack : Alike (2 * m .stack) (l' .stack) (l .stack)
@@ -58,9 +59,9 @@ pub record SetUp (x : Machine) (h d : Held) : Type 0 where
   pub machine : machineIn (d .vm) (d .lent) ≡ x
   pub order : runOrder (d .vm) (d .stores) (d .lent) ≡ true
 
--- DEMAND 3, of a run with u units of what a host holds in h, that answered fault n, the units spent and a backtrace, and left h'
-pub record Demand3 (u : ℕ) (h : Held) (n spent : ℕ) (trace : List Entry) (h' : Held) : Type 0 where
-  pub leaves : Recovers (h .vm) (h .stores) (h .lent) u (h' .vm) n spent trace (h' .lent)
+-- DEMAND 3, of a run with u units of what a host holds in h, that answered fault n, what it did and a backtrace, and left h'
+pub record Demand3 (u : ℕ) (h : Held) (n : ℕ) (did : Tally) (trace : List Entry) (h' : Held) : Type 0 where
+  pub leaves : Recovers (h .vm) (h .stores) (h .lent) u (h' .vm) n did trace (h' .lent)
   -- whatever calls come then, new code included and the same for both: they say what they say of any machine d that was set up in that state with the same free cells
   pub later : {d : Held} {calls : List Call} → AlikeHeld (anew calls) h' d → AllTyped calls → {xs ys : List Answer} {e f : Held} (p : Chain calls h' xs e) (q : Chain calls d ys f) → said p ≡ said q
   -- and where it was set up in the same words, the answers are the same words

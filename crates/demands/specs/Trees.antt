@@ -7,12 +7,11 @@ use lib.ListN.{length}
 use Rattle.model.specs.declared.Value.{Value}
 use Rattle.model.specs.declared.Value.the-variants as v
 use Rattle.model.specs.declared.Found.the-variants as g
-use Rattle.model.specs.declared.Last.{Last}
 use Rattle.model.specs.Heap.{Cell, listElements, structFields, built, buildOf, fieldOf, placedBelow}
 use Rattle.model.specs.Equality.{sameOf}
 use Rattle.model.specs.Trees.{Tree, Trees, list, struct, treesOf, meaning, sameTree}
 use Rattle.model.specs.Steps.{World, State}
-use Rattle.model.specs.Runs.{Mark}
+use Rattle.model.specs.Runs.{Progress}
 use Rattle.rules.specs.Paths.{Steps}
 use Rattle.cells.proofs.Meaning.{At}
 
@@ -33,4 +32,4 @@ pub record AsTrees (w : World) (s : State) : Type 0 where
   pub field : (p i : ℕ) (r : List Value) (x : Value) → s .stack ≡ v.StructInstance p ∷ r → fieldOf (s .heap) p i ≡ g.Got x
       → (k : ℕ) (us : Trees) → means w s (v.StructInstance p) ≡ struct k us → At us i (means w s x)
   -- what a value of s means, no later step changes
-  pub later : {n : ℕ} {a b : Last} {m k : Mark} {t : State} → Steps w n a m s b k t → (x : Value) → placedBelow (length (w .text)) (s .heap) (length (s .heap)) x ≡ true → means w t x ≡ means w s x
+  pub later : {n : ℕ} {m k : Progress} {t : State} → Steps w n m s k t → (x : Value) → placedBelow (length (w .text)) (s .heap) (length (s .heap)) x ≡ true → means w t x ≡ means w s x

@@ -9,21 +9,20 @@ use Rattle.model.specs.declared.Op.the-variants as o
 use Rattle.model.specs.declared.Decoded.{Decoded}
 use Rattle.model.specs.declared.Decoded.the-variants as d
 use Rattle.model.specs.declared.Value.{Value}
-use Rattle.model.specs.declared.Last.{Last}
 use Rattle.model.specs.declared.Counts.{Counts}
 use Rattle.model.specs.declared.Vm.{Vm}
-use Rattle.model.specs.declared.Last.the-variants.{Nothing}
 use Rattle.model.specs.declared.Fault.{Fault}
+use Rattle.model.specs.declared.Tally.{Tally}
 use Rattle.model.specs.Values.{faultNumber}
 use Rattle.model.specs.Heap.{Cell}
 use Rattle.model.specs.Opcodes.{opcodeAt}
 use Rattle.model.specs.Equality.{Same, same, sameOf}
 use Rattle.model.specs.Steps.{World, State, Outcome, went, returned, faulted, position, codeOf, stepOf}
-use Rattle.model.specs.Runs.{Machine, begin, machineOf, Mark, mark, over, Entry, traceOf, Reply, value, continue, fault, Ran, answered, recovered}
+use Rattle.model.specs.Runs.{Machine, begin, machineOf, Progress, atStart, over, Entry, traceOf, Reply, value, continue, fault, Ran, answered, recovered}
 use Rattle.model.specs.Stores.{Stores}
 use Rattle.model.specs.Machines.{Lent, machineIn, worldOf}
 use Rattle.rules.specs.Ordered.{CodeBytes}
-use Rattle.rules.specs.Paths.{Steps, none, on, ret}
+use Rattle.rules.specs.Paths.{Steps, none, on, ret, rootReturns}
 use Rattle.demands.specs.Trees.{AsTrees}
 
 -- ---- a step
@@ -83,25 +82,33 @@ pub data Fee (s : State) (n : Fault) (t : State) : Type 0 where
 -- ---- a path
 
 -- one for each step, and one for each pair that it visits
-abbrev pub spentOn : {w : World} {n : ℕ} {a b : Last} {m k : Mark} {s t : State} → Steps w n a m s b k t → ℕ
+abbrev pub spentOn : {w : World} {n : ℕ} {m k : Progress} {s t : State} → Steps w n m s k t → ℕ
 spentOn none = 0
 spentOn {w} (on {s = s} o q p) = suc (pairsAt w s) + spentOn p
 spentOn {w} (ret {s = s} o q p) = suc (pairsAt w s) + spentOn p
 
 -- ---- a run of m with u units
 
+-- what a path did: the units spent on its steps, and the root Returns among them
+abbrev pub didOn : {w : World} {n : ℕ} {m k : Progress} {s t : State} → Steps w n m s k t → Tally
+didOn p = record { spent = spentOn p; returns = rootReturns p }
+
+-- the same with a step behind it that faults, from s to t
+abbrev pub didUntil : {w : World} {n : ℕ} {m k : Progress} {s₀ s : State} → Steps w n m s₀ k s → State → Tally
+didUntil {s = s} p t = record { spent = spentOn p + (s .units - t .units); returns = rootReturns p }
+
 -- the run is n written steps to a state where it is over, or up to the step that faults: its reply and what it leaves are theirs
 pub data RunIs (w : World) (m : Machine) (u : ℕ) : Ran → Type 0 where
-  ends : {n : ℕ} {b : Last} {k : Mark} {t : State} (p : Steps w n Nothing (mark (begin m u)) (begin m u) b k t) → over w t ≡ true
-      → RunIs w m u (record { reply = answered b (spentOn p); machine = machineOf t })
-  faults : {n : ℕ} {b : Last} {k : Mark} {s t : State} {i : Fault} (p : Steps w n Nothing (mark (begin m u)) (begin m u) b k s) → over w s ≡ false → stepOf w s ≡ faulted i t → Fee s i t
-      → RunIs w m u (record { reply = fault (faultNumber i) (spentOn p + (s .units - t .units)) (traceOf (w .functions) (t .frame ∷ t .callers)); machine = recovered w m k })
+  ends : {n : ℕ} {k : Progress} {t : State} (p : Steps w n (atStart (begin m u)) (begin m u) k t) → over w t ≡ true
+      → RunIs w m u (record { reply = answered (k .answer) (didOn p); machine = machineOf t })
+  faults : {n : ℕ} {k : Progress} {s t : State} {i : Fault} (p : Steps w n (atStart (begin m u)) (begin m u) k s) → over w s ≡ false → stepOf w s ≡ faulted i t → Fee s i t
+      → RunIs w m u (record { reply = fault (faultNumber i) (didUntil p t) (traceOf (w .functions) (t .frame ∷ t .callers)); machine = recovered w m k })
 
--- the units spent are at most those given, and a fault is one of the 14 faults of a run
+-- the units spent are at most those given, and a fault is one of the 14 faults of a run; "continue" is answered where no root Return was completed
 abbrev pub Within : ℕ → Reply → Type 0
-Within u (value x spent) = spent ≤ u
-Within u (continue spent) = spent ≤ u
-Within u (fault n spent es) = (spent ≤ u) × ((1 ≤ n) × (n ≤ 14))
+Within u (value x did) = did .spent ≤ u
+Within u (continue did) = did .spent ≤ u
+Within u (fault n did es) = (did .spent ≤ u) × ((1 ≤ n) × (n ≤ 14))
 
 -- DEMAND 2, of a run of m with u units that was not refused; c and x are what its result and the lent stores then stand for
 pub record Demand2 (m : Vm) (s : Stores) (l : Lent) (u : ℕ) (c : Counts) (x : Ran) : Type 0 where
@@ -110,6 +117,6 @@ pub record Demand2 (m : Vm) (s : Stores) (l : Lent) (u : ℕ) (c : Counts) (x : 
   pub steps : RunIs (worldOf m s l) (machineIn m l) u x
   pub within : Within u (x .reply)
   -- where the units were too few, the units spent are the whole budget
-  pub whole : (spent : ℕ) (es : List Entry) → x .reply ≡ fault 13 spent es → spent ≡ u
+  pub whole : (did : Tally) (es : List Entry) → x .reply ≡ fault 13 did es → did .spent ≡ u
   -- in each state that it comes to, values are trees
-  pub trees : CodeBytes s → {n : ℕ} {b : Last} {k : Mark} {t : State} → Steps (worldOf m s l) n Nothing (mark (begin (machineIn m l) u)) (begin (machineIn m l) u) b k t → AsTrees (worldOf m s l) t
+  pub trees : CodeBytes s → {n : ℕ} {k : Progress} {t : State} → Steps (worldOf m s l) n (atStart (begin (machineIn m l) u)) (begin (machineIn m l) u) k t → AsTrees (worldOf m s l) t
