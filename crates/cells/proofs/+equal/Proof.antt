@@ -40,7 +40,8 @@ callees t = (
 )
 
 abbrev equal-Inv-loop : equal-lts.InvT-loop
-equal-Inv-loop text cells used left p q first second count rest₀ i₀ rest i = Turn text (heapOf used cells) first second count left rest i
+equal-Inv-loop text cells used left p q first second count rest₀ i₀ rest i =
+    Turn text (heapOf used cells) first second count left rest i
 
 abbrev equal-μ-loop : equal-lts.MeasureT-loop
 equal-μ-loop text cells used left p q first second count rest₀ i₀ rest i = count - i
@@ -49,10 +50,10 @@ equal-compare-requires : (t : ℕ) → equal-lts.Need-compare-requires (callees 
 equal-compare-requires t c κs = inside _ _ _ _ _ (c .before .before .pre .1)
 
 equal-enum-known-x : (t : ℕ) → equal-lts.Need-enum-known-x (callees t) (equal-at t) equal.Post equal-Inv-loop equal-μ-loop
-equal-enum-known-x t c = search needs
+equal-enum-known-x t c = search
 
 equal-enum-known-p : (t : ℕ) → equal-lts.Need-enum-known-p (callees t) (equal-at t) equal.Post equal-Inv-loop equal-μ-loop
-equal-enum-known-p t c = search needs
+equal-enum-known-p t c = search
 
 equal-cast-first : (t : ℕ) → equal-lts.Need-cast-first (callees t) (equal-at t) equal.Post equal-Inv-loop equal-μ-loop
 equal-cast-first t c = search needs
@@ -61,58 +62,163 @@ equal-cast-second : (t : ℕ) → equal-lts.Need-cast-second (callees t) (equal-
 equal-cast-second t c = search needs
 
 equal-read-header-requires : (t : ℕ) → equal-lts.Need-read-header-requires (callees t) (equal-at t) equal.Post equal-Inv-loop equal-μ-loop
-equal-read-header-requires t c κs = room-p _ _ _ _ _ (c .before .before .before .before .before .before .pre .1) _ (c .before .before .before .compare .ensures) _ _ (c .before .p .given .1)
+equal-read-header-requires t c κs = search room-p
 
 equal-read-header-requires-2 : (t : ℕ) → equal-lts.Need-read-header-requires-2 (callees t) (equal-at t) equal.Post equal-Inv-loop equal-μ-loop
-equal-read-header-requires-2 t c κs = room-q _ _ _ _ _ (c .before .before .before .before .before .before .before .pre .1) _ (c .before .before .before .before .compare .ensures) _ _ (c .before .before .p .given .1)
+equal-read-header-requires-2 t c κs = search room-q
 
 equal-returns : (t : ℕ) → equal-lts.Need-returns (callees t) (equal-at t) equal.Post equal-Inv-loop equal-μ-loop
-equal-returns t c = counts-differ _ _ _ _ _ (c .before .before .before .before .before .before .before .before .before .before .pre .1) _ (c .before .before .before .before .before .before .before .compare .ensures) _ _ (c .before .before .before .before .before .p .given .1) _ _ (c .before .before .before .read-header .ensures) (c .before .before .read-header2 .ensures) _ (c .if1 .taken)
+equal-returns t c = search counts-differ
 
 equal-returns-2 : (t : ℕ) → equal-lts.Need-returns-2 (callees t) (equal-at t) equal.Post equal-Inv-loop equal-μ-loop
-equal-returns-2 t c = numbers-differ _ _ _ _ _ (c .before .before .before .before .before .before .before .before .before .before .before .before .before .pre .1) _ (c .before .before .before .before .before .before .before .before .before .before .compare .ensures) _ _ (c .before .before .before .before .before .before .before .before .p .given .1) _ _ (c .before .before .before .before .before .before .read-header .ensures) (c .before .before .before .before .before .read-header2 .ensures) _ (c .before .before .before .if1 .left) (c .if2 .taken)
+equal-returns-2 t c = search numbers-differ
 
 equal-loop-holds : (t : ℕ) → equal-lts.Need-loop-holds (callees t) (equal-at t) equal.Post equal-Inv-loop equal-μ-loop
-equal-loop-holds t c = turn-start _ _ _ _ _ (c .before .before .before .before .before .before .before .before .before .before .before .before .before .pre .1) _ (c .before .before .before .before .before .before .before .before .before .before .compare .ensures) _ _ (c .before .before .before .before .before .before .before .before .p .given .1) _ _ (c .before .before .before .before .before .before .read-header .ensures) (c .before .before .before .before .before .read-header2 .ensures) _
+equal-loop-holds t c = search turn-start
 
 equal-returns-3 : (t : ℕ) → equal-lts.Need-returns-3 (callees t) (equal-at t) equal.Post equal-Inv-loop equal-μ-loop
-equal-returns-3 t c = no-units _ _ _ _ _ (c .before .before .before .before .before .before .before .before .before .before .before .before .before .before .before .before .pre .1) _ (c .before .before .before .before .before .before .before .before .before .before .before .before .before .compare .ensures) _ _ (c .before .before .before .before .before .before .before .before .before .before .before .p .given .1) _ _ (c .before .before .before .before .before .before .before .before .before .read-header .ensures) (c .before .before .before .before .before .before .before .before .read-header2 .ensures) (c .before .before .before .before .before .before .if1 .left) (c .before .before .before .if2 .left) _ _ _ (c .before .before .loop .inv) (c .before .loop-test .taken) (c .if3 .taken)
+equal-returns-3 t c = search no-units
 
 equal-sub-next : (t : ℕ) → equal-lts.Need-sub-next (callees t) (equal-at t) equal.Post equal-Inv-loop equal-μ-loop
 equal-sub-next t c = search needs
 
 equal-add-read-value : (t : ℕ) → equal-lts.Need-add-read-value (callees t) (equal-at t) equal.Post equal-Inv-loop equal-μ-loop
-equal-add-read-value t c = let r = room-x _ _ _ _ _ (c .before .before .before .before .before .before .before .before .before .before .before .before .before .before .before .before .pre .1) _ (c .before .before .before .before .before .before .before .before .before .before .before .before .before .compare .ensures) _ _ (c .before .before .before .before .before .before .before .before .before .before .before .p .given .1) _ _ (c .before .before .before .before .before .before .before .before .before .read-header .ensures) (c .before .before .before .before .before .before .before .before .read-header2 .ensures) (c .before .before .before .before .before .before .if1 .left) (c .before .before .before .if2 .left) _ _ _ (c .before .before .loop .inv) (c .before .loop-test .taken) in omega arith
+equal-add-read-value t c = search (room-x, needs)
 
 equal-add-read-value-2 : (t : ℕ) → equal-lts.Need-add-read-value-2 (callees t) (equal-at t) equal.Post equal-Inv-loop equal-μ-loop
-equal-add-read-value-2 t c = let r = room-x _ _ _ _ _ (c .before .before .before .before .before .before .before .before .before .before .before .before .before .before .before .before .pre .1) _ (c .before .before .before .before .before .before .before .before .before .before .before .before .before .compare .ensures) _ _ (c .before .before .before .before .before .before .before .before .before .before .before .p .given .1) _ _ (c .before .before .before .before .before .before .before .before .before .read-header .ensures) (c .before .before .before .before .before .before .before .before .read-header2 .ensures) (c .before .before .before .before .before .before .if1 .left) (c .before .before .before .if2 .left) _ _ _ (c .before .before .loop .inv) (c .before .loop-test .taken) in omega arith
+equal-add-read-value-2 t c =
+    let r =
+    let at-if2 = c .before .before .before in
+    let at-if1 = at-if2 .before .before .before in
+    let at-read-header2 = at-if1 .before .before in
+    let at-read-header = at-read-header2 .before in
+    let at-p = at-read-header .before .before in
+    let at-compare = at-p .before .before in
+    let at-start = at-compare .before .before .before in
+    room-x _ _ _ _ _ (at-start .pre .1) _ (at-compare .compare .ensures) _ _ (at-p .p .given .1) _ _
+    (at-read-header .read-header .ensures) (at-read-header2 .read-header2 .ensures) (at-if1 .if1 .left) (at-if2 .if2 .left) _ _ _
+    (c .before .before .loop .inv) (c .before .loop-test .taken) in
+    omega arith
 
 equal-read-value-requires : (t : ℕ) → equal-lts.Need-read-value-requires (callees t) (equal-at t) equal.Post equal-Inv-loop equal-μ-loop
-equal-read-value-requires t c κs = room-x _ _ _ _ _ (c .before .before .before .before .before .before .before .before .before .before .before .before .before .before .before .before .pre .1) _ (c .before .before .before .before .before .before .before .before .before .before .before .before .before .compare .ensures) _ _ (c .before .before .before .before .before .before .before .before .before .before .before .p .given .1) _ _ (c .before .before .before .before .before .before .before .before .before .read-header .ensures) (c .before .before .before .before .before .before .before .before .read-header2 .ensures) (c .before .before .before .before .before .before .if1 .left) (c .before .before .before .if2 .left) _ _ _ (c .before .before .loop .inv) (c .before .loop-test .taken)
+equal-read-value-requires t c κs =
+    let at-if2 = c .before .before .before in
+    let at-if1 = at-if2 .before .before .before in
+    let at-read-header2 = at-if1 .before .before in
+    let at-read-header = at-read-header2 .before in
+    let at-p = at-read-header .before .before in
+    let at-compare = at-p .before .before in
+    let at-start = at-compare .before .before .before in
+    room-x _ _ _ _ _ (at-start .pre .1) _ (at-compare .compare .ensures) _ _ (at-p .p .given .1) _ _
+    (at-read-header .read-header .ensures) (at-read-header2 .read-header2 .ensures) (at-if1 .if1 .left) (at-if2 .if2 .left) _ _ _
+    (c .before .before .loop .inv) (c .before .loop-test .taken)
 
 equal-add-read-value-3 : (t : ℕ) → equal-lts.Need-add-read-value-3 (callees t) (equal-at t) equal.Post equal-Inv-loop equal-μ-loop
-equal-add-read-value-3 t c = let r = room-y _ _ _ _ _ (c .before .before .before .before .before .before .before .before .before .before .before .before .before .before .before .before .before .pre .1) _ (c .before .before .before .before .before .before .before .before .before .before .before .before .before .before .compare .ensures) _ _ (c .before .before .before .before .before .before .before .before .before .before .before .before .p .given .1) _ _ (c .before .before .before .before .before .before .before .before .before .before .read-header .ensures) (c .before .before .before .before .before .before .before .before .before .read-header2 .ensures) (c .before .before .before .before .before .before .before .if1 .left) (c .before .before .before .before .if2 .left) _ _ _ (c .before .before .before .loop .inv) (c .before .before .loop-test .taken) in omega arith
+equal-add-read-value-3 t c = search (room-y, needs)
 
 equal-add-read-value-4 : (t : ℕ) → equal-lts.Need-add-read-value-4 (callees t) (equal-at t) equal.Post equal-Inv-loop equal-μ-loop
-equal-add-read-value-4 t c = let r = room-y _ _ _ _ _ (c .before .before .before .before .before .before .before .before .before .before .before .before .before .before .before .before .before .pre .1) _ (c .before .before .before .before .before .before .before .before .before .before .before .before .before .before .compare .ensures) _ _ (c .before .before .before .before .before .before .before .before .before .before .before .before .p .given .1) _ _ (c .before .before .before .before .before .before .before .before .before .before .read-header .ensures) (c .before .before .before .before .before .before .before .before .before .read-header2 .ensures) (c .before .before .before .before .before .before .before .if1 .left) (c .before .before .before .before .if2 .left) _ _ _ (c .before .before .before .loop .inv) (c .before .before .loop-test .taken) in omega (arith, c .before .before .before .before .before .before .before .before .before .before .before .before .before .before .before .before .before .good .1 .0 .0)
+equal-add-read-value-4 t c =
+    let r =
+    let at-loop = c .before .before .before in
+    let at-if2 = at-loop .before in
+    let at-if1 = at-if2 .before .before .before in
+    let at-read-header2 = at-if1 .before .before in
+    let at-read-header = at-read-header2 .before in
+    let at-p = at-read-header .before .before in
+    let at-compare = at-p .before .before in
+    let at-start = at-compare .before .before .before in
+    room-y _ _ _ _ _ (at-start .pre .1) _ (at-compare .compare .ensures) _ _ (at-p .p .given .1) _ _
+    (at-read-header .read-header .ensures) (at-read-header2 .read-header2 .ensures) (at-if1 .if1 .left) (at-if2 .if2 .left) _ _ _
+    (at-loop .loop .inv) (c .before .before .loop-test .taken) in
+    omega (
+      arith,
+      c .before .before .before .before .before .before .before .before .before .before .before .before .before .before .before
+          .before .before .good .1 .0 .0,
+    )
 
 equal-read-value-requires-2 : (t : ℕ) → equal-lts.Need-read-value-requires-2 (callees t) (equal-at t) equal.Post equal-Inv-loop equal-μ-loop
-equal-read-value-requires-2 t c κs = room-y _ _ _ _ _ (c .before .before .before .before .before .before .before .before .before .before .before .before .before .before .before .before .before .pre .1) _ (c .before .before .before .before .before .before .before .before .before .before .before .before .before .before .compare .ensures) _ _ (c .before .before .before .before .before .before .before .before .before .before .before .before .p .given .1) _ _ (c .before .before .before .before .before .before .before .before .before .before .read-header .ensures) (c .before .before .before .before .before .before .before .before .before .read-header2 .ensures) (c .before .before .before .before .before .before .before .if1 .left) (c .before .before .before .before .if2 .left) _ _ _ (c .before .before .before .loop .inv) (c .before .before .loop-test .taken)
+equal-read-value-requires-2 t c κs =
+    let at-loop = c .before .before .before in
+    let at-if2 = at-loop .before in
+    let at-if1 = at-if2 .before .before .before in
+    let at-read-header2 = at-if1 .before .before in
+    let at-read-header = at-read-header2 .before in
+    let at-p = at-read-header .before .before in
+    let at-compare = at-p .before .before in
+    let at-start = at-compare .before .before .before in
+    room-y _ _ _ _ _ (at-start .pre .1) _ (at-compare .compare .ensures) _ _ (at-p .p .given .1) _ _
+    (at-read-header .read-header .ensures) (at-read-header2 .read-header2 .ensures) (at-if1 .if1 .left) (at-if2 .if2 .left) _ _ _
+    (at-loop .loop .inv) (c .before .before .loop-test .taken)
 
 equal-equal-requires : (t : ℕ) → equal-lts.Need-equal-requires (callees t) (equal-at t) equal.Post equal-Inv-loop equal-μ-loop
-equal-equal-requires t c κs = (subst (λ (j : ℕ). rank (c .before .read-value .result) < j) (c .before .before .before .before .before .before .before .before .before .before .before .before .before .before .before .before .before .before .pre .0) (falls-in _ _ _ _ _ (c .before .before .before .before .before .before .before .before .before .before .before .before .before .before .before .before .before .before .pre .1) _ (c .before .before .before .before .before .before .before .before .before .before .before .before .before .before .before .compare .ensures) _ _ (c .before .before .before .before .before .before .before .before .before .before .before .before .before .p .given .1) _ _ (c .before .before .before .before .before .before .before .before .before .before .before .read-header .ensures) (c .before .before .before .before .before .before .before .before .before .before .read-header2 .ensures) (c .before .before .before .before .before .before .before .before .if1 .left) (c .before .before .before .before .before .if2 .left) _ _ _ (c .before .before .before .before .loop .inv) (c .before .before .before .loop-test .taken) _ _ (c .before .read-value .ensures) (c .read-value2 .ensures)), asked _ _ _ _ _ (c .before .before .before .before .before .before .before .before .before .before .before .before .before .before .before .before .before .before .pre .1) _ (c .before .before .before .before .before .before .before .before .before .before .before .before .before .before .before .compare .ensures) _ _ (c .before .before .before .before .before .before .before .before .before .before .before .before .before .p .given .1) _ _ (c .before .before .before .before .before .before .before .before .before .before .before .read-header .ensures) (c .before .before .before .before .before .before .before .before .before .before .read-header2 .ensures) (c .before .before .before .before .before .before .before .before .if1 .left) (c .before .before .before .before .before .if2 .left) _ _ _ (c .before .before .before .before .loop .inv) (c .before .before .before .loop-test .taken) _ _ (c .before .read-value .ensures) (c .read-value2 .ensures))
+equal-equal-requires t c κs =
+    let at-read-value = c .before in
+    let at-loop-test = at-read-value .before .before in
+    let at-loop = at-loop-test .before in
+    let at-if2 = at-loop .before in
+    let at-if1 = at-if2 .before .before .before in
+    let at-read-header2 = at-if1 .before .before in
+    let at-read-header = at-read-header2 .before in
+    let at-p = at-read-header .before .before in
+    let at-compare = at-p .before .before in
+    let at-start = at-compare .before .before .before in (
+      subst (λ (j : ℕ). rank (at-read-value .read-value .result) < j) (at-start .pre .0)
+          (falls-in _ _ _ _ _ (at-start .pre .1) _ (at-compare .compare .ensures) _ _ (at-p .p .given .1) _ _
+          (at-read-header .read-header .ensures) (at-read-header2 .read-header2 .ensures) (at-if1 .if1 .left) (at-if2 .if2 .left)
+          _ _ _ (at-loop .loop .inv) (at-loop-test .loop-test .taken) _ _ (at-read-value .read-value .ensures)
+          (c .read-value2 .ensures)),
+      asked _ _ _ _ _ (at-start .pre .1) _ (at-compare .compare .ensures) _ _ (at-p .p .given .1) _ _
+          (at-read-header .read-header .ensures) (at-read-header2 .read-header2 .ensures) (at-if1 .if1 .left) (at-if2 .if2 .left)
+          _ _ _ (at-loop .loop .inv) (at-loop-test .loop-test .taken) _ _ (at-read-value .read-value .ensures)
+          (c .read-value2 .ensures),
+    )
 
 equal-enum-known-alike : (t : ℕ) → equal-lts.Need-enum-known-alike (callees t) (equal-at t) equal.Post equal-Inv-loop equal-μ-loop
-equal-enum-known-alike t c = search needs
+equal-enum-known-alike t c = search
 
 equal-returns-4 : (t : ℕ) → equal-lts.Need-returns-4 (callees t) (equal-at t) equal.Post equal-Inv-loop equal-μ-loop
-equal-returns-4 t c = differs _ _ _ _ _ (c .before .before .before .before .before .before .before .before .before .before .before .before .before .before .before .before .before .before .before .before .before .before .before .pre .1) _ (c .before .before .before .before .before .before .before .before .before .before .before .before .before .before .before .before .before .before .before .before .compare .ensures) _ _ (c .before .before .before .before .before .before .before .before .before .before .before .before .before .before .before .before .before .before .p .given .1) _ _ (c .before .before .before .before .before .before .before .before .before .before .before .before .before .before .before .before .read-header .ensures) (c .before .before .before .before .before .before .before .before .before .before .before .before .before .before .before .read-header2 .ensures) (c .before .before .before .before .before .before .before .before .before .before .before .before .before .if1 .left) (c .before .before .before .before .before .before .before .before .before .before .if2 .left) _ _ _ (c .before .before .before .before .before .before .before .before .before .loop .inv) (c .before .before .before .before .before .before .before .before .loop-test .taken) _ _ (c .before .before .before .before .before .before .read-value .ensures) (c .before .before .before .before .before .read-value2 .ensures) _ refl (c .before .before .before .before .before .before .before .if3 .left) _ (c .before .before .before .before .equal .ensures) _ _ (c .before .before .alike .given .1) (not-true _ (c .if4 .taken))
+equal-returns-4 t c =
+    let at-equal = c .before .before .before .before in
+    let at-read-value2 = at-equal .before in
+    let at-read-value = at-read-value2 .before in
+    let at-if3 = at-read-value .before in
+    let at-loop-test = at-if3 .before in
+    let at-loop = at-loop-test .before in
+    let at-if2 = at-loop .before in
+    let at-if1 = at-if2 .before .before .before in
+    let at-read-header2 = at-if1 .before .before in
+    let at-read-header = at-read-header2 .before in
+    let at-p = at-read-header .before .before in
+    let at-compare = at-p .before .before in
+    let at-start = at-compare .before .before .before in
+    differs _ _ _ _ _ (at-start .pre .1) _ (at-compare .compare .ensures) _ _ (at-p .p .given .1) _ _
+    (at-read-header .read-header .ensures) (at-read-header2 .read-header2 .ensures) (at-if1 .if1 .left) (at-if2 .if2 .left) _ _ _
+    (at-loop .loop .inv) (at-loop-test .loop-test .taken) _ _ (at-read-value .read-value .ensures)
+    (at-read-value2 .read-value2 .ensures) _ refl (at-if3 .if3 .left) _ (at-equal .equal .ensures) _ _
+    (c .before .before .alike .given .1) (not-true _ (c .if4 .taken))
 
 equal-enum-told : (t : ℕ) → equal-lts.Need-enum-told (callees t) (equal-at t) equal.Post equal-Inv-loop equal-μ-loop
-equal-enum-told t c = search needs
+equal-enum-told t c = search
 
 equal-returns-5 : (t : ℕ) → equal-lts.Need-returns-5 (callees t) (equal-at t) equal.Post equal-Inv-loop equal-μ-loop
-equal-returns-5 t c = ran-out _ _ _ _ _ (c .before .before .before .before .before .before .before .before .before .before .before .before .before .before .before .before .before .before .before .before .before .pre .1) _ (c .before .before .before .before .before .before .before .before .before .before .before .before .before .before .before .before .before .before .compare .ensures) _ _ (c .before .before .before .before .before .before .before .before .before .before .before .before .before .before .before .before .p .given .1) _ _ (c .before .before .before .before .before .before .before .before .before .before .before .before .before .before .read-header .ensures) (c .before .before .before .before .before .before .before .before .before .before .before .before .before .read-header2 .ensures) (c .before .before .before .before .before .before .before .before .before .before .before .if1 .left) (c .before .before .before .before .before .before .before .before .if2 .left) _ _ _ (c .before .before .before .before .before .before .before .loop .inv) (c .before .before .before .before .before .before .loop-test .taken) _ _ (c .before .before .before .before .read-value .ensures) (c .before .before .before .read-value2 .ensures) _ refl (c .before .before .before .before .before .if3 .left) _ (c .before .before .equal .ensures) (c .enum-told .given .1)
+equal-returns-5 t c =
+    let at-read-value2 = c .before .before .before in
+    let at-read-value = at-read-value2 .before in
+    let at-if3 = at-read-value .before in
+    let at-loop-test = at-if3 .before in
+    let at-loop = at-loop-test .before in
+    let at-if2 = at-loop .before in
+    let at-if1 = at-if2 .before .before .before in
+    let at-read-header2 = at-if1 .before .before in
+    let at-read-header = at-read-header2 .before in
+    let at-p = at-read-header .before .before in
+    let at-compare = at-p .before .before in
+    let at-start = at-compare .before .before .before in
+    ran-out _ _ _ _ _ (at-start .pre .1) _ (at-compare .compare .ensures) _ _ (at-p .p .given .1) _ _
+    (at-read-header .read-header .ensures) (at-read-header2 .read-header2 .ensures) (at-if1 .if1 .left) (at-if2 .if2 .left) _ _ _
+    (at-loop .loop .inv) (at-loop-test .loop-test .taken) _ _ (at-read-value .read-value .ensures)
+    (at-read-value2 .read-value2 .ensures) _ refl (at-if3 .if3 .left) _ (c .before .before .equal .ensures)
+    (c .enum-told .given .1)
 
 equal-add-i : (t : ℕ) → equal-lts.Need-add-i (callees t) (equal-at t) equal.Post equal-Inv-loop equal-μ-loop
 equal-add-i t c = search needs
@@ -121,13 +227,31 @@ equal-loop-less : (t : ℕ) → equal-lts.Need-loop-less (callees t) (equal-at t
 equal-loop-less t c = search needs
 
 equal-loop-again : (t : ℕ) → equal-lts.Need-loop-again (callees t) (equal-at t) equal.Post equal-Inv-loop equal-μ-loop
-equal-loop-again t c = again _ _ _ _ _ (c .before .before .before .before .before .before .before .before .before .before .before .before .before .before .before .before .before .before .before .before .before .before .before .pre .1) _ (c .before .before .before .before .before .before .before .before .before .before .before .before .before .before .before .before .before .before .before .before .compare .ensures) _ _ (c .before .before .before .before .before .before .before .before .before .before .before .before .before .before .before .before .before .before .p .given .1) _ _ (c .before .before .before .before .before .before .before .before .before .before .before .before .before .before .before .before .read-header .ensures) (c .before .before .before .before .before .before .before .before .before .before .before .before .before .before .before .read-header2 .ensures) (c .before .before .before .before .before .before .before .before .before .before .before .before .before .if1 .left) (c .before .before .before .before .before .before .before .before .before .before .if2 .left) _ _ _ (c .before .before .before .before .before .before .before .before .before .loop .inv) (c .before .before .before .before .before .before .before .before .loop-test .taken) _ _ (c .before .before .before .before .before .before .read-value .ensures) (c .before .before .before .before .before .read-value2 .ensures) _ refl (c .before .before .before .before .before .before .before .if3 .left) _ (c .before .before .before .before .equal .ensures) _ _ (c .before .before .alike .given .1) (not-false _ (c .if4 .left))
+equal-loop-again t c =
+    let at-equal = c .before .before .before .before in
+    let at-read-value2 = at-equal .before in
+    let at-read-value = at-read-value2 .before in
+    let at-if3 = at-read-value .before in
+    let at-loop-test = at-if3 .before in
+    let at-loop = at-loop-test .before in
+    let at-if2 = at-loop .before in
+    let at-if1 = at-if2 .before .before .before in
+    let at-read-header2 = at-if1 .before .before in
+    let at-read-header = at-read-header2 .before in
+    let at-p = at-read-header .before .before in
+    let at-compare = at-p .before .before in
+    let at-start = at-compare .before .before .before in
+    again _ _ _ _ _ (at-start .pre .1) _ (at-compare .compare .ensures) _ _ (at-p .p .given .1) _ _
+    (at-read-header .read-header .ensures) (at-read-header2 .read-header2 .ensures) (at-if1 .if1 .left) (at-if2 .if2 .left) _ _ _
+    (at-loop .loop .inv) (at-loop-test .loop-test .taken) _ _ (at-read-value .read-value .ensures)
+    (at-read-value2 .read-value2 .ensures) _ refl (at-if3 .if3 .left) _ (at-equal .equal .ensures) _ _
+    (c .before .before .alike .given .1) (not-false _ (c .if4 .left))
 
 equal-returns-6 : (t : ℕ) → equal-lts.Need-returns-6 (callees t) (equal-at t) equal.Post equal-Inv-loop equal-μ-loop
-equal-returns-6 t c = said-is _ _ _ _ _ (c .before .before .before .before .before .before .pre .1) _ _ (c .before .before .before .compare .ensures) _ (c .before .x .given .1)
+equal-returns-6 t c = search said-is
 
 equal-returns-7 : (t : ℕ) → equal-lts.Need-returns-7 (callees t) (equal-at t) equal.Post equal-Inv-loop equal-μ-loop
-equal-returns-7 t c = finish _ _ _ _ _ (c .before .before .before .before .before .before .before .before .before .before .before .before .before .before .before .pre .1) _ (c .before .before .before .before .before .before .before .before .before .before .before .before .compare .ensures) _ _ (c .before .before .before .before .before .before .before .before .before .before .p .given .1) _ _ (c .before .before .before .before .before .before .before .before .read-header .ensures) (c .before .before .before .before .before .before .before .read-header2 .ensures) (c .before .before .before .before .before .if1 .left) (c .before .before .if2 .left) _ _ _ (c .before .loop .inv) (c .loop-test .left)
+equal-returns-7 t c = search finish
 
 pub +equal-spec : {M : Type 1} → statement M
 +equal-spec = close μ-equal λ t. equal-lts.spec (callees t)

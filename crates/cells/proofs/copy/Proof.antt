@@ -18,13 +18,15 @@ loop-holds : tie.Need-loop-holds Inv-loop μ-loop
 loop-holds c = copy-start _ _ _ _
 
 element-requires : tie.Need-element-requires Inv-loop μ-loop
-element-requires c κs = (c .loop-test .taken, c .before .before .before .before .pre .0, c .before .before .before .before .pre .1)
+element-requires c κs =
+    let at-start = c .before .before .before .before in
+    (c .loop-test .taken, at-start .pre .0, at-start .pre .1)
 
 add-write-value : tie.Need-add-write-value Inv-loop μ-loop
-add-write-value c = let r = copy-room _ _ _ _ _ _ (c .before .before .before .loop .inv) (length-elements _ _ _ _ (c .before .before .before .before .before .before .pre .0)) (c .before .before .before .before .before .before .pre .2) (c .before .before .loop-test .taken) in omega arith
+add-write-value c = search (copy-room, length-elements, needs)
 
 write-value-requires : tie.Need-write-value-requires Inv-loop μ-loop
-write-value-requires c κs = copy-room _ _ _ _ _ _ (c .before .before .before .loop .inv) (length-elements _ _ _ _ (c .before .before .before .before .before .before .pre .0)) (c .before .before .before .before .before .before .pre .2) (c .before .before .loop-test .taken)
+write-value-requires c κs = search (copy-room, length-elements)
 
 add-i : tie.Need-add-i Inv-loop μ-loop
 add-i c = search needs
@@ -33,13 +35,13 @@ loop-less : tie.Need-loop-less Inv-loop μ-loop
 loop-less c = search needs
 
 loop-again : tie.Need-loop-again Inv-loop μ-loop
-loop-again c = copy-more _ _ _ _ _ _ (c .before .before .before .before .before .before .loop .inv) (length-elements _ _ _ _ (c .before .before .before .before .before .before .before .before .before .pre .0)) (c .before .before .before .before .before .before .before .before .before .pre .2) (c .before .before .before .before .before .loop-test .taken) _ (c .before .before .before .before .element .ensures) _ (c .before .before .write-value .ensures)
+loop-again c = search (copy-more, length-elements)
 
 same-length : tie.Need-same-length Inv-loop μ-loop
 same-length c = c .before .loop .inv .size
 
 returns : tie.Need-returns Inv-loop μ-loop
-returns c = copy-end _ _ _ _ _ _ (c .before .loop .inv) (length-elements _ _ _ _ (c .before .before .before .before .pre .0)) (c .loop-test .left)
+returns c = search (copy-end, length-elements)
 
 pub copy-spec : {M : Type 1} → statement M
 copy-spec =

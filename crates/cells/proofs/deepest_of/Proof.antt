@@ -19,10 +19,12 @@ loop-holds : tie.Need-loop-holds Inv-loop μ-loop
 loop-holds c = depth-start _ _ _
 
 element-requires : tie.Need-element-requires Inv-loop μ-loop
-element-requires c κs = (c .loop-test .taken, c .before .before .before .before .pre .enough, c .before .before .before .before .pre .stack)
+element-requires c κs =
+    let at-start = c .before .before .before .before in
+    (c .loop-test .taken, at-start .pre .enough, at-start .pre .stack)
 
 depth-requires : tie.Need-depth-requires Inv-loop μ-loop
-depth-requires c κs = (c .before .before .before .before .before .pre .cells, held-at _ _ _ _ _ _ (c .before .before .before .before .before .pre) _ (c .before .loop-test .taken) _ (c .element .ensures))
+depth-requires c κs = search held-at
 
 add-i : tie.Need-add-i Inv-loop μ-loop
 add-i c = search needs
@@ -31,13 +33,21 @@ loop-less : tie.Need-loop-less Inv-loop μ-loop
 loop-less c = search needs
 
 loop-again : tie.Need-loop-again Inv-loop μ-loop
-loop-again c = ⊎-elim
-    (λ x. depth-deeper _ _ _ (length-elements _ _ _ _ (c .before .before .before .before .before .before .before .pre .enough)) _ _ (c .before .before .before .before .loop .inv) (c .before .before .before .loop-test .taken) _ (c .before .before .element .ensures) _ (c .before .depth .ensures) (x .0 .taken) _ (x .1))
-    (λ x. depth-same _ _ _ (length-elements _ _ _ _ (c .before .before .before .before .before .before .before .pre .enough)) _ _ (c .before .before .before .before .loop .inv) (c .before .before .before .loop-test .taken) _ (c .before .before .element .ensures) _ (c .before .depth .ensures) (x .0 .left) _ (x .1))
+loop-again c =
+    let at-depth = c .before in
+    let at-element = at-depth .before in
+    let at-loop-test = at-element .before in
+    let at-loop = at-loop-test .before in
+    let at-start = at-loop .before .before .before in
+    ⊎-elim
+    (λ x. depth-deeper _ _ _ (length-elements _ _ _ _ (at-start .pre .enough)) _ _ (at-loop .loop .inv)
+    (at-loop-test .loop-test .taken) _ (at-element .element .ensures) _ (at-depth .depth .ensures) (x .0 .taken) _ (x .1))
+    (λ x. depth-same _ _ _ (length-elements _ _ _ _ (at-start .pre .enough)) _ _ (at-loop .loop .inv)
+    (at-loop-test .loop-test .taken) _ (at-element .element .ensures) _ (at-depth .depth .ensures) (x .0 .left) _ (x .1))
     (c .if1 .came)
 
 returns : tie.Need-returns Inv-loop μ-loop
-returns c = depth-end _ _ _ (length-elements _ _ _ _ (c .before .before .before .before .pre .enough)) _ _ (c .before .loop .inv) (c .loop-test .left)
+returns c = search (depth-end, length-elements)
 
 pub deepest-of-spec : {M : Type 1} → statement M
 deepest-of-spec =

@@ -6,7 +6,7 @@ use mathlib.Core.Path.{_∙_}
 use Rattle.cells.proofs.Builds.{element-up, element-down}
 
 sub-read-value : tie.Need-sub-read-value
-sub-read-value c = search needs
+sub-read-value c = search
 
 add-read-value : tie.Need-add-read-value
 add-read-value c = search needs
@@ -24,10 +24,14 @@ read-value-requires-2 : tie.Need-read-value-requires-2
 read-value-requires-2 c κs = search needs
 
 returns : tie.Need-returns
-returns c = c .read-value .ensures ∙ element-up _ _ _ _ (c .before .before .before .pre .1) _ (c .before .before .before .pre .0) (c .before .if1 .taken)
+returns c =
+    let at-start = c .before .before .before in
+    c .read-value .ensures ∙ element-up _ _ _ _ (at-start .pre .1) _ (at-start .pre .0) (c .before .if1 .taken)
 
 returns-2 : tie.Need-returns-2
-returns-2 c = c .read-value2 .ensures ∙ element-down _ _ _ _ (c .before .before .before .pre .1) _ (c .before .before .before .pre .0) (c .before .if1 .left)
+returns-2 c =
+    let at-start = c .before .before .before in
+    c .read-value2 .ensures ∙ element-down _ _ _ _ (at-start .pre .1) _ (at-start .pre .0) (c .before .if1 .left)
 
 pub element-spec : {M : Type 1} → statement M
 element-spec =

@@ -18,7 +18,7 @@ exact-cell-requires : tie.Need-exact-cell-requires Inv-loop μ-loop
 exact-cell-requires c κs = search needs
 
 returns : tie.Need-returns Inv-loop μ-loop
-returns c = exact-no _ _ _ (c .before .before .before .loop .inv) (c .before .before .loop-test .taken) _ (c .before .exact-cell .ensures) (c .if1 .taken)
+returns c = search exact-no
 
 add-i : tie.Need-add-i Inv-loop μ-loop
 add-i c = search needs
@@ -27,10 +27,10 @@ loop-less : tie.Need-loop-less Inv-loop μ-loop
 loop-less c = search needs
 
 loop-again : tie.Need-loop-again Inv-loop μ-loop
-loop-again c = exact-next _ _ _ (c .before .before .before .loop .inv) (c .before .before .loop-test .taken) _ (c .before .exact-cell .ensures) (c .if1 .left)
+loop-again c = search exact-next
 
 returns-2 : tie.Need-returns-2 Inv-loop μ-loop
-returns-2 c = exact-end _ _ _ (c .before .loop .inv) (c .loop-test .left)
+returns-2 c = search exact-end
 
 pub exact-cells-spec : {M : Type 1} → statement M
 exact-cells-spec =

@@ -14,10 +14,10 @@ abbrev μ-loop : tie.MeasureT-loop
 μ-loop texts cells used p₀ p = used - p
 
 exact-cells-requires : tie.Need-exact-cells-requires Inv-loop μ-loop
-exact-cells-requires c κs = search needs
+exact-cells-requires c κs = search
 
 returns : tie.Need-returns Inv-loop μ-loop
-returns c = not-exact _ _ _ _ (c .before .exact-cells .ensures) (c .if1 .taken)
+returns c = search not-exact
 
 loop-holds : tie.Need-loop-holds Inv-loop μ-loop
 loop-holds c = scan-start _ _ _
@@ -26,25 +26,31 @@ block-ok-requires : tie.Need-block-ok-requires Inv-loop μ-loop
 block-ok-requires c κs = (c .before .before .before .before .before .pre, c .loop-test .taken)
 
 returns-2 : tie.Need-returns-2 Inv-loop μ-loop
-returns-2 c = scan-bad _ _ _ _ (c .before .before .before .loop .inv) (c .before .before .loop-test .taken) _ (c .before .block-ok .ensures) _ (c .before .before .before .before .before .exact-cells .ensures) (c .before .before .before .before .if1 .left) (c .if2 .taken)
+returns-2 c = search scan-bad
 
 read-header-requires : tie.Need-read-header-requires Inv-loop μ-loop
-read-header-requires c κs = block-room _ _ _ _ (c .before .before .before .loop .inv) (c .before .before .loop-test .taken) _ (c .before .block-ok .ensures) (c .if2 .left) (c .before .before .before .before .before .before .before .pre)
+read-header-requires c κs = search block-room
 
 add-p : tie.Need-add-p Inv-loop μ-loop
-add-p c = let r = block-ends _ _ _ _ (c .before .before .before .before .loop .inv) (c .before .before .before .loop-test .taken) _ (c .before .before .block-ok .ensures) (c .before .if2 .left) _ (c .read-header .ensures) in omega arith
+add-p c = search (block-ends, needs)
 
 add-p-2 : tie.Need-add-p-2 Inv-loop μ-loop
-add-p-2 c = let r = block-ends _ _ _ _ (c .before .before .before .before .loop .inv) (c .before .before .before .loop-test .taken) _ (c .before .before .block-ok .ensures) (c .before .if2 .left) _ (c .read-header .ensures) in omega arith
+add-p-2 c =
+    let r =
+    let at-loop-test = c .before .before .before in
+    let at-loop = at-loop-test .before in
+    block-ends _ _ _ _ (at-loop .loop .inv) (at-loop-test .loop-test .taken) _ (c .before .before .block-ok .ensures)
+    (c .before .if2 .left) _ (c .read-header .ensures) in
+    omega arith
 
 loop-less : tie.Need-loop-less Inv-loop μ-loop
-loop-less c = scan-less _ _ _ _ (c .before .before .before .before .loop .inv) (c .before .before .before .loop-test .taken) _ (c .before .before .block-ok .ensures) (c .before .if2 .left) _ (c .read-header .ensures)
+loop-less c = search scan-less
 
 loop-again : tie.Need-loop-again Inv-loop μ-loop
-loop-again c = scan-more _ _ _ _ (c .before .before .before .before .loop .inv) (c .before .before .before .loop-test .taken) _ (c .before .before .block-ok .ensures) (c .before .if2 .left) _ (c .read-header .ensures)
+loop-again c = search scan-more
 
 returns-3 : tie.Need-returns-3 Inv-loop μ-loop
-returns-3 c = scan-end _ _ _ _ (c .before .before .before .exact-cells .ensures) (c .before .before .if1 .left) _ (c .before .loop .inv) (c .loop-test .left)
+returns-3 c = search scan-end
 
 pub good-cells-spec : {M : Type 1} → statement M
 good-cells-spec =

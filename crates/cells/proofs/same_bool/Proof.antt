@@ -8,7 +8,7 @@ returns : tie.Need-returns
 returns c = same-bool-true _ _ (c .if1 .taken)
 
 returns-2 : tie.Need-returns-2
-returns-2 c = search needs
+returns-2 c = search
 
 pub same-bool-spec : {M : Type 1} → statement M
 same-bool-spec = tie.close (tie.spec returns returns-2)

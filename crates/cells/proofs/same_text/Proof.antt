@@ -12,10 +12,10 @@ abbrev μ-loop : tie.MeasureT-loop
 μ-loop text o n p m a b count i₀ i = n - i
 
 returns : tie.Need-returns Inv-loop μ-loop
-returns c = lengths-differ _ _ _ _ _ (c .before .pre .0) (c .before .pre .1) (c .if1 .taken)
+returns c = search lengths-differ
 
 loop-holds : tie.Need-loop-holds Inv-loop μ-loop
-loop-holds c = run-start _ _ _ _ _ (c .before .pre .0) (c .before .pre .1) (c .if1 .left)
+loop-holds c = search run-start
 
 add-if2 : tie.Need-add-if2 Inv-loop μ-loop
 add-if2 c = search needs
@@ -30,7 +30,7 @@ shared-slice-read-if2-2 : tie.Need-shared-slice-read-if2-2 Inv-loop μ-loop
 shared-slice-read-if2-2 c = search needs
 
 returns-2 : tie.Need-returns-2 Inv-loop μ-loop
-returns-2 c = bytes-differ _ _ _ _ _ (c .before .before .before .before .before .before .pre .0) (c .before .before .before .before .before .before .pre .1) _ (c .before .before .before .before .loop .inv) (c .before .before .before .before .before .if1 .left) (c .before .before .before .loop-test .taken) (c .if2 .taken)
+returns-2 c = search bytes-differ
 
 add-i : tie.Need-add-i Inv-loop μ-loop
 add-i c = search needs
@@ -39,10 +39,10 @@ loop-less : tie.Need-loop-less Inv-loop μ-loop
 loop-less c = search needs
 
 loop-again : tie.Need-loop-again Inv-loop μ-loop
-loop-again c = run-more _ _ _ _ _ (c .before .before .before .before .before .before .pre .0) (c .before .before .before .before .before .before .pre .1) _ (c .before .before .before .before .loop .inv) (c .before .before .before .before .before .if1 .left) (c .before .before .before .loop-test .taken) (c .if2 .left)
+loop-again c = search run-more
 
 returns-3 : tie.Need-returns-3 Inv-loop μ-loop
-returns-3 c = run-end _ _ _ _ _ (c .before .before .before .pre .0) (c .before .before .before .pre .1) _ (c .before .loop .inv) (c .loop-test .left)
+returns-3 c = search run-end
 
 pub same-text-spec : {M : Type 1} → statement M
 same-text-spec =

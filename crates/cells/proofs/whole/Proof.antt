@@ -11,7 +11,7 @@ is-header-requires : tie.Need-is-header-requires
 is-header-requires c κs = search needs
 
 returns-2 : tie.Need-returns-2
-returns-2 c = whole-none _ _ _ (c .before .before .if1 .left) _ (c .before .is-header .ensures) (c .if2 .taken)
+returns-2 c = search whole-none
 
 read-header-requires : tie.Need-read-header-requires
 read-header-requires c κs = search needs
@@ -20,7 +20,7 @@ sub-result : tie.Need-sub-result
 sub-result c = search needs
 
 returns-3 : tie.Need-returns-3
-returns-3 c = whole-here _ _ _ (c .before .before .before .if1 .left) _ (c .before .before .is-header .ensures) (c .before .if2 .left) _ (c .read-header .ensures)
+returns-3 c = search whole-here
 
 pub whole-spec : {M : Type 1} → statement M
 whole-spec =

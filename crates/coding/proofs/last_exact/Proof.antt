@@ -8,10 +8,10 @@ returns : tie.Need-returns
 returns c = exact-none _ _ (c .if1 .taken)
 
 exact-value-requires : tie.Need-exact-value-requires
-exact-value-requires c κs = search needs
+exact-value-requires c κs = search
 
 returns-2 : tie.Need-returns-2
-returns-2 c = exact-some _ _ (c .before .if1 .left) (c .exact-value .ensures)
+returns-2 c = search exact-some
 
 pub last-exact-spec : {M : Type 1} → statement M
 last-exact-spec = tie.close (tie.spec returns exact-value-requires returns-2)

@@ -8,13 +8,13 @@ mul-s : tie.Need-mul-s
 mul-s c = search needs
 
 slice-write-s : tie.Need-slice-write-s
-slice-write-s c = search needs
+slice-write-s c = search
 
 same-length : tie.Need-same-length
 same-length c = search needs
 
 returns : tie.Need-returns
-returns c = search needs
+returns c = search
 
 returns-2 : tie.Need-returns-2
 returns-2 c = put-past _ _ _ (c .if1 .left)

@@ -5,16 +5,16 @@ use Rattle.coding.proofs.record_ok.Statement.{statement}
 use Rattle.coding.proofs.record_ok.Tie as tie
 
 word-requires : tie.Need-word-requires
-word-requires c κs = search needs
+word-requires c κs = search
 
 word-requires-2 : tie.Need-word-requires-2
-word-requires-2 c κs = search needs
+word-requires-2 c κs = search
 
 last-exact-requires : tie.Need-last-exact-requires
-last-exact-requires c κs = search needs
+last-exact-requires c κs = search
 
 returns : tie.Need-returns
-returns c = record-is (c .before .before .before .before .args .vm .now) (c .before .before .word .ensures) (c .before .word2 .ensures) (c .last-exact .ensures)
+returns c = search record-is
 
 pub record-ok-spec : {M : Type 1} → statement M
 record-ok-spec = tie.close (tie.spec word-requires word-requires-2 last-exact-requires returns)

@@ -5,31 +5,31 @@ use Rattle.coding.proofs.tell_header.Statement.{statement}
 use Rattle.coding.proofs.tell_header.Tie as tie
 
 enum-known-result : tie.Need-enum-known-result
-enum-known-result c = search needs
+enum-known-result c = search
 
 put-requires : tie.Need-put-requires
-put-requires c κs = search needs
+put-requires c κs = search
 
 put-requires-2 : tie.Need-put-requires-2
-put-requires-2 c κs = search needs
+put-requires-2 c κs = search
 
 put-requires-3 : tie.Need-put-requires-3
-put-requires-3 c κs = search needs
+put-requires-3 c κs = search
 
 enum-known-result-2 : tie.Need-enum-known-result-2
-enum-known-result-2 c = search needs
+enum-known-result-2 c = search
 
 cast-result : tie.Need-cast-result
 cast-result c = search needs
 
 same-length : tie.Need-same-length
-same-length c = search needs
+same-length c = search
 
 returns : tie.Need-returns
-returns c = λ w. headed-is w (c .before .before .before .before .before .before .before .before .before .before .before .before .before .before .before .before .args .answer .now) (c .before .before .before .before .before .before .before .before .before .before .before .before .before .result .given .1) (c .before .before .before .before .before .before .before .before .before .before .put .ensures) (c .before .before .before .before .before .before .put2 .ensures) (c .before .before .put3 .ensures)
+returns c = search headed-is
 
 returns-2 : tie.Need-returns-2
-returns-2 c = λ w. headed-not w (c .before .before .before .before .args .answer .now) (c .before .result2 .given .1)
+returns-2 c = search headed-not
 
 pub tell-header-spec : {M : Type 1} → statement M
 tell-header-spec =

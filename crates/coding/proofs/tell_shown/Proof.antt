@@ -5,34 +5,34 @@ use Rattle.coding.proofs.tell_shown.Statement.{statement}
 use Rattle.coding.proofs.tell_shown.Tie as tie
 
 enum-known-result : tie.Need-enum-known-result
-enum-known-result c = search needs
+enum-known-result c = search
 
 kind-of-requires : tie.Need-kind-of-requires
-kind-of-requires c κs = search needs
+kind-of-requires c κs = search
 
 payload-of-requires : tie.Need-payload-of-requires
-payload-of-requires c κs = search needs
+payload-of-requires c κs = search
 
 put-requires : tie.Need-put-requires
-put-requires c κs = search needs
+put-requires c κs = search
 
 put-requires-2 : tie.Need-put-requires-2
-put-requires-2 c κs = search needs
+put-requires-2 c κs = search
 
 enum-known-result-2 : tie.Need-enum-known-result-2
-enum-known-result-2 c = search needs
+enum-known-result-2 c = search
 
 cast-result : tie.Need-cast-result
 cast-result c = search needs
 
 same-length : tie.Need-same-length
-same-length c = search needs
+same-length c = search
 
 returns : tie.Need-returns
-returns c = λ w. shown-value w (c .before .before .before .before .before .before .before .before .before .before .before .before .before .before .args .answer .now) (c .before .before .before .before .before .before .before .before .before .before .before .result .given .1) (c .before .before .before .before .before .before .before .before .before .kind-of .ensures) (c .before .before .before .before .before .before .before .before .payload-of .ensures .is) (c .before .before .before .before .before .before .put .ensures) (c .before .before .put2 .ensures)
+returns c = search shown-value
 
 returns-2 : tie.Need-returns-2
-returns-2 c = λ w. shown-not w (c .before .before .before .before .args .answer .now) (c .before .result2 .given .1)
+returns-2 c = search shown-not
 
 pub tell-shown-spec : {M : Type 1} → statement M
 tell-shown-spec =

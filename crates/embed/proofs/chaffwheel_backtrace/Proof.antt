@@ -37,7 +37,9 @@ use Rattle.embed.proofs.chaffwheel_backtrace.Statement as stated
 use Rattle.embed.proofs.chaffwheel_backtrace.Code as code
 
 abbrev kinds : List (Kind 10)
-kinds = shared 0 tt u64 ∷ shared 1 tt u64 ∷ shared 2 tt u8 ∷ shared 3 tt u8 ∷ shared 4 tt u32 ∷ shared 5 tt u8 ∷ shared 6 tt u32 ∷ shared 7 tt R ∷ unique 8 tt u32 ∷ unique 9 tt u64 ∷ []
+kinds =
+    shared 0 tt u64 ∷ shared 1 tt u64 ∷ shared 2 tt u8 ∷ shared 3 tt u8 ∷ shared 4 tt u32 ∷ shared 5 tt u8 ∷ shared 6 tt u32 ∷
+    shared 7 tt R ∷ unique 8 tt u32 ∷ unique 9 tt u64 ∷ []
 
 module _ {M : Type 1} (𝓤 : URA M) (H : Heap 𝓤) (A : Atoms 𝓤) (W : Given 𝓤 H A) (mem : Memory → SProp 𝓤) (run : Routine → Fun 𝓤) where
   abbrev Why : Contract 𝓤
@@ -146,7 +148,9 @@ module _ {M : Type 1} (𝓤 : URA M) (H : Heap 𝓤) (A : Atoms 𝓤) (W : Given
     room9 = is .1 .1 .1 .1 .1 .1 .1 .1 .1 .0 .0 .1
 
     abbrev slices : List ℕ → List ℕ → List Arg
-    slices out′ answer′ = shr u64 s0 vm ∷ shr u64 s1 functions ∷ shr u8 s2 text ∷ shr u8 s3 main ∷ shr u32 s4 mainPlaces ∷ shr u8 s5 other ∷ shr u32 s6 otherPlaces ∷ shr R s7 frames ∷ mut u32 s8 out′ ∷ mut u64 s9 answer′ ∷ []
+    slices out′ answer′ =
+        shr u64 s0 vm ∷ shr u64 s1 functions ∷ shr u8 s2 text ∷ shr u8 s3 main ∷ shr u32 s4 mainPlaces ∷ shr u8 s5 other ∷ shr u32
+        s6 otherPlaces ∷ shr R s7 frames ∷ mut u32 s8 out′ ∷ mut u64 s9 answer′ ∷ []
 
     abbrev xs : List ℕ → List ℕ → List Arg
     xs out′ answer′ = slices out′ answer′
@@ -156,37 +160,58 @@ module _ {M : Type 1} (𝓤 : URA M) (H : Heap 𝓤) (A : Atoms 𝓤) (W : Given
 
     exits : (r : ℕ) (out′ : List ℕ) (answer′ : List ℕ) → Is u32 r (vint w32 r ∷ []) → length out′ ≡ s8 .count → length answer′ ≡ s9 .count → ((structs constants : List ℕ) → record { coded = record { number = r; vm = vm; answer = answer′ }; out = out′ } ≡ outThrough (slicesRefusal vm 1 answer) vm answer out (λ (m : Vm). backtraceIn m (programLent structs constants functions text main mainPlaces other otherPlaces) frames out)) → ent 𝓤 (⋆ 𝓤 H A (‵ (Holds (slices out′ answer′)) ∷ [])) (Post (vint w32 r))
     exits r out′ answer′ isr len-out len-answer said =
-        qed W (‵ (Holds (slices out′ answer′)) ∷ []) ∵ suffices ! _ (ends-at 𝓤 H A me.ended (stays kinds) (me.clauses 𝓤 H A mem run) W (passing (xs out answer)) (vint w32 r) r (tt, (tt, (tt, (tt, (tt, (tt, (tt, (tt, (out′, (answer′, tt)))))))))) (tt, (tt, (tt, (tt, (tt, (tt, (tt, (tt, (len-out, (len-answer, tt))))))))))) $ says ! said $
-        gives ! (xs out′ answer′) tt (frame ! $ owned ! u32 (Is u32) (uint-makes 𝓤 H A W w32) r _ isr $ keep ! (1 ∷ 0 ∷ []) $ done !)
+        qed W (‵ (Holds (slices out′ answer′)) ∷ []) ∵ suffices ! _
+        (ends-at 𝓤 H A me.ended (stays kinds) (me.clauses 𝓤 H A mem run) W (passing (xs out answer)) (vint w32 r) r
+        (tt, (tt, (tt, (tt, (tt, (tt, (tt, (tt, (out′, (answer′, tt))))))))))
+        (tt, (tt, (tt, (tt, (tt, (tt, (tt, (tt, (len-out, (len-answer, tt))))))))))) $ says ! said $ gives ! (xs out′ answer′) tt
+        (frame ! $ owned ! u32 (Is u32) (uint-makes 𝓤 H A W w32) r _ isr $ keep ! (1 ∷ 0 ∷ []) $ done !)
 
     -- the calls
     abbrev to-why : List Arg
     to-why = shr u64 s0 vm ∷ val usize 1 (vint w64 1) ∷ peek u64 s9 answer ∷ []
 
     call-why : Rule 𝓤 H A W to-why Why u32 (vint w32) (λ n zs. n ≡ slicesRefusal vm 1 answer)
-    call-why = call-with 𝓤 H A W to-why Why u32 (vint w32) (λ n zs. n ≡ slicesRefusal vm 1 answer) (uint-tells w32) (λ ns. passing (lent to-why ns)) (λ ns. refl)
-        (λ ns. unasked W (lent to-why ns)) (λ ns w. id⊢ 𝓤 _) (uint-makes 𝓤 H A W w64 1 _ (refl, omega arith), tt) ((refl, room0), ((refl, room9), tt))
+    call-why =
+        call-with 𝓤 H A W to-why Why u32 (vint w32) (λ n zs. n ≡ slicesRefusal vm 1 answer) (uint-tells w32)
+        (λ ns. passing (lent to-why ns)) (λ ns. refl) (λ ns. unasked W (lent to-why ns)) (λ ns w. id⊢ 𝓤 _)
+        (uint-makes 𝓤 H A W w64 1 _ (refl, omega arith), tt) ((refl, room0), ((refl, room9), tt))
 
     abbrev to-rec : List Arg
     to-rec = shr u64 s0 vm ∷ []
 
     call-rec : Rule 𝓤 H A W to-rec Rec VmRow vmVal (λ m zs. m ≡ vmIn vm)
-    call-rec = call-with 𝓤 H A W to-rec Rec VmRow vmVal (λ m zs. m ≡ vmIn vm) vm-tells (λ ns. passing (lent to-rec ns)) (λ ns. refl)
+    call-rec =
+        call-with 𝓤 H A W to-rec Rec VmRow vmVal (λ m zs. m ≡ vmIn vm) vm-tells (λ ns. passing (lent to-rec ns)) (λ ns. refl)
         (λ ns. unasked W (lent to-rec ns)) (λ ns w. id⊢ 𝓤 _) tt ((refl, room0), tt)
 
     abbrev to-entry : Vm → List Arg
-    to-entry m = val VmRow m (vmVal m) ∷ shr u64 s1 functions ∷ shr u8 s2 text ∷ shr u8 s3 main ∷ shr u32 s4 mainPlaces ∷ shr u8 s5 other ∷ shr u32 s6 otherPlaces ∷ shr R s7 frames ∷ mut u32 s8 out ∷ []
+    to-entry m =
+        val VmRow m (vmVal m) ∷ shr u64 s1 functions ∷ shr u8 s2 text ∷ shr u8 s3 main ∷ shr u32 s4 mainPlaces ∷ shr u8 s5 other ∷
+        shr u32 s6 otherPlaces ∷ shr R s7 frames ∷ mut u32 s8 out ∷ []
 
     call-entry : (m : Vm) → IsVm m → Rule 𝓤 H A W (to-entry m) Entry ToldRow toldVal (λ x zs. ((structs constants : List ℕ) → record { answer = x; out = (zs .1 .1 .1 .1 .1 .1 .1 .1 .0) } ≡ backtraceIn m (programLent structs constants functions text main mainPlaces other otherPlaces) frames out))
-    call-entry m ism = call-with 𝓤 H A W (to-entry m) Entry ToldRow toldVal (λ x zs. ((structs constants : List ℕ) → record { answer = x; out = (zs .1 .1 .1 .1 .1 .1 .1 .1 .0) } ≡ backtraceIn m (programLent structs constants functions text main mainPlaces other otherPlaces) frames out)) told-tells (λ ns. passing (lent (to-entry m) ns)) (λ ns. refl)
-        (λ ns. unasked W (lent (to-entry m) ns)) (λ ns w. id⊢ 𝓤 _) (vm-makes 𝓤 H A W m _ ism, tt) ((refl, room1), ((refl, room2), ((refl, room3), ((refl, room4), ((refl, room5), ((refl, room6), ((refl, room7), ((refl, room8), tt))))))))
+    call-entry m ism =
+        call-with 𝓤 H A W (to-entry m) Entry ToldRow toldVal
+        (λ x zs. ((structs constants : List ℕ) → record { answer = x; out = (zs .1 .1 .1 .1 .1 .1 .1 .1 .0) } ≡ backtraceIn m
+        (programLent structs constants functions text main mainPlaces other otherPlaces) frames out)) told-tells
+        (λ ns. passing (lent (to-entry m) ns)) (λ ns. refl) (λ ns. unasked W (lent (to-entry m) ns)) (λ ns w. id⊢ 𝓤 _)
+        (vm-makes 𝓤 H A W m _ ism, tt) (
+          (refl, room1),
+          (
+            (refl, room2),
+            ((refl, room3), ((refl, room4), ((refl, room5), ((refl, room6), ((refl, room7), ((refl, room8), tt)))))),
+          ),
+        )
 
     abbrev to-tells : Told → List Arg
     to-tells x = val ToldRow x (toldVal x) ∷ mut u64 s9 answer ∷ []
 
     call-tells : (x : Told) → IsTold x → Rule 𝓤 H A W (to-tells x) Tells u32 (vint w32) (λ n zs. ((w : List ℕ) → record { number = n; vm = w; answer = (zs .1 .0) } ≡ toldCoded x w answer))
-    call-tells x isx = call-with 𝓤 H A W (to-tells x) Tells u32 (vint w32) (λ n zs. ((w : List ℕ) → record { number = n; vm = w; answer = (zs .1 .0) } ≡ toldCoded x w answer)) (uint-tells w32) (λ ns. passing (lent (to-tells x) ns)) (λ ns. refl)
-        (λ ns. unasked W (lent (to-tells x) ns)) (λ ns w. id⊢ 𝓤 _) (told-makes 𝓤 H A W x _ isx, tt) ((refl, room9), tt)
+    call-tells x isx =
+        call-with 𝓤 H A W (to-tells x) Tells u32 (vint w32)
+        (λ n zs. ((w : List ℕ) → record { number = n; vm = w; answer = (zs .1 .0) } ≡ toldCoded x w answer)) (uint-tells w32)
+        (λ ns. passing (lent (to-tells x) ns)) (λ ns. refl) (λ ns. unasked W (lent (to-tells x) ns)) (λ ns w. id⊢ 𝓤 _)
+        (told-makes 𝓤 H A W x _ isx, tt) ((refl, room9), tt)
 
     walk : ent 𝓤 (onEntry 𝓤 H A me.signature (lfts (xs out answer)) (shares (xs out answer)) (denots (xs out answer)) (valss (xs out answer))) (WpFn 𝓤 H (𝓣 .C) (𝓣 .Λ) code.function (values (xs out answer)) Post)
     walk =
@@ -211,7 +236,11 @@ chaffwheel-backtrace-spec 𝓤 H 𝓜 𝓖 𝓡 =
     closed kinds u32 𝓤 H 𝓜 𝓖 𝓡 code.env #me code.function (code.unfolded 𝓤 H 𝓜 𝓡) (me.clauses 𝓤 H (𝓖 .A) (𝓜 .mem) (𝓡 .run))
     (λ κs qs a g is. unneeded 𝓤 _
     (walk 𝓤 H (𝓖 .A) W (𝓜 .mem) (𝓡 .run) (tablesOf 𝓤 H 𝓜 (tables 𝓤 H 𝓜 𝓡 code.env))
-    (cited 𝓤 H (Why 𝓤 H (𝓖 .A) W (𝓜 .mem) (𝓡 .run)) 𝓜 𝓡 code.env #why why-def.routine code.calls-coding·slices-refusal (why-thm.met 𝓤 H 𝓜 𝓖 𝓡))
-    (cited 𝓤 H (Rec 𝓤 H (𝓖 .A) W (𝓜 .mem) (𝓡 .run)) 𝓜 𝓡 code.env #rec rec-def.routine code.calls-coding·vm-of (rec-thm.met 𝓤 H 𝓜 𝓖 𝓡))
-    (cited 𝓤 H (Entry 𝓤 H (𝓖 .A) W (𝓜 .mem) (𝓡 .run)) 𝓜 𝓡 code.env #entry entry-def.routine code.calls-machine·backtrace (entry-thm.met 𝓤 H 𝓜 𝓖 𝓡))
-    (cited 𝓤 H (Tells 𝓤 H (𝓖 .A) W (𝓜 .mem) (𝓡 .run)) 𝓜 𝓡 code.env #tells tells-def.routine code.calls-coding·tell (tells-thm.met 𝓤 H 𝓜 𝓖 𝓡)) κs qs a is))
+    (cited 𝓤 H (Why 𝓤 H (𝓖 .A) W (𝓜 .mem) (𝓡 .run)) 𝓜 𝓡 code.env #why why-def.routine code.calls-coding·slices-refusal
+    (why-thm.met 𝓤 H 𝓜 𝓖 𝓡))
+    (cited 𝓤 H (Rec 𝓤 H (𝓖 .A) W (𝓜 .mem) (𝓡 .run)) 𝓜 𝓡 code.env #rec rec-def.routine code.calls-coding·vm-of
+    (rec-thm.met 𝓤 H 𝓜 𝓖 𝓡))
+    (cited 𝓤 H (Entry 𝓤 H (𝓖 .A) W (𝓜 .mem) (𝓡 .run)) 𝓜 𝓡 code.env #entry entry-def.routine code.calls-machine·backtrace
+    (entry-thm.met 𝓤 H 𝓜 𝓖 𝓡))
+    (cited 𝓤 H (Tells 𝓤 H (𝓖 .A) W (𝓜 .mem) (𝓡 .run)) 𝓜 𝓡 code.env #tells tells-def.routine code.calls-coding·tell
+    (tells-thm.met 𝓤 H 𝓜 𝓖 𝓡)) κs qs a is))

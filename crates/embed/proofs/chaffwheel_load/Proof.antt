@@ -32,7 +32,9 @@ use Rattle.embed.proofs.chaffwheel_load.Statement as stated
 use Rattle.embed.proofs.chaffwheel_load.Code as code
 
 abbrev kinds : List (Kind 12)
-kinds = shared 0 tt u8 ∷ unique 1 tt u64 ∷ unique 2 tt u64 ∷ unique 3 tt u64 ∷ unique 4 tt u64 ∷ unique 5 tt u8 ∷ unique 6 tt u8 ∷ unique 7 tt u32 ∷ unique 8 tt u8 ∷ unique 9 tt u32 ∷ unique 10 tt R ∷ unique 11 tt u64 ∷ []
+kinds =
+    shared 0 tt u8 ∷ unique 1 tt u64 ∷ unique 2 tt u64 ∷ unique 3 tt u64 ∷ unique 4 tt u64 ∷ unique 5 tt u8 ∷ unique 6 tt u8 ∷
+    unique 7 tt u32 ∷ unique 8 tt u8 ∷ unique 9 tt u32 ∷ unique 10 tt R ∷ unique 11 tt u64 ∷ []
 
 module _ {M : Type 1} (𝓤 : URA M) (H : Heap 𝓤) (A : Atoms 𝓤) (W : Given 𝓤 H A) (mem : Memory → SProp 𝓤) (run : Routine → Fun 𝓤) where
   abbrev Why : Contract 𝓤
@@ -81,7 +83,9 @@ module _ {M : Type 1} (𝓤 : URA M) (H : Heap 𝓤) (A : Atoms 𝓤) (W : Given
     s10 = sl (κs .1 .1 .1 .1 .1 .1 .1 .1 .1 .1 .0) (qs .1 .1 .1 .1 .1 .1 .1 .1 .1 .1 .0) (a .1 .1 .1 .1 .1 .1 .1 .1 .1 .1 .0)
 
     abbrev s11 : Sl
-    s11 = sl (κs .1 .1 .1 .1 .1 .1 .1 .1 .1 .1 .1 .0) (qs .1 .1 .1 .1 .1 .1 .1 .1 .1 .1 .1 .0) (a .1 .1 .1 .1 .1 .1 .1 .1 .1 .1 .1 .0)
+    s11 =
+        sl (κs .1 .1 .1 .1 .1 .1 .1 .1 .1 .1 .1 .0) (qs .1 .1 .1 .1 .1 .1 .1 .1 .1 .1 .1 .0)
+        (a .1 .1 .1 .1 .1 .1 .1 .1 .1 .1 .1 .0)
 
     abbrev image : List ℕ
     image = now (a .0)
@@ -156,40 +160,102 @@ module _ {M : Type 1} (𝓤 : URA M) (H : Heap 𝓤) (A : Atoms 𝓤) (W : Given
     room11 = is .1 .1 .1 .1 .1 .1 .1 .1 .1 .1 .1 .0 .0 .1
 
     abbrev slices : List ℕ → List ℕ → List ℕ → List ℕ → List ℕ → List ℕ → List ℕ → List ℕ → List ℕ → List Frame → List ℕ → List Arg
-    slices vm′ constants′ structs′ functions′ text′ main′ mainPlaces′ other′ otherPlaces′ frames′ answer′ = shr u8 s0 image ∷ mut u64 s1 vm′ ∷ mut u64 s2 constants′ ∷ mut u64 s3 structs′ ∷ mut u64 s4 functions′ ∷ mut u8 s5 text′ ∷ mut u8 s6 main′ ∷ mut u32 s7 mainPlaces′ ∷ mut u8 s8 other′ ∷ mut u32 s9 otherPlaces′ ∷ mut R s10 frames′ ∷ mut u64 s11 answer′ ∷ []
+    slices vm′ constants′ structs′ functions′ text′ main′ mainPlaces′ other′ otherPlaces′ frames′ answer′ =
+        shr u8 s0 image ∷ mut u64 s1 vm′ ∷ mut u64 s2 constants′ ∷ mut u64 s3 structs′ ∷ mut u64 s4 functions′ ∷ mut u8 s5 text′ ∷
+        mut u8 s6 main′ ∷ mut u32 s7 mainPlaces′ ∷ mut u8 s8 other′ ∷ mut u32 s9 otherPlaces′ ∷ mut R s10 frames′ ∷ mut u64 s11
+        answer′ ∷ []
 
     abbrev xs : List ℕ → List ℕ → List ℕ → List ℕ → List ℕ → List ℕ → List ℕ → List ℕ → List ℕ → List Frame → List ℕ → List Arg
-    xs vm′ constants′ structs′ functions′ text′ main′ mainPlaces′ other′ otherPlaces′ frames′ answer′ = slices vm′ constants′ structs′ functions′ text′ main′ mainPlaces′ other′ otherPlaces′ frames′ answer′
+    xs vm′ constants′ structs′ functions′ text′ main′ mainPlaces′ other′ otherPlaces′ frames′ answer′ =
+        slices vm′ constants′ structs′ functions′ text′ main′ mainPlaces′ other′ otherPlaces′ frames′ answer′
 
     abbrev Post : Val → SProp 𝓤
-    Post = walkOf 𝓤 H A me.ended (stays kinds) (me.clauses 𝓤 H A mem run) .post (passing (xs vm constants structs functions text main mainPlaces other otherPlaces frames answer))
+    Post =
+        walkOf 𝓤 H A me.ended (stays kinds) (me.clauses 𝓤 H A mem run) .post
+        (passing (xs vm constants structs functions text main mainPlaces other otherPlaces frames answer))
 
     exits : (r : ℕ) (vm′ : List ℕ) (constants′ : List ℕ) (structs′ : List ℕ) (functions′ : List ℕ) (text′ : List ℕ) (main′ : List ℕ) (mainPlaces′ : List ℕ) (other′ : List ℕ) (otherPlaces′ : List ℕ) (frames′ : List Frame) (answer′ : List ℕ) → Is u32 r (vint w32 r ∷ []) → length vm′ ≡ s1 .count → length constants′ ≡ s2 .count → length structs′ ≡ s3 .count → length functions′ ≡ s4 .count → length text′ ≡ s5 .count → length main′ ≡ s6 .count → length mainPlaces′ ≡ s7 .count → length other′ ≡ s8 .count → length otherPlaces′ ≡ s9 .count → length frames′ ≡ s10 .count → length answer′ ≡ s11 .count → record { coded = record { number = r; vm = vm′; answer = answer′ }; stores = (stored constants′ structs′ functions′ text′ main′ mainPlaces′ other′ otherPlaces′); frames = frames′ } ≡ startThrough vm answer (stored constants structs functions text main mainPlaces other otherPlaces) frames (loadMachineOf image (stored constants structs functions text main mainPlaces other otherPlaces) frames) → ent 𝓤 (⋆ 𝓤 H A (‵ (Holds (slices vm′ constants′ structs′ functions′ text′ main′ mainPlaces′ other′ otherPlaces′ frames′ answer′)) ∷ [])) (Post (vint w32 r))
     exits r vm′ constants′ structs′ functions′ text′ main′ mainPlaces′ other′ otherPlaces′ frames′ answer′ isr len-vm len-constants len-structs len-functions len-text len-main len-mainPlaces len-other len-otherPlaces len-frames len-answer said =
-        qed W (‵ (Holds (slices vm′ constants′ structs′ functions′ text′ main′ mainPlaces′ other′ otherPlaces′ frames′ answer′)) ∷ []) ∵ suffices ! _ (ends-at 𝓤 H A me.ended (stays kinds) (me.clauses 𝓤 H A mem run) W (passing (xs vm constants structs functions text main mainPlaces other otherPlaces frames answer)) (vint w32 r) r (tt, (vm′, (constants′, (structs′, (functions′, (text′, (main′, (mainPlaces′, (other′, (otherPlaces′, (frames′, (answer′, tt)))))))))))) (tt, (len-vm, (len-constants, (len-structs, (len-functions, (len-text, (len-main, (len-mainPlaces, (len-other, (len-otherPlaces, (len-frames, (len-answer, tt))))))))))))) $ says ! said $
-        gives ! (xs vm′ constants′ structs′ functions′ text′ main′ mainPlaces′ other′ otherPlaces′ frames′ answer′) tt (frame ! $ owned ! u32 (Is u32) (uint-makes 𝓤 H A W w32) r _ isr $ keep ! (1 ∷ 0 ∷ []) $ done !)
+        qed W
+        (‵ (Holds (slices vm′ constants′ structs′ functions′ text′ main′ mainPlaces′ other′ otherPlaces′ frames′ answer′)) ∷ []) ∵
+        suffices ! _
+        (ends-at 𝓤 H A me.ended (stays kinds) (me.clauses 𝓤 H A mem run) W
+        (passing (xs vm constants structs functions text main mainPlaces other otherPlaces frames answer)) (vint w32 r) r (
+          tt,
+          (
+            vm′,
+            (
+              constants′,
+              (structs′, (functions′, (text′, (main′, (mainPlaces′, (other′, (otherPlaces′, (frames′, (answer′, tt))))))))),
+            ),
+          ),
+        ) (
+          tt,
+          (
+            len-vm,
+            (
+              len-constants,
+              (
+                len-structs,
+                (
+                  len-functions,
+                  (len-text, (len-main, (len-mainPlaces, (len-other, (len-otherPlaces, (len-frames, (len-answer, tt))))))),
+                ),
+              ),
+            ),
+          ),
+        )) $ says ! said $ gives !
+        (xs vm′ constants′ structs′ functions′ text′ main′ mainPlaces′ other′ otherPlaces′ frames′ answer′) tt
+        (frame ! $ owned ! u32 (Is u32) (uint-makes 𝓤 H A W w32) r _ isr $ keep ! (1 ∷ 0 ∷ []) $ done !)
 
     -- the calls
     abbrev to-why : List Arg
     to-why = peek u64 s1 vm ∷ val usize 1 (vint w64 1) ∷ peek u64 s11 answer ∷ []
 
     call-why : Rule 𝓤 H A W to-why Why u32 (vint w32) (λ n zs. n ≡ outRefusal vm 1 answer)
-    call-why = call-with 𝓤 H A W to-why Why u32 (vint w32) (λ n zs. n ≡ outRefusal vm 1 answer) (uint-tells w32) (λ ns. passing (lent to-why ns)) (λ ns. refl)
-        (λ ns. unasked W (lent to-why ns)) (λ ns w. id⊢ 𝓤 _) (uint-makes 𝓤 H A W w64 1 _ (refl, omega arith), tt) ((refl, room1), ((refl, room11), tt))
+    call-why =
+        call-with 𝓤 H A W to-why Why u32 (vint w32) (λ n zs. n ≡ outRefusal vm 1 answer) (uint-tells w32)
+        (λ ns. passing (lent to-why ns)) (λ ns. refl) (λ ns. unasked W (lent to-why ns)) (λ ns w. id⊢ 𝓤 _)
+        (uint-makes 𝓤 H A W w64 1 _ (refl, omega arith), tt) ((refl, room1), ((refl, room11), tt))
 
     abbrev to-entry : List Arg
-    to-entry = shr u8 s0 image ∷ mut u64 s2 constants ∷ mut u64 s3 structs ∷ mut u64 s4 functions ∷ mut u8 s5 text ∷ mut u8 s6 main ∷ mut u32 s7 mainPlaces ∷ mut u8 s8 other ∷ mut u32 s9 otherPlaces ∷ mut R s10 frames ∷ []
+    to-entry =
+        shr u8 s0 image ∷ mut u64 s2 constants ∷ mut u64 s3 structs ∷ mut u64 s4 functions ∷ mut u8 s5 text ∷ mut u8 s6 main ∷ mut
+        u32 s7 mainPlaces ∷ mut u8 s8 other ∷ mut u32 s9 otherPlaces ∷ mut R s10 frames ∷ []
 
     call-entry : Rule 𝓤 H A W to-entry Entry StartedRow startedVal (λ x zs. record { answer = x; stores = (stored (zs .1 .0) (zs .1 .1 .0) (zs .1 .1 .1 .0) (zs .1 .1 .1 .1 .0) (zs .1 .1 .1 .1 .1 .0) (zs .1 .1 .1 .1 .1 .1 .0) (zs .1 .1 .1 .1 .1 .1 .1 .0) (zs .1 .1 .1 .1 .1 .1 .1 .1 .0)); frames = (zs .1 .1 .1 .1 .1 .1 .1 .1 .1 .0) } ≡ loadMachineOf image (stored constants structs functions text main mainPlaces other otherPlaces) frames)
-    call-entry = call-with 𝓤 H A W to-entry Entry StartedRow startedVal (λ x zs. record { answer = x; stores = (stored (zs .1 .0) (zs .1 .1 .0) (zs .1 .1 .1 .0) (zs .1 .1 .1 .1 .0) (zs .1 .1 .1 .1 .1 .0) (zs .1 .1 .1 .1 .1 .1 .0) (zs .1 .1 .1 .1 .1 .1 .1 .0) (zs .1 .1 .1 .1 .1 .1 .1 .1 .0)); frames = (zs .1 .1 .1 .1 .1 .1 .1 .1 .1 .0) } ≡ loadMachineOf image (stored constants structs functions text main mainPlaces other otherPlaces) frames) started-tells (λ ns. passing (lent to-entry ns)) (λ ns. refl)
-        (λ ns. unasked W (lent to-entry ns)) (λ ns w. id⊢ 𝓤 _) tt ((refl, room0), ((refl, room2), ((refl, room3), ((refl, room4), ((refl, room5), ((refl, room6), ((refl, room7), ((refl, room8), ((refl, room9), ((refl, room10), tt))))))))))
+    call-entry =
+        call-with 𝓤 H A W to-entry Entry StartedRow startedVal
+        (λ x zs. record {
+          answer = x;
+          stores =
+              (stored (zs .1 .0) (zs .1 .1 .0) (zs .1 .1 .1 .0) (zs .1 .1 .1 .1 .0) (zs .1 .1 .1 .1 .1 .0)
+              (zs .1 .1 .1 .1 .1 .1 .0) (zs .1 .1 .1 .1 .1 .1 .1 .0) (zs .1 .1 .1 .1 .1 .1 .1 .1 .0));
+          frames = (zs .1 .1 .1 .1 .1 .1 .1 .1 .1 .0);
+        } ≡ loadMachineOf image (stored constants structs functions text main mainPlaces other otherPlaces) frames) started-tells
+        (λ ns. passing (lent to-entry ns)) (λ ns. refl) (λ ns. unasked W (lent to-entry ns)) (λ ns w. id⊢ 𝓤 _) tt (
+          (refl, room0),
+          (
+            (refl, room2),
+            (
+              (refl, room3),
+              (
+                (refl, room4),
+                ((refl, room5), ((refl, room6), ((refl, room7), ((refl, room8), ((refl, room9), ((refl, room10), tt)))))),
+              ),
+            ),
+          ),
+        )
 
     abbrev to-tells : Started → List Arg
     to-tells x = val StartedRow x (startedVal x) ∷ mut u64 s1 vm ∷ mut u64 s11 answer ∷ []
 
     call-tells : (x : Started) → IsStarted x → Rule 𝓤 H A W (to-tells x) Tells u32 (vint w32) (λ n zs. record { number = n; vm = (zs .1 .0); answer = (zs .1 .1 .0) } ≡ startedCoded x vm answer)
-    call-tells x isx = call-with 𝓤 H A W (to-tells x) Tells u32 (vint w32) (λ n zs. record { number = n; vm = (zs .1 .0); answer = (zs .1 .1 .0) } ≡ startedCoded x vm answer) (uint-tells w32) (λ ns. passing (lent (to-tells x) ns)) (λ ns. refl)
-        (λ ns. unasked W (lent (to-tells x) ns)) (λ ns w. id⊢ 𝓤 _) (started-makes 𝓤 H A W x _ isx, tt) ((refl, room1), ((refl, room11), tt))
+    call-tells x isx =
+        call-with 𝓤 H A W (to-tells x) Tells u32 (vint w32)
+        (λ n zs. record { number = n; vm = (zs .1 .0); answer = (zs .1 .1 .0) } ≡ startedCoded x vm answer) (uint-tells w32)
+        (λ ns. passing (lent (to-tells x) ns)) (λ ns. refl) (λ ns. unasked W (lent (to-tells x) ns)) (λ ns w. id⊢ 𝓤 _)
+        (started-makes 𝓤 H A W x _ isx, tt) ((refl, room1), ((refl, room11), tt))
 
     walk : ent 𝓤 (onEntry 𝓤 H A me.signature (lfts (xs vm constants structs functions text main mainPlaces other otherPlaces frames answer)) (shares (xs vm constants structs functions text main mainPlaces other otherPlaces frames answer)) (denots (xs vm constants structs functions text main mainPlaces other otherPlaces frames answer)) (valss (xs vm constants structs functions text main mainPlaces other otherPlaces frames answer))) (WpFn 𝓤 H (𝓣 .C) (𝓣 .Λ) code.function (values (xs vm constants structs functions text main mainPlaces other otherPlaces frames answer)) Post)
     walk =
@@ -213,6 +279,9 @@ chaffwheel-load-spec 𝓤 H 𝓜 𝓖 𝓡 =
     closed kinds u32 𝓤 H 𝓜 𝓖 𝓡 code.env #me code.function (code.unfolded 𝓤 H 𝓜 𝓡) (me.clauses 𝓤 H (𝓖 .A) (𝓜 .mem) (𝓡 .run))
     (λ κs qs a g is. unneeded 𝓤 _
     (walk 𝓤 H (𝓖 .A) W (𝓜 .mem) (𝓡 .run) (tablesOf 𝓤 H 𝓜 (tables 𝓤 H 𝓜 𝓡 code.env))
-    (cited 𝓤 H (Why 𝓤 H (𝓖 .A) W (𝓜 .mem) (𝓡 .run)) 𝓜 𝓡 code.env #why why-def.routine code.calls-coding·out-refusal (why-thm.met 𝓤 H 𝓜 𝓖 𝓡))
-    (cited 𝓤 H (Entry 𝓤 H (𝓖 .A) W (𝓜 .mem) (𝓡 .run)) 𝓜 𝓡 code.env #entry entry-def.routine code.calls-machine·load (entry-thm.met 𝓤 H 𝓜 𝓖 𝓡))
-    (cited 𝓤 H (Tells 𝓤 H (𝓖 .A) W (𝓜 .mem) (𝓡 .run)) 𝓜 𝓡 code.env #tells tells-def.routine code.calls-coding·tell-started (tells-thm.met 𝓤 H 𝓜 𝓖 𝓡)) κs qs a is))
+    (cited 𝓤 H (Why 𝓤 H (𝓖 .A) W (𝓜 .mem) (𝓡 .run)) 𝓜 𝓡 code.env #why why-def.routine code.calls-coding·out-refusal
+    (why-thm.met 𝓤 H 𝓜 𝓖 𝓡))
+    (cited 𝓤 H (Entry 𝓤 H (𝓖 .A) W (𝓜 .mem) (𝓡 .run)) 𝓜 𝓡 code.env #entry entry-def.routine code.calls-machine·load
+    (entry-thm.met 𝓤 H 𝓜 𝓖 𝓡))
+    (cited 𝓤 H (Tells 𝓤 H (𝓖 .A) W (𝓜 .mem) (𝓡 .run)) 𝓜 𝓡 code.env #tells tells-def.routine code.calls-coding·tell-started
+    (tells-thm.met 𝓤 H 𝓜 𝓖 𝓡)) κs qs a is))

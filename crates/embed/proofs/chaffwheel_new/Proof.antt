@@ -94,7 +94,8 @@ module _ {M : Type 1} (𝓤 : URA M) (H : Heap 𝓤) (A : Atoms 𝓤) (W : Given
     room4 = is .1 .1 .1 .1 .0 .0 .1
 
     abbrev slices : List ℕ → List ℕ → List ℕ → List Frame → List ℕ → List Arg
-    slices vm′ functions′ text′ frames′ answer′ = mut u64 s0 vm′ ∷ mut u64 s1 functions′ ∷ mut u8 s2 text′ ∷ mut R s3 frames′ ∷ mut u64 s4 answer′ ∷ []
+    slices vm′ functions′ text′ frames′ answer′ =
+        mut u64 s0 vm′ ∷ mut u64 s1 functions′ ∷ mut u8 s2 text′ ∷ mut R s3 frames′ ∷ mut u64 s4 answer′ ∷ []
 
     abbrev xs : List ℕ → List ℕ → List ℕ → List Frame → List ℕ → List Arg
     xs vm′ functions′ text′ frames′ answer′ = slices vm′ functions′ text′ frames′ answer′
@@ -104,30 +105,42 @@ module _ {M : Type 1} (𝓤 : URA M) (H : Heap 𝓤) (A : Atoms 𝓤) (W : Given
 
     exits : (r : ℕ) (vm′ : List ℕ) (functions′ : List ℕ) (text′ : List ℕ) (frames′ : List Frame) (answer′ : List ℕ) → Is u32 r (vint w32 r ∷ []) → length vm′ ≡ s0 .count → length functions′ ≡ s1 .count → length text′ ≡ s2 .count → length frames′ ≡ s3 .count → length answer′ ≡ s4 .count → ((rest : Stores) → record { coded = record { number = r; vm = vm′; answer = answer′ }; stores = (namesLent rest functions′ text′); frames = frames′ } ≡ startThrough vm answer (namesLent rest functions text) frames (newMachineOf (namesLent rest functions text) frames)) → ent 𝓤 (⋆ 𝓤 H A (‵ (Holds (slices vm′ functions′ text′ frames′ answer′)) ∷ [])) (Post (vint w32 r))
     exits r vm′ functions′ text′ frames′ answer′ isr len-vm len-functions len-text len-frames len-answer said =
-        qed W (‵ (Holds (slices vm′ functions′ text′ frames′ answer′)) ∷ []) ∵ suffices ! _ (ends-at 𝓤 H A me.ended (stays kinds) (me.clauses 𝓤 H A mem run) W (passing (xs vm functions text frames answer)) (vint w32 r) r (vm′, (functions′, (text′, (frames′, (answer′, tt))))) (len-vm, (len-functions, (len-text, (len-frames, (len-answer, tt)))))) $ says ! said $
-        gives ! (xs vm′ functions′ text′ frames′ answer′) tt (frame ! $ owned ! u32 (Is u32) (uint-makes 𝓤 H A W w32) r _ isr $ keep ! (1 ∷ 0 ∷ []) $ done !)
+        qed W (‵ (Holds (slices vm′ functions′ text′ frames′ answer′)) ∷ []) ∵ suffices ! _
+        (ends-at 𝓤 H A me.ended (stays kinds) (me.clauses 𝓤 H A mem run) W (passing (xs vm functions text frames answer))
+        (vint w32 r) r (vm′, (functions′, (text′, (frames′, (answer′, tt)))))
+        (len-vm, (len-functions, (len-text, (len-frames, (len-answer, tt)))))) $ says ! said $ gives !
+        (xs vm′ functions′ text′ frames′ answer′) tt
+        (frame ! $ owned ! u32 (Is u32) (uint-makes 𝓤 H A W w32) r _ isr $ keep ! (1 ∷ 0 ∷ []) $ done !)
 
     -- the calls
     abbrev to-why : List Arg
     to-why = peek u64 s0 vm ∷ val usize 1 (vint w64 1) ∷ peek u64 s4 answer ∷ []
 
     call-why : Rule 𝓤 H A W to-why Why u32 (vint w32) (λ n zs. n ≡ outRefusal vm 1 answer)
-    call-why = call-with 𝓤 H A W to-why Why u32 (vint w32) (λ n zs. n ≡ outRefusal vm 1 answer) (uint-tells w32) (λ ns. passing (lent to-why ns)) (λ ns. refl)
-        (λ ns. unasked W (lent to-why ns)) (λ ns w. id⊢ 𝓤 _) (uint-makes 𝓤 H A W w64 1 _ (refl, omega arith), tt) ((refl, room0), ((refl, room4), tt))
+    call-why =
+        call-with 𝓤 H A W to-why Why u32 (vint w32) (λ n zs. n ≡ outRefusal vm 1 answer) (uint-tells w32)
+        (λ ns. passing (lent to-why ns)) (λ ns. refl) (λ ns. unasked W (lent to-why ns)) (λ ns w. id⊢ 𝓤 _)
+        (uint-makes 𝓤 H A W w64 1 _ (refl, omega arith), tt) ((refl, room0), ((refl, room4), tt))
 
     abbrev to-entry : List Arg
     to-entry = mut u64 s1 functions ∷ mut u8 s2 text ∷ mut R s3 frames ∷ []
 
     call-entry : Rule 𝓤 H A W to-entry Entry StartedRow startedVal (λ x zs. ((rest : Stores) → record { answer = x; stores = (namesLent rest (zs .0) (zs .1 .0)); frames = (zs .1 .1 .0) } ≡ newMachineOf (namesLent rest functions text) frames))
-    call-entry = call-with 𝓤 H A W to-entry Entry StartedRow startedVal (λ x zs. ((rest : Stores) → record { answer = x; stores = (namesLent rest (zs .0) (zs .1 .0)); frames = (zs .1 .1 .0) } ≡ newMachineOf (namesLent rest functions text) frames)) started-tells (λ ns. passing (lent to-entry ns)) (λ ns. refl)
+    call-entry =
+        call-with 𝓤 H A W to-entry Entry StartedRow startedVal
+        (λ x zs. ((rest : Stores) → record { answer = x; stores = (namesLent rest (zs .0) (zs .1 .0)); frames = (zs .1 .1 .0) } ≡
+        newMachineOf (namesLent rest functions text) frames)) started-tells (λ ns. passing (lent to-entry ns)) (λ ns. refl)
         (λ ns. unasked W (lent to-entry ns)) (λ ns w. id⊢ 𝓤 _) tt ((refl, room1), ((refl, room2), ((refl, room3), tt)))
 
     abbrev to-tells : Started → List Arg
     to-tells x = val StartedRow x (startedVal x) ∷ mut u64 s0 vm ∷ mut u64 s4 answer ∷ []
 
     call-tells : (x : Started) → IsStarted x → Rule 𝓤 H A W (to-tells x) Tells u32 (vint w32) (λ n zs. record { number = n; vm = (zs .1 .0); answer = (zs .1 .1 .0) } ≡ startedCoded x vm answer)
-    call-tells x isx = call-with 𝓤 H A W (to-tells x) Tells u32 (vint w32) (λ n zs. record { number = n; vm = (zs .1 .0); answer = (zs .1 .1 .0) } ≡ startedCoded x vm answer) (uint-tells w32) (λ ns. passing (lent (to-tells x) ns)) (λ ns. refl)
-        (λ ns. unasked W (lent (to-tells x) ns)) (λ ns w. id⊢ 𝓤 _) (started-makes 𝓤 H A W x _ isx, tt) ((refl, room0), ((refl, room4), tt))
+    call-tells x isx =
+        call-with 𝓤 H A W (to-tells x) Tells u32 (vint w32)
+        (λ n zs. record { number = n; vm = (zs .1 .0); answer = (zs .1 .1 .0) } ≡ startedCoded x vm answer) (uint-tells w32)
+        (λ ns. passing (lent (to-tells x) ns)) (λ ns. refl) (λ ns. unasked W (lent (to-tells x) ns)) (λ ns w. id⊢ 𝓤 _)
+        (started-makes 𝓤 H A W x _ isx, tt) ((refl, room0), ((refl, room4), tt))
 
     walk : ent 𝓤 (onEntry 𝓤 H A me.signature (lfts (xs vm functions text frames answer)) (shares (xs vm functions text frames answer)) (denots (xs vm functions text frames answer)) (valss (xs vm functions text frames answer))) (WpFn 𝓤 H (𝓣 .C) (𝓣 .Λ) code.function (values (xs vm functions text frames answer)) Post)
     walk =
@@ -151,6 +164,9 @@ chaffwheel-new-spec 𝓤 H 𝓜 𝓖 𝓡 =
     closed kinds u32 𝓤 H 𝓜 𝓖 𝓡 code.env #me code.function (code.unfolded 𝓤 H 𝓜 𝓡) (me.clauses 𝓤 H (𝓖 .A) (𝓜 .mem) (𝓡 .run))
     (λ κs qs a g is. unneeded 𝓤 _
     (walk 𝓤 H (𝓖 .A) W (𝓜 .mem) (𝓡 .run) (tablesOf 𝓤 H 𝓜 (tables 𝓤 H 𝓜 𝓡 code.env))
-    (cited 𝓤 H (Why 𝓤 H (𝓖 .A) W (𝓜 .mem) (𝓡 .run)) 𝓜 𝓡 code.env #why why-def.routine code.calls-coding·out-refusal (why-thm.met 𝓤 H 𝓜 𝓖 𝓡))
-    (cited 𝓤 H (Entry 𝓤 H (𝓖 .A) W (𝓜 .mem) (𝓡 .run)) 𝓜 𝓡 code.env #entry entry-def.routine code.calls-machine·new (entry-thm.met 𝓤 H 𝓜 𝓖 𝓡))
-    (cited 𝓤 H (Tells 𝓤 H (𝓖 .A) W (𝓜 .mem) (𝓡 .run)) 𝓜 𝓡 code.env #tells tells-def.routine code.calls-coding·tell-started (tells-thm.met 𝓤 H 𝓜 𝓖 𝓡)) κs qs a is))
+    (cited 𝓤 H (Why 𝓤 H (𝓖 .A) W (𝓜 .mem) (𝓡 .run)) 𝓜 𝓡 code.env #why why-def.routine code.calls-coding·out-refusal
+    (why-thm.met 𝓤 H 𝓜 𝓖 𝓡))
+    (cited 𝓤 H (Entry 𝓤 H (𝓖 .A) W (𝓜 .mem) (𝓡 .run)) 𝓜 𝓡 code.env #entry entry-def.routine code.calls-machine·new
+    (entry-thm.met 𝓤 H 𝓜 𝓖 𝓡))
+    (cited 𝓤 H (Tells 𝓤 H (𝓖 .A) W (𝓜 .mem) (𝓡 .run)) 𝓜 𝓡 code.env #tells tells-def.routine code.calls-coding·tell-started
+    (tells-thm.met 𝓤 H 𝓜 𝓖 𝓡)) κs qs a is))

@@ -38,7 +38,10 @@ use Rattle.embed.proofs.chaffwheel_run.Statement as stated
 use Rattle.embed.proofs.chaffwheel_run.Code as code
 
 abbrev kinds : List (Kind 14)
-kinds = own u64 (vint w64) (uint-tells w64) (λ x f. refl) ∷ unique 0 tt u64 ∷ shared 1 tt u64 ∷ shared 2 tt u64 ∷ shared 3 tt u8 ∷ shared 4 tt u8 ∷ shared 5 tt u32 ∷ shared 6 tt u8 ∷ shared 7 tt u32 ∷ unique 8 tt u64 ∷ unique 9 tt u64 ∷ unique 10 tt R ∷ unique 11 tt u64 ∷ unique 12 tt u32 ∷ unique 13 tt u64 ∷ []
+kinds =
+    own u64 (vint w64) (uint-tells w64) (λ x f. refl) ∷ unique 0 tt u64 ∷ shared 1 tt u64 ∷ shared 2 tt u64 ∷ shared 3 tt u8 ∷
+    shared 4 tt u8 ∷ shared 5 tt u32 ∷ shared 6 tt u8 ∷ shared 7 tt u32 ∷ unique 8 tt u64 ∷ unique 9 tt u64 ∷ unique 10 tt R ∷
+    unique 11 tt u64 ∷ unique 12 tt u32 ∷ unique 13 tt u64 ∷ []
 
 module _ {M : Type 1} (𝓤 : URA M) (H : Heap 𝓤) (A : Atoms 𝓤) (W : Given 𝓤 H A) (mem : Memory → SProp 𝓤) (run : Routine → Fun 𝓤) where
   abbrev Why : Contract 𝓤
@@ -93,13 +96,19 @@ module _ {M : Type 1} (𝓤 : URA M) (H : Heap 𝓤) (A : Atoms 𝓤) (W : Given
     s10 = sl (κs .1 .1 .1 .1 .1 .1 .1 .1 .1 .1 .0) (qs .1 .1 .1 .1 .1 .1 .1 .1 .1 .1 .0) (a .1 .1 .1 .1 .1 .1 .1 .1 .1 .1 .1 .0)
 
     abbrev s11 : Sl
-    s11 = sl (κs .1 .1 .1 .1 .1 .1 .1 .1 .1 .1 .1 .0) (qs .1 .1 .1 .1 .1 .1 .1 .1 .1 .1 .1 .0) (a .1 .1 .1 .1 .1 .1 .1 .1 .1 .1 .1 .1 .0)
+    s11 =
+        sl (κs .1 .1 .1 .1 .1 .1 .1 .1 .1 .1 .1 .0) (qs .1 .1 .1 .1 .1 .1 .1 .1 .1 .1 .1 .0)
+        (a .1 .1 .1 .1 .1 .1 .1 .1 .1 .1 .1 .1 .0)
 
     abbrev s12 : Sl
-    s12 = sl (κs .1 .1 .1 .1 .1 .1 .1 .1 .1 .1 .1 .1 .0) (qs .1 .1 .1 .1 .1 .1 .1 .1 .1 .1 .1 .1 .0) (a .1 .1 .1 .1 .1 .1 .1 .1 .1 .1 .1 .1 .1 .0)
+    s12 =
+        sl (κs .1 .1 .1 .1 .1 .1 .1 .1 .1 .1 .1 .1 .0) (qs .1 .1 .1 .1 .1 .1 .1 .1 .1 .1 .1 .1 .0)
+        (a .1 .1 .1 .1 .1 .1 .1 .1 .1 .1 .1 .1 .1 .0)
 
     abbrev s13 : Sl
-    s13 = sl (κs .1 .1 .1 .1 .1 .1 .1 .1 .1 .1 .1 .1 .1 .0) (qs .1 .1 .1 .1 .1 .1 .1 .1 .1 .1 .1 .1 .1 .0) (a .1 .1 .1 .1 .1 .1 .1 .1 .1 .1 .1 .1 .1 .1 .0)
+    s13 =
+        sl (κs .1 .1 .1 .1 .1 .1 .1 .1 .1 .1 .1 .1 .1 .0) (qs .1 .1 .1 .1 .1 .1 .1 .1 .1 .1 .1 .1 .1 .0)
+        (a .1 .1 .1 .1 .1 .1 .1 .1 .1 .1 .1 .1 .1 .1 .0)
 
     abbrev vm : List ℕ
     vm = now (a .1 .0)
@@ -186,47 +195,102 @@ module _ {M : Type 1} (𝓤 : URA M) (H : Heap 𝓤) (A : Atoms 𝓤) (W : Given
     room13 = is .1 .1 .1 .1 .1 .1 .1 .1 .1 .1 .1 .1 .1 .1 .0 .0 .1
 
     abbrev slices : List ℕ → List ℕ → List ℕ → List Frame → List ℕ → List ℕ → List ℕ → List Arg
-    slices vm′ stack′ cells′ frames′ copy′ trace′ answer′ = mut u64 s0 vm′ ∷ shr u64 s1 constants ∷ shr u64 s2 functions ∷ shr u8 s3 text ∷ shr u8 s4 main ∷ shr u32 s5 mainPlaces ∷ shr u8 s6 other ∷ shr u32 s7 otherPlaces ∷ mut u64 s8 stack′ ∷ mut u64 s9 cells′ ∷ mut R s10 frames′ ∷ mut u64 s11 copy′ ∷ mut u32 s12 trace′ ∷ mut u64 s13 answer′ ∷ []
+    slices vm′ stack′ cells′ frames′ copy′ trace′ answer′ =
+        mut u64 s0 vm′ ∷ shr u64 s1 constants ∷ shr u64 s2 functions ∷ shr u8 s3 text ∷ shr u8 s4 main ∷ shr u32 s5 mainPlaces ∷
+        shr u8 s6 other ∷ shr u32 s7 otherPlaces ∷ mut u64 s8 stack′ ∷ mut u64 s9 cells′ ∷ mut R s10 frames′ ∷ mut u64 s11 copy′ ∷
+        mut u32 s12 trace′ ∷ mut u64 s13 answer′ ∷ []
 
     abbrev xs : List ℕ → List ℕ → List ℕ → List Frame → List ℕ → List ℕ → List ℕ → List Arg
-    xs vm′ stack′ cells′ frames′ copy′ trace′ answer′ = val u64 units (vint w64 units) ∷ slices vm′ stack′ cells′ frames′ copy′ trace′ answer′
+    xs vm′ stack′ cells′ frames′ copy′ trace′ answer′ =
+        val u64 units (vint w64 units) ∷ slices vm′ stack′ cells′ frames′ copy′ trace′ answer′
 
     abbrev Post : Val → SProp 𝓤
-    Post = walkOf 𝓤 H A me.ended (stays kinds) (me.clauses 𝓤 H A mem run) .post (passing (xs vm stack cells frames copy trace answer))
+    Post =
+        walkOf 𝓤 H A me.ended (stays kinds) (me.clauses 𝓤 H A mem run) .post
+        (passing (xs vm stack cells frames copy trace answer))
 
     exits : (r : ℕ) (vm′ : List ℕ) (stack′ : List ℕ) (cells′ : List ℕ) (frames′ : List Frame) (copy′ : List ℕ) (trace′ : List ℕ) (answer′ : List ℕ) → Is u32 r (vint w32 r ∷ []) → length vm′ ≡ s0 .count → length stack′ ≡ s8 .count → length cells′ ≡ s9 .count → length frames′ ≡ s10 .count → length copy′ ≡ s11 .count → length trace′ ≡ s12 .count → length answer′ ≡ s13 .count → RunThrough vm answer (λ (structs : List ℕ). programLent structs constants functions text main mainPlaces other otherPlaces) (runLent stack cells frames copy trace) units (record { number = r; vm = vm′; answer = answer′ }) (runLent stack′ cells′ frames′ copy′ trace′) → ent 𝓤 (⋆ 𝓤 H A (‵ (Holds (slices vm′ stack′ cells′ frames′ copy′ trace′ answer′)) ∷ [])) (Post (vint w32 r))
     exits r vm′ stack′ cells′ frames′ copy′ trace′ answer′ isr len-vm len-stack len-cells len-frames len-copy len-trace len-answer said =
-        qed W (‵ (Holds (slices vm′ stack′ cells′ frames′ copy′ trace′ answer′)) ∷ []) ∵ suffices ! _ (ends-at 𝓤 H A me.ended (stays kinds) (me.clauses 𝓤 H A mem run) W (passing (xs vm stack cells frames copy trace answer)) (vint w32 r) r (tt, (vm′, (tt, (tt, (tt, (tt, (tt, (tt, (tt, (stack′, (cells′, (frames′, (copy′, (trace′, (answer′, tt))))))))))))))) (tt, (len-vm, (tt, (tt, (tt, (tt, (tt, (tt, (tt, (len-stack, (len-cells, (len-frames, (len-copy, (len-trace, (len-answer, tt)))))))))))))))) $ says ! said $
-        gives ! (xs vm′ stack′ cells′ frames′ copy′ trace′ answer′) (uint-makes 𝓤 H A W w64 units _ (is .0), tt) (frame ! $ owned ! u32 (Is u32) (uint-makes 𝓤 H A W w32) r _ isr $ keep ! (1 ∷ 0 ∷ []) $ done !)
+        qed W (‵ (Holds (slices vm′ stack′ cells′ frames′ copy′ trace′ answer′)) ∷ []) ∵ suffices ! _
+        (ends-at 𝓤 H A me.ended (stays kinds) (me.clauses 𝓤 H A mem run) W (passing (xs vm stack cells frames copy trace answer))
+        (vint w32 r) r
+        (tt, (vm′, (tt, (tt, (tt, (tt, (tt, (tt, (tt, (stack′, (cells′, (frames′, (copy′, (trace′, (answer′, tt))))))))))))))) (
+          tt,
+          (
+            len-vm,
+            (
+              tt,
+              (
+                tt,
+                (tt, (tt, (tt, (tt, (tt, (len-stack, (len-cells, (len-frames, (len-copy, (len-trace, (len-answer, tt))))))))))),
+              ),
+            ),
+          ),
+        )) $ says ! said $ gives ! (xs vm′ stack′ cells′ frames′ copy′ trace′ answer′)
+        (uint-makes 𝓤 H A W w64 units _ (is .0), tt)
+        (frame ! $ owned ! u32 (Is u32) (uint-makes 𝓤 H A W w32) r _ isr $ keep ! (1 ∷ 0 ∷ []) $ done !)
 
     -- the calls
     abbrev to-why : List Arg
     to-why = peek u64 s0 vm ∷ val usize 4 (vint w64 4) ∷ peek u64 s13 answer ∷ []
 
     call-why : Rule 𝓤 H A W to-why Why u32 (vint w32) (λ n zs. n ≡ slicesRefusal vm 4 answer)
-    call-why = call-with 𝓤 H A W to-why Why u32 (vint w32) (λ n zs. n ≡ slicesRefusal vm 4 answer) (uint-tells w32) (λ ns. passing (lent to-why ns)) (λ ns. refl)
-        (λ ns. unasked W (lent to-why ns)) (λ ns w. id⊢ 𝓤 _) (uint-makes 𝓤 H A W w64 4 _ (refl, omega arith), tt) ((refl, room0), ((refl, room13), tt))
+    call-why =
+        call-with 𝓤 H A W to-why Why u32 (vint w32) (λ n zs. n ≡ slicesRefusal vm 4 answer) (uint-tells w32)
+        (λ ns. passing (lent to-why ns)) (λ ns. refl) (λ ns. unasked W (lent to-why ns)) (λ ns w. id⊢ 𝓤 _)
+        (uint-makes 𝓤 H A W w64 4 _ (refl, omega arith), tt) ((refl, room0), ((refl, room13), tt))
 
     abbrev to-rec : List Arg
     to-rec = peek u64 s0 vm ∷ []
 
     call-rec : Rule 𝓤 H A W to-rec Rec VmRow vmVal (λ m zs. m ≡ vmIn vm)
-    call-rec = call-with 𝓤 H A W to-rec Rec VmRow vmVal (λ m zs. m ≡ vmIn vm) vm-tells (λ ns. passing (lent to-rec ns)) (λ ns. refl)
+    call-rec =
+        call-with 𝓤 H A W to-rec Rec VmRow vmVal (λ m zs. m ≡ vmIn vm) vm-tells (λ ns. passing (lent to-rec ns)) (λ ns. refl)
         (λ ns. unasked W (lent to-rec ns)) (λ ns w. id⊢ 𝓤 _) tt ((refl, room0), tt)
 
     abbrev to-entry : Vm → List Arg
-    to-entry m = val VmRow m (vmVal m) ∷ val u64 units (vint w64 units) ∷ shr u64 s1 constants ∷ shr u64 s2 functions ∷ shr u8 s3 text ∷ shr u8 s4 main ∷ shr u32 s5 mainPlaces ∷ shr u8 s6 other ∷ shr u32 s7 otherPlaces ∷ mut u64 s8 stack ∷ mut u64 s9 cells ∷ mut R s10 frames ∷ mut u64 s11 copy ∷ mut u32 s12 trace ∷ []
+    to-entry m =
+        val VmRow m (vmVal m) ∷ val u64 units (vint w64 units) ∷ shr u64 s1 constants ∷ shr u64 s2 functions ∷ shr u8 s3 text ∷
+        shr u8 s4 main ∷ shr u32 s5 mainPlaces ∷ shr u8 s6 other ∷ shr u32 s7 otherPlaces ∷ mut u64 s8 stack ∷ mut u64 s9 cells ∷
+        mut R s10 frames ∷ mut u64 s11 copy ∷ mut u32 s12 trace ∷ []
 
     call-entry : (m : Vm) → IsVm m → Rule 𝓤 H A W (to-entry m) Entry ResultRow resultVal (λ x zs. ((structs : List ℕ) → RunPost m (programLent structs constants functions text main mainPlaces other otherPlaces) (runLent stack cells frames copy trace) units x (runLent (zs .1 .1 .1 .1 .1 .1 .1 .1 .1 .0) (zs .1 .1 .1 .1 .1 .1 .1 .1 .1 .1 .0) (zs .1 .1 .1 .1 .1 .1 .1 .1 .1 .1 .1 .0) (zs .1 .1 .1 .1 .1 .1 .1 .1 .1 .1 .1 .1 .0) (zs .1 .1 .1 .1 .1 .1 .1 .1 .1 .1 .1 .1 .1 .0))))
-    call-entry m ism = call-with 𝓤 H A W (to-entry m) Entry ResultRow resultVal (λ x zs. ((structs : List ℕ) → RunPost m (programLent structs constants functions text main mainPlaces other otherPlaces) (runLent stack cells frames copy trace) units x (runLent (zs .1 .1 .1 .1 .1 .1 .1 .1 .1 .0) (zs .1 .1 .1 .1 .1 .1 .1 .1 .1 .1 .0) (zs .1 .1 .1 .1 .1 .1 .1 .1 .1 .1 .1 .0) (zs .1 .1 .1 .1 .1 .1 .1 .1 .1 .1 .1 .1 .0) (zs .1 .1 .1 .1 .1 .1 .1 .1 .1 .1 .1 .1 .1 .0)))) result-tells (λ ns. passing (lent (to-entry m) ns)) (λ ns. refl)
-        (λ ns. unasked W (lent (to-entry m) ns)) (λ ns w. id⊢ 𝓤 _) (vm-makes 𝓤 H A W m _ ism, (uint-makes 𝓤 H A W w64 units _ (is .0), tt)) ((refl, room1), ((refl, room2), ((refl, room3), ((refl, room4), ((refl, room5), ((refl, room6), ((refl, room7), ((refl, room8), ((refl, room9), ((refl, room10), ((refl, room11), ((refl, room12), tt))))))))))))
+    call-entry m ism =
+        call-with 𝓤 H A W (to-entry m) Entry ResultRow resultVal
+        (λ x zs. ((structs : List ℕ) → RunPost m (programLent structs constants functions text main mainPlaces other otherPlaces)
+        (runLent stack cells frames copy trace) units x
+        (runLent (zs .1 .1 .1 .1 .1 .1 .1 .1 .1 .0) (zs .1 .1 .1 .1 .1 .1 .1 .1 .1 .1 .0) (zs .1 .1 .1 .1 .1 .1 .1 .1 .1 .1 .1 .0)
+        (zs .1 .1 .1 .1 .1 .1 .1 .1 .1 .1 .1 .1 .0) (zs .1 .1 .1 .1 .1 .1 .1 .1 .1 .1 .1 .1 .1 .0)))) result-tells
+        (λ ns. passing (lent (to-entry m) ns)) (λ ns. refl) (λ ns. unasked W (lent (to-entry m) ns)) (λ ns w. id⊢ 𝓤 _)
+        (vm-makes 𝓤 H A W m _ ism, (uint-makes 𝓤 H A W w64 units _ (is .0), tt)) (
+          (refl, room1),
+          (
+            (refl, room2),
+            (
+              (refl, room3),
+              (
+                (refl, room4),
+                (
+                  (refl, room5),
+                  (
+                    (refl, room6),
+                    ((refl, room7), ((refl, room8), ((refl, room9), ((refl, room10), ((refl, room11), ((refl, room12), tt)))))),
+                  ),
+                ),
+              ),
+            ),
+          ),
+        )
 
     abbrev to-tells : RunResult → List Arg
     to-tells x = val ResultRow x (resultVal x) ∷ mut u64 s0 vm ∷ mut u64 s13 answer ∷ []
 
     call-tells : (x : RunResult) → IsResult x → Rule 𝓤 H A W (to-tells x) Tells u32 (vint w32) (λ n zs. record { number = n; vm = (zs .1 .0); answer = (zs .1 .1 .0) } ≡ runCoded x vm answer)
-    call-tells x isx = call-with 𝓤 H A W (to-tells x) Tells u32 (vint w32) (λ n zs. record { number = n; vm = (zs .1 .0); answer = (zs .1 .1 .0) } ≡ runCoded x vm answer) (uint-tells w32) (λ ns. passing (lent (to-tells x) ns)) (λ ns. refl)
-        (λ ns. unasked W (lent (to-tells x) ns)) (λ ns w. id⊢ 𝓤 _) (result-makes 𝓤 H A W x _ isx, tt) ((refl, room0), ((refl, room13), tt))
+    call-tells x isx =
+        call-with 𝓤 H A W (to-tells x) Tells u32 (vint w32)
+        (λ n zs. record { number = n; vm = (zs .1 .0); answer = (zs .1 .1 .0) } ≡ runCoded x vm answer) (uint-tells w32)
+        (λ ns. passing (lent (to-tells x) ns)) (λ ns. refl) (λ ns. unasked W (lent (to-tells x) ns)) (λ ns w. id⊢ 𝓤 _)
+        (result-makes 𝓤 H A W x _ isx, tt) ((refl, room0), ((refl, room13), tt))
 
     walk : ent 𝓤 (onEntry 𝓤 H A me.signature (lfts (xs vm stack cells frames copy trace answer)) (shares (xs vm stack cells frames copy trace answer)) (denots (xs vm stack cells frames copy trace answer)) (valss (xs vm stack cells frames copy trace answer))) (WpFn 𝓤 H (𝓣 .C) (𝓣 .Λ) code.function (values (xs vm stack cells frames copy trace answer)) Post)
     walk =
@@ -251,7 +315,11 @@ chaffwheel-run-spec 𝓤 H 𝓜 𝓖 𝓡 =
     closed kinds u32 𝓤 H 𝓜 𝓖 𝓡 code.env #me code.function (code.unfolded 𝓤 H 𝓜 𝓡) (me.clauses 𝓤 H (𝓖 .A) (𝓜 .mem) (𝓡 .run))
     (λ κs qs a g is. unneeded 𝓤 _
     (walk 𝓤 H (𝓖 .A) W (𝓜 .mem) (𝓡 .run) (tablesOf 𝓤 H 𝓜 (tables 𝓤 H 𝓜 𝓡 code.env))
-    (cited 𝓤 H (Why 𝓤 H (𝓖 .A) W (𝓜 .mem) (𝓡 .run)) 𝓜 𝓡 code.env #why why-def.routine code.calls-coding·slices-refusal (why-thm.met 𝓤 H 𝓜 𝓖 𝓡))
-    (cited 𝓤 H (Rec 𝓤 H (𝓖 .A) W (𝓜 .mem) (𝓡 .run)) 𝓜 𝓡 code.env #rec rec-def.routine code.calls-coding·vm-of (rec-thm.met 𝓤 H 𝓜 𝓖 𝓡))
-    (cited 𝓤 H (Entry 𝓤 H (𝓖 .A) W (𝓜 .mem) (𝓡 .run)) 𝓜 𝓡 code.env #entry entry-def.routine code.calls-machine·run (entry-thm.met 𝓤 H 𝓜 𝓖 𝓡))
-    (cited 𝓤 H (Tells 𝓤 H (𝓖 .A) W (𝓜 .mem) (𝓡 .run)) 𝓜 𝓡 code.env #tells tells-def.routine code.calls-coding·tell-run (tells-thm.met 𝓤 H 𝓜 𝓖 𝓡)) κs qs a is))
+    (cited 𝓤 H (Why 𝓤 H (𝓖 .A) W (𝓜 .mem) (𝓡 .run)) 𝓜 𝓡 code.env #why why-def.routine code.calls-coding·slices-refusal
+    (why-thm.met 𝓤 H 𝓜 𝓖 𝓡))
+    (cited 𝓤 H (Rec 𝓤 H (𝓖 .A) W (𝓜 .mem) (𝓡 .run)) 𝓜 𝓡 code.env #rec rec-def.routine code.calls-coding·vm-of
+    (rec-thm.met 𝓤 H 𝓜 𝓖 𝓡))
+    (cited 𝓤 H (Entry 𝓤 H (𝓖 .A) W (𝓜 .mem) (𝓡 .run)) 𝓜 𝓡 code.env #entry entry-def.routine code.calls-machine·run
+    (entry-thm.met 𝓤 H 𝓜 𝓖 𝓡))
+    (cited 𝓤 H (Tells 𝓤 H (𝓖 .A) W (𝓜 .mem) (𝓡 .run)) 𝓜 𝓡 code.env #tells tells-def.routine code.calls-coding·tell-run
+    (tells-thm.met 𝓤 H 𝓜 𝓖 𝓡)) κs qs a is))

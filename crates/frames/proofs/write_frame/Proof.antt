@@ -44,8 +44,11 @@ module _ {M : Type 1} (𝓤 : URA M) (H : Heap 𝓤) (A : Atoms 𝓤) (W : Given
 
   exits : ent 𝓤 (⋆ 𝓤 H A (‵ (Holds (xs zs)) ∷ [])) (Post vunit)
   exits =
-      qed W (‵ (Holds (xs zs)) ∷ []) ∵ suffices ! _ (ends-at 𝓤 H A me.ended (stays kinds) (me.clauses 𝓤 H A mem run) W (passing (xs ys)) vunit tt (zs, (tt, (tt, tt))) (length-set ys i f, (tt, (tt, tt)))) $ says ! refl $
-      gives ! (xs zs) (uint-makes 𝓤 H A W w64 i _ (is .1 .0), (frame-makes 𝓤 H A W f _ (is .1 .1 .0), tt)) (frame ! $ feqI ! (List Val) (vunit ∷ []) (vunit ∷ []) refl $ keep ! (1 ∷ 0 ∷ []) $ done !)
+      qed W (‵ (Holds (xs zs)) ∷ []) ∵ suffices ! _
+      (ends-at 𝓤 H A me.ended (stays kinds) (me.clauses 𝓤 H A mem run) W (passing (xs ys)) vunit tt (zs, (tt, (tt, tt)))
+      (length-set ys i f, (tt, (tt, tt)))) $ says ! refl $ gives ! (xs zs)
+      (uint-makes 𝓤 H A W w64 i _ (is .1 .0), (frame-makes 𝓤 H A W f _ (is .1 .1 .0), tt))
+      (frame ! $ feqI ! (List Val) (vunit ∷ []) (vunit ∷ []) refl $ keep ! (1 ∷ 0 ∷ []) $ done !)
 
   walk : i < length ys → ent 𝓤 (onEntry 𝓤 H A me.signature (lfts (xs ys)) (shares (xs ys)) (denots (xs ys)) (valss (xs ys))) (WpFn 𝓤 H (𝓣 .C) (𝓣 .Λ) code.function (values (xs ys)) Post)
   walk l =
@@ -64,4 +67,5 @@ pub write-frame-spec : {M : Type 1} → stated.statement M
 unfolding code.routine tablesOf
 write-frame-spec 𝓤 H 𝓜 𝓖 𝓡 =
     closed kinds Nothing 𝓤 H 𝓜 𝓖 𝓡 code.env #me code.function (code.unfolded 𝓤 H 𝓜 𝓡) (me.clauses 𝓤 H (𝓖 .A) (𝓜 .mem) (𝓡 .run))
-    (λ κs qs a g is. needs 𝓤 (a .1 .0 < length (now (a .0))) _ (walk 𝓤 H (𝓖 .A) (givenOf 𝓤 H 𝓜 𝓖) (𝓜 .mem) (𝓡 .run) (tablesOf 𝓤 H 𝓜 (tables 𝓤 H 𝓜 𝓡 code.env)) κs qs a is))
+    (λ κs qs a g is. needs 𝓤 (a .1 .0 < length (now (a .0))) _
+    (walk 𝓤 H (𝓖 .A) (givenOf 𝓤 H 𝓜 𝓖) (𝓜 .mem) (𝓡 .run) (tablesOf 𝓤 H 𝓜 (tables 𝓤 H 𝓜 𝓡 code.env)) κs qs a is))

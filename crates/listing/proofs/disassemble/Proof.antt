@@ -9,49 +9,69 @@ use Rattle.listing.proofs.disassemble.Statement.{statement}
 use Rattle.listing.proofs.disassemble.Tie as tie
 
 list-order-requires : tie.Need-list-order-requires
-list-order-requires c κs = search needs
+list-order-requires c κs = search
 
 returns : tie.Need-returns
-returns c = out-of-order _ _ _ _ _ (c .before .list-order .ensures) _ (not-true _ (c .if1 .taken))
+returns c = search (out-of-order, not-true)
 
 slice-relend-prefix-write-all : tie.Need-slice-relend-prefix-write-all
 slice-relend-prefix-write-all c = search needs
 
 slice-aggregate-write-all : tie.Need-slice-aggregate-write-all
-slice-aggregate-write-all c = sym (length-take-le _ (c .before .before .before .before .before .before .before .before .args .out .now) (search needs))
+slice-aggregate-write-all c = search (length-take-le, needs)
 
 write-all-requires : tie.Need-write-all-requires
 write-all-requires c κs = few _ _ _ _ _ (c .before .before .list-order .ensures) [] (not-false _ (c .before .if1 .left))
 
 enum-known-measured : tie.Need-enum-known-measured
-enum-known-measured c = search needs
+enum-known-measured c = search
 
 enum-told : tie.Need-enum-told
-enum-told c = search needs
+enum-told c = search
 
 same-length : tie.Need-same-length
-same-length c = search needs
+same-length c = search
 
 returns-2 : tie.Need-returns-2
-returns-2 c = refused _ _ _ _ _ (c .before .before .before .before .before .before .before .list-order .ensures) _ (not-false _ (c .before .before .before .before .before .before .if1 .left)) (search needs) _ (c .before .match .keys2) (c .before .before .before .before .write-all .ensures)
+returns-2 c =
+    refused _ _ _ _ _ (c .before .before .before .before .before .before .before .list-order .ensures) _
+    (not-false _ (c .before .before .before .before .before .before .if1 .left)) (search needs) _ (c .before .match .keys2)
+    (c .before .before .before .before .write-all .ensures)
 
 room-requires : tie.Need-room-requires
 room-requires c κs = search needs
 
 same-length-2 : tie.Need-same-length-2
-same-length-2 c = search needs
+same-length-2 c = search
 
 returns-3 : tie.Need-returns-3
-returns-3 c = no-room _ _ _ _ _ (c .before .before .before .before .before .before .before .before .before .before .list-order .ensures) _ (not-false _ (c .before .before .before .before .before .before .before .before .before .if1 .left)) (search needs) (c .before .before .before .measured .given .1) (c .before .before .before .before .before .before .before .write-all .ensures) _ (c .before .room .ensures _ refl) (c .if2 .taken)
+returns-3 c =
+    no-room _ _ _ _ _ (c .before .before .before .before .before .before .before .before .before .before .list-order .ensures) _
+    (not-false _ (c .before .before .before .before .before .before .before .before .before .if1 .left)) (search needs)
+    (c .before .before .before .measured .given .1)
+    (c .before .before .before .before .before .before .before .write-all .ensures) _ (c .before .room .ensures _ refl)
+    (c .if2 .taken)
 
 write-all-requires-2 : tie.Need-write-all-requires-2
-write-all-requires-2 c κs = few _ _ _ _ _ (c .before .before .before .before .before .before .before .before .before .before .before .list-order .ensures) [] (not-false _ (c .before .before .before .before .before .before .before .before .before .before .if1 .left))
+write-all-requires-2 c κs =
+    let at-if1 = c .before .before .before .before .before .before .before .before .before .before in
+    let at-list-order = at-if1 .before in
+    few _ _ _ _ _ (at-list-order .list-order .ensures) [] (not-false _ (at-if1 .if1 .left))
 
 same-length-3 : tie.Need-same-length-3
-same-length-3 c = search needs
+same-length-3 c = search
 
 returns-4 : tie.Need-returns-4
-returns-4 c = room-for _ _ _ _ _ (c .before .before .before .before .before .before .before .before .before .before .before .before .before .before .list-order .ensures) _ (not-false _ (c .before .before .before .before .before .before .before .before .before .before .before .before .before .if1 .left)) (search needs) (c .before .before .before .before .before .before .before .measured .given .1) (c .before .before .before .before .before .before .before .before .before .before .before .write-all .ensures) _ (c .before .before .before .before .before .room .ensures _ refl) (c .before .before .before .before .if2 .left) (c .before .before .write-all2 .ensures)
+returns-4 c =
+    room-for _ _ _ _ _
+    (c .before .before .before .before .before .before .before .before .before .before .before .before .before .before .list-order
+    .ensures) _
+    (not-false _
+    (c .before .before .before .before .before .before .before .before .before .before .before .before .before .if1 .left))
+    (search needs) (c .before .before .before .before .before .before .before .measured .given .1)
+    (c .before .before .before .before .before .before .before .before .before .before .before .write-all .ensures) _
+    (c .before .before .before .before .before .room .ensures _ refl) (c .before .before .before .before .if2 .left)
+    (c .before .before .write-all2 .ensures)
 
 pub disassemble-spec : {M : Type 1} → statement M
 disassemble-spec =

@@ -11,10 +11,10 @@ write-lines-requires : tie.Need-write-lines-requires
 write-lines-requires c κs = search needs
 
 same-length : tie.Need-same-length
-same-length c = search needs
+same-length c = search
 
 returns : tie.Need-returns
-returns c = then _ (c .before .before .before .before .before .before .write-header .ensures) (c .before .before .write-lines .ensures)
+returns c = search then
 
 pub write-function-spec : {M : Type 1} → statement M
 write-function-spec =

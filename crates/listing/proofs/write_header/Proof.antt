@@ -5,7 +5,7 @@ use Rattle.listing.proofs.write_header.Statement.{statement}
 use Rattle.listing.proofs.write_header.Tie as tie
 
 slice-aggregate-put-text : tie.Need-slice-aggregate-put-text
-slice-aggregate-put-text c = search needs
+slice-aggregate-put-text c = search
 
 put-text-requires : tie.Need-put-text-requires
 put-text-requires c κs = search needs
@@ -14,7 +14,7 @@ write-decimal-requires : tie.Need-write-decimal-requires
 write-decimal-requires c κs = search needs
 
 slice-aggregate-put-text-2 : tie.Need-slice-aggregate-put-text-2
-slice-aggregate-put-text-2 c = search needs
+slice-aggregate-put-text-2 c = search
 
 put-text-requires-2 : tie.Need-put-text-requires-2
 put-text-requires-2 c κs = search needs
@@ -23,7 +23,7 @@ put-text-requires-3 : tie.Need-put-text-requires-3
 put-text-requires-3 c κs = search needs
 
 slice-aggregate-put-text-3 : tie.Need-slice-aggregate-put-text-3
-slice-aggregate-put-text-3 c = search needs
+slice-aggregate-put-text-3 c = search
 
 put-text-requires-4 : tie.Need-put-text-requires-4
 put-text-requires-4 c κs = search needs
@@ -32,7 +32,7 @@ same-length : tie.Need-same-length
 same-length c = search needs
 
 returns : tie.Need-returns
-returns c = header-is _ _ (c .before .before .before .before .before .before .before .before .before .before .before .before .before .before .before .before .before .before .before .before .put-text .ensures) (c .before .before .before .before .before .before .before .before .before .before .before .before .before .before .before .before .write-decimal .ensures) (c .before .before .before .before .before .before .before .before .before .before .before .put-text2 .ensures) (c .before .before .before .before .before .before .before .put-text3 .ensures) (c .before .before .put-text4 .ensures)
+returns c = search header-is
 
 pub write-header-spec : {M : Type 1} → statement M
 write-header-spec =

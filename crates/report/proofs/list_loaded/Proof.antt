@@ -5,40 +5,44 @@ use Rattle.report.proofs.list_loaded.Statement.{statement}
 use Rattle.report.proofs.list_loaded.Tie as tie
 
 enum-known-loaded : tie.Need-enum-known-loaded
-enum-known-loaded c = search needs
+enum-known-loaded c = search
 
 list-program-requires : tie.Need-list-program-requires
-list-program-requires c κs = λ rest. can-list _ (c .before .before .before .before .before .before .before .before .before .pre rest) (c .before .before .loaded .given .1)
+list-program-requires c κs =
+    λ rest. can-list _ (c .before .before .before .before .before .before .before .before .before .pre rest)
+    (c .before .before .loaded .given .1)
 
 enum-told : tie.Need-enum-told
-enum-told c = search needs
+enum-told c = search
 
 print-refused-requires : tie.Need-print-refused-requires
-print-refused-requires c κs = search needs
+print-refused-requires c κs = search
 
 enum-known-loaded-2 : tie.Need-enum-known-loaded-2
-enum-known-loaded-2 c = search needs
+enum-known-loaded-2 c = search
 
 print-refused-requires-2 : tie.Need-print-refused-requires-2
-print-refused-requires-2 c κs = search needs
+print-refused-requires-2 c κs = search
 
 same-length : tie.Need-same-length
-same-length c = search needs
+same-length c = search
 
 returns : tie.Need-returns
-returns c = λ rest. done-printed _ _ (c .before .before .before .before .before .loaded .given .1) (c .before .before .list-program .ensures rest)
+returns c =
+    λ rest. done-printed _ _ (c .before .before .before .before .before .loaded .given .1)
+    (c .before .before .list-program .ensures rest)
 
 same-length-2 : tie.Need-same-length-2
-same-length-2 c = search needs
+same-length-2 c = search
 
 returns-2 : tie.Need-returns-2
-returns-2 c = λ rest. broken-printed _ _ _ (c .before .before .before .before .before .match .keys2) (c .before .before .print-refused .ensures)
+returns-2 c = search broken-printed
 
 same-length-3 : tie.Need-same-length-3
-same-length-3 c = search needs
+same-length-3 c = search
 
 returns-3 : tie.Need-returns-3
-returns-3 c = λ rest. refused-printed _ _ (c .before .before .before .before .before .loaded2 .given .1) (c .before .before .print-refused2 .ensures)
+returns-3 c = search refused-printed
 
 pub list-loaded-spec : {M : Type 1} → statement M
 list-loaded-spec =

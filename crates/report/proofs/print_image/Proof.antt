@@ -8,40 +8,40 @@ use Rattle.report.proofs.print_image.Statement.{statement}
 use Rattle.report.proofs.print_image.Tie as tie
 
 print-refused-requires : tie.Need-print-refused-requires
-print-refused-requires c κs = search needs
+print-refused-requires c κs = search
 
 same-length : tie.Need-same-length
-same-length c = search needs
+same-length c = search
 
 returns : tie.Need-returns
-returns c = too-long (c .before .before .before .before .before .before .before .args .image .now) _ (c .before .before .before .before .before .before .before .args .runs) (c .before .before .before .before .if1 .taken) (c .before .before .print-refused .ensures)
+returns c = search too-long
 
 slice-aggregate-load : tie.Need-slice-aggregate-load
-slice-aggregate-load c = search needs
+slice-aggregate-load c = search
 
 slice-aggregate-load-2 : tie.Need-slice-aggregate-load-2
-slice-aggregate-load-2 c = search needs
+slice-aggregate-load-2 c = search
 
 slice-aggregate-load-3 : tie.Need-slice-aggregate-load-3
-slice-aggregate-load-3 c = search needs
+slice-aggregate-load-3 c = search
 
 slice-aggregate-load-4 : tie.Need-slice-aggregate-load-4
-slice-aggregate-load-4 c = search needs
+slice-aggregate-load-4 c = search
 
 slice-aggregate-load-5 : tie.Need-slice-aggregate-load-5
-slice-aggregate-load-5 c = search needs
+slice-aggregate-load-5 c = search
 
 slice-aggregate-load-6 : tie.Need-slice-aggregate-load-6
-slice-aggregate-load-6 c = search needs
+slice-aggregate-load-6 c = search
 
 slice-aggregate-load-7 : tie.Need-slice-aggregate-load-7
-slice-aggregate-load-7 c = search needs
+slice-aggregate-load-7 c = search
 
 slice-aggregate-load-8 : tie.Need-slice-aggregate-load-8
-slice-aggregate-load-8 c = search needs
+slice-aggregate-load-8 c = search
 
 load-requires : tie.Need-load-requires
-load-requires c κs = search needs
+load-requires c κs = search
 
 slice-aggregate-run-loaded : tie.Need-slice-aggregate-run-loaded
 slice-aggregate-run-loaded c = search needs
@@ -62,17 +62,17 @@ slice-aggregate-run-loaded-6 : tie.Need-slice-aggregate-run-loaded-6
 slice-aggregate-run-loaded-6 c = search needs
 
 slice-aggregate-run-loaded-7 : tie.Need-slice-aggregate-run-loaded-7
-slice-aggregate-run-loaded-7 c = search needs
+slice-aggregate-run-loaded-7 c = search
 
 run-loaded-requires : tie.Need-run-loaded-requires
-run-loaded-requires c κs = search needs
+run-loaded-requires c κs = search
 
 same-length-2 : tie.Need-same-length-2
-same-length-2 c = search needs
+same-length-2 c = search
 
 returns-2 : tie.Need-returns-2
 unfolding emptyStores
-returns-2 c = is-run _ _ (c .before .before .before .before .before .before .before .before .before .before .before .if2 .taken) (image-run _ _ (c .before .before .before .before .before .before .before .before .before .before .before .before .before .before .before .before .before .before .before .before .before .before .before .before .before .before .before .before .before .if1 .left) _ _ _ _ _ _ _ _ _ (c .before .before .before .before .before .before .before .before .before .before .before .before .before .before .before .before .before .before .before .before .load .ensures) (c .before .before .run-loaded .ensures))
+returns-2 c = search (is-run, image-run)
 
 slice-aggregate-list-loaded : tie.Need-slice-aggregate-list-loaded
 slice-aggregate-list-loaded c = search needs
@@ -87,14 +87,22 @@ slice-aggregate-list-loaded-4 : tie.Need-slice-aggregate-list-loaded-4
 slice-aggregate-list-loaded-4 c = search needs
 
 list-loaded-requires : tie.Need-list-loaded-requires
-list-loaded-requires c κs = loads-listable _ (λ i. omega (arith, c .before .before .before .before .before .before .before .before .before .before .before .before .before .before .before .before .before .before .before .before .before .before .before .before .before .shared-slice-known .given i)) _ _ _ _ _ _ _ _ _ _ (c .before .before .before .before .before .before .before .before .before .before .before .before .before .before .load .ensures)
+list-loaded-requires c κs =
+    loads-listable _
+    (λ i. omega (
+      arith,
+      c .before .before .before .before .before .before .before .before .before .before .before .before .before .before .before
+          .before .before .before .before .before .before .before .before .before .before .shared-slice-known .given i,
+    )) _ _ _ _ _ _ _ _ _ _
+    (c .before .before .before .before .before .before .before .before .before .before .before .before .before .before .load
+    .ensures)
 
 same-length-3 : tie.Need-same-length-3
-same-length-3 c = search needs
+same-length-3 c = search
 
 returns-3 : tie.Need-returns-3
 unfolding emptyStores
-returns-3 c = is-listed _ _ (c .before .before .before .before .before .before .before .before .if2 .left) (image-listed _ _ (c .before .before .before .before .before .before .before .before .before .before .before .before .before .before .before .before .before .before .before .before .before .before .before .before .before .before .if1 .left) _ _ _ _ _ _ _ _ _ (c .before .before .before .before .before .before .before .before .before .before .before .before .before .before .before .before .before .load .ensures) (c .before .before .list-loaded .ensures))
+returns-3 c = search (is-listed, image-listed)
 
 pub print-image-spec : {M : Type 1} → statement M
 print-image-spec =

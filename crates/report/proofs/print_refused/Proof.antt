@@ -9,28 +9,33 @@ slice-relend-prefix-put-refused : tie.Need-slice-relend-prefix-put-refused
 slice-relend-prefix-put-refused c = search needs
 
 slice-aggregate-put-refused : tie.Need-slice-aggregate-put-refused
-slice-aggregate-put-refused c = search needs
+slice-aggregate-put-refused c = search
 
 put-refused-requires : tie.Need-put-refused-requires
-put-refused-requires c κs = search needs
+put-refused-requires c κs = search
 
 room-requires : tie.Need-room-requires
 room-requires c κs = search needs
 
 same-length : tie.Need-same-length
-same-length c = search needs
+same-length c = search
 
 returns : tie.Need-returns
-returns c = no-room _ _ (search needs) (c .before .before .before .before .put-refused .ensures) _ (c .before .room .ensures _ refl) (c .if1 .taken)
+returns c =
+    no-room _ _ (search needs) (c .before .before .before .before .put-refused .ensures) _ (c .before .room .ensures _ refl)
+    (c .if1 .taken)
 
 put-refused-requires-2 : tie.Need-put-refused-requires-2
-put-refused-requires-2 c κs = search needs
+put-refused-requires-2 c κs = search
 
 same-length-2 : tie.Need-same-length-2
-same-length-2 c = search needs
+same-length-2 c = search
 
 returns-2 : tie.Need-returns-2
-returns-2 c = room-for _ _ (search needs) (c .before .before .before .before .before .before .before .before .put-refused .ensures) _ (c .before .before .before .before .before .room .ensures _ refl) (c .before .before .before .before .if1 .left) (c .before .before .put-refused2 .ensures)
+returns-2 c =
+    room-for _ _ (search needs) (c .before .before .before .before .before .before .before .before .put-refused .ensures) _
+    (c .before .before .before .before .before .room .ensures _ refl) (c .before .before .before .before .if1 .left)
+    (c .before .before .put-refused2 .ensures)
 
 pub print-refused-spec : {M : Type 1} → statement M
 print-refused-spec =

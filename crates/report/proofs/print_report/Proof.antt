@@ -9,7 +9,7 @@ slice-relend-prefix-put-report : tie.Need-slice-relend-prefix-put-report
 slice-relend-prefix-put-report c = search needs
 
 slice-aggregate-put-report : tie.Need-slice-aggregate-put-report
-slice-aggregate-put-report c = search needs
+slice-aggregate-put-report c = search
 
 put-report-requires : tie.Need-put-report-requires
 put-report-requires c κs = c .before .before .before .before .pre
@@ -18,19 +18,25 @@ room-requires : tie.Need-room-requires
 room-requires c κs = search needs
 
 same-length : tie.Need-same-length
-same-length c = search needs
+same-length c = search
 
 returns : tie.Need-returns
-returns c = λ stack frames copy. no-room _ _ (search needs) (c .before .before .before .before .put-report .ensures stack frames copy) _ (c .before .room .ensures _ refl) (c .if1 .taken)
+returns c =
+    λ stack frames copy. no-room _ _ (search needs) (c .before .before .before .before .put-report .ensures stack frames copy) _
+    (c .before .room .ensures _ refl) (c .if1 .taken)
 
 put-report-requires-2 : tie.Need-put-report-requires-2
 put-report-requires-2 c κs = c .before .before .before .before .before .before .before .before .before .before .pre
 
 same-length-2 : tie.Need-same-length-2
-same-length-2 c = search needs
+same-length-2 c = search
 
 returns-2 : tie.Need-returns-2
-returns-2 c = λ stack frames copy. room-for _ _ (search needs) (c .before .before .before .before .before .before .before .before .put-report .ensures stack frames copy) _ (c .before .before .before .before .before .room .ensures _ refl) (c .before .before .before .before .if1 .left) (c .before .before .put-report2 .ensures stack frames copy)
+returns-2 c =
+    λ stack frames copy. room-for _ _ (search needs)
+    (c .before .before .before .before .before .before .before .before .put-report .ensures stack frames copy) _
+    (c .before .before .before .before .before .room .ensures _ refl) (c .before .before .before .before .if1 .left)
+    (c .before .before .put-report2 .ensures stack frames copy)
 
 pub print-report-spec : {M : Type 1} → statement M
 print-report-spec =

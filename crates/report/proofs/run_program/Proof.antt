@@ -6,37 +6,54 @@ use Rattle.report.proofs.run_program.Statement.{statement}
 use Rattle.report.proofs.run_program.Tie as tie
 
 fresh-vm-requires : tie.Need-fresh-vm-requires
-fresh-vm-requires c κs = search needs
+fresh-vm-requires c κs = search
 
 slice-aggregate-play : tie.Need-slice-aggregate-play
-slice-aggregate-play c = search needs
+slice-aggregate-play c = search
 
 slice-aggregate-play-2 : tie.Need-slice-aggregate-play-2
-slice-aggregate-play-2 c = search needs
+slice-aggregate-play-2 c = search
 
 slice-aggregate-play-3 : tie.Need-slice-aggregate-play-3
-slice-aggregate-play-3 c = search needs
+slice-aggregate-play-3 c = search
 
 slice-aggregate-play-4 : tie.Need-slice-aggregate-play-4
-slice-aggregate-play-4 c = search needs
+slice-aggregate-play-4 c = search
 
 play-requires : tie.Need-play-requires
-play-requires c κs = search needs
+play-requires c κs = search
 
 slice-aggregate-print-report : tie.Need-slice-aggregate-print-report
-slice-aggregate-print-report c = search needs
+slice-aggregate-print-report c = search
 
 slice-aggregate-print-report-2 : tie.Need-slice-aggregate-print-report-2
-slice-aggregate-print-report-2 c = search needs
+slice-aggregate-print-report-2 c = search
 
 print-report-requires : tie.Need-print-report-requires
-print-report-requires c κs = can-print _ _ _ _ _ _ _ _ _ (c .before .before .before .before .before .before .before .before .before .before .before .before .fresh-vm .ensures) _ _ _ _ _ (c .before .before .before .before .before .before .before .play .ensures) (λ j. omega (arith, c .before .before .before .before .before .before .before .before .before .before .before .before .before .before .before .before .before .shared-slice-known4 .given j)) (λ j. omega (arith, c .before .before .before .before .before .before .before .before .before .before .before .before .before .before .before .shared-slice-known6 .given j))
+print-report-requires c κs =
+    can-print _ _ _ _ _ _ _ _ _
+    (c .before .before .before .before .before .before .before .before .before .before .before .before .fresh-vm .ensures) _ _ _ _
+    _ (c .before .before .before .before .before .before .before .play .ensures)
+    (λ j. omega (
+      arith,
+      c .before .before .before .before .before .before .before .before .before .before .before .before .before .before .before
+          .before .before .shared-slice-known4 .given j,
+    ))
+    (λ j. omega (
+      arith,
+      c .before .before .before .before .before .before .before .before .before .before .before .before .before .before .before
+          .shared-slice-known6 .given j,
+    ))
 
 same-length : tie.Need-same-length
-same-length c = search needs
+same-length c = search
 
 returns : tie.Need-returns
-returns c = report-printed _ _ _ _ _ _ _ _ _ (c .before .before .before .before .before .before .before .before .before .before .before .before .before .before .before .fresh-vm .ensures) _ _ _ _ _ (c .before .before .before .before .before .before .before .before .before .before .play .ensures) _ (c .before .before .print-report .ensures)
+returns c =
+    let at-play = c .before .before .before .before .before .before .before .before .before .before in
+    let at-fresh-vm = at-play .before .before .before .before .before in
+    report-printed _ _ _ _ _ _ _ _ _ (at-fresh-vm .fresh-vm .ensures) _ _ _ _ _ (at-play .play .ensures) _
+    (c .before .before .print-report .ensures)
 
 pub run-program-spec : {M : Type 1} → statement M
 run-program-spec =

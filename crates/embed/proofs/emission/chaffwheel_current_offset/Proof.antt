@@ -8,28 +8,36 @@ use Rattle.embed.proofs.emission.chaffwheel_current_offset.Statement.{s
 use Rattle.embed.proofs.emission.chaffwheel_current_offset.Tie as tie
 
 slices-refusal-requires : tie.Need-slices-refusal-requires
-slices-refusal-requires c κs = search needs
+slices-refusal-requires c κs = search
 
 vm-of-requires : tie.Need-vm-of-requires
-vm-of-requires c κs = search needs
+vm-of-requires c κs = search
 
 current-offset-requires : tie.Need-current-offset-requires
-current-offset-requires c κs = search needs
+current-offset-requires c κs = search
 
 tell-requires : tie.Need-tell-requires
-tell-requires c κs = search needs
+tell-requires c κs = search
 
 same-length : tie.Need-same-length
-same-length c = search needs
+same-length c = search
 
 returns : tie.Need-returns
-returns c = is-through _ _ _ (c .before .before .before .before .before .before .before .before .slices-refusal .ensures) (c .before .before .before .before .before .before .before .if1 .taken) (c .before .before .before .before .before .before .vm-of .ensures) (λ (x : Vm). currentOffsetOf (x .program) (c .before .before .before .before .before .before .before .before .before .before .before .before .before .args .functions .now)) toldCoded (c .before .before .before .before .current-offset .ensures) (c .before .before .tell .ensures _)
+returns c =
+    let at-current-offset = c .before .before .before .before in
+    let at-vm-of = at-current-offset .before .before in
+    let at-if1 = at-vm-of .before in
+    let at-slices-refusal = at-if1 .before in
+    let at-start = at-slices-refusal .before .before .before .before .before in
+    is-through _ _ _ (at-slices-refusal .slices-refusal .ensures) (at-if1 .if1 .taken) (at-vm-of .vm-of .ensures)
+    (λ (x : Vm). currentOffsetOf (x .program) (at-start .args .functions .now)) toldCoded
+    (at-current-offset .current-offset .ensures) (c .before .before .tell .ensures _)
 
 same-length-2 : tie.Need-same-length-2
-same-length-2 c = search needs
+same-length-2 c = search
 
 returns-2 : tie.Need-returns-2
-returns-2 c = not-through _ _ _ (c .before .slices-refusal .ensures) (c .if1 .left) _
+returns-2 c = search not-through
 
 pub chaffwheel-current-offset-spec : {M : Type 1} → statement M
 chaffwheel-current-offset-spec =

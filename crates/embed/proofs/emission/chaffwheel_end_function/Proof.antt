@@ -8,34 +8,42 @@ use Rattle.embed.proofs.emission.chaffwheel_end_function.Statement.{sta
 use Rattle.embed.proofs.emission.chaffwheel_end_function.Tie as tie
 
 slices-refusal-requires : tie.Need-slices-refusal-requires
-slices-refusal-requires c κs = search needs
+slices-refusal-requires c κs = search
 
 vm-of-requires : tie.Need-vm-of-requires
-vm-of-requires c κs = search needs
+vm-of-requires c κs = search
 
 end-function-requires : tie.Need-end-function-requires
-end-function-requires c κs = search needs
+end-function-requires c κs = search
 
 tell-emitted-requires : tie.Need-tell-emitted-requires
-tell-emitted-requires c κs = search needs
+tell-emitted-requires c κs = search
 
 same-length : tie.Need-same-length
-same-length c = search needs
+same-length c = search
 
 same-length-2 : tie.Need-same-length-2
-same-length-2 c = search needs
+same-length-2 c = search
 
 returns : tie.Need-returns
-returns c = is-through _ _ _ (c .before .before .before .before .before .before .before .before .before .before .before .before .slices-refusal .ensures) (c .before .before .before .before .before .before .before .before .before .before .before .if1 .taken) (c .before .before .before .before .before .before .before .before .before .vm-of .ensures) (λ (x : Vm). endFunctionOf (x .program)) emittedCoded (c .before .before .before .before .before .before .before .end-function .ensures) (c .before .before .before .before .tell-emitted .ensures)
+returns c =
+    let at-tell-emitted = c .before .before .before .before in
+    let at-end-function = at-tell-emitted .before .before .before in
+    let at-vm-of = at-end-function .before .before in
+    let at-if1 = at-vm-of .before .before in
+    let at-slices-refusal = at-if1 .before in
+    is-through _ _ _ (at-slices-refusal .slices-refusal .ensures) (at-if1 .if1 .taken) (at-vm-of .vm-of .ensures)
+    (λ (x : Vm). endFunctionOf (x .program)) emittedCoded (at-end-function .end-function .ensures)
+    (at-tell-emitted .tell-emitted .ensures)
 
 same-length-3 : tie.Need-same-length-3
-same-length-3 c = search needs
+same-length-3 c = search
 
 same-length-4 : tie.Need-same-length-4
-same-length-4 c = search needs
+same-length-4 c = search
 
 returns-2 : tie.Need-returns-2
-returns-2 c = not-through _ _ _ (c .before .slices-refusal .ensures) (c .if1 .left) _
+returns-2 c = search not-through
 
 pub chaffwheel-end-function-spec : {M : Type 1} → statement M
 chaffwheel-end-function-spec =

@@ -9,28 +9,37 @@ use Rattle.embed.proofs.emission.chaffwheel_get_function_idx.Statement.
 use Rattle.embed.proofs.emission.chaffwheel_get_function_idx.Tie as tie
 
 slices-refusal-requires : tie.Need-slices-refusal-requires
-slices-refusal-requires c κs = search needs
+slices-refusal-requires c κs = search
 
 vm-of-requires : tie.Need-vm-of-requires
-vm-of-requires c κs = search needs
+vm-of-requires c κs = search
 
 get-function-idx-requires : tie.Need-get-function-idx-requires
-get-function-idx-requires c κs = search needs
+get-function-idx-requires c κs = search
 
 tell-requires : tie.Need-tell-requires
-tell-requires c κs = search needs
+tell-requires c κs = search
 
 same-length : tie.Need-same-length
-same-length c = search needs
+same-length c = search
 
 returns : tie.Need-returns
-returns c = λ rest. is-through _ _ _ (c .before .before .before .before .before .before .before .before .slices-refusal .ensures) (c .before .before .before .before .before .before .before .if1 .taken) (c .before .before .before .before .before .before .vm-of .ensures) (λ (x : Vm). functionIdxOf (x .program) (c .before .before .before .before .before .before .before .before .before .before .before .before .before .before .before .args .name .now) (namesLent rest (c .before .before .before .before .before .before .before .before .before .before .before .before .before .before .before .args .functions .now) (c .before .before .before .before .before .before .before .before .before .before .before .before .before .before .before .args .text .now))) toldCoded (c .before .before .before .before .get-function-idx .ensures rest) (c .before .before .tell .ensures _)
+returns c =
+    let at-get-function-idx = c .before .before .before .before in
+    let at-vm-of = at-get-function-idx .before .before in
+    let at-if1 = at-vm-of .before in
+    let at-slices-refusal = at-if1 .before in
+    let at-start = at-slices-refusal .before .before .before .before .before .before .before in
+    λ rest. is-through _ _ _ (at-slices-refusal .slices-refusal .ensures) (at-if1 .if1 .taken) (at-vm-of .vm-of .ensures)
+    (λ (x : Vm). functionIdxOf (x .program) (at-start .args .name .now)
+    (namesLent rest (at-start .args .functions .now) (at-start .args .text .now))) toldCoded
+    (at-get-function-idx .get-function-idx .ensures rest) (c .before .before .tell .ensures _)
 
 same-length-2 : tie.Need-same-length-2
-same-length-2 c = search needs
+same-length-2 c = search
 
 returns-2 : tie.Need-returns-2
-returns-2 c = λ rest. not-through _ _ _ (c .before .slices-refusal .ensures) (c .if1 .left) _
+returns-2 c = search not-through
 
 pub chaffwheel-get-function-idx-spec : {M : Type 1} → statement M
 chaffwheel-get-function-idx-spec =

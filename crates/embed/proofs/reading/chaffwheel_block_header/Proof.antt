@@ -11,31 +11,43 @@ use Rattle.embed.proofs.reading.chaffwheel_block_header.Statement.{stat
 use Rattle.embed.proofs.reading.chaffwheel_block_header.Tie as tie
 
 value-refusal-requires : tie.Need-value-refusal-requires
-value-refusal-requires c κs = search needs
+value-refusal-requires c κs = search
 
 vm-of-requires : tie.Need-vm-of-requires
-vm-of-requires c κs = search needs
+vm-of-requires c κs = search
 
 value-of-requires : tie.Need-value-of-requires
-value-of-requires c κs = search needs
+value-of-requires c κs = search
 
 block-header-requires : tie.Need-block-header-requires
-block-header-requires c κs = search needs
+block-header-requires c κs = search
 
 tell-header-requires : tie.Need-tell-header-requires
-tell-header-requires c κs = search needs
+tell-header-requires c κs = search
 
 same-length : tie.Need-same-length
-same-length c = search needs
+same-length c = search
 
 returns : tie.Need-returns
-returns c = is-through _ _ _ (c .before .before .before .before .before .before .before .before .value-refusal .ensures) (c .before .before .before .before .before .before .before .if1 .taken) (c .before .before .before .before .before .before .vm-of .ensures) (λ (x : Vm). blockHeaderOf x (valueOf (c .before .before .before .before .before .before .before .before .before .before .before .before .before .args .kind) (c .before .before .before .before .before .before .before .before .before .before .before .before .before .args .payload)) (c .before .before .before .before .before .before .before .before .before .before .before .before .before .args .cells .now)) headedCoded (c .before .before .before .before .block-header .ensures ∙ ap (λ (v : Value). blockHeaderOf (c .before .before .before .before .before .before .vm-of .result) v (c .before .before .before .before .before .before .before .before .before .before .before .before .before .args .cells .now)) (c .before .before .before .before .before .value-of .ensures)) (c .before .before .tell-header .ensures _)
+returns c =
+    let at-block-header = c .before .before .before .before in
+    let at-value-of = at-block-header .before in
+    let at-vm-of = at-value-of .before in
+    let at-if1 = at-vm-of .before in
+    let at-value-refusal = at-if1 .before in
+    let at-start = at-value-refusal .before .before .before .before .before in
+    is-through _ _ _ (at-value-refusal .value-refusal .ensures) (at-if1 .if1 .taken) (at-vm-of .vm-of .ensures)
+    (λ (x : Vm). blockHeaderOf x (valueOf (at-start .args .kind) (at-start .args .payload)) (at-start .args .cells .now))
+    headedCoded
+    (at-block-header .block-header .ensures ∙ ap
+    (λ (v : Value). blockHeaderOf (at-vm-of .vm-of .result) v (at-start .args .cells .now)) (at-value-of .value-of .ensures))
+    (c .before .before .tell-header .ensures _)
 
 same-length-2 : tie.Need-same-length-2
-same-length-2 c = search needs
+same-length-2 c = search
 
 returns-2 : tie.Need-returns-2
-returns-2 c = not-through _ _ _ (c .before .value-refusal .ensures) (c .if1 .left) _
+returns-2 c = search not-through
 
 pub chaffwheel-block-header-spec : {M : Type 1} → statement M
 chaffwheel-block-header-spec =

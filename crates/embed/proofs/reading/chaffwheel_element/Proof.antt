@@ -11,31 +11,43 @@ use Rattle.embed.proofs.reading.chaffwheel_element.Statement.{statement
 use Rattle.embed.proofs.reading.chaffwheel_element.Tie as tie
 
 value-refusal-requires : tie.Need-value-refusal-requires
-value-refusal-requires c κs = search needs
+value-refusal-requires c κs = search
 
 vm-of-requires : tie.Need-vm-of-requires
-vm-of-requires c κs = search needs
+vm-of-requires c κs = search
 
 value-of-requires : tie.Need-value-of-requires
-value-of-requires c κs = search needs
+value-of-requires c κs = search
 
 element-requires : tie.Need-element-requires
-element-requires c κs = search needs
+element-requires c κs = search
 
 tell-shown-requires : tie.Need-tell-shown-requires
-tell-shown-requires c κs = search needs
+tell-shown-requires c κs = search
 
 same-length : tie.Need-same-length
-same-length c = search needs
+same-length c = search
 
 returns : tie.Need-returns
-returns c = is-through _ _ _ (c .before .before .before .before .before .before .before .before .value-refusal .ensures) (c .before .before .before .before .before .before .before .if1 .taken) (c .before .before .before .before .before .before .vm-of .ensures) (λ (x : Vm). elementOf x (valueOf (c .before .before .before .before .before .before .before .before .before .before .before .before .before .args .kind) (c .before .before .before .before .before .before .before .before .before .before .before .before .before .args .payload)) (c .before .before .before .before .before .before .before .before .before .before .before .before .before .args .i) (c .before .before .before .before .before .before .before .before .before .before .before .before .before .args .cells .now)) shownCoded (c .before .before .before .before .element .ensures ∙ ap (λ (v : Value). elementOf (c .before .before .before .before .before .before .vm-of .result) v (c .before .before .before .before .before .before .before .before .before .before .before .before .before .args .i) (c .before .before .before .before .before .before .before .before .before .before .before .before .before .args .cells .now)) (c .before .before .before .before .before .value-of .ensures)) (c .before .before .tell-shown .ensures _)
+returns c =
+    let at-element = c .before .before .before .before in
+    let at-value-of = at-element .before in
+    let at-vm-of = at-value-of .before in
+    let at-if1 = at-vm-of .before in
+    let at-value-refusal = at-if1 .before in
+    let at-start = at-value-refusal .before .before .before .before .before in
+    is-through _ _ _ (at-value-refusal .value-refusal .ensures) (at-if1 .if1 .taken) (at-vm-of .vm-of .ensures)
+    (λ (x : Vm). elementOf x (valueOf (at-start .args .kind) (at-start .args .payload)) (at-start .args .i)
+    (at-start .args .cells .now)) shownCoded
+    (at-element .element .ensures ∙ ap
+    (λ (v : Value). elementOf (at-vm-of .vm-of .result) v (at-start .args .i) (at-start .args .cells .now))
+    (at-value-of .value-of .ensures)) (c .before .before .tell-shown .ensures _)
 
 same-length-2 : tie.Need-same-length-2
-same-length-2 c = search needs
+same-length-2 c = search
 
 returns-2 : tie.Need-returns-2
-returns-2 c = not-through _ _ _ (c .before .value-refusal .ensures) (c .if1 .left) _
+returns-2 c = search not-through
 
 pub chaffwheel-element-spec : {M : Type 1} → statement M
 chaffwheel-element-spec =

@@ -8,34 +8,44 @@ use Rattle.embed.proofs.reading.chaffwheel_text.Statement.{statement}
 use Rattle.embed.proofs.reading.chaffwheel_text.Tie as tie
 
 value-refusal-requires : tie.Need-value-refusal-requires
-value-refusal-requires c κs = search needs
+value-refusal-requires c κs = search
 
 vm-of-requires : tie.Need-vm-of-requires
-vm-of-requires c κs = search needs
+vm-of-requires c κs = search
 
 value-of-requires : tie.Need-value-of-requires
-value-of-requires c κs = search needs
+value-of-requires c κs = search
 
 text-bytes-requires : tie.Need-text-bytes-requires
-text-bytes-requires c κs = search needs
+text-bytes-requires c κs = search
 
 tell-requires : tie.Need-tell-requires
-tell-requires c κs = search needs
+tell-requires c κs = search
 
 same-length : tie.Need-same-length
-same-length c = search needs
+same-length c = search
 
 same-length-2 : tie.Need-same-length-2
-same-length-2 c = search needs
+same-length-2 c = search
 
 returns : tie.Need-returns
-returns c = out-through _ _ _ _ _ (c .before .before .before .before .before .before .before .before .before .before .before .value-refusal .ensures) (c .before .before .before .before .before .before .before .before .before .before .if1 .taken) _ (c .before .before .before .before .before .before .before .before .before .vm-of .ensures) _ _ (c .before .before .before .before .before .before .text-bytes .ensures ∙ ap (λ (v : Value). textBytesOf (c .before .before .before .before .before .before .before .before .before .vm-of .result) v (c .before .before .before .before .before .before .before .before .before .before .before .before .before .before .before .before .before .args .text .now) (c .before .before .before .before .before .before .before .before .before .before .before .before .before .before .before .before .before .args .out .now)) (c .before .before .before .before .before .before .before .before .value-of .ensures)) _ (c .before .before .tell .ensures _)
+returns c =
+    let at-text-bytes = c .before .before .before .before .before .before in
+    let at-value-of = at-text-bytes .before .before in
+    let at-vm-of = at-value-of .before in
+    let at-if1 = at-vm-of .before in
+    let at-value-refusal = at-if1 .before in
+    let at-start = at-value-refusal .before .before .before .before .before .before in
+    out-through _ _ _ _ _ (at-value-refusal .value-refusal .ensures) (at-if1 .if1 .taken) _ (at-vm-of .vm-of .ensures) _ _
+    (at-text-bytes .text-bytes .ensures ∙ ap
+    (λ (v : Value). textBytesOf (at-vm-of .vm-of .result) v (at-start .args .text .now) (at-start .args .out .now))
+    (at-value-of .value-of .ensures)) _ (c .before .before .tell .ensures _)
 
 same-length-3 : tie.Need-same-length-3
-same-length-3 c = search needs
+same-length-3 c = search
 
 returns-2 : tie.Need-returns-2
-returns-2 c = out-refused _ _ _ _ _ (c .before .value-refusal .ensures) (c .if1 .left)
+returns-2 c = search out-refused
 
 pub chaffwheel-text-spec : {M : Type 1} → statement M
 chaffwheel-text-spec =

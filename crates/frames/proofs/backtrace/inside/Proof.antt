@@ -7,10 +7,10 @@ use Rattle.frames.proofs.backtrace.inside.Statement.{statement}
 use Rattle.frames.proofs.backtrace.inside.Tie as tie
 
 inside-ok-requires : tie.Need-inside-ok-requires
-inside-ok-requires c κs = search needs
+inside-ok-requires c κs = search
 
 sub-t7 : tie.Need-sub-t7
-sub-t7 c = search needs
+sub-t7 c = search
 
 returns : tie.Need-returns
 returns c = on _ _ (sym (c .before .before .inside-ok .ensures) ∙ c .before .if1 .taken) (omega arith)

@@ -12,10 +12,10 @@ code-length-requires : tie.Need-code-length-requires
 code-length-requires c κs = search needs
 
 byte-before-requires : tie.Need-byte-before-requires
-byte-before-requires c κs = search needs
+byte-before-requires c κs = search
 
 returns-2 : tie.Need-returns-2
-returns-2 c = judged _ _ _ _ (c .before .code-length .ensures) (c .byte-before .ensures)
+returns-2 c = search judged
 
 pub inside-ok-spec : {M : Type 1} → statement M
 inside-ok-spec = tie.close (tie.spec returns code-length-requires byte-before-requires returns-2)

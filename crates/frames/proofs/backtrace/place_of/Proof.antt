@@ -5,22 +5,22 @@ use Rattle.frames.proofs.backtrace.place_of.Statement.{statement}
 use Rattle.frames.proofs.backtrace.place_of.Tie as tie
 
 code-start-requires : tie.Need-code-start-requires
-code-start-requires c κs = search needs
+code-start-requires c κs = search
 
 byte-before-requires : tie.Need-byte-before-requires
-byte-before-requires c κs = search needs
+byte-before-requires c κs = search
 
 number-at-requires : tie.Need-number-at-requires
-number-at-requires c κs = in-main _ _ _ _ _ _ (c .before .before .code-start .ensures) (c .before .byte-before .ensures) (c .before .before .before .before .before .before .pre) (c .if1 .taken)
+number-at-requires c κs = search in-main
 
 returns : tie.Need-returns
-returns c = from-main _ _ _ _ _ _ (c .before .before .before .code-start .ensures) (c .before .before .byte-before .ensures) _ (c .before .if1 .taken) (c .number-at .ensures)
+returns c = search from-main
 
 number-at-requires-2 : tie.Need-number-at-requires-2
-number-at-requires-2 c κs = in-other _ _ _ _ _ _ (c .before .before .code-start .ensures) (c .before .byte-before .ensures) (c .before .before .before .before .before .before .pre) (c .if1 .left)
+number-at-requires-2 c κs = search in-other
 
 returns-2 : tie.Need-returns-2
-returns-2 c = from-other _ _ _ _ _ _ (c .before .before .before .code-start .ensures) (c .before .before .byte-before .ensures) _ (c .before .if1 .left) (c .number-at2 .ensures)
+returns-2 c = search from-other
 
 pub place-of-spec : {M : Type 1} → statement M
 place-of-spec =

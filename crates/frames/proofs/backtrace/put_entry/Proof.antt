@@ -7,16 +7,16 @@ use Rattle.frames.proofs.backtrace.put_entry.Statement.{statement}
 use Rattle.frames.proofs.backtrace.put_entry.Tie as tie
 
 sub-j : tie.Need-sub-j
-sub-j c = search needs
+sub-j c = search
 
 mul-j : tie.Need-mul-j
 mul-j c = search needs
 
 place-of-requires : tie.Need-place-of-requires
-place-of-requires c κs = search needs
+place-of-requires c κs = search
 
 cast-number : tie.Need-cast-number
-cast-number c = search needs
+cast-number c = search
 
 mul-out : tie.Need-mul-out
 mul-out c = search needs
@@ -34,19 +34,19 @@ slice-write-out-2 : tie.Need-slice-write-out-2
 slice-write-out-2 c = simp length-set (omega arith)
 
 sub-t16 : tie.Need-sub-t16
-sub-t16 c = search needs
+sub-t16 c = search
 
 same-length : tie.Need-same-length
 same-length c = search needs
 
 returns : tie.Need-returns
-returns c = puts _ _ _ _ _ _ _ _ _ (c .before .before .place-of .ensures) (to-next _ (omega arith))
+returns c = search (puts, to-next, needs)
 
 same-length-2 : tie.Need-same-length-2
 same-length-2 c = search needs
 
 returns-2 : tie.Need-returns-2
-returns-2 c = puts _ _ _ _ _ _ _ _ _ (c .before .before .place-of .ensures) (no-next _ (omega arith))
+returns-2 c = search (puts, no-next, needs)
 
 pub put-entry-spec : {M : Type 1} → statement M
 put-entry-spec =

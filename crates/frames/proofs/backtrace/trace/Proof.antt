@@ -27,7 +27,9 @@ use Rattle.frames.proofs.backtrace.trace.Code as code
 use Rattle.frames.proofs.backtrace.trace.Code.Mir as cm
 
 abbrev kinds : List (Kind 5)
-kinds = shared 0 tt u64 ∷ shared 1 tt u32 ∷ shared 2 tt u32 ∷ own R fval tells (λ x f. refl) ∷ number ∷ shared 3 tt R ∷ unique 4 tt u32 ∷ []
+kinds =
+    shared 0 tt u64 ∷ shared 1 tt u32 ∷ shared 2 tt u32 ∷ own R fval tells (λ x f. refl) ∷ number ∷ shared 3 tt R ∷ unique 4 tt
+    u32 ∷ []
 
 abbrev leftVal : Left → Val
 leftVal = TL′.lowered
@@ -106,7 +108,9 @@ module _ {M : Type 1} (𝓤 : URA M) (H : Heap 𝓤) (A : Atoms 𝓤) (W : Given
 
     -- all of them, and in groups: what is read, the frames, and what is written
     abbrev xs : List ℕ → List Arg
-    xs zs = shr u64 s0 words ∷ shr u32 s1 main ∷ shr u32 s2 other ∷ val R inner (fval inner) ∷ val usize callers (vint w64 callers) ∷ shr R s3 ys ∷ mut u32 s4 zs ∷ []
+    xs zs =
+        shr u64 s0 words ∷ shr u32 s1 main ∷ shr u32 s2 other ∷ val R inner (fval inner) ∷ val usize callers (vint w64 callers) ∷
+        shr R s3 ys ∷ mut u32 s4 zs ∷ []
 
     abbrev stores : List Arg
     stores = shr u64 s0 words ∷ shr u32 s1 main ∷ shr u32 s2 other ∷ []
@@ -128,19 +132,30 @@ module _ {M : Type 1} (𝓤 : URA M) (H : Heap 𝓤) (A : Atoms 𝓤) (W : Given
 
     exits : (zs : List ℕ) → length zs ≡ s4 .count → zs ≡ goal → ent 𝓤 (⋆ 𝓤 H A (‵ (Holds (entries zs)) ∷ ‵ (Holds frames) ∷ [])) (Post vunit)
     exits zs len said =
-        qed W (‵ (Holds (entries zs)) ∷ ‵ (Holds frames) ∷ []) ∵ suffices ! _ (ends-at 𝓤 H A me.ended (stays kinds) (me.clauses 𝓤 H A mem run) W (passing (xs out)) vunit tt (tt, (tt, (tt, (tt, (tt, (tt, (zs, tt))))))) (tt, (tt, (tt, (tt, (tt, (tt, (len, tt)))))))) $ says ! said $
-        splits ! stores (trail zs) (move ! (2 ∷ 1 ∷ []) $ joins ! frames (trail zs) (move ! (1 ∷ []) $ joins ! stores (shr R s3 ys ∷ mut u32 s4 zs ∷ [])
-        (gives ! (xs zs) (frame-makes 𝓤 H A W inner _ is-inner, (uint-makes 𝓤 H A W w64 callers _ callers-fit, tt)) (frame ! $ feqI ! (List Val) (vunit ∷ []) (vunit ∷ []) refl $ keep ! (1 ∷ 0 ∷ []) $ done !))))
+        qed W (‵ (Holds (entries zs)) ∷ ‵ (Holds frames) ∷ []) ∵ suffices ! _
+        (ends-at 𝓤 H A me.ended (stays kinds) (me.clauses 𝓤 H A mem run) W (passing (xs out)) vunit tt
+        (tt, (tt, (tt, (tt, (tt, (tt, (zs, tt))))))) (tt, (tt, (tt, (tt, (tt, (tt, (len, tt)))))))) $ says ! said $ splits !
+        stores (trail zs)
+        (move ! (2 ∷ 1 ∷ []) $ joins ! frames (trail zs)
+        (move ! (1 ∷ []) $ joins ! stores (shr R s3 ys ∷ mut u32 s4 zs ∷ [])
+        (gives ! (xs zs) (frame-makes 𝓤 H A W inner _ is-inner, (uint-makes 𝓤 H A W w64 callers _ callers-fit, tt))
+        (frame ! $ feqI ! (List Val) (vunit ∷ []) (vunit ∷ []) refl $ keep ! (1 ∷ 0 ∷ []) $ done !))))
 
     -- the call of `put_entry`
     abbrev passed : ℕ → Frame → List ℕ → List Arg
-    passed i f zs = shr u64 s0 words ∷ shr u32 s1 main ∷ shr u32 s2 other ∷ val usize callers (vint w64 callers) ∷ val usize i (vint w64 i) ∷ val R f (fval f) ∷ mut u32 s4 zs ∷ []
+    passed i f zs =
+        shr u64 s0 words ∷ shr u32 s1 main ∷ shr u32 s2 other ∷ val usize callers (vint w64 callers) ∷ val usize i (vint w64 i) ∷
+        val R f (fval f) ∷ mut u32 s4 zs ∷ []
 
     call-put : (i : ℕ) (f : Frame) (zs : List ℕ) → length zs ≡ s4 .count → i < 2 ^ 64 → Is R f (fval f ∷ []) → Readable words main other f × (i ≤ callers) × (2 * callers + 2 ≤ length zs)
         → Rule 𝓤 H A W (passed i f zs) PutEntry TL.the-row leftVal (λ s ws. Put words main other callers i f zs (ws .1 .1 .1 .1 .1 .1 .0) s)
-    call-put i f zs len fits isf ask = call-with 𝓤 H A W (passed i f zs) PutEntry TL.the-row leftVal (λ s ws. Put words main other callers i f zs (ws .1 .1 .1 .1 .1 .1 .0) s) (TL′.lowers .val-is) (λ ns. passing (lent (passed i f zs) ns)) (λ ns. refl)
-        (λ ns. asked W (lent (passed i f zs) ns) ask) (λ ns w. id⊢ 𝓤 _)
-        (uint-makes 𝓤 H A W w64 callers _ callers-fit, (uint-makes 𝓤 H A W w64 i _ (refl, fits), (frame-makes 𝓤 H A W f _ isf, tt))) ((refl, room0), ((refl, room1), ((refl, room2), ((len, room4), tt))))
+    call-put i f zs len fits isf ask =
+        call-with 𝓤 H A W (passed i f zs) PutEntry TL.the-row leftVal
+        (λ s ws. Put words main other callers i f zs (ws .1 .1 .1 .1 .1 .1 .0) s) (TL′.lowers .val-is)
+        (λ ns. passing (lent (passed i f zs) ns)) (λ ns. refl) (λ ns. asked W (lent (passed i f zs) ns) ask) (λ ns w. id⊢ 𝓤 _) (
+          uint-makes 𝓤 H A W w64 callers _ callers-fit,
+          (uint-makes 𝓤 H A W w64 i _ (refl, fits), (frame-makes 𝓤 H A W f _ isf, tt)),
+        ) ((refl, room0), ((refl, room1), ((refl, room2), ((len, room4), tt))))
 
     -- the loop's state: the next caller, the numbers so far, and what is known of them
     abbrev State : Type 0
@@ -148,7 +163,9 @@ module _ {M : Type 1} (𝓤 : URA M) (H : Heap 𝓤) (A : Atoms 𝓤) (W : Given
 
     module _ (can : TraceFits words main other inner callers ys (length out)) (ls : Blocks (code.function .locals)) where
       abbrev held : Left → List (Option Val)
-      held s = none ∷ some (sval s0) ∷ some (sval s1) ∷ some (sval s2) ∷ some (fval inner) ∷ some (vint w64 callers) ∷ some (sval s3) ∷ some (sval s4) ∷ some (leftVal s) ∷ []
+      held s =
+          none ∷ some (sval s0) ∷ some (sval s1) ∷ some (sval s2) ∷ some (fval inner) ∷ some (vint w64 callers) ∷ some (sval s3) ∷
+          some (sval s4) ∷ some (leftVal s) ∷ []
 
       abbrev loop : Loop A 𝓣
       loop = record {
@@ -178,19 +195,42 @@ module _ {M : Type 1} (𝓤 : URA M) (H : Heap 𝓤) (A : Atoms 𝓤) (W : Given
 
     walk : TraceFits words main other inner callers ys (length out) → ent 𝓤 (onEntry 𝓤 H A me.signature (lfts (xs out)) (shares (xs out)) (denots (xs out)) (valss (xs out))) (WpFn 𝓤 H (𝓣 .C) (𝓣 .Λ) code.function (values (xs out)) Post)
     walk can =
-        qed W (‵ (Toks (xs out)) ∷ ‵ (Owns (xs out)) ∷ []) ∵ takes ! (xs out) (splits ! stores (shr R s3 ys ∷ mut u32 s4 out ∷ []) (move ! (1 ∷ []) $ splits ! frames (trail out) (move ! (2 ∷ 1 ∷ []) $ joins ! stores (trail out)
-        (enters ! (𝓣 .C) (𝓣 .Λ) code.function (values (xs out)) Post
-        ((tt, (tt, (record { fits = room0 .0 }, tt))), ((tt, (tt, (record { fits = room1 .0 }, tt))), ((tt, (tt, (record { fits = room2 .0 }, tt))), (frame-typed 𝓤 H A W inner is-inner, ((tt, record { fits = callers-fit .1 }), ((tt, (tt, (record { fits = room3 .0 }, tt))), ((tt, (tt, (record { fits = room4 .0 }, tt))), tt))))))) (λ ls.
-        sets ! (addr ! (behind ! refl refl)) (tt, tt) $ sets ! (agg ! (ofs ! refl)) (tt, (tt, (record { fits = room4 .0 }, tt))) $
-        call-put callers inner out refl (callers-fit .1) is-inner (can .first, omega arith, can .fits) .calls ! (fmOf 𝓤 H (W .laws) 𝓣) known-put refl (λ s ws said lens iss. lands-in ! (left-typed s iss) $
-        trims ! 9 $ rounds ! (loop can ls) (turn can ls) (s, ws .1 .1 .1 .1 .1 .1 .0, (iss, lens .0, writes words main other callers ys inner out _ s said))))))))
+        qed W (‵ (Toks (xs out)) ∷ ‵ (Owns (xs out)) ∷ []) ∵ takes ! (xs out)
+        (splits ! stores (shr R s3 ys ∷ mut u32 s4 out ∷ [])
+        (move ! (1 ∷ []) $ splits ! frames (trail out)
+        (move ! (2 ∷ 1 ∷ []) $ joins ! stores (trail out)
+        (enters ! (𝓣 .C) (𝓣 .Λ) code.function (values (xs out)) Post (
+          (tt, (tt, (record { fits = room0 .0 }, tt))),
+          (
+            (tt, (tt, (record { fits = room1 .0 }, tt))),
+            (
+              (tt, (tt, (record { fits = room2 .0 }, tt))),
+              (
+                frame-typed 𝓤 H A W inner is-inner,
+                (
+                  (tt, record { fits = callers-fit .1 }),
+                  ((tt, (tt, (record { fits = room3 .0 }, tt))), ((tt, (tt, (record { fits = room4 .0 }, tt))), tt)),
+                ),
+              ),
+            ),
+          ),
+        )
+        (λ ls. sets ! (addr ! (behind ! refl refl)) (tt, tt) $ sets ! (agg ! (ofs ! refl))
+        (tt, (tt, (record { fits = room4 .0 }, tt))) $ call-put callers inner out refl (callers-fit .1) is-inner
+        (can .first, omega arith, can .fits) .calls ! (fmOf 𝓤 H (W .laws) 𝓣) known-put refl
+        (λ s ws said lens iss. lands-in ! (left-typed s iss) $ trims ! 9 $ rounds ! (loop can ls) (turn can ls)
+        (s, ws .1 .1 .1 .1 .1 .1 .0, (iss, lens .0, writes words main other callers ys inner out _ s said))))))))
 
 pub trace-spec : {M : Type 1} → stated.statement M
 unfolding code.routine tablesOf
 trace-spec 𝓤 H 𝓜 𝓖 𝓡 =
     let W : Given 𝓤 H (𝓖 .A) = givenOf 𝓤 H 𝓜 𝓖 in
     closed kinds Nothing 𝓤 H 𝓜 𝓖 𝓡 code.env #me code.function (code.unfolded 𝓤 H 𝓜 𝓡) (me.clauses 𝓤 H (𝓖 .A) (𝓜 .mem) (𝓡 .run))
-    (λ κs qs a g is. needs 𝓤 (TraceFits (now (a .0)) (now (a .1 .0)) (now (a .1 .1 .0)) (a .1 .1 .1 .0) (a .1 .1 .1 .1 .0) (now (a .1 .1 .1 .1 .1 .0)) (length (now (a .1 .1 .1 .1 .1 .1 .0)))) _
+    (λ κs qs a g is. needs 𝓤
+    (TraceFits (now (a .0)) (now (a .1 .0)) (now (a .1 .1 .0)) (a .1 .1 .1 .0) (a .1 .1 .1 .1 .0) (now (a .1 .1 .1 .1 .1 .0))
+    (length (now (a .1 .1 .1 .1 .1 .1 .0)))) _
     (walk 𝓤 H (𝓖 .A) W (𝓜 .mem) (𝓡 .run) (tablesOf 𝓤 H 𝓜 (tables 𝓤 H 𝓜 𝓡 code.env))
-    (cited 𝓤 H (Read 𝓤 H (𝓖 .A) W (𝓜 .mem) (𝓡 .run)) 𝓜 𝓡 code.env #read read-def.routine code.calls-frames·read-frame (read-thm.met 𝓤 H 𝓜 𝓖 𝓡))
-    (cited 𝓤 H (PutEntry 𝓤 H (𝓖 .A) W (𝓜 .mem) (𝓡 .run)) 𝓜 𝓡 code.env #put put-def.routine code.calls-frames·backtrace·put-entry (put-thm.met 𝓤 H 𝓜 𝓖 𝓡)) κs qs a is))
+    (cited 𝓤 H (Read 𝓤 H (𝓖 .A) W (𝓜 .mem) (𝓡 .run)) 𝓜 𝓡 code.env #read read-def.routine code.calls-frames·read-frame
+    (read-thm.met 𝓤 H 𝓜 𝓖 𝓡))
+    (cited 𝓤 H (PutEntry 𝓤 H (𝓖 .A) W (𝓜 .mem) (𝓡 .run)) 𝓜 𝓡 code.env #put put-def.routine code.calls-frames·backtrace·put-entry
+    (put-thm.met 𝓤 H 𝓜 𝓖 𝓡)) κs qs a is))

@@ -74,16 +74,21 @@ module _ {M : Type 1} (𝓤 : URA M) (H : Heap 𝓤) (A : Atoms 𝓤) (W : Given
 
     exits : (b : Bool) → b ≡ goal → ent 𝓤 (⋆ 𝓤 H A (‵ (Holds functions) ∷ ‵ (Holds frames) ∷ [])) (Post (vbool b))
     exits b said =
-        qed W (‵ (Holds functions) ∷ ‵ (Holds frames) ∷ []) ∵ suffices ! _ (ends-at 𝓤 H A me.ended (stays kinds) (me.clauses 𝓤 H A mem run) W (passing xs) (vbool b) b (tt, (tt, (tt, (tt, tt)))) (tt, (tt, (tt, (tt, tt))))) $ says ! said $
-        joins ! functions frames (gives ! xs (frame-makes 𝓤 H A W inner _ (is .1 .0), (uint-makes 𝓤 H A W w64 callers _ (is .1 .1 .0), tt)) (frame ! $ feqI ! (List Val) (vbool b ∷ []) (vbool b ∷ []) refl $ keep ! (1 ∷ 0 ∷ []) $ done !))
+        qed W (‵ (Holds functions) ∷ ‵ (Holds frames) ∷ []) ∵ suffices ! _
+        (ends-at 𝓤 H A me.ended (stays kinds) (me.clauses 𝓤 H A mem run) W (passing xs) (vbool b) b (tt, (tt, (tt, (tt, tt))))
+        (tt, (tt, (tt, (tt, tt))))) $ says ! said $ joins ! functions frames
+        (gives ! xs (frame-makes 𝓤 H A W inner _ (is .1 .0), (uint-makes 𝓤 H A W w64 callers _ (is .1 .1 .0), tt))
+        (frame ! $ feqI ! (List Val) (vbool b ∷ []) (vbool b ∷ []) refl $ keep ! (1 ∷ 0 ∷ []) $ done !))
 
     -- the call of `inside`
     abbrev passed : ℕ → Frame → List Arg
     passed i f = shr u64 s0 words ∷ val usize i (vint w64 i) ∷ val R f (fval f) ∷ []
 
     call-inside : (i : ℕ) (f : Frame) → i < 2 ^ 64 → Is R f (fval f ∷ []) → Rule 𝓤 H A W (passed i f) Inside ScanRow scanVal (λ s zs. s ≡ insideOf (insideGood words f) i)
-    call-inside i f fits isf = call-with 𝓤 H A W (passed i f) Inside ScanRow scanVal (λ s zs. s ≡ insideOf (insideGood words f) i) scan-tells (λ ns. passing (lent (passed i f) ns)) (λ ns. refl)
-        (λ ns. unasked W (lent (passed i f) ns)) (λ ns w. id⊢ 𝓤 _) (uint-makes 𝓤 H A W w64 i _ (refl, fits), (frame-makes 𝓤 H A W f _ isf, tt)) ((refl, room0), tt)
+    call-inside i f fits isf =
+        call-with 𝓤 H A W (passed i f) Inside ScanRow scanVal (λ s zs. s ≡ insideOf (insideGood words f) i) scan-tells
+        (λ ns. passing (lent (passed i f) ns)) (λ ns. refl) (λ ns. unasked W (lent (passed i f) ns)) (λ ns w. id⊢ 𝓤 _)
+        (uint-makes 𝓤 H A W w64 i _ (refl, fits), (frame-makes 𝓤 H A W f _ isf, tt)) ((refl, room0), tt)
 
     -- the loop's state: the search, and what is known of it
     abbrev State : Type 0
@@ -120,16 +125,27 @@ module _ {M : Type 1} (𝓤 : URA M) (H : Heap 𝓤) (A : Atoms 𝓤) (W : Given
 
     walk : callers ≤ length ys → ent 𝓤 (onEntry 𝓤 H A me.signature (lfts xs) (shares xs) (denots xs) (valss xs)) (WpFn 𝓤 H (𝓣 .C) (𝓣 .Λ) code.function (values xs) Post)
     walk there =
-        qed W (‵ (Toks xs) ∷ ‵ (Owns xs) ∷ []) ∵ takes ! xs (splits ! functions frames (enters ! (𝓣 .C) (𝓣 .Λ) code.function (values xs) Post
-        ((tt, (tt, (record { fits = room0 .0 }, tt))), (frame-typed 𝓤 H A W inner (is .1 .0), ((tt, record { fits = is .1 .1 .0 .1 }), ((tt, (tt, (record { fits = room1 .0 }, tt))), tt)))) (λ ls.
-        call-inside callers inner (is .1 .1 .0 .1) (is .1 .0) .calls ! (fmOf 𝓤 H (W .laws) 𝓣) known-inside refl (λ s zs es lens iss. lands-in ! (scan-typed 𝓤 H A W s iss) $
-        rounds ! (loop there ls) (turn there ls) (s, (iss, subst (Judging words ys goal callers) (sym es) (judges words ys inner callers)))))))
+        qed W (‵ (Toks xs) ∷ ‵ (Owns xs) ∷ []) ∵ takes ! xs
+        (splits ! functions frames
+        (enters ! (𝓣 .C) (𝓣 .Λ) code.function (values xs) Post (
+          (tt, (tt, (record { fits = room0 .0 }, tt))),
+          (
+            frame-typed 𝓤 H A W inner (is .1 .0),
+            ((tt, record { fits = is .1 .1 .0 .1 }), ((tt, (tt, (record { fits = room1 .0 }, tt))), tt)),
+          ),
+        )
+        (λ ls. call-inside callers inner (is .1 .1 .0 .1) (is .1 .0) .calls ! (fmOf 𝓤 H (W .laws) 𝓣) known-inside refl
+        (λ s zs es lens iss. lands-in ! (scan-typed 𝓤 H A W s iss) $ rounds ! (loop there ls) (turn there ls)
+        (s, (iss, subst (Judging words ys goal callers) (sym es) (judges words ys inner callers)))))))
 
 pub traceable-spec : {M : Type 1} → stated.statement M
 unfolding code.routine tablesOf
 traceable-spec 𝓤 H 𝓜 𝓖 𝓡 =
     let W : Given 𝓤 H (𝓖 .A) = givenOf 𝓤 H 𝓜 𝓖 in
     closed kinds Boolean 𝓤 H 𝓜 𝓖 𝓡 code.env #me code.function (code.unfolded 𝓤 H 𝓜 𝓡) (me.clauses 𝓤 H (𝓖 .A) (𝓜 .mem) (𝓡 .run))
-    (λ κs qs a g is. needs 𝓤 (a .1 .1 .0 ≤ length (now (a .1 .1 .1 .0))) _ (walk 𝓤 H (𝓖 .A) W (𝓜 .mem) (𝓡 .run) (tablesOf 𝓤 H 𝓜 (tables 𝓤 H 𝓜 𝓡 code.env))
-    (cited 𝓤 H (Read 𝓤 H (𝓖 .A) W (𝓜 .mem) (𝓡 .run)) 𝓜 𝓡 code.env #read read-def.routine code.calls-frames·read-frame (read-thm.met 𝓤 H 𝓜 𝓖 𝓡))
-    (cited 𝓤 H (Inside 𝓤 H (𝓖 .A) W (𝓜 .mem) (𝓡 .run)) 𝓜 𝓡 code.env #inside inside-def.routine code.calls-frames·backtrace·inside (inside-thm.met 𝓤 H 𝓜 𝓖 𝓡)) κs qs a is))
+    (λ κs qs a g is. needs 𝓤 (a .1 .1 .0 ≤ length (now (a .1 .1 .1 .0))) _
+    (walk 𝓤 H (𝓖 .A) W (𝓜 .mem) (𝓡 .run) (tablesOf 𝓤 H 𝓜 (tables 𝓤 H 𝓜 𝓡 code.env))
+    (cited 𝓤 H (Read 𝓤 H (𝓖 .A) W (𝓜 .mem) (𝓡 .run)) 𝓜 𝓡 code.env #read read-def.routine code.calls-frames·read-frame
+    (read-thm.met 𝓤 H 𝓜 𝓖 𝓡))
+    (cited 𝓤 H (Inside 𝓤 H (𝓖 .A) W (𝓜 .mem) (𝓡 .run)) 𝓜 𝓡 code.env #inside inside-def.routine code.calls-frames·backtrace·inside
+    (inside-thm.met 𝓤 H 𝓜 𝓖 𝓡)) κs qs a is))

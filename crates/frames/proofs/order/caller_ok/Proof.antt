@@ -12,13 +12,13 @@ returns : tie.Need-returns
 returns c = innermost _ _ _ _ (omega arith)
 
 code-length-requires : tie.Need-code-length-requires
-code-length-requires c κs = search needs
+code-length-requires c κs = search
 
 returns-2 : tie.Need-returns-2
 returns-2 c = at-start _ _ _ _ (omega arith) (omega arith)
 
 returns-3 : tie.Need-returns-3
-returns-3 c = behind _ _ _ _ _ (omega arith) (omega arith) (c .before .before .before .code-length .ensures)
+returns-3 c = search behind
 
 pub caller-ok-spec : {M : Type 1} → statement M
 caller-ok-spec = tie.close (tie.spec add-if1 returns code-length-requires returns-2 returns-3)

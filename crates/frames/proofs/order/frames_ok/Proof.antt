@@ -67,13 +67,16 @@ module _ {M : Type 1} (𝓤 : URA M) (H : Heap 𝓤) (A : Atoms 𝓤) (W : Given
     room1 = is .1 .1 .1 .1 .0 .0 .1
 
     abbrev functions : List Arg
-    functions = shr u64 s0 words ∷ val usize count (vint w64 count) ∷ val usize slots (vint w64 slots) ∷ val usize n (vint w64 n) ∷ []
+    functions =
+        shr u64 s0 words ∷ val usize count (vint w64 count) ∷ val usize slots (vint w64 slots) ∷ val usize n (vint w64 n) ∷ []
 
     abbrev frames : List Arg
     frames = shr R s1 ys ∷ []
 
     abbrev xs : List Arg
-    xs = shr u64 s0 words ∷ val usize count (vint w64 count) ∷ val usize slots (vint w64 slots) ∷ val usize n (vint w64 n) ∷ shr R s1 ys ∷ []
+    xs =
+        shr u64 s0 words ∷ val usize count (vint w64 count) ∷ val usize slots (vint w64 slots) ∷ val usize n (vint w64 n) ∷ shr R
+        s1 ys ∷ []
 
     abbrev test : ℕ → Bool
     test i = placeGood words count slots n i (getD ys i noFrame)
@@ -86,23 +89,42 @@ module _ {M : Type 1} (𝓤 : URA M) (H : Heap 𝓤) (A : Atoms 𝓤) (W : Given
 
     exits : (b : Bool) → b ≡ goal → ent 𝓤 (⋆ 𝓤 H A (‵ (Holds functions) ∷ ‵ (Holds frames) ∷ [])) (Post (vbool b))
     exits b said =
-        qed W (‵ (Holds functions) ∷ ‵ (Holds frames) ∷ []) ∵ suffices ! _ (ends-at 𝓤 H A me.ended (stays kinds) (me.clauses 𝓤 H A mem run) W (passing xs) (vbool b) b (tt, (tt, (tt, (tt, (tt, tt))))) (tt, (tt, (tt, (tt, (tt, tt)))))) $ says ! said $
-        joins ! functions frames (gives ! xs (uint-makes 𝓤 H A W w64 count _ (is .1 .0), (uint-makes 𝓤 H A W w64 slots _ (is .1 .1 .0), (uint-makes 𝓤 H A W w64 n _ (is .1 .1 .1 .0), tt))) (frame ! $ feqI ! (List Val) (vbool b ∷ []) (vbool b ∷ []) refl $ keep ! (1 ∷ 0 ∷ []) $ done !))
+        qed W (‵ (Holds functions) ∷ ‵ (Holds frames) ∷ []) ∵ suffices ! _
+        (ends-at 𝓤 H A me.ended (stays kinds) (me.clauses 𝓤 H A mem run) W (passing xs) (vbool b) b
+        (tt, (tt, (tt, (tt, (tt, tt))))) (tt, (tt, (tt, (tt, (tt, tt)))))) $ says ! said $ joins ! functions frames
+        (gives ! xs (
+          uint-makes 𝓤 H A W w64 count _ (is .1 .0),
+          (uint-makes 𝓤 H A W w64 slots _ (is .1 .1 .0), (uint-makes 𝓤 H A W w64 n _ (is .1 .1 .1 .0), tt)),
+        ) (frame ! $ feqI ! (List Val) (vbool b ∷ []) (vbool b ∷ []) refl $ keep ! (1 ∷ 0 ∷ []) $ done !))
 
     abbrev to-begin : List Arg
     to-begin = val usize n (vint w64 n) ∷ val usize (s1 .count) (vint w64 (s1 .count)) ∷ []
 
     call-begin : Rule 𝓤 H A W to-begin Begin ScanRow scanVal (λ s zs. s ≡ begun n (s1 .count))
-    call-begin = call-with 𝓤 H A W to-begin Begin ScanRow scanVal (λ s zs. s ≡ begun n (s1 .count)) scan-tells (λ ns. passing (lent to-begin ns)) (λ ns. refl)
-        (λ ns. unasked W (lent to-begin ns)) (λ ns w. id⊢ 𝓤 _) (uint-makes 𝓤 H A W w64 n _ (is .1 .1 .1 .0), (uint-makes 𝓤 H A W w64 (s1 .count) _ (refl, room1 .0), tt)) tt
+    call-begin =
+        call-with 𝓤 H A W to-begin Begin ScanRow scanVal (λ s zs. s ≡ begun n (s1 .count)) scan-tells
+        (λ ns. passing (lent to-begin ns)) (λ ns. refl) (λ ns. unasked W (lent to-begin ns)) (λ ns w. id⊢ 𝓤 _)
+        (uint-makes 𝓤 H A W w64 n _ (is .1 .1 .1 .0), (uint-makes 𝓤 H A W w64 (s1 .count) _ (refl, room1 .0), tt)) tt
 
     abbrev to-look : ℕ → Frame → List Arg
-    to-look i f = shr u64 s0 words ∷ val usize count (vint w64 count) ∷ val usize slots (vint w64 slots) ∷ val usize n (vint w64 n) ∷ val usize i (vint w64 i) ∷ val R f (fval f) ∷ []
+    to-look i f =
+        shr u64 s0 words ∷ val usize count (vint w64 count) ∷ val usize slots (vint w64 slots) ∷ val usize n (vint w64 n) ∷ val
+        usize i (vint w64 i) ∷ val R f (fval f) ∷ []
 
     call-look : (i : ℕ) (f : Frame) → i < 2 ^ 64 → Is R f (fval f ∷ []) → (2 * count ≤ length words) × (i < n) → Rule 𝓤 H A W (to-look i f) Look ScanRow scanVal (λ t zs. t ≡ looked (placeGood words count slots n i f) n i)
-    call-look i f fits isf ask = call-with 𝓤 H A W (to-look i f) Look ScanRow scanVal (λ t zs. t ≡ looked (placeGood words count slots n i f) n i) scan-tells (λ ns. passing (lent (to-look i f) ns)) (λ ns. refl)
-        (λ ns. asked W (lent (to-look i f) ns) ask) (λ ns w. id⊢ 𝓤 _)
-        (uint-makes 𝓤 H A W w64 count _ (is .1 .0), (uint-makes 𝓤 H A W w64 slots _ (is .1 .1 .0), (uint-makes 𝓤 H A W w64 n _ (is .1 .1 .1 .0), (uint-makes 𝓤 H A W w64 i _ (refl, fits), (frame-makes 𝓤 H A W f _ isf, tt))))) ((refl, room0), tt)
+    call-look i f fits isf ask =
+        call-with 𝓤 H A W (to-look i f) Look ScanRow scanVal (λ t zs. t ≡ looked (placeGood words count slots n i f) n i)
+        scan-tells (λ ns. passing (lent (to-look i f) ns)) (λ ns. refl) (λ ns. asked W (lent (to-look i f) ns) ask)
+        (λ ns w. id⊢ 𝓤 _) (
+          uint-makes 𝓤 H A W w64 count _ (is .1 .0),
+          (
+            uint-makes 𝓤 H A W w64 slots _ (is .1 .1 .0),
+            (
+              uint-makes 𝓤 H A W w64 n _ (is .1 .1 .1 .0),
+              (uint-makes 𝓤 H A W w64 i _ (refl, fits), (frame-makes 𝓤 H A W f _ isf, tt)),
+            ),
+          ),
+        ) ((refl, room0), tt)
 
     -- the loop's state: the search, and what is known of it
     abbrev State : Type 0
@@ -110,7 +132,9 @@ module _ {M : Type 1} (𝓤 : URA M) (H : Heap 𝓤) (A : Atoms 𝓤) (W : Given
 
     module _ (asks : 2 * count ≤ length words) (ls : Blocks (code.function .locals)) where
       abbrev held : Scan → List (Option Val)
-      held s = none ∷ some (sval s0) ∷ some (vint w64 count) ∷ some (vint w64 slots) ∷ some (vint w64 n) ∷ some (sval s1) ∷ some (scanVal s) ∷ []
+      held s =
+          none ∷ some (sval s0) ∷ some (vint w64 count) ∷ some (vint w64 slots) ∷ some (vint w64 n) ∷ some (sval s1) ∷ some
+          (scanVal s) ∷ []
 
       abbrev loop : Loop A 𝓣
       loop = record {
@@ -142,17 +166,33 @@ module _ {M : Type 1} (𝓤 : URA M) (H : Heap 𝓤) (A : Atoms 𝓤) (W : Given
 
     walk : 2 * count ≤ length words → ent 𝓤 (onEntry 𝓤 H A me.signature (lfts xs) (shares xs) (denots xs) (valss xs)) (WpFn 𝓤 H (𝓣 .C) (𝓣 .Λ) code.function (values xs) Post)
     walk asks =
-        qed W (‵ (Toks xs) ∷ ‵ (Owns xs) ∷ []) ∵ takes ! xs (splits ! functions frames (enters ! (𝓣 .C) (𝓣 .Λ) code.function (values xs) Post
-        ((tt, (tt, (record { fits = room0 .0 }, tt))), ((tt, record { fits = is .1 .0 .1 }), ((tt, record { fits = is .1 .1 .0 .1 }), ((tt, record { fits = is .1 .1 .1 .0 .1 }), ((tt, (tt, (record { fits = room1 .0 }, tt))), tt))))) (λ ls.
-        sets ! (of-opd ! (of ! refl)) (tt, record { fits = room1 .0 }) $ nothing ! $ move ! (1 ∷ []) $ call-begin .calls ! (fmOf 𝓤 H (W .laws) 𝓣) known-begin refl (λ s zs es lens iss. lands-in ! (scan-typed 𝓤 H A W s iss) $
-        move ! (1 ∷ []) $ drop ! $ trims ! 7 $ rounds ! (loop asks ls) (turn asks ls) (s, (iss, subst (Going test n goal (s1 .count)) (sym es) starts))))))
+        qed W (‵ (Toks xs) ∷ ‵ (Owns xs) ∷ []) ∵ takes ! xs
+        (splits ! functions frames
+        (enters ! (𝓣 .C) (𝓣 .Λ) code.function (values xs) Post (
+          (tt, (tt, (record { fits = room0 .0 }, tt))),
+          (
+            (tt, record { fits = is .1 .0 .1 }),
+            (
+              (tt, record { fits = is .1 .1 .0 .1 }),
+              ((tt, record { fits = is .1 .1 .1 .0 .1 }), ((tt, (tt, (record { fits = room1 .0 }, tt))), tt)),
+            ),
+          ),
+        )
+        (λ ls. sets ! (of-opd ! (of ! refl)) (tt, record { fits = room1 .0 }) $ nothing ! $ move ! (1 ∷ []) $ call-begin .calls !
+        (fmOf 𝓤 H (W .laws) 𝓣) known-begin refl
+        (λ s zs es lens iss. lands-in ! (scan-typed 𝓤 H A W s iss) $ move ! (1 ∷ []) $ drop ! $ trims ! 7 $ rounds !
+        (loop asks ls) (turn asks ls) (s, (iss, subst (Going test n goal (s1 .count)) (sym es) starts))))))
 
 pub frames-ok-spec : {M : Type 1} → stated.statement M
 unfolding code.routine tablesOf
 frames-ok-spec 𝓤 H 𝓜 𝓖 𝓡 =
     let W : Given 𝓤 H (𝓖 .A) = givenOf 𝓤 H 𝓜 𝓖 in
     closed kinds Boolean 𝓤 H 𝓜 𝓖 𝓡 code.env #me code.function (code.unfolded 𝓤 H 𝓜 𝓡) (me.clauses 𝓤 H (𝓖 .A) (𝓜 .mem) (𝓡 .run))
-    (λ κs qs a g is. needs 𝓤 (2 * a .1 .0 ≤ length (now (a .0))) _ (walk 𝓤 H (𝓖 .A) W (𝓜 .mem) (𝓡 .run) (tablesOf 𝓤 H 𝓜 (tables 𝓤 H 𝓜 𝓡 code.env))
-    (cited 𝓤 H (Begin 𝓤 H (𝓖 .A) W (𝓜 .mem) (𝓡 .run)) 𝓜 𝓡 code.env #begin begin-def.routine code.calls-frames·order·begin (begin-thm.met 𝓤 H 𝓜 𝓖 𝓡))
-    (cited 𝓤 H (Read 𝓤 H (𝓖 .A) W (𝓜 .mem) (𝓡 .run)) 𝓜 𝓡 code.env #read read-def.routine code.calls-frames·read-frame (read-thm.met 𝓤 H 𝓜 𝓖 𝓡))
-    (cited 𝓤 H (Look 𝓤 H (𝓖 .A) W (𝓜 .mem) (𝓡 .run)) 𝓜 𝓡 code.env #look look-def.routine code.calls-frames·order·look (look-thm.met 𝓤 H 𝓜 𝓖 𝓡)) κs qs a is))
+    (λ κs qs a g is. needs 𝓤 (2 * a .1 .0 ≤ length (now (a .0))) _
+    (walk 𝓤 H (𝓖 .A) W (𝓜 .mem) (𝓡 .run) (tablesOf 𝓤 H 𝓜 (tables 𝓤 H 𝓜 𝓡 code.env))
+    (cited 𝓤 H (Begin 𝓤 H (𝓖 .A) W (𝓜 .mem) (𝓡 .run)) 𝓜 𝓡 code.env #begin begin-def.routine code.calls-frames·order·begin
+    (begin-thm.met 𝓤 H 𝓜 𝓖 𝓡))
+    (cited 𝓤 H (Read 𝓤 H (𝓖 .A) W (𝓜 .mem) (𝓡 .run)) 𝓜 𝓡 code.env #read read-def.routine code.calls-frames·read-frame
+    (read-thm.met 𝓤 H 𝓜 𝓖 𝓡))
+    (cited 𝓤 H (Look 𝓤 H (𝓖 .A) W (𝓜 .mem) (𝓡 .run)) 𝓜 𝓡 code.env #look look-def.routine code.calls-frames·order·look
+    (look-thm.met 𝓤 H 𝓜 𝓖 𝓡)) κs qs a is))

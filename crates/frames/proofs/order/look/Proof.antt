@@ -7,7 +7,7 @@ use Rattle.frames.proofs.order.look.Statement.{statement}
 use Rattle.frames.proofs.order.look.Tie as tie
 
 place-ok-requires : tie.Need-place-ok-requires
-place-ok-requires c κs = search needs
+place-ok-requires c κs = search
 
 add-if2 : tie.Need-add-if2
 add-if2 c = search needs

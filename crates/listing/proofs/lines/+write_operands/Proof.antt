@@ -26,15 +26,30 @@ below t = and 2 kinds.ps (falls 2 kinds.ps _<_ μ t) reads.Pre
 
 pub +write-operands-spec : {M : Type 1} → statement M
 +write-operands-spec =
-    close μ λ t. lts.spec (operand.Asked, operand.Learnt, write-decimal.Asked, write-decimal.Learnt, put-byte.Asked, put-byte.Learnt, below t, reads.Post) (here t) reads.Post
-    (λ c. no-operands _ _ _ (c .if1 .taken))
-    (λ c κs. omega (arith, pos-of-ne-zero (c .if1 .left)))
-    (λ c κs. omega (arith, pos-of-ne-zero (c .before .before .if1 .left)))
-    (λ c. search needs)
-    (λ c. one-operand _ _ _ (c .before .before .before .before .before .operand .ensures) (c .before .before .before .write-decimal .ensures) _ (c .if2 .taken))
+    close μ λ t. lts.spec (
+      operand.Asked,
+      operand.Learnt,
+      write-decimal.Asked,
+      write-decimal.Learnt,
+      put-byte.Asked,
+      put-byte.Learnt,
+      below t,
+      reads.Post,
+    ) (here t) reads.Post (λ c. no-operands _ _ _ (c .if1 .taken)) (λ c κs. omega (arith, pos-of-ne-zero (c .if1 .left)))
+    (λ c κs. omega (arith, pos-of-ne-zero (c .before .before .if1 .left))) (λ c. search needs)
+    (λ c. one-operand _ _ _ (c .before .before .before .before .before .operand .ensures)
+    (c .before .before .before .write-decimal .ensures) _ (c .if2 .taken))
     (λ c κs. omega (arith, pos-of-ne-zero (c .before .before .before .before .before .before .before .if1 .left)))
-    (λ c. omega (arith, pos-of-ne-zero (c .before .before .before .before .before .before .before .before .before .before .if1 .left)))
-    (λ c. omega (arith, pos-of-ne-zero (c .before .before .before .before .before .before .before .before .before .before .if1 .left)))
-    (λ c κs. let h : 0 < _ = pos-of-ne-zero (c .before .before .before .before .before .before .before .before .before .before .before .if1 .left) in (omega arith, (omega arith, omega arith)))
-    (λ c. search needs)
-    (λ c. more-operands _ _ _ (c .before .before .before .before .before .before .before .before .before .before .before .before .before .operand .ensures) (c .before .before .before .before .before .before .before .before .before .before .before .write-decimal .ensures) _ (c .before .before .before .before .before .before .before .before .before .before .before .before .before .before .if1 .left) (c .before .before .before .before .before .before .before .before .if2 .left) (c .before .before .before .before .before .before .put-byte .ensures) (c .before .before .write-operands .ensures))
+    (λ c. omega
+    (arith, pos-of-ne-zero (c .before .before .before .before .before .before .before .before .before .before .if1 .left)))
+    (λ c. omega
+    (arith, pos-of-ne-zero (c .before .before .before .before .before .before .before .before .before .before .if1 .left)))
+    (λ c κs. let h : 0 < _ = pos-of-ne-zero
+    (c .before .before .before .before .before .before .before .before .before .before .before .if1 .left) in
+    (omega arith, (omega arith, omega arith))) (λ c. search needs)
+    (λ c. more-operands _ _ _
+    (c .before .before .before .before .before .before .before .before .before .before .before .before .before .operand .ensures)
+    (c .before .before .before .before .before .before .before .before .before .before .before .write-decimal .ensures) _
+    (c .before .before .before .before .before .before .before .before .before .before .before .before .before .before .if1 .left)
+    (c .before .before .before .before .before .before .before .before .if2 .left)
+    (c .before .before .before .before .before .before .put-byte .ensures) (c .before .before .write-operands .ensures))

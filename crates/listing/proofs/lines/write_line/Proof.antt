@@ -8,7 +8,7 @@ use Rattle.listing.proofs.lines.write_line.Statement.{statement}
 use Rattle.listing.proofs.lines.write_line.Tie as tie
 
 slice-aggregate-put-text : tie.Need-slice-aggregate-put-text
-slice-aggregate-put-text c = search needs
+slice-aggregate-put-text c = search
 
 put-text-requires : tie.Need-put-text-requires
 put-text-requires c κs = search needs
@@ -26,13 +26,24 @@ put-byte-requires-2 : tie.Need-put-byte-requires-2
 put-byte-requires-2 c κs = search needs
 
 add-write-operands : tie.Need-add-write-operands
-add-write-operands c = omega (arith, behind-is (c .before .before .before .before .before .before .before .before .before .before .before .before .before .before .before .before .before .before .before .before .before .before .before .args .i) (opcodeAt (c .before .before .before .before .before .before .before .before .before .before .before .before .before .before .before .before .before .before .before .before .before .before .before .args .b) .listed))
+add-write-operands c =
+    omega (
+      arith,
+      let at-start = c .before .before .before .before .before .before .before .before .before .before .before .before .before
+          .before .before .before .before .before .before .before .before .before .before in
+          behind-is (at-start .args .i) (opcodeAt (at-start .args .b) .listed),
+    )
 
 num-operands-requires : tie.Need-num-operands-requires
-num-operands-requires c κs = search needs
+num-operands-requires c κs = search
 
 write-operands-requires : tie.Need-write-operands-requires
-write-operands-requires c κs = let h = behind-is (c .before .before .before .before .before .before .before .before .before .before .before .before .before .before .before .before .before .before .before .before .before .before .before .before .before .args .i) (opcodeAt (c .before .before .before .before .before .before .before .before .before .before .before .before .before .before .before .before .before .before .before .before .before .before .before .before .before .args .b) .listed) in (omega arith, omega arith)
+write-operands-requires c κs =
+    let h =
+    let at-start = c .before .before .before .before .before .before .before .before .before .before .before .before .before
+    .before .before .before .before .before .before .before .before .before .before .before .before in
+    behind-is (at-start .args .i) (opcodeAt (at-start .args .b) .listed) in
+    (omega arith, omega arith)
 
 put-byte-requires-3 : tie.Need-put-byte-requires-3
 put-byte-requires-3 c κs = search needs
@@ -41,7 +52,17 @@ same-length : tie.Need-same-length
 same-length c = search needs
 
 returns : tie.Need-returns
-returns c = line-is _ _ _ _ (c .before .before .before .before .before .before .before .before .num-operands .ensures) (c .before .before .before .before .before .before .before .before .before .before .before .before .before .before .before .before .before .before .before .before .before .before .before .before .before .before .before .put-text .ensures) (c .before .before .before .before .before .before .before .before .before .before .before .before .before .before .before .before .before .before .before .before .before .before .before .write-decimal .ensures) (c .before .before .before .before .before .before .before .before .before .before .before .before .before .before .before .before .before .before .before .put-byte .ensures) (c .before .before .before .before .before .before .before .before .before .before .before .before .before .before .before .write-name .ensures) (c .before .before .before .before .before .before .before .before .before .before .before .put-byte2 .ensures) (c .before .before .before .before .before .before .write-operands .ensures) (c .before .before .put-byte3 .ensures)
+returns c =
+    let at-write-operands = c .before .before .before .before .before .before in
+    let at-num-operands = at-write-operands .before .before in
+    let at-put-byte2 = at-num-operands .before .before .before in
+    let at-write-name = at-put-byte2 .before .before .before .before in
+    let at-put-byte = at-write-name .before .before .before .before in
+    let at-write-decimal = at-put-byte .before .before .before .before in
+    let at-put-text = at-write-decimal .before .before .before .before in
+    line-is _ _ _ _ (at-num-operands .num-operands .ensures) (at-put-text .put-text .ensures)
+    (at-write-decimal .write-decimal .ensures) (at-put-byte .put-byte .ensures) (at-write-name .write-name .ensures)
+    (at-put-byte2 .put-byte2 .ensures) (at-write-operands .write-operands .ensures) (c .before .before .put-byte3 .ensures)
 
 pub write-line-spec : {M : Type 1} → statement M
 write-line-spec =

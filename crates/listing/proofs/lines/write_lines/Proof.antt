@@ -19,37 +19,42 @@ loop-holds : tie.Need-loop-holds Inv-loop μ-loop
 loop-holds c = first-turn _ _ _
 
 shared-slice-read-b : tie.Need-shared-slice-read-b Inv-loop μ-loop
-shared-slice-read-b c = search needs
+shared-slice-read-b c = search
 
 decode-requires : tie.Need-decode-requires Inv-loop μ-loop
-decode-requires c κs = search needs
+decode-requires c κs = search
 
 enum-told : tie.Need-enum-told Inv-loop μ-loop
 enum-told c = c .match .keys1
 
 same-length : tie.Need-same-length Inv-loop μ-loop
-same-length c = kept (c .before .before .before .before .before .loop .inv .so-far .put)
+same-length c = search kept
 
 returns : tie.Need-returns Inv-loop μ-loop
-returns c = unknown (c .before .before .before .before .before .loop .inv) (c .before .before .before .before .loop-test .taken) _ (c .before .before .decode .ensures) (c .enum-told .given .1)
+returns c = search unknown
 
 num-operands-requires : tie.Need-num-operands-requires Inv-loop μ-loop
-num-operands-requires c κs = search needs
+num-operands-requires c κs = search
 
 sub-left : tie.Need-sub-left Inv-loop μ-loop
-sub-left c = search needs
+sub-left c = search
 
 sub-left-2 : tie.Need-sub-left-2 Inv-loop μ-loop
 sub-left-2 c = search needs
 
 same-length-2 : tie.Need-same-length-2 Inv-loop μ-loop
-same-length-2 c = kept (c .before .before .before .before .before .before .loop .inv .so-far .put)
+same-length-2 c = search kept
 
 returns-2 : tie.Need-returns-2 Inv-loop μ-loop
-returns-2 c = cut-short (c .before .before .before .before .before .before .loop .inv) (c .before .before .before .before .before .loop-test .taken) _ (c .before .before .before .decode .ensures) (c .before .before .match .keys2) _ (c .before .num-operands .ensures) (c .if1 .taken)
+returns-2 c = search cut-short
 
 write-line-requires : tie.Need-write-line-requires Inv-loop μ-loop
-write-line-requires c κs = let h = behind-is (c .before .before .before .before .before .before .before .loop .i) (opcodeAt (getD (c .before .before .before .before .before .before .before .before .before .before .args .code .now) (c .before .before .before .before .before .before .before .loop .i) 0) .listed) in (omega arith, omega arith)
+write-line-requires c κs =
+    let h =
+    let at-loop = c .before .before .before .before .before .before .before in
+    let at-start = at-loop .before .before .before in
+    behind-is (at-loop .loop .i) (opcodeAt (getD (at-start .args .code .now) (at-loop .loop .i) 0) .listed) in
+    (omega arith, omega arith)
 
 add-i : tie.Need-add-i Inv-loop μ-loop
 add-i c = search needs
@@ -64,7 +69,7 @@ loop-less : tie.Need-loop-less Inv-loop μ-loop
 loop-less c = search needs
 
 loop-again : tie.Need-loop-again Inv-loop μ-loop
-loop-again c = next-turn (c .before .before .before .before .before .before .before .before .before .before .loop .inv) (c .before .before .before .before .before .before .before .before .before .loop-test .taken) _ (c .before .before .before .before .before .before .before .decode .ensures) (c .before .before .before .before .before .before .match .keys2) _ (c .before .before .before .before .before .num-operands .ensures) (c .before .before .before .before .if1 .left) (c .before .before .write-line .ensures)
+loop-again c = search next-turn
 
 same-length-3 : tie.Need-same-length-3 Inv-loop μ-loop
 same-length-3 c = kept (c .before .loop .inv .so-far .put)

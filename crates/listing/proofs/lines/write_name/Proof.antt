@@ -18,31 +18,68 @@ abbrev μ-loop : tie.MeasureT-loop
 μ-loop b out₀ at len i₀ next₀ out i next = length (paddedTo 13 (opcodeAt b .name)) - i
 
 name-len-requires : tie.Need-name-len-requires Inv-loop μ-loop
-name-len-requires c κs = search needs
+name-len-requires c κs = search
 
 loop-holds : tie.Need-loop-holds Inv-loop μ-loop
 loop-holds c = at-first _ _ _
 
 name-byte-requires : tie.Need-name-byte-requires Inv-loop μ-loop
-name-byte-requires c κs = search needs
+name-byte-requires c κs = search
 
 put-byte-requires : tie.Need-put-byte-requires Inv-loop μ-loop
-put-byte-requires c κs = omega (arith, short (c .before .before .before .before .before .before .args .b) (search needs), goes-on (opcodeAt (c .before .before .before .before .before .before .args .b) .name) (c .before .before .before .before .name-len .result) (c .before .before .before .before .name-len .ensures) (c .before .before .before .loop .i) (c .before .before .loop-test .taken))
+put-byte-requires c κs =
+    omega (
+      arith,
+      short (c .before .before .before .before .before .before .args .b) (search needs),
+      let at-loop = c .before .before .before in
+          let at-name-len = at-loop .before in
+          let at-start = at-name-len .before .before in
+          goes-on (opcodeAt (at-start .args .b) .name) (at-name-len .name-len .result) (at-name-len .name-len .ensures)
+          (at-loop .loop .i) (c .before .before .loop-test .taken),
+    )
 
 add-i : tie.Need-add-i Inv-loop μ-loop
-add-i c = omega (arith, short (c .before .before .before .before .before .before .before .before .before .args .b) (search needs), goes-on (opcodeAt (c .before .before .before .before .before .before .before .before .before .args .b) .name) (c .before .before .before .before .before .before .before .name-len .result) (c .before .before .before .before .before .before .before .name-len .ensures) (c .before .before .before .before .before .before .loop .i) (c .before .before .before .before .before .loop-test .taken))
+add-i c =
+    omega (
+      arith,
+      short (c .before .before .before .before .before .before .before .before .before .args .b) (search needs),
+      let at-loop-test = c .before .before .before .before .before in
+          let at-loop = at-loop-test .before in
+          let at-name-len = at-loop .before in
+          let at-start = at-name-len .before .before in
+          goes-on (opcodeAt (at-start .args .b) .name) (at-name-len .name-len .result) (at-name-len .name-len .ensures)
+          (at-loop .loop .i) (at-loop-test .loop-test .taken),
+    )
 
 loop-less : tie.Need-loop-less Inv-loop μ-loop
-loop-less c = omega (arith, goes-on (opcodeAt (c .before .before .before .before .before .before .before .before .before .args .b) .name) (c .before .before .before .before .before .before .before .name-len .result) (c .before .before .before .before .before .before .before .name-len .ensures) (c .before .before .before .before .before .before .loop .i) (c .before .before .before .before .before .loop-test .taken))
+loop-less c =
+    omega (
+      arith,
+      let at-loop-test = c .before .before .before .before .before in
+          let at-loop = at-loop-test .before in
+          let at-name-len = at-loop .before in
+          let at-start = at-name-len .before .before in
+          goes-on (opcodeAt (at-start .args .b) .name) (at-name-len .name-len .result) (at-name-len .name-len .ensures)
+          (at-loop .loop .i) (at-loop-test .loop-test .taken),
+    )
 
 loop-again : tie.Need-loop-again Inv-loop μ-loop
-loop-again c = let g = goes-on (opcodeAt (c .before .before .before .before .before .before .before .before .before .args .b) .name) (c .before .before .before .before .before .before .before .name-len .result) (c .before .before .before .before .before .before .before .name-len .ensures) (c .before .before .before .before .before .before .loop .i) (c .before .before .before .before .before .loop-test .taken) in another (c .before .before .before .before .before .before .loop .inv) _ 0 (c .before .before .before .before .name-byte .ensures ∙ sym (letter 13 _ 0 _ g)) g (c .before .before .put-byte .ensures)
+loop-again c =
+    let at-name-byte = c .before .before .before .before in
+    let at-loop-test = at-name-byte .before in
+    let at-loop = at-loop-test .before in
+    let at-name-len = at-loop .before in
+    let at-start = at-name-len .before .before in
+    let g = goes-on (opcodeAt (at-start .args .b) .name) (at-name-len .name-len .result) (at-name-len .name-len .ensures)
+    (at-loop .loop .i) (at-loop-test .loop-test .taken) in
+    another (at-loop .loop .inv) _ 0 (at-name-byte .name-byte .ensures ∙ sym (letter 13 _ 0 _ g)) g
+    (c .before .before .put-byte .ensures)
 
 same-length : tie.Need-same-length Inv-loop μ-loop
 same-length c = kept (c .before .loop .inv .put)
 
 returns : tie.Need-returns Inv-loop μ-loop
-returns c = within (whole (c .before .loop .inv) (ends _ _ (c .before .before .name-len .ensures) _ (c .loop-test .left))) 19 (short (c .before .before .before .before .args .b) (search needs))
+returns c = search (within, whole, ends, short, needs)
 
 pub write-name-spec : {M : Type 1} → statement M
 write-name-spec =

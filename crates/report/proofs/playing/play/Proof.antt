@@ -41,7 +41,10 @@ use Rattle.report.proofs.playing.play.Statement as stated
 use Rattle.report.proofs.playing.play.Code as code
 
 abbrev kinds : List (Kind 11)
-kinds = own VmRow vmVal vm-tells (λ x f. refl) ∷ own u64 (vint w64) (uint-tells w64) (λ x f. refl) ∷ shared 0 tt u64 ∷ shared 1 tt u64 ∷ shared 2 tt u8 ∷ shared 3 tt u8 ∷ shared 4 tt u32 ∷ shared 5 tt u8 ∷ shared 6 tt u32 ∷ unique 7 tt u64 ∷ unique 8 tt u64 ∷ unique 9 tt u64 ∷ unique 10 tt u32 ∷ []
+kinds =
+    own VmRow vmVal vm-tells (λ x f. refl) ∷ own u64 (vint w64) (uint-tells w64) (λ x f. refl) ∷ shared 0 tt u64 ∷ shared 1 tt u64
+    ∷ shared 2 tt u8 ∷ shared 3 tt u8 ∷ shared 4 tt u32 ∷ shared 5 tt u8 ∷ shared 6 tt u32 ∷ unique 7 tt u64 ∷ unique 8 tt u64 ∷
+    unique 9 tt u64 ∷ unique 10 tt u32 ∷ []
 
 -- the frames as they are made
 abbrev frames₀ : List Frame
@@ -99,7 +102,8 @@ module _ {M : Type 1} (𝓤 : URA M) (H : Heap 𝓤) (A : Atoms 𝓤) (W : Given
     s9 = sl (κs .1 .1 .1 .1 .1 .1 .1 .1 .1 .0) (qs .1 .1 .1 .1 .1 .1 .1 .1 .1 .0) (a .1 .1 .1 .1 .1 .1 .1 .1 .1 .1 .1 .0)
 
     abbrev s10 : Sl
-    s10 = sl (κs .1 .1 .1 .1 .1 .1 .1 .1 .1 .1 .0) (qs .1 .1 .1 .1 .1 .1 .1 .1 .1 .1 .0) (a .1 .1 .1 .1 .1 .1 .1 .1 .1 .1 .1 .1 .0)
+    s10 =
+        sl (κs .1 .1 .1 .1 .1 .1 .1 .1 .1 .1 .0) (qs .1 .1 .1 .1 .1 .1 .1 .1 .1 .1 .0) (a .1 .1 .1 .1 .1 .1 .1 .1 .1 .1 .1 .1 .0)
 
     abbrev constants : List ℕ
     constants = now (a .1 .1 .0)
@@ -169,7 +173,9 @@ module _ {M : Type 1} (𝓤 : URA M) (H : Heap 𝓤) (A : Atoms 𝓤) (W : Given
 
     -- the slices before and behind the frames
     abbrev firsts : List ℕ → List ℕ → List Arg
-    firsts stack′ cells′ = shr u64 s0 constants ∷ shr u64 s1 functions ∷ shr u8 s2 text ∷ shr u8 s3 main ∷ shr u32 s4 mainPlaces ∷ shr u8 s5 other ∷ shr u32 s6 otherPlaces ∷ mut u64 s7 stack′ ∷ mut u64 s8 cells′ ∷ []
+    firsts stack′ cells′ =
+        shr u64 s0 constants ∷ shr u64 s1 functions ∷ shr u8 s2 text ∷ shr u8 s3 main ∷ shr u32 s4 mainPlaces ∷ shr u8 s5 other ∷
+        shr u32 s6 otherPlaces ∷ mut u64 s7 stack′ ∷ mut u64 s8 cells′ ∷ []
 
     abbrev lasts : List ℕ → List ℕ → List Arg
     lasts copy′ backtrace′ = mut u64 s9 copy′ ∷ mut u32 s10 backtrace′ ∷ []
@@ -178,7 +184,8 @@ module _ {M : Type 1} (𝓤 : URA M) (H : Heap 𝓤) (A : Atoms 𝓤) (W : Given
     slices stack′ cells′ copy′ backtrace′ = firsts stack′ cells′ ++ lasts copy′ backtrace′
 
     abbrev xs : List ℕ → List ℕ → List ℕ → List ℕ → List Arg
-    xs stack′ cells′ copy′ backtrace′ = val VmRow m (vmVal m) ∷ val u64 units (vint w64 units) ∷ slices stack′ cells′ copy′ backtrace′
+    xs stack′ cells′ copy′ backtrace′ =
+        val VmRow m (vmVal m) ∷ val u64 units (vint w64 units) ∷ slices stack′ cells′ copy′ backtrace′
 
     abbrev entry : List Arg
     entry = xs stack cells copy backtrace
@@ -195,9 +202,13 @@ module _ {M : Type 1} (𝓤 : URA M) (H : Heap 𝓤) (A : Atoms 𝓤) (W : Given
     exits : (r : RunResult) (stack′ cells′ copy′ backtrace′ : List ℕ) → Is ResultRow r (resultVal r ∷ []) → length stack′ ≡ s7 .count → length cells′ ≡ s8 .count → length copy′ ≡ s9 .count → length backtrace′ ≡ s10 .count
         → PlayPost m units stores before r (λ frames. runLent stack′ cells′ frames copy′ backtrace′) → ent 𝓤 (⋆ 𝓤 H A (‵ (Holds (slices stack′ cells′ copy′ backtrace′)) ∷ [])) (Post (resultVal r))
     exits r stack′ cells′ copy′ backtrace′ isr len-stack len-cells len-copy len-backtrace said =
-        qed W (‵ (Holds (slices stack′ cells′ copy′ backtrace′)) ∷ []) ∵ suffices ! _ (ends-at 𝓤 H A me.ended (stays kinds) (me.clauses 𝓤 H A mem run) W (passing entry) (resultVal r) r
-        (tt, (tt, (tt, (tt, (tt, (tt, (tt, (tt, (tt, (stack′, (cells′, (copy′, (backtrace′, tt))))))))))))) (tt, (tt, (tt, (tt, (tt, (tt, (tt, (tt, (tt, (len-stack, (len-cells, (len-copy, (len-backtrace, tt)))))))))))))) $ says ! said $
-        gives ! (xs stack′ cells′ copy′ backtrace′) (vm-makes 𝓤 H A W m _ (is .0), (uint-makes 𝓤 H A W w64 units _ (is .1 .0), tt)) (frame ! $ owned ! ResultRow (Is ResultRow) (result-makes 𝓤 H A W) r _ isr $ keep ! (1 ∷ 0 ∷ []) $ done !)
+        qed W (‵ (Holds (slices stack′ cells′ copy′ backtrace′)) ∷ []) ∵ suffices ! _
+        (ends-at 𝓤 H A me.ended (stays kinds) (me.clauses 𝓤 H A mem run) W (passing entry) (resultVal r) r
+        (tt, (tt, (tt, (tt, (tt, (tt, (tt, (tt, (tt, (stack′, (cells′, (copy′, (backtrace′, tt)))))))))))))
+        (tt, (tt, (tt, (tt, (tt, (tt, (tt, (tt, (tt, (len-stack, (len-cells, (len-copy, (len-backtrace, tt)))))))))))))) $ says !
+        said $ gives ! (xs stack′ cells′ copy′ backtrace′)
+        (vm-makes 𝓤 H A W m _ (is .0), (uint-makes 𝓤 H A W w64 units _ (is .1 .0), tt))
+        (frame ! $ owned ! ResultRow (Is ResultRow) (result-makes 𝓤 H A W) r _ isr $ keep ! (1 ∷ 0 ∷ []) $ done !)
 
     -- the frames, lent, and the call
     module _ (ν : ℕ) (δ : GName) (l : ℕ) where
@@ -205,10 +216,15 @@ module _ {M : Type 1} (𝓤 : URA M) (H : Heap 𝓤) (A : Atoms 𝓤) (W : Given
       sf = record { lft = ν ∷ []; share = fullShare; name = δ; block = l; offset = 0; count = 256 }
 
       abbrev to-it : List Arg
-      to-it = val VmRow m (vmVal m) ∷ val u64 units (vint w64 units) ∷ firsts stack cells ++ mut R sf frames₀ ∷ lasts copy backtrace
+      to-it =
+          val VmRow m (vmVal m) ∷ val u64 units (vint w64 units) ∷ firsts stack cells ++ mut R sf frames₀ ∷ lasts copy backtrace
 
       abbrev Ran : RunResult → Lists to-it → Type 0
-      Ran r zs = (structs : List ℕ) → RunPost m (stores structs) (before frames₀) units r (runLent (zs .1 .1 .1 .1 .1 .1 .1 .1 .1 .0) (zs .1 .1 .1 .1 .1 .1 .1 .1 .1 .1 .0) (zs .1 .1 .1 .1 .1 .1 .1 .1 .1 .1 .1 .0) (zs .1 .1 .1 .1 .1 .1 .1 .1 .1 .1 .1 .1 .0) (zs .1 .1 .1 .1 .1 .1 .1 .1 .1 .1 .1 .1 .1 .0))
+      Ran r zs =
+          (structs : List ℕ) → RunPost m (stores structs) (before frames₀) units r
+          (runLent (zs .1 .1 .1 .1 .1 .1 .1 .1 .1 .0) (zs .1 .1 .1 .1 .1 .1 .1 .1 .1 .1 .0)
+          (zs .1 .1 .1 .1 .1 .1 .1 .1 .1 .1 .1 .0) (zs .1 .1 .1 .1 .1 .1 .1 .1 .1 .1 .1 .1 .0)
+          (zs .1 .1 .1 .1 .1 .1 .1 .1 .1 .1 .1 .1 .1 .0))
 
     -- the locals before and behind the array
     abbrev fs : List Local
@@ -218,10 +234,16 @@ module _ {M : Type 1} (𝓤 : URA M) (H : Heap 𝓤) (A : Atoms 𝓤) (W : Given
     bs = drop 16 (code.function .locals)
 
     abbrev us : List (Option Val)
-    us = none ∷ some (vmVal m) ∷ some (vint w64 units) ∷ some (sval s0) ∷ some (sval s1) ∷ some (sval s2) ∷ some (sval s3) ∷ some (sval s4) ∷ some (sval s5) ∷ some (sval s6) ∷ some (sval s7) ∷ some (sval s8) ∷ some (sval s9) ∷ some (sval s10) ∷ some (fval (root 0)) ∷ []
+    us =
+        none ∷ some (vmVal m) ∷ some (vint w64 units) ∷ some (sval s0) ∷ some (sval s1) ∷ some (sval s2) ∷ some (sval s3) ∷ some
+        (sval s4) ∷ some (sval s5) ∷ some (sval s6) ∷ some (sval s7) ∷ some (sval s8) ∷ some (sval s9) ∷ some (sval s10) ∷ some
+        (fval (root 0)) ∷ []
 
     abbrev ws : ℕ → List (Option Val)
-    ws l = none ∷ some (vptr (s7 .block) (s7 .offset)) ∷ some (sval s7) ∷ some (vptr (s8 .block) (s8 .offset)) ∷ some (sval s8) ∷ some (vptr l 0) ∷ some (sliceVal (l, 0) 256) ∷ some (vptr (s9 .block) (s9 .offset)) ∷ some (sval s9) ∷ some (vptr (s10 .block) (s10 .offset)) ∷ some (sval s10) ∷ []
+    ws l =
+        none ∷ some (vptr (s7 .block) (s7 .offset)) ∷ some (sval s7) ∷ some (vptr (s8 .block) (s8 .offset)) ∷ some (sval s8) ∷
+        some (vptr l 0) ∷ some (sliceVal (l, 0) 256) ∷ some (vptr (s9 .block) (s9 .offset)) ∷ some (sval s9) ∷ some
+        (vptr (s10 .block) (s10 .offset)) ∷ some (sval s10) ∷ []
 
     walk : ent 𝓤 (onEntry 𝓤 H A me.signature (lfts entry) (shares entry) (denots entry) (valss entry)) (WpFn 𝓤 H (𝓣 .C) (𝓣 .Λ) code.function (values entry) Post)
     walk =
@@ -261,4 +283,5 @@ play-spec 𝓤 H 𝓜 𝓖 𝓡 =
     closed kinds ResultRow 𝓤 H 𝓜 𝓖 𝓡 code.env #me code.function (code.unfolded 𝓤 H 𝓜 𝓡) (me.clauses 𝓤 H (𝓖 .A) (𝓜 .mem) (𝓡 .run))
     (λ κs qs a g is. unneeded 𝓤 _
     (walk 𝓤 H (𝓖 .A) W (𝓜 .mem) (𝓡 .run) (tablesOf 𝓤 H 𝓜 (tables 𝓤 H 𝓜 𝓡 code.env))
-    (cited 𝓤 H (It 𝓤 H (𝓖 .A) W (𝓜 .mem) (𝓡 .run)) 𝓜 𝓡 code.env #it it-def.routine code.calls-machine·run (it-thm.met 𝓤 H 𝓜 𝓖 𝓡)) κs qs a is))
+    (cited 𝓤 H (It 𝓤 H (𝓖 .A) W (𝓜 .mem) (𝓡 .run)) 𝓜 𝓡 code.env #it it-def.routine code.calls-machine·run (it-thm.met 𝓤 H 𝓜 𝓖 𝓡))
+    κs qs a is))

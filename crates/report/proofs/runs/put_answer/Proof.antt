@@ -6,7 +6,7 @@ use Rattle.report.proofs.runs.put_answer.Statement.{statement}
 use Rattle.report.proofs.runs.put_answer.Tie as tie
 
 slice-aggregate-put-text : tie.Need-slice-aggregate-put-text
-slice-aggregate-put-text c = search needs
+slice-aggregate-put-text c = search
 
 put-text-requires : tie.Need-put-text-requires
 put-text-requires c κs = search needs
@@ -22,7 +22,7 @@ same-length c = search needs
 
 returns : tie.Need-returns
 unfolding ascii
-returns c = answer-is _ (c .before .before .before .before .before .before .before .before .before .before .put-text .ensures) (c .before .before .before .before .before .before .put-value .ensures) (c .before .before .put-byte .ensures)
+returns c = search answer-is
 
 pub put-answer-spec : {M : Type 1} → statement M
 put-answer-spec =

@@ -6,23 +6,23 @@ use Rattle.report.proofs.runs.put_entry.Statement.{statement}
 use Rattle.report.proofs.runs.put_entry.Tie as tie
 
 slice-aggregate-put-count : tie.Need-slice-aggregate-put-count
-slice-aggregate-put-count c = search needs
+slice-aggregate-put-count c = search
 
 put-count-requires : tie.Need-put-count-requires
 put-count-requires c κs = search needs
 
 slice-aggregate-put-line : tie.Need-slice-aggregate-put-line
-slice-aggregate-put-line c = search needs
+slice-aggregate-put-line c = search
 
 put-line-requires : tie.Need-put-line-requires
 put-line-requires c κs = search needs
 
 same-length : tie.Need-same-length
-same-length c = search needs
+same-length c = search
 
 returns : tie.Need-returns
 unfolding ascii
-returns c = entry-is _ _ (c .before .before .before .before .before .before .before .put-count .ensures) (c .before .before .put-line .ensures)
+returns c = search entry-is
 
 pub put-entry-spec : {M : Type 1} → statement M
 put-entry-spec =

@@ -6,13 +6,13 @@ use Rattle.report.proofs.runs.put_refused.Statement.{statement}
 use Rattle.report.proofs.runs.put_refused.Tie as tie
 
 slice-aggregate-put-line : tie.Need-slice-aggregate-put-line
-slice-aggregate-put-line c = search needs
+slice-aggregate-put-line c = search
 
 put-line-requires : tie.Need-put-line-requires
 put-line-requires c κs = search needs
 
 same-length : tie.Need-same-length
-same-length c = search needs
+same-length c = search
 
 returns : tie.Need-returns
 unfolding ascii

@@ -7,19 +7,19 @@ use Rattle.report.proofs.runs.put_report.Statement.{statement}
 use Rattle.report.proofs.runs.put_report.Tie as tie
 
 enum-known-r : tie.Need-enum-known-r
-enum-known-r c = search needs
+enum-known-r c = search
 
 put-answer-requires : tie.Need-put-answer-requires
-put-answer-requires c κs = cells-inside (c .before .before .before .before .before .before .before .pre) (c .before .before .r .given .1)
+put-answer-requires c κs = search cells-inside
 
 put-spent-requires : tie.Need-put-spent-requires
 put-spent-requires c κs = search needs
 
 enum-known-r-2 : tie.Need-enum-known-r-2
-enum-known-r-2 c = search needs
+enum-known-r-2 c = search
 
 slice-aggregate-put-text : tie.Need-slice-aggregate-put-text
-slice-aggregate-put-text c = search needs
+slice-aggregate-put-text c = search
 
 put-text-requires : tie.Need-put-text-requires
 put-text-requires c κs = search needs
@@ -28,10 +28,10 @@ put-spent-requires-2 : tie.Need-put-spent-requires-2
 put-spent-requires-2 c κs = search needs
 
 enum-known-r-3 : tie.Need-enum-known-r-3
-enum-known-r-3 c = search needs
+enum-known-r-3 c = search
 
 slice-aggregate-put-line : tie.Need-slice-aggregate-put-line
-slice-aggregate-put-line c = search needs
+slice-aggregate-put-line c = search
 
 cast-put-line : tie.Need-cast-put-line
 cast-put-line c = search needs
@@ -43,40 +43,53 @@ put-spent-requires-3 : tie.Need-put-spent-requires-3
 put-spent-requires-3 c κs = search needs
 
 put-entries-requires : tie.Need-put-entries-requires
-put-entries-requires c κs = let h = entries-inside (c .before .before .before .before .before .before .before .before .before .before .before .before .before .before .before .before .pre) (c .before .before .before .before .before .before .before .before .before .before .before .r3 .given .1) in let l = c .before .before .before .before .before .before .before .before .before .before .before .before .before .before .before .before .pre .small in (h, omega (arith, c .before .before .before .put-spent3 .ensures .near, c .before .before .before .before .before .before .before .put-line .ensures .near))
+put-entries-requires c κs =
+    let h =
+    let at-r3 = c .before .before .before .before .before .before .before .before .before .before .before in
+    let at-start = at-r3 .before .before .before .before .before in
+    entries-inside (at-start .pre) (at-r3 .r3 .given .1) in
+    let l = c .before .before .before .before .before .before .before .before .before .before .before .before .before .before
+    .before .before .pre .small in (
+      h,
+      omega (
+        arith,
+        c .before .before .before .put-spent3 .ensures .near,
+        c .before .before .before .before .before .before .before .put-line .ensures .near,
+      ),
+    )
 
 enum-known-r-4 : tie.Need-enum-known-r-4
-enum-known-r-4 c = search needs
+enum-known-r-4 c = search
 
 put-refused-requires : tie.Need-put-refused-requires
-put-refused-requires c κs = search needs
+put-refused-requires c κs = search
 
 same-length : tie.Need-same-length
-same-length c = search needs
+same-length c = search
 
 returns : tie.Need-returns
 unfolding ascii
-returns c = value-report _ _ _ _ (c .before .before .put-spent .ensures) (c .before .before .before .before .before .before .before .before .before .r .given .1) (c .before .before .before .before .before .before .put-answer .ensures)
+returns c = search value-report
 
 same-length-2 : tie.Need-same-length-2
-same-length-2 c = search needs
+same-length-2 c = search
 
 returns-2 : tie.Need-returns-2
 unfolding ascii
-returns-2 c = continue-report _ _ _ _ (c .before .before .put-spent2 .ensures) (c .before .before .before .before .before .before .before .before .before .before .r2 .given .1) (c .before .before .before .before .before .before .put-text .ensures)
+returns-2 c = search continue-report
 
 same-length-3 : tie.Need-same-length-3
 same-length-3 c = search needs
 
 returns-3 : tie.Need-returns-3
 unfolding ascii
-returns-3 c = fault-report _ _ _ _ (c .before .before .before .before .before .before .put-spent3 .ensures) (c .before .before .before .before .before .before .before .before .before .before .before .before .before .before .r3 .given .1) (entries-inside (c .before .before .before .before .before .before .before .before .before .before .before .before .before .before .before .before .before .before .before .pre) (c .before .before .before .before .before .before .before .before .before .before .before .before .before .before .r3 .given .1)) (c .before .before .before .before .before .before .before .before .before .before .put-line .ensures) (c .before .before .put-entries .ensures)
+returns-3 c = search (fault-report, entries-inside)
 
 same-length-4 : tie.Need-same-length-4
-same-length-4 c = search needs
+same-length-4 c = search
 
 returns-4 : tie.Need-returns-4
-returns-4 c = refused-report _ _ (c .before .before .before .before .before .r4 .given .1) (c .before .before .put-refused .ensures)
+returns-4 c = search refused-report
 
 pub put-report-spec : {M : Type 1} → statement M
 put-report-spec =

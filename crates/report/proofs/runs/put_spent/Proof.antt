@@ -6,23 +6,23 @@ use Rattle.report.proofs.runs.put_spent.Statement.{statement}
 use Rattle.report.proofs.runs.put_spent.Tie as tie
 
 slice-aggregate-put-line : tie.Need-slice-aggregate-put-line
-slice-aggregate-put-line c = search needs
+slice-aggregate-put-line c = search
 
 put-line-requires : tie.Need-put-line-requires
 put-line-requires c κs = search needs
 
 slice-aggregate-put-line-2 : tie.Need-slice-aggregate-put-line-2
-slice-aggregate-put-line-2 c = search needs
+slice-aggregate-put-line-2 c = search
 
 put-line-requires-2 : tie.Need-put-line-requires-2
 put-line-requires-2 c κs = search needs
 
 same-length : tie.Need-same-length
-same-length c = search needs
+same-length c = search
 
 returns : tie.Need-returns
 unfolding ascii
-returns c = spent-is _ _ (c .before .before .before .before .before .before .before .put-line .ensures) (c .before .before .put-line2 .ensures)
+returns c = search spent-is
 
 pub put-spent-spec : {M : Type 1} → statement M
 put-spent-spec =

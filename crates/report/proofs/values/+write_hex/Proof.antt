@@ -25,11 +25,10 @@ below t = and 1 kinds.ps (falls 1 kinds.ps _<_ μ t) reads.Pre
 
 pub +write-hex-spec : {M : Type 1} → statement M
 +write-hex-spec =
-    close μ λ t. lts.spec (below t, reads.Post, hex-digit.Asked, hex-digit.Learnt, put-byte.Asked, put-byte.Learnt) (here t) reads.Post
-    (λ c. no-hex _ _ (c .if1 .taken))
-    (λ c. omega (arith, pos-of-ne-zero (c .if1 .left)))
-    (λ c κs. let h : 0 < _ = pos-of-ne-zero (c .before .if1 .left) in (omega arith, omega arith))
-    (λ c κs. search needs)
-    (λ c κs. search needs)
-    (λ c. search needs)
-    (λ c. more-hex _ _ (c .before .before .before .before .before .before .before .before .before .if1 .left) _ (c .before .before .before .before .hex-digit .ensures) (c .before .before .before .before .before .before .before .write-hex .ensures) (c .before .before .put-byte .ensures))
+    close μ λ t. lts.spec (below t, reads.Post, hex-digit.Asked, hex-digit.Learnt, put-byte.Asked, put-byte.Learnt) (here t)
+    reads.Post (λ c. no-hex _ _ (c .if1 .taken)) (λ c. omega (arith, pos-of-ne-zero (c .if1 .left)))
+    (λ c κs. let h : 0 < _ = pos-of-ne-zero (c .before .if1 .left) in (omega arith, omega arith)) (λ c κs. search needs)
+    (λ c κs. search needs) (λ c. search needs)
+    (λ c. more-hex _ _ (c .before .before .before .before .before .before .before .before .before .if1 .left) _
+    (c .before .before .before .before .hex-digit .ensures)
+    (c .before .before .before .before .before .before .before .write-hex .ensures) (c .before .before .put-byte .ensures))

@@ -12,7 +12,9 @@ read-header-requires : tie.Need-read-header-requires
 read-header-requires c κs = search needs
 
 returns : tie.Need-returns
-returns c = header-there _ _ _ (c .before .before .before .if1 .taken) _ (c .read-header .ensures) (sym (c .before .before .is-header .ensures) ∙ (c .before .if2 .taken))
+returns c =
+    header-there _ _ _ (c .before .before .before .if1 .taken) _ (c .read-header .ensures)
+    (sym (c .before .before .is-header .ensures) ∙ (c .before .if2 .taken))
 
 returns-2 : tie.Need-returns-2
 returns-2 c = no-header _ _ _ (c .before .before .if1 .taken) (sym (c .before .is-header .ensures) ∙ (c .if2 .left))

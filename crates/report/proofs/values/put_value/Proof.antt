@@ -6,47 +6,47 @@ use Rattle.report.proofs.values.put_value.Statement.{statement}
 use Rattle.report.proofs.values.put_value.Tie as tie
 
 enum-known-v : tie.Need-enum-known-v
-enum-known-v c = search needs
+enum-known-v c = search
 
 slice-aggregate-put-text : tie.Need-slice-aggregate-put-text
-slice-aggregate-put-text c = search needs
+slice-aggregate-put-text c = search
 
 put-text-requires : tie.Need-put-text-requires
 put-text-requires c κs = search needs
 
 to-word-requires : tie.Need-to-word-requires
-to-word-requires c κs = search needs
+to-word-requires c κs = search
 
 write-hex-requires : tie.Need-write-hex-requires
 write-hex-requires c κs = search needs
 
 enum-known-v-2 : tie.Need-enum-known-v-2
-enum-known-v-2 c = search needs
+enum-known-v-2 c = search
 
 slice-aggregate-put-text-2 : tie.Need-slice-aggregate-put-text-2
-slice-aggregate-put-text-2 c = search needs
+slice-aggregate-put-text-2 c = search
 
 put-text-requires-2 : tie.Need-put-text-requires-2
 put-text-requires-2 c κs = search needs
 
 same-length : tie.Need-same-length
-same-length c = search needs
+same-length c = search
 
 returns : tie.Need-returns
 unfolding ascii
-returns c = true-is _ (c .before .before .before .before .before .before .before .v2 .given .1) (c .before .before .before .before .before .if1 .taken) (c .before .before .put-text2 .ensures)
+returns c = search true-is
 
 slice-aggregate-put-text-3 : tie.Need-slice-aggregate-put-text-3
-slice-aggregate-put-text-3 c = search needs
+slice-aggregate-put-text-3 c = search
 
 put-text-requires-3 : tie.Need-put-text-requires-3
 put-text-requires-3 c κs = search needs
 
 enum-known-v-3 : tie.Need-enum-known-v-3
-enum-known-v-3 c = search needs
+enum-known-v-3 c = search
 
 slice-aggregate-put-count : tie.Need-slice-aggregate-put-count
-slice-aggregate-put-count c = search needs
+slice-aggregate-put-count c = search
 
 cast-put-count : tie.Need-cast-put-count
 cast-put-count c = search needs
@@ -55,10 +55,10 @@ put-count-requires : tie.Need-put-count-requires
 put-count-requires c κs = search needs
 
 enum-known-v-4 : tie.Need-enum-known-v-4
-enum-known-v-4 c = search needs
+enum-known-v-4 c = search
 
 slice-aggregate-put-count-2 : tie.Need-slice-aggregate-put-count-2
-slice-aggregate-put-count-2 c = search needs
+slice-aggregate-put-count-2 c = search
 
 cast-put-count-2 : tie.Need-cast-put-count-2
 cast-put-count-2 c = search needs
@@ -67,73 +67,73 @@ put-count-requires-2 : tie.Need-put-count-requires-2
 put-count-requires-2 c κs = search needs
 
 enum-known-v-5 : tie.Need-enum-known-v-5
-enum-known-v-5 c = search needs
+enum-known-v-5 c = search
 
 cast-header-at : tie.Need-cast-header-at
 cast-header-at c = search needs
 
 header-at-requires : tie.Need-header-at-requires
-header-at-requires c κs = search needs
+header-at-requires c κs = search
 
 slice-aggregate-put-count-3 : tie.Need-slice-aggregate-put-count-3
-slice-aggregate-put-count-3 c = search needs
+slice-aggregate-put-count-3 c = search
 
 put-count-requires-3 : tie.Need-put-count-requires-3
 put-count-requires-3 c κs = search needs
 
 enum-known-v-6 : tie.Need-enum-known-v-6
-enum-known-v-6 c = search needs
+enum-known-v-6 c = search
 
 cast-header-at-2 : tie.Need-cast-header-at-2
 cast-header-at-2 c = search needs
 
 header-at-requires-2 : tie.Need-header-at-requires-2
-header-at-requires-2 c κs = search needs
+header-at-requires-2 c κs = search
 
 put-struct-requires : tie.Need-put-struct-requires
 put-struct-requires c κs = search needs
 
 same-length-2 : tie.Need-same-length-2
-same-length-2 c = search needs
+same-length-2 c = search
 
 returns-2 : tie.Need-returns-2
 unfolding ascii
-returns-2 c = scalar-is _ (c .before .before .before .before .before .before .before .before .before .before .before .v .given .1) _ (c .before .before .before .before .to-word .ensures) (c .before .before .before .before .before .before .before .put-text .ensures) (c .before .before .write-hex .ensures)
+returns-2 c = search scalar-is
 
 same-length-3 : tie.Need-same-length-3
-same-length-3 c = search needs
+same-length-3 c = search
 
 returns-3 : tie.Need-returns-3
 unfolding ascii
-returns-3 c = false-is _ (c .before .before .before .before .before .before .before .v2 .given .1) (c .before .before .before .before .before .if1 .left) (c .before .before .put-text3 .ensures)
+returns-3 c = search false-is
 
 same-length-4 : tie.Need-same-length-4
-same-length-4 c = search needs
+same-length-4 c = search
 
 returns-4 : tie.Need-returns-4
 unfolding ascii
-returns-4 c = string-is _ (c .before .before .before .before .before .before .v3 .given .1) (c .before .before .put-count .ensures)
+returns-4 c = search string-is
 
 same-length-5 : tie.Need-same-length-5
-same-length-5 c = search needs
+same-length-5 c = search
 
 returns-5 : tie.Need-returns-5
 unfolding ascii
-returns-5 c = reference-is _ (c .before .before .before .before .before .before .v4 .given .1) (c .before .before .put-count2 .ensures)
+returns-5 c = search reference-is
 
 same-length-6 : tie.Need-same-length-6
-same-length-6 c = search needs
+same-length-6 c = search
 
 returns-6 : tie.Need-returns-6
 unfolding ascii
-returns-6 c = list-is _ _ (c .before .before .before .before .before .header-at .ensures) (c .before .before .before .before .before .before .before .v5 .given .1) (c .before .before .put-count3 .ensures)
+returns-6 c = search list-is
 
 same-length-7 : tie.Need-same-length-7
-same-length-7 c = search needs
+same-length-7 c = search
 
 returns-7 : tie.Need-returns-7
 unfolding ascii
-returns-7 c = instance-is _ _ (c .before .before .before .before .header-at2 .ensures) (c .before .before .before .before .before .before .v6 .given .1) (c .before .before .put-struct .ensures)
+returns-7 c = search instance-is
 
 pub put-value-spec : {M : Type 1} → statement M
 put-value-spec =

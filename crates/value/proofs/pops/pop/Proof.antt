@@ -14,7 +14,7 @@ read-value-requires : tie.Need-read-value-requires
 read-value-requires c κs = search needs
 
 returns-2 : tie.Need-returns-2
-returns-2 c = pop-top _ _ (c .before .if1 .left) (c .read-value .ensures)
+returns-2 c = search pop-top
 
 pub pop-spec : {M : Type 1} → statement M
 pop-spec = tie.close (tie.spec returns sub-read-value read-value-requires returns-2)

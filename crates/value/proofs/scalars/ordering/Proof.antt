@@ -5,16 +5,16 @@ use Rattle.value.proofs.scalars.ordering.Statement.{statement}
 use Rattle.value.proofs.scalars.ordering.Tie as tie
 
 enum-told : tie.Need-enum-told
-enum-told c = search needs
+enum-told c = search
 
 enum-told-2 : tie.Need-enum-told-2
-enum-told-2 c = search needs
+enum-told-2 c = search
 
 enum-told-3 : tie.Need-enum-told-3
-enum-told-3 c = search needs
+enum-told-3 c = search
 
 enum-told-4 : tie.Need-enum-told-4
-enum-told-4 c = search needs
+enum-told-4 c = search
 
 returns : tie.Need-returns
 unfolding orderOf

@@ -8,7 +8,7 @@ use Rattle.value.proofs.scalars.zero_divisor.Statement.{statement}
 use Rattle.value.proofs.scalars.zero_divisor.Tie as tie
 
 enum-told : tie.Need-enum-told
-enum-told c = search needs
+enum-told c = search
 
 returns : tie.Need-returns
 unfolding zeroDivisor

@@ -6,10 +6,10 @@ use Rattle.value.proofs.words.exact_cell.Statement.{statement}
 use Rattle.value.proofs.words.exact_cell.Tie as tie
 
 is-header-requires : tie.Need-is-header-requires
-is-header-requires c κs = search needs
+is-header-requires c κs = search
 
 returns : tie.Need-returns
-returns c = exact-header _ _ (c .before .is-header .ensures) (c .if1 .taken)
+returns c = search exact-header
 
 mul-exact-value : tie.Need-mul-exact-value
 mul-exact-value c = search needs
@@ -33,11 +33,11 @@ shared-slice-read-exact-value-2 : tie.Need-shared-slice-read-exact-value-2
 shared-slice-read-exact-value-2 c = search needs
 
 exact-value-requires : tie.Need-exact-value-requires
-exact-value-requires c κs = search needs
+exact-value-requires c κs = search
 
 returns-2 : tie.Need-returns-2
 unfolding kindAt payloadAt
-returns-2 c = exact-item _ _ (c .before .before .before .before .is-header .ensures) (c .before .before .before .if1 .left) (c .exact-value .ensures)
+returns-2 c = search exact-item
 
 pub exact-cell-spec : {M : Type 1} → statement M
 exact-cell-spec =

@@ -5,19 +5,19 @@ use Rattle.value.proofs.words.exact_value.Statement.{statement}
 use Rattle.value.proofs.words.exact_value.Tie as tie
 
 value-of-requires : tie.Need-value-of-requires
-value-of-requires c κs = search needs
+value-of-requires c κs = search
 
 kind-of-requires : tie.Need-kind-of-requires
-kind-of-requires c κs = search needs
+kind-of-requires c κs = search
 
 payload-of-requires : tie.Need-payload-of-requires
-payload-of-requires c κs = search needs
+payload-of-requires c κs = search
 
 returns : tie.Need-returns
-returns c = exact-same _ _ (c .before .before .before .value-of .ensures) (c .before .before .kind-of .ensures) (c .before .if1 .taken) (c .payload-of .ensures .is)
+returns c = search exact-same
 
 returns-2 : tie.Need-returns-2
-returns-2 c = exact-differs _ _ (c .before .before .value-of .ensures) (c .before .kind-of .ensures) (c .if1 .left)
+returns-2 c = search exact-differs
 
 pub exact-value-spec : {M : Type 1} → statement M
 exact-value-spec =

@@ -8,10 +8,10 @@ returns : tie.Need-returns
 returns c = last-none _ _ (c .if1 .taken)
 
 value-of-requires : tie.Need-value-of-requires
-value-of-requires c κs = search needs
+value-of-requires c κs = search
 
 returns-2 : tie.Need-returns-2
-returns-2 c = last-some _ _ (c .before .if1 .left) (c .value-of .ensures)
+returns-2 c = search last-some
 
 pub last-in-spec : {M : Type 1} → statement M
 last-in-spec = tie.close (tie.spec returns value-of-requires returns-2)

@@ -5,13 +5,13 @@ use Rattle.value.proofs.words.last_payload.Statement.{statement}
 use Rattle.value.proofs.words.last_payload.Tie as tie
 
 enum-told : tie.Need-enum-told
-enum-told c = search needs
+enum-told c = search
 
 enum-known-last : tie.Need-enum-known-last
-enum-known-last c = search needs
+enum-known-last c = search
 
 payload-of-requires : tie.Need-payload-of-requires
-payload-of-requires c κs = search needs
+payload-of-requires c κs = search
 
 returns : tie.Need-returns
 returns c = payload-none (c .enum-told .given .1)

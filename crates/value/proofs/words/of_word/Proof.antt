@@ -12,7 +12,7 @@ float-from-bits-result : tie.Need-float-from-bits-result
 float-from-bits-result c = no-nan-below _ (c .if1 .left)
 
 returns-2 : tie.Need-returns-2
-returns-2 c = search needs
+returns-2 c = search
 
 pub of-word-spec : {M : Type 1} → statement M
 of-word-spec = tie.close (tie.spec returns float-from-bits-result returns-2)

@@ -6,58 +6,58 @@ use Rattle.value.proofs.words.payload_of.Statement.{statement}
 use Rattle.value.proofs.words.payload_of.Tie as tie
 
 enum-known-v : tie.Need-enum-known-v
-enum-known-v c = search needs
+enum-known-v c = search
 
 to-word-requires : tie.Need-to-word-requires
-to-word-requires c κs = search needs
+to-word-requires c κs = search
 
 enum-known-v-2 : tie.Need-enum-known-v-2
-enum-known-v-2 c = search needs
+enum-known-v-2 c = search
 
 cast-result : tie.Need-cast-result
-cast-result c = search needs
+cast-result c = search
 
 enum-known-v-3 : tie.Need-enum-known-v-3
-enum-known-v-3 c = search needs
+enum-known-v-3 c = search
 
 pack-requires : tie.Need-pack-requires
-pack-requires c κs = search needs
+pack-requires c κs = search
 
 enum-known-v-4 : tie.Need-enum-known-v-4
-enum-known-v-4 c = search needs
+enum-known-v-4 c = search
 
 pack-requires-2 : tie.Need-pack-requires-2
-pack-requires-2 c κs = search needs
+pack-requires-2 c κs = search
 
 enum-known-v-5 : tie.Need-enum-known-v-5
-enum-known-v-5 c = search needs
+enum-known-v-5 c = search
 
 cast-result-2 : tie.Need-cast-result-2
 cast-result-2 c = search needs
 
 enum-known-v-6 : tie.Need-enum-known-v-6
-enum-known-v-6 c = search needs
+enum-known-v-6 c = search
 
 cast-result-3 : tie.Need-cast-result-3
 cast-result-3 c = search needs
 
 returns : tie.Need-returns
-returns c = payload-is (c .before .before .v .given .1) (c .to-word .ensures) (told (c .before .known-told .given .0 .1))
+returns c = search (payload-is, told)
 
 returns-2 : tie.Need-returns-2
 returns-2 c = payload-is (c .before .v2 .given .1) refl tt
 
 returns-3 : tie.Need-returns-3
-returns-3 c = payload-is (c .before .before .v3 .given .1) (c .pack .ensures) (c .before .known-told3 .given .0 .1, c .before .known-told3 .given .1 .0 .1)
+returns-3 c = search payload-is
 
 returns-4 : tie.Need-returns-4
-returns-4 c = payload-is (c .before .before .v4 .given .1) (c .pack2 .ensures) (c .before .known-told4 .given .0 .1, c .before .known-told4 .given .1 .0 .1)
+returns-4 c = search payload-is
 
 returns-5 : tie.Need-returns-5
-returns-5 c = payload-is (c .before .v5 .given .1) refl (c .known-told5 .given .0 .1)
+returns-5 c = search payload-is
 
 returns-6 : tie.Need-returns-6
-returns-6 c = payload-is (c .before .v6 .given .1) refl (c .known-told6 .given .0 .1)
+returns-6 c = search payload-is
 
 pub payload-of-spec : {M : Type 1} → statement M
 payload-of-spec =

@@ -19,7 +19,7 @@ shared-slice-read-a c = search needs
 
 returns : tie.Need-returns
 unfolding payloadAt headerOf
-returns c = search needs
+returns c = search
 
 pub read-header-spec : {M : Type 1} → statement M
 read-header-spec = tie.close (tie.spec mul-a add-a mul-a-2 shared-slice-read-a returns)

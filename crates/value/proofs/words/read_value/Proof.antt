@@ -26,7 +26,7 @@ shared-slice-read-value-of-2 : tie.Need-shared-slice-read-value-of-2
 shared-slice-read-value-of-2 c = search needs
 
 value-of-requires : tie.Need-value-of-requires
-value-of-requires c κs = search needs
+value-of-requires c κs = search
 
 returns : tie.Need-returns
 unfolding kindAt payloadAt valueAt

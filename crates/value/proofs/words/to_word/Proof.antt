@@ -11,7 +11,7 @@ float-to-bits-result : tie.Need-float-to-bits-result
 float-to-bits-result c = no-nan _ (c .if1 .left)
 
 returns-2 : tie.Need-returns-2
-returns-2 c = search needs
+returns-2 c = search
 
 pub to-word-spec : {M : Type 1} → statement M
 to-word-spec = tie.close (tie.spec returns float-to-bits-result returns-2)

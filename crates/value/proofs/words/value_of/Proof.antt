@@ -14,7 +14,7 @@ cast-high : tie.Need-cast-high
 cast-high c = search needs
 
 of-word-requires : tie.Need-of-word-requires
-of-word-requires c κs = search needs
+of-word-requires c κs = search
 
 returns : tie.Need-returns
 unfolding valueOf

@@ -17,14 +17,16 @@ add-payload-2 : tie.Need-add-payload-2
 add-payload-2 c = search needs
 
 write-words-requires : tie.Need-write-words-requires
-write-words-requires c κs = search needs
+write-words-requires c κs = search
 
 same-length : tie.Need-same-length
-same-length c = search needs
+same-length c = search
 
 returns : tie.Need-returns
 unfolding putCell
-returns c = record { stored = c .before .before .write-words .ensures; fine = (c .before .before .before .before .before .pre .1, c .before .before .before .before .before .pre .2, c .before .before .before .before .before .pre .3) }
+returns c =
+    let at-start = c .before .before .before .before .before in
+    record { stored = c .before .before .write-words .ensures; fine = (at-start .pre .1, at-start .pre .2, at-start .pre .3) }
 
 pub write-header-spec : {M : Type 1} → statement M
 write-header-spec =

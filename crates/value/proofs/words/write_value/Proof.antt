@@ -5,19 +5,19 @@ use Rattle.value.proofs.words.write_value.Statement.{statement}
 use Rattle.value.proofs.words.write_value.Tie as tie
 
 kind-of-requires : tie.Need-kind-of-requires
-kind-of-requires c κs = search needs
+kind-of-requires c κs = search
 
 payload-of-requires : tie.Need-payload-of-requires
-payload-of-requires c κs = search needs
+payload-of-requires c κs = search
 
 write-words-requires : tie.Need-write-words-requires
-write-words-requires c κs = search needs
+write-words-requires c κs = search
 
 same-length : tie.Need-same-length
-same-length c = search needs
+same-length c = search
 
 returns : tie.Need-returns
-returns c = wrote _ _ (c .before .before .before .before .kind-of .ensures) (c .before .before .before .payload-of .ensures) (c .before .before .write-words .ensures)
+returns c = search wrote
 
 pub write-value-spec : {M : Type 1} → statement M
 write-value-spec =

@@ -32,7 +32,7 @@ same-length c = search needs
 
 returns : tie.Need-returns
 unfolding putWords
-returns c = search needs
+returns c = search
 
 pub write-words-spec : {M : Type 1} → statement M
 write-words-spec =
