@@ -23,24 +23,36 @@ below t = and 1 kinds.ps (falls 1 kinds.ps _<_ μ t) reads.Pre
 
 -- a group in front of others, which the sum's bounds use too
 joins : (t : ℕ) → lts.Need-returns-6 (below t, reads.Post) (here t) reads.Post
-joins t c = joined _ _ _ (c .before .before .before .before .before .before .before .before .if1 .left) (c .before .before .before .before .before .before .if2 .left) (c .before .before .before .before .before .if4 .left) _ (c .before .before .before .before .read-groups .ensures) _ _ (c .before .before .others .given .1) (omega (arith, c .before .before .before .before .before .before .before .shared-slice-known2 .given (c .before .before .before .before .before .before .before .before .before .before .args .at))) (c .if5 .taken)
+joins t c =
+    joined _ _ _ (c .before .before .before .before .before .before .before .before .if1 .left)
+    (c .before .before .before .before .before .before .if2 .left) (c .before .before .before .before .before .if4 .left) _
+    (c .before .before .before .before .read-groups .ensures) _ _ (c .before .before .others .given .1)
+    (omega (
+      arith,
+      let at-shared-slice-known2 = c .before .before .before .before .before .before .before in
+          let at-start = at-shared-slice-known2 .before .before .before in
+          at-shared-slice-known2 .shared-slice-known2 .given (at-start .args .at),
+    )) (c .if5 .taken)
 
 pub +read-groups-spec : {M : Type 1} → statement M
 +read-groups-spec =
-    close μ λ t. lts.spec (below t, reads.Post) (here t) reads.Post
-    (λ c. no-byte _ _ _ (c .if1 .taken))
-    (λ c. search needs)
-    (λ c. omega (arith, c .shared-slice-known2 .given (c .before .before .before .args .at)))
-    (λ c. search needs)
+    close μ λ t. lts.spec (below t, reads.Post) (here t) reads.Post (λ c. no-byte _ _ _ (c .if1 .taken)) (λ c. search needs)
+    (λ c. omega (arith, c .shared-slice-known2 .given (c .before .before .before .args .at))) (λ c. search needs)
     (λ c. end-small _ _ _ (c .before .before .before .if1 .left) (c .before .if2 .taken) (c .if3 .taken))
     (λ c. end-large _ _ _ (c .before .before .before .if1 .left) (c .before .if2 .taken) (c .if3 .left))
     (λ c. last _ _ _ (c .before .before .before .if1 .left) (c .before .if2 .left) (c .if4 .taken))
     (λ c. pos-of-ne-zero (c .before .if2 .left))
-    (λ c κs. let h : 0 < _ = pos-of-ne-zero (c .before .if2 .left) in (omega arith, omega arith))
+    (λ c κs. let h : 0 < _ = pos-of-ne-zero (c .before .if2 .left) in (omega arith, omega arith)) (λ c. search needs)
     (λ c. search needs)
-    (λ c. search needs)
-    (λ c. broken _ _ _ (c .before .before .before .before .before .before .if1 .left) (c .before .before .before .before .if2 .left) (c .before .before .before .if4 .left) _ (c .before .before .read-groups .ensures) (c .enum-told .given .1))
-    (λ c. let h : _ < 2 ^ 32 = fits _ _ _ _ _ (c .before .before .before .before .before .before .before .before .before .before .pre .1) (joins t c) in omega arith)
-    (λ c. let h : _ < 2 ^ 32 = fits _ _ _ _ _ (c .before .before .before .before .before .before .before .before .before .before .pre .1) (joins t c) in omega arith)
-    (joins t)
-    (λ c. padded _ _ _ (c .before .before .before .before .before .before .before .before .if1 .left) (c .before .before .before .before .before .before .if2 .left) (c .before .before .before .before .before .if4 .left) _ (c .before .before .before .before .read-groups .ensures) _ _ (c .before .before .others .given .1) (c .if5 .left))
+    (λ c. broken _ _ _ (c .before .before .before .before .before .before .if1 .left)
+    (c .before .before .before .before .if2 .left) (c .before .before .before .if4 .left) _
+    (c .before .before .read-groups .ensures) (c .enum-told .given .1))
+    (λ c. let h : _ < 2 ^ 32 = fits _ _ _ _ _
+    (c .before .before .before .before .before .before .before .before .before .before .pre .1) (joins t c) in
+    omega arith)
+    (λ c. let h : _ < 2 ^ 32 = fits _ _ _ _ _
+    (c .before .before .before .before .before .before .before .before .before .before .pre .1) (joins t c) in
+    omega arith) (joins t)
+    (λ c. padded _ _ _ (c .before .before .before .before .before .before .before .before .if1 .left)
+    (c .before .before .before .before .before .before .if2 .left) (c .before .before .before .before .before .if4 .left) _
+    (c .before .before .before .before .read-groups .ensures) _ _ (c .before .before .others .given .1) (c .if5 .left))

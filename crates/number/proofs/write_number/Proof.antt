@@ -30,7 +30,7 @@ loop-less : tie.Need-loop-less Inv-loop μ-loop
 loop-less c = search needs
 
 loop-again : tie.Need-loop-again Inv-loop μ-loop
-loop-again c = goes-on _ _ _ _ _ _ (c .before .loop .inv) (c .loop-test .taken)
+loop-again c = search goes-on
 
 cast-out-2 : tie.Need-cast-out-2 Inv-loop μ-loop
 cast-out-2 c = search needs
@@ -45,7 +45,7 @@ same-length : tie.Need-same-length Inv-loop μ-loop
 same-length c = kept _ _ _ _ _ _ (c .before .loop .inv) _
 
 returns : tie.Need-returns Inv-loop μ-loop
-returns c = done _ _ _ _ _ _ (c .before .loop .inv) (c .loop-test .left)
+returns c = search done
 
 pub write-number-spec : {M : Type 1} → statement M
 write-number-spec =

@@ -17,10 +17,10 @@ loop-holds : tie.Need-loop-holds Inv-loop μ-loop
 loop-holds c = search needs
 
 name-byte-requires : tie.Need-name-byte-requires Inv-loop μ-loop
-name-byte-requires c κs = search needs
+name-byte-requires c κs = search
 
 returns : tie.Need-returns Inv-loop μ-loop
-returns c = at-space _ _ _ (c .before .name-byte .ensures) (c .before .before .before .loop .inv) (c .if1 .taken)
+returns c = search at-space
 
 add-i : tie.Need-add-i Inv-loop μ-loop
 add-i c = search needs
@@ -29,7 +29,7 @@ loop-less : tie.Need-loop-less Inv-loop μ-loop
 loop-less c = search needs
 
 loop-again : tie.Need-loop-again Inv-loop μ-loop
-loop-again c = at-letter _ _ _ (c .before .name-byte .ensures) (c .if1 .left)
+loop-again c = search at-letter
 
 returns-2 : tie.Need-returns-2 Inv-loop μ-loop
 returns-2 c = full _ _ (c .before .loop .inv) (c .loop-test .left)

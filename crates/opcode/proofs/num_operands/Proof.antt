@@ -25,7 +25,8 @@ returns-2 c = in-range listed arms 5 21 tt _ (c .before .before .match .rest) (o
 
 returns-3 : tie.Need-returns-3
 unfolding ascii opcodes opcodeAt
-returns-3 c = in-range listed arms 37 219 tt _ (c .before .before .before .before .before .match .rest) (omega arith) (omega arith)
+returns-3 c =
+    in-range listed arms 37 219 tt _ (c .before .before .before .before .before .match .rest) (omega arith) (omega arith)
 
 returns-4 : tie.Need-returns-4
 unfolding ascii opcodes opcodeAt

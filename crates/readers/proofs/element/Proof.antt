@@ -5,43 +5,60 @@ use Rattle.readers.proofs.element.Statement.{statement}
 use Rattle.readers.proofs.element.Tie as tie
 
 block-at-requires : tie.Need-block-at-requires
-block-at-requires c κs = search needs
+block-at-requires c κs = search
 
 enum-known-told : tie.Need-enum-known-told
-enum-known-told c = search needs
+enum-known-told c = search
 
 read-header-requires : tie.Need-read-header-requires
-read-header-requires c κs = head-room _ _ _ (c .before .before .before .block-at .ensures) _ (c .before .told .given .1)
+read-header-requires c κs = search head-room
 
 returns : tie.Need-returns
-returns c = no-element _ _ _ (c .before .before .before .before .before .block-at .ensures) _ (c .before .before .before .told .given .1) (c .before .read-header .ensures) _ (c .if1 .taken)
+returns c = search no-element
 
 add-at : tie.Need-add-at
-add-at c = let z = element-room _ _ _ (c .before .before .before .before .before .block-at .ensures) _ (c .before .before .before .told .given .1) (c .before .read-header .ensures) _ (c .if1 .left) in omega arith
+add-at c =
+    let z =
+    let at-told = c .before .before .before in
+    let at-block-at = at-told .before .before in
+    element-room _ _ _ (at-block-at .block-at .ensures) _ (at-told .told .given .1) (c .before .read-header .ensures) _
+    (c .if1 .left) in
+    omega arith
 
 add-at-2 : tie.Need-add-at-2
-add-at-2 c = let z = element-room _ _ _ (c .before .before .before .before .before .block-at .ensures) _ (c .before .before .before .told .given .1) (c .before .read-header .ensures) _ (c .if1 .left) in omega arith
+add-at-2 c =
+    let z =
+    let at-told = c .before .before .before in
+    let at-block-at = at-told .before .before in
+    element-room _ _ _ (at-block-at .block-at .ensures) _ (at-told .told .given .1) (c .before .read-header .ensures) _
+    (c .if1 .left) in
+    omega arith
 
 read-value-requires : tie.Need-read-value-requires
-read-value-requires c κs = element-room _ _ _ (c .before .before .before .before .before .block-at .ensures) _ (c .before .before .before .told .given .1) (c .before .read-header .ensures) _ (c .if1 .left)
+read-value-requires c κs = search element-room
 
 placed-requires : tie.Need-placed-requires
-placed-requires c κs = let z = head-room _ _ _ (c .before .before .before .before .before .before .before .block-at .ensures) _ (c .before .before .before .before .before .told .given .1) in omega arith
+placed-requires c κs =
+    let z =
+    let at-told = c .before .before .before .before .before in
+    let at-block-at = at-told .before .before in
+    head-room _ _ _ (at-block-at .block-at .ensures) _ (at-told .told .given .1) in
+    omega arith
 
 value-at-requires : tie.Need-value-at-requires
-value-at-requires c κs = element-room _ _ _ (c .before .before .before .before .before .before .before .before .before .block-at .ensures) _ (c .before .before .before .before .before .before .before .told .given .1) (c .before .before .before .before .before .read-header .ensures) _ (c .before .before .before .before .if1 .left)
+value-at-requires c κs = search element-room
 
 returns-2 : tie.Need-returns-2
-returns-2 c = element-shown _ _ _ (c .before .before .before .before .before .before .before .before .before .before .block-at .ensures) _ (c .before .before .before .before .before .before .before .before .told .given .1) (c .before .before .before .before .before .before .read-header .ensures) _ (c .before .before .before .before .before .if1 .left) (c .before .before .before .before .read-value .ensures) (c .before .before .placed .ensures) (c .before .if2 .taken) (c .value-at .ensures)
+returns-2 c = search element-shown
 
 enum-known-told-2 : tie.Need-enum-known-told-2
-enum-known-told-2 c = search needs
+enum-known-told-2 c = search
 
 returns-3 : tie.Need-returns-3
-returns-3 c = element-misplaced _ _ _ (c .before .before .before .before .before .before .before .before .before .block-at .ensures) _ (c .before .before .before .before .before .before .before .told .given .1) (c .before .before .before .before .before .read-header .ensures) _ (c .before .before .before .before .if1 .left) (c .before .before .before .read-value .ensures) (c .before .placed .ensures) (c .if2 .left)
+returns-3 c = search element-misplaced
 
 returns-4 : tie.Need-returns-4
-returns-4 c = element-refused _ _ _ (c .before .before .before .block-at .ensures) _ (c .before .told2 .given .1) _
+returns-4 c = search element-refused
 
 pub element-spec : {M : Type 1} → statement M
 element-spec =

@@ -4,14 +4,14 @@ use Rattle.readers.proofs.last_result.Statement.{statement}
 use Rattle.readers.proofs.last_result.Tie as tie
 
 enum-told : tie.Need-enum-told
-enum-told c = search needs
+enum-told c = search
 
 enum-known-last : tie.Need-enum-known-last
-enum-known-last c = search needs
+enum-known-last c = search
 
 returns : tie.Need-returns
 unfolding lastResultOf lastShown
-returns c = search needs
+returns c = search
 
 returns-2 : tie.Need-returns-2
 unfolding lastResultOf lastShown

@@ -26,18 +26,18 @@ shared-slice-read-exact-value-2 : tie.Need-shared-slice-read-exact-value-2
 shared-slice-read-exact-value-2 c = search needs
 
 exact-value-requires : tie.Need-exact-value-requires
-exact-value-requires c κs = search needs
+exact-value-requires c κs = search
 
 read-value-requires : tie.Need-read-value-requires
-read-value-requires c κs = search needs
+read-value-requires c κs = search
 
 returns : tie.Need-returns
 unfolding kindAt payloadAt
-returns c = exact-shown _ _ (c .before .before .exact-value .ensures) (c .before .if1 .taken) (c .read-value .ensures)
+returns c = search exact-shown
 
 returns-2 : tie.Need-returns-2
 unfolding kindAt payloadAt
-returns-2 c = not-exact _ _ (c .before .exact-value .ensures) (c .if1 .left)
+returns-2 c = search not-exact
 
 pub value-at-spec : {M : Type 1} → statement M
 value-at-spec =

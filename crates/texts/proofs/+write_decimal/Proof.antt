@@ -26,12 +26,25 @@ pub +write-decimal-spec : {M : Type 1} → statement M
     close μ λ t. lts.spec (put-byte.Asked, put-byte.Learnt, below t, reads.Post) (here t) reads.Post
     (λ c. omega (arith, digit (c .before .before .args .like) (c .before .before .args .n) (c .if1 .taken)))
     (λ c. omega (arith, digit (c .before .before .args .like) (c .before .before .args .n) (c .if1 .taken)))
-    (λ c κs. search needs)
-    (λ c. search needs)
-    (λ c. one-digit (c .before .before .before .before .before .before .args .like) (c .before .before .before .before .before .before .args .n) (c .before .before .before .before .if1 .taken) (c .before .before .put-byte .ensures))
-    (λ c κs. (omega (arith, falling (c .before .before .before .args .like) (c .before .before .before .args .n) (search needs) (search needs) (c .before .if1 .left)), search needs))
-    (λ c. search needs)
-    (λ c. search needs)
-    (λ c κs. omega (arith, last-fits (c .before .before .before .before .before .before .before .args .like) (c .before .before .before .before .before .before .before .args .n) (search needs) (search needs) (c .before .before .before .before .before .if1 .left) (c .before .before .before .write-decimal .ensures)))
-    (λ c. search needs)
-    (λ c. more-digits (c .before .before .before .before .before .before .before .before .before .before .args .like) (c .before .before .before .before .before .before .before .before .before .before .args .n) (search needs) (search needs) (c .before .before .before .before .before .before .before .before .if1 .left) (c .before .before .before .before .before .before .write-decimal .ensures) (c .before .before .put-byte2 .ensures))
+    (λ c κs. search needs) (λ c. search needs)
+    (λ c. one-digit (c .before .before .before .before .before .before .args .like)
+    (c .before .before .before .before .before .before .args .n) (c .before .before .before .before .if1 .taken)
+    (c .before .before .put-byte .ensures))
+    (λ c κs. (
+      omega (
+        arith,
+        falling (c .before .before .before .args .like) (c .before .before .before .args .n) (search needs) (search needs)
+            (c .before .if1 .left),
+      ),
+      search needs,
+    )) (λ c. search needs) (λ c. search needs)
+    (λ c κs. omega (
+      arith,
+      last-fits (c .before .before .before .before .before .before .before .args .like)
+          (c .before .before .before .before .before .before .before .args .n) (search needs) (search needs)
+          (c .before .before .before .before .before .if1 .left) (c .before .before .before .write-decimal .ensures),
+    )) (λ c. search needs)
+    (λ c. more-digits (c .before .before .before .before .before .before .before .before .before .before .args .like)
+    (c .before .before .before .before .before .before .before .before .before .before .args .n) (search needs) (search needs)
+    (c .before .before .before .before .before .before .before .before .if1 .left)
+    (c .before .before .before .before .before .before .write-decimal .ensures) (c .before .before .put-byte2 .ensures))

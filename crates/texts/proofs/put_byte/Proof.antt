@@ -5,10 +5,10 @@ use Rattle.texts.proofs.put_byte.Statement.{statement}
 use Rattle.texts.proofs.put_byte.Tie as tie
 
 slice-write-out : tie.Need-slice-write-out
-slice-write-out c = search needs
+slice-write-out c = search
 
 add-result : tie.Need-add-result
-add-result c = search needs
+add-result c = search
 
 same-length : tie.Need-same-length
 same-length c = search needs
@@ -17,7 +17,7 @@ returns : tie.Need-returns
 returns c = byte-inside _ _ _
 
 add-result-2 : tie.Need-add-result-2
-add-result-2 c = search needs
+add-result-2 c = search
 
 returns-2 : tie.Need-returns-2
 returns-2 c = byte-past _ _ _ (c .if1 .left)

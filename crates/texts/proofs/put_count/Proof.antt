@@ -11,10 +11,10 @@ write-decimal-requires : tie.Need-write-decimal-requires
 write-decimal-requires c κs = search needs
 
 same-length : tie.Need-same-length
-same-length c = search needs
+same-length c = search
 
 returns : tie.Need-returns
-returns c = count-is _ _ (c .before .before .before .before .before .before .put-text .ensures) (c .before .before .write-decimal .ensures)
+returns c = search count-is
 
 pub put-count-spec : {M : Type 1} → statement M
 put-count-spec = tie.close (tie.spec put-text-requires write-decimal-requires same-length returns)
