@@ -10,6 +10,7 @@ use Rattle.model.specs.declared.Value.{Value}
 use Rattle.model.specs.declared.Header.{Header}
 use Rattle.model.specs.declared.Counts.{Counts}
 use Rattle.model.specs.declared.Vm.{Vm}
+use Rattle.model.specs.declared.Tally.{Tally}
 use Rattle.model.specs.declared.Emitted.{Emitted}
 use Rattle.model.specs.declared.Emitted.the-variants as e
 use Rattle.model.specs.declared.Told.{Told}
@@ -24,7 +25,7 @@ use Rattle.model.specs.declared.RunResult.{RunResult}
 use Rattle.model.specs.declared.RunResult.the-variants as r
 use Rattle.model.specs.Basics.{written}
 use Rattle.model.specs.Values.{kind, payload, exactValue}
-use Rattle.coding.specs.Coding.{countWords, vmWords, recordOk, slicesRefusal, valueRefusal, outRefusal, runCoded, startedCoded, emittedCoded, toldCoded, shownCoded, headedCoded}
+use Rattle.coding.specs.Coding.{countWords, vmWords, recordOk, slicesRefusal, valueRefusal, outRefusal, runWords, runCoded, startedCoded, emittedCoded, toldCoded, shownCoded, headedCoded}
 
 -- ---- refusals
 
@@ -63,17 +64,20 @@ module _ (w : List ℕ) (n : ℕ) (a : List ℕ) where
 
 module _ (w a : List ℕ) where
   module _ {x : RunResult} where
-    pub told-value : {w' a' : List ℕ} {m : Vm} {v : Value} {n k p : ℕ} → x ≡ r.Value m v n → k ≡ kind v → p ≡ payload v → w' ≡ written w 0 (vmWords m) → a' ≡ written a 0 (1 ∷ n ∷ k ∷ p ∷ []) → record { number = 0; vm = w'; answer = a' } ≡ runCoded x w a
-    unfolding runCoded
-    told-value e ek ep ew ea = rw (e, ew, ea, ek, ep)
+    pub told-value : {w' a' : List ℕ} {m : Vm} {v : Value} {n : Tally} {k p : ℕ} → x ≡ r.Value m v n → k ≡ kind v → p ≡ payload v → w' ≡ written w 0 (vmWords m)
+        → a' ≡ written a 0 (1 ∷ n .spent ∷ n .returns ∷ k ∷ p ∷ []) → record { number = 0; vm = w'; answer = a' } ≡ runCoded x w a
+    unfolding runCoded runWords
+    told-value e k p f g = rw (e, f, g, k, p)
 
-    pub told-continue : {w' a' : List ℕ} {m : Vm} {n : ℕ} → x ≡ r.Continue m n → w' ≡ written w 0 (vmWords m) → a' ≡ written a 0 (2 ∷ n ∷ 0 ∷ 0 ∷ []) → record { number = 0; vm = w'; answer = a' } ≡ runCoded x w a
-    unfolding runCoded
-    told-continue e ew ea = rw (e, ew, ea)
+    pub told-continue : {w' a' : List ℕ} {m : Vm} {n : Tally} → x ≡ r.Continue m n → w' ≡ written w 0 (vmWords m)
+        → a' ≡ written a 0 (2 ∷ n .spent ∷ n .returns ∷ 0 ∷ 0 ∷ []) → record { number = 0; vm = w'; answer = a' } ≡ runCoded x w a
+    unfolding runCoded runWords
+    told-continue e f g = rw (e, f, g)
 
-    pub told-fault : {w' a' : List ℕ} {m : Vm} {k n j : ℕ} → x ≡ r.Fault m k n j → w' ≡ written w 0 (vmWords m) → a' ≡ written a 0 (3 ∷ n ∷ k ∷ j ∷ []) → record { number = 0; vm = w'; answer = a' } ≡ runCoded x w a
-    unfolding runCoded
-    told-fault e ew ea = rw (e, ew, ea)
+    pub told-fault : {w' a' : List ℕ} {m : Vm} {k : ℕ} {n : Tally} {j : ℕ} → x ≡ r.Fault m k n j → w' ≡ written w 0 (vmWords m)
+        → a' ≡ written a 0 (3 ∷ n .spent ∷ n .returns ∷ k ∷ j ∷ []) → record { number = 0; vm = w'; answer = a' } ≡ runCoded x w a
+    unfolding runCoded runWords
+    told-fault e f g = rw (e, f, g)
 
     pub told-refused : {n : ℕ} → x ≡ r.Refused n → record { number = n; vm = w; answer = a } ≡ runCoded x w a
     unfolding runCoded

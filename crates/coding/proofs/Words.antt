@@ -23,9 +23,10 @@ word-past s i h = sym (List·getD-eq-default s 0 h)
 pub put-past : (s : List ℕ) (i x : ℕ) → length s ≤ i → s ≡ set s i x
 put-past s i x h = sym (set-out s i x h)
 
-pub four-put : (s : List ℕ) (a b c d : ℕ) {s1 s2 s3 s4 : List ℕ} → s1 ≡ set s 0 a → s2 ≡ set s1 1 b → s3 ≡ set s2 2 c → s4 ≡ set s3 3 d → s4 ≡ written s 0 (a ∷ b ∷ c ∷ d ∷ [])
+pub five-put : (s : List ℕ) (a b c d e : ℕ) {s1 s2 s3 s4 s5 : List ℕ} → s1 ≡ set s 0 a → s2 ≡ set s1 1 b → s3 ≡ set s2 2 c → s4 ≡ set s3 3 d → s5 ≡ set s4 4 e
+    → s5 ≡ written s 0 (a ∷ b ∷ c ∷ d ∷ e ∷ [])
 unfolding written
-four-put s a b c d e1 e2 e3 e4 = rw (e4, e3, e2, e1)
+five-put s a b c d e e1 e2 e3 e4 e5 = rw (e5, e4, e3, e2, e1)
 
 -- ---- the last result
 

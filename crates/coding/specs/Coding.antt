@@ -23,6 +23,7 @@ use Rattle.model.specs.declared.RunResult.{RunResult}
 use Rattle.model.specs.declared.RunResult.the-variants as r
 use Rattle.model.specs.Basics.{if_then_else_, written}
 use Rattle.model.specs.Values.{kind, payload, exactValue}
+use Rattle.model.specs.Answers.{runNumber, startedNumber}
 use Rattle.model.specs.Stores.{Stores}
 use Rattle.model.specs.Emission.{Res}
 use Rattle.model.specs.Loading.{OutRes}
@@ -82,17 +83,24 @@ pub record Coded : Type 0 where
 abbrev pub refused : ℕ → List ℕ → List ℕ → Coded
 refused n w a = record { number = n; vm = w; answer = a }
 
--- 1 value, 2 "continue", 3 fault; the units; the value's kind and payload, or the fault's number and the length of its backtrace
+-- 1 value, 2 "continue", 3 fault; the units spent; the root Returns completed; the value's kind and payload, or the fault's number and the length of its
+-- backtrace
+unfoldable pub runWords : RunResult → List ℕ
+runWords (r.Value m v t) = 1 ∷ t .spent ∷ t .returns ∷ kind v ∷ payload v ∷ []
+runWords (r.Continue m t) = 2 ∷ t .spent ∷ t .returns ∷ 0 ∷ 0 ∷ []
+runWords (r.Fault m n t j) = 3 ∷ t .spent ∷ t .returns ∷ n ∷ j ∷ []
+runWords (r.Refused n) = []
+
 unfoldable pub runCoded : RunResult → List ℕ → List ℕ → Coded
-runCoded (r.Value m v n) w a = record { number = 0; vm = written w 0 (vmWords m); answer = written a 0 (1 ∷ n ∷ kind v ∷ payload v ∷ []) }
-runCoded (r.Continue m n) w a = record { number = 0; vm = written w 0 (vmWords m); answer = written a 0 (2 ∷ n ∷ 0 ∷ 0 ∷ []) }
-runCoded (r.Fault m k n j) w a = record { number = 0; vm = written w 0 (vmWords m); answer = written a 0 (3 ∷ n ∷ k ∷ j ∷ []) }
-runCoded (r.Refused n) w a = refused n w a
+runCoded (r.Value m v t) w a = record { number = runNumber (r.Value m v t); vm = written w 0 (vmWords m); answer = written a 0 (runWords (r.Value m v t)) }
+runCoded (r.Continue m t) w a = record { number = runNumber (r.Continue m t); vm = written w 0 (vmWords m); answer = written a 0 (runWords (r.Continue m t)) }
+runCoded (r.Fault m n t j) w a = record { number = runNumber (r.Fault m n t j); vm = written w 0 (vmWords m); answer = written a 0 (runWords (r.Fault m n t j)) }
+runCoded (r.Refused n) w a = refused (runNumber (r.Refused n)) w a
 
 -- of refusal 20 the answer is the offset
 unfoldable pub startedCoded : Started → List ℕ → List ℕ → Coded
 startedCoded (st.Done m) w a = record { number = 0; vm = written w 0 (vmWords m); answer = a }
-startedCoded (st.Broken i) w a = record { number = 20; vm = w; answer = written a 0 (i ∷ []) }
+startedCoded (st.Broken i) w a = record { number = startedNumber (st.Broken i); vm = w; answer = written a 0 (i ∷ []) }
 startedCoded (st.Refused n) w a = refused n w a
 
 -- the counts to the record, and the number that was told
@@ -117,11 +125,11 @@ headedCoded (h.Refused n) w a = refused n w a
 -- ---- the entries: refused by what crosses, or the entry's own rule, with its answer in words. `why` is that refusal, 0 where there is none
 
 -- a run: refused by its slices, or the run of the record's machine, with its result in words
-pub record RunThrough (w a : List ℕ) (s : List ℕ → Stores) (l : Lent) (u : ℕ) (c : Coded) (l' : Lent) : Type 0 where
+pub record RunThrough (w a : List ℕ) (s : Stores) (l : Lent) (u : ℕ) (c : Coded) (l' : Lent) : Type 0 where
   pub result : RunResult
   pub coded : c ≡ runCoded result w a
-  pub runs : slicesRefusal w 4 a ≡ 0 → (structs : List ℕ) → RunPost (vmIn w) (s structs) l u result l'
-  pub refuses : (slicesRefusal w 4 a ≡ 0 → ⊥) → (result ≡ r.Refused (slicesRefusal w 4 a)) × (l' ≡ l)
+  pub runs : slicesRefusal w 5 a ≡ 0 → RunPost (vmIn w) s l u result l'
+  pub refuses : (slicesRefusal w 5 a ≡ 0 → ⊥) → (result ≡ r.Refused (slicesRefusal w 5 a)) × (l' ≡ l)
 
 -- making a machine
 pub record StartThrough : Type 0 where

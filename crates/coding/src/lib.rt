@@ -5,6 +5,7 @@ use model::Headed;
 use model::RunResult;
 use model::Shown;
 use model::Started;
+use model::Tally;
 use model::Told;
 use model::Vm;
 use value::words::exact_value;
@@ -137,13 +138,15 @@ pub fn out_refusal(vm: &[u64], n: usize, answer: &[u64]) -> u32
 
 // ---- answers
 
-fn put_four(answer: &mut [u64], a: u64, b: u64, c: u64, d: u64)
-    ensures { λ _. ⌜ now (answer .exit) ≡ written (now (answer .entry)) 0 (a ∷ b ∷ c ∷ d ∷ []) ⌝ }
+// What a run came to, what it did, and two words more.
+fn put_run(answer: &mut [u64], outcome: u64, did: Tally, a: u64, b: u64)
+    ensures { λ _. ⌜ now (answer .exit) ≡ written (now (answer .entry)) 0 (outcome ∷ did .spent ∷ did .returns ∷ a ∷ b ∷ []) ⌝ }
 {
-    put(answer, 0, a);
-    put(answer, 1, b);
-    put(answer, 2, c);
-    put(answer, 3, d);
+    put(answer, 0, outcome);
+    put(answer, 1, did.spent);
+    put(answer, 2, did.returns);
+    put(answer, 3, a);
+    put(answer, 4, b);
 }
 
 // What a run answers.
@@ -151,21 +154,21 @@ pub fn tell_run(result: RunResult, vm: &mut [u64], answer: &mut [u64]) -> u32
     ensures { λ r. ⌜ record { number = r; vm = now (vm .exit); answer = now (answer .exit) } ≡ runCoded result (now (vm .entry)) (now (answer .entry)) ⌝ }
 {
     match result {
-        RunResult::Value(m, v, n) => {
+        RunResult::Value(m, v, did) => {
             let kind = kind_of(v);
             let payload = payload_of(v);
             put_vm(m, vm);
-            put_four(answer, 1, n, kind, payload);
+            put_run(answer, 1, did, kind, payload);
             0
         }
-        RunResult::Continue(m, n) => {
+        RunResult::Continue(m, did) => {
             put_vm(m, vm);
-            put_four(answer, 2, n, 0, 0);
+            put_run(answer, 2, did, 0, 0);
             0
         }
-        RunResult::Fault(m, k, n, j) => {
+        RunResult::Fault(m, k, did, j) => {
             put_vm(m, vm);
-            put_four(answer, 3, n, k as u64, j as u64);
+            put_run(answer, 3, did, k as u64, j as u64);
             0
         }
         RunResult::Refused(n) => n as u32,

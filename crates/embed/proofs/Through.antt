@@ -20,12 +20,12 @@ use Rattle.coding.proofs.Answers.{told-refused}
 
 -- ---- a run
 
-module _ (w a : List ℕ) (s : List ℕ → Stores) (l : Lent) (u : ℕ) (n : ℕ) (e : n ≡ slicesRefusal w 4 a) where
-  pub run-through : n ≡ 0 → (m : Vm) → m ≡ vmIn w → (x : RunResult) (l' : Lent) → ((structs : List ℕ) → RunPost m (s structs) l u x l') → (c : Coded) → c ≡ runCoded x w a → RunThrough w a s l u c l'
+module _ (w a : List ℕ) (s : Stores) (l : Lent) (u : ℕ) (n : ℕ) (e : n ≡ slicesRefusal w 5 a) where
+  pub run-through : n ≡ 0 → (m : Vm) → m ≡ vmIn w → (x : RunResult) (l' : Lent) → RunPost m s l u x l' → (c : Coded) → c ≡ runCoded x w a → RunThrough w a s l u c l'
   run-through z m em x l' post c ec = record {
     result = x;
     coded = ec;
-    runs = λ y structs. subst (λ (k : Vm). RunPost k (s structs) l u x l') em (post structs);
+    runs = λ y. subst (λ (k : Vm). RunPost k s l u x l') em post;
     refuses = λ y. absurd (y (sym e ∙ z));
   }
 

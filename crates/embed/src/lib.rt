@@ -93,6 +93,7 @@ pub extern "C" fn chaffwheel_run(
     units: u64,
     vm: &mut [u64],
     constants: &[u64],
+    structs: &[u64],
     functions: &[u64],
     text: &[u8],
     main: &[u8],
@@ -106,15 +107,16 @@ pub extern "C" fn chaffwheel_run(
     trace: &mut [u32],
     answer: &mut [u64],
 ) -> u32
-    ensures { λ r. ⌜ RunThrough (now (vm .entry)) (now (answer .entry)) (λ (structs : List ℕ). programLent structs (now (constants .entry)) (now (functions .entry)) (now (text .entry)) (now (main .entry)) (now («main_places» .entry)) (now (other .entry)) (now («other_places» .entry))) (runLent (now (stack .entry)) (now (cells .entry)) (now (frames .entry)) (now (copy .entry)) (now (trace .entry))) units (record { number = r; vm = now (vm .exit); answer = now (answer .exit) }) (runLent (now (stack .exit)) (now (cells .exit)) (now (frames .exit)) (now (copy .exit)) (now (trace .exit))) ⌝ }
+    ensures { λ r. ⌜ RunThrough (now (vm .entry)) (now (answer .entry)) (programLent (now (structs .entry)) (now (constants .entry)) (now (functions .entry)) (now (text .entry)) (now (main .entry)) (now («main_places» .entry)) (now (other .entry)) (now («other_places» .entry))) (runLent (now (stack .entry)) (now (cells .entry)) (now (frames .entry)) (now (copy .entry)) (now (trace .entry))) units (record { number = r; vm = now (vm .exit); answer = now (answer .exit) }) (runLent (now (stack .exit)) (now (cells .exit)) (now (frames .exit)) (now (copy .exit)) (now (trace .exit))) ⌝ }
 {
-    let why = slices_refusal(vm, 4, answer);
+    let why = slices_refusal(vm, 5, answer);
     if why == 0 {
         let m = vm_of(vm);
         let result = run(
             m,
             units,
             constants,
+            structs,
             functions,
             text,
             main,
@@ -143,11 +145,12 @@ pub extern "C" fn chaffwheel_backtrace(
     main_places: &[u32],
     other: &[u8],
     other_places: &[u32],
+    stack: &[u64],
     frames: &[Frame],
     out: &mut [u32],
     answer: &mut [u64],
 ) -> u32
-    ensures { λ r. ⌜ ((structs constants : List ℕ) → record { coded = record { number = r; vm = now (vm .entry); answer = now (answer .exit) }; out = now (out .exit) } ≡ outThrough (slicesRefusal (now (vm .entry)) 1 (now (answer .entry))) (now (vm .entry)) (now (answer .entry)) (now (out .entry)) (λ m. backtraceIn m (programLent structs constants (now (functions .entry)) (now (text .entry)) (now (main .entry)) (now («main_places» .entry)) (now (other .entry)) (now («other_places» .entry))) (now (frames .entry)) (now (out .entry)))) ⌝ }
+    ensures { λ r. ⌜ ((structs constants : List ℕ) → record { coded = record { number = r; vm = now (vm .entry); answer = now (answer .exit) }; out = now (out .exit) } ≡ outThrough (slicesRefusal (now (vm .entry)) 1 (now (answer .entry))) (now (vm .entry)) (now (answer .entry)) (now (out .entry)) (λ m. backtraceIn m (programLent structs constants (now (functions .entry)) (now (text .entry)) (now (main .entry)) (now («main_places» .entry)) (now (other .entry)) (now («other_places» .entry))) (now (stack .entry)) (now (frames .entry)) (now (out .entry)))) ⌝ }
 {
     let why = slices_refusal(vm, 1, answer);
     if why == 0 {
@@ -160,6 +163,7 @@ pub extern "C" fn chaffwheel_backtrace(
             main_places,
             other,
             other_places,
+            stack,
             frames,
             out,
         );

@@ -10,6 +10,7 @@ use lib.ListN.{length, getD, set, drop, replicate, length-append, length-replica
 use borrow.Author.Tests.{leb-true, ltb-true, ltb-false}
 use Rattle.model.specs.declared.Counts.{Counts}
 use Rattle.model.specs.declared.Vm.{Vm}
+use Rattle.model.specs.declared.Tally.{Tally}
 use Rattle.model.specs.declared.Value.{Value}
 use Rattle.model.specs.declared.Value.the-variants as v
 use Rattle.model.specs.declared.Decoded.{Decoded}
@@ -174,9 +175,9 @@ entries-short (e ∷ es) =
     let z = entries-short es in
     simp length-append (omega arith)
 
-spent-short : (n : ℕ) (m : Machine) → length (spentLines n m) ≤ 54
+spent-short : (n : Tally) (m : Machine) → length (spentLines n m) ≤ 54
 unfolding spentLines ascii
-spent-short n m = let a = short n in let b = short (length (m .stack)) in simp length-append (omega arith)
+spent-short n m = let a = short (n .spent) in let b = short (length (m .stack)) in simp length-append (omega arith)
 
 -- a report fits in 128 bytes, and 64 for each entry that its backtrace's store has room for
 module _ (m : Vm) (s : Stores) (bytes : CodeBytes s) (l : Lent) (u : ℕ) where

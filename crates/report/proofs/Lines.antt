@@ -8,6 +8,7 @@ use lib.ListN.{length, getD}
 use Rattle.model.specs.declared.Frame.{Frame}
 use Rattle.model.specs.declared.Value.{Value}
 use Rattle.model.specs.declared.Vm.{Vm}
+use Rattle.model.specs.declared.Tally.{Tally}
 use Rattle.model.specs.declared.RunResult.{RunResult}
 use Rattle.model.specs.declared.RunResult.the-variants as r
 use Rattle.model.specs.Basics.{ascii}
@@ -93,7 +94,7 @@ module _ {x : RunResult} {cells backtrace : List ℕ} (h : Shows x cells backtra
   pub cells-inside : {m : Vm} {u : Value} {n : ℕ} → x ≡ r.Value m u n → 2 * m .cells ≤ length cells
   cells-inside e = rw e at (h .inside)
 
-  pub entries-inside : {m : Vm} {k n j : ℕ} → x ≡ r.Fault m k n j → 2 * j ≤ length backtrace
+  pub entries-inside : {m : Vm} {k : ℕ} {n : Tally} {j : ℕ} → x ≡ r.Fault m k n j → 2 * j ≤ length backtrace
   entries-inside e = rw e at (h .inside)
 
 -- ---- a report, whatever a host lends besides the cells and the backtrace
@@ -106,8 +107,8 @@ Reported cells backtrace x s t i =
     (stack : List ℕ) (frames : List Frame) (copy : List ℕ)
     → Put (128 + 32 * length backtrace) (reportOf (answerIn (lent cells backtrace stack frames copy) x)) s 0 t i
 
-spent-there : (m : Vm) (n : ℕ) (l : Lent) {s s' : List ℕ} {i j : ℕ}
-    → Put 54 (ascii "spent " ++ decimal n ++ ascii "\nstack " ++ decimal (m .stack) ++ ascii "\n") s i s' j → Put 54 (spentLines n (machineIn m l)) s i s' j
+spent-there : (m : Vm) (n : Tally) (l : Lent) {s s' : List ℕ} {i j : ℕ}
+    → Put 54 (ascii "spent " ++ decimal (n .spent) ++ ascii "\nstack " ++ decimal (m .stack) ++ ascii "\n") s i s' j → Put 54 (spentLines n (machineIn m l)) s i s' j
 unfolding spentLines machineIn
 spent-there m n l p = rw (length-vals (m .stack) (l .stack)) p
 
@@ -116,7 +117,7 @@ module _ (cells backtrace : List ℕ) {x : RunResult} {s₀ s₁ : List ℕ} {i�
   unfolding reportOf answerIn
   refused-report e p stack frames copy = rw e (within p (128 + 32 * length backtrace) (omega arith))
 
-  module _ (m : Vm) (n : ℕ) {s₂ : List ℕ} {i₂ : ℕ} (q : Put 54 (ascii "spent " ++ decimal n ++ ascii "\nstack " ++ decimal (m .stack) ++ ascii "\n") s₁ i₁ s₂ i₂) where
+  module _ (m : Vm) (n : Tally) {s₂ : List ℕ} {i₂ : ℕ} (q : Put 54 (ascii "spent " ++ decimal (n .spent) ++ ascii "\nstack " ++ decimal (m .stack) ++ ascii "\n") s₁ i₁ s₂ i₂) where
     pub value-report : {u : Value} → x ≡ r.Value m u n → Put 71 (ascii "value " ++ valueText (heapOf (m .cells) cells) u ++ ascii "\n") s₀ 0 s₁ i₁
         → Reported cells backtrace x s₀ s₂ i₂
     unfolding reportOf answerIn replyLines machineIn

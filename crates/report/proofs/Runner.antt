@@ -29,23 +29,23 @@ use Rattle.report.proofs.Shown.{run-shows}
 
 -- ---- the run
 
-module _ (cs fs tx mn mp ot op : List ℕ) (m : Vm) (c : Counts) (f : m ≡ fresh c) (x : RunResult) (st ce co ba : List ℕ)
-    (p : PlayPost m 1000000 (λ structs. programLent structs cs fs tx mn mp ot op) (λ frames. runLent (replicate 2048 0) (replicate 4096 0) frames (replicate 2048 0) (replicate 512 0)) x (λ frames. runLent st ce frames co ba)) where
-  post : (structs : List ℕ) → RunPost (fresh c) (programLent structs cs fs tx mn mp ot op) (emptyLent (replicate 256 (root 0))) 1000000 x (runLent st ce (p .frames) co ba)
+module _ (ss cs fs tx mn mp ot op : List ℕ) (m : Vm) (c : Counts) (f : m ≡ fresh c) (x : RunResult) (st ce co ba : List ℕ)
+    (p : PlayPost m 1000000 (programLent ss cs fs tx mn mp ot op) (λ frames. runLent (replicate 2048 0) (replicate 4096 0) frames (replicate 2048 0) (replicate 512 0)) x (λ frames. runLent st ce frames co ba)) where
+  post : RunPost (fresh c) (programLent ss cs fs tx mn mp ot op) (emptyLent (replicate 256 (root 0))) 1000000 x (runLent st ce (p .frames) co ba)
   unfolding emptyLent runLent
-  post structs = rw f at (p .post structs)
+  post = rw f at (p .post)
 
   pub can-print : ((j : ℕ) → getD mn j 0 < 256) → ((j : ℕ) → getD ot j 0 < 256) → Shows x ce ba
   unfolding programLent runLent emptyLent
   can-print a b =
       let few : length {A = ℕ} (replicate 512 0) < 2 ^ 32 = omega (arith, length-replicate {A = ℕ} 512 0) in
-      run-shows (fresh c) (programLent [] cs fs tx mn mp ot op) (emptyLent (replicate 256 (root 0))) 1000000 (record { main = λ j l. a j; other = λ j l. b j }) (runLent st ce (p .frames) co ba) few x (post [])
+      run-shows (fresh c) (programLent ss cs fs tx mn mp ot op) (emptyLent (replicate 256 (root 0))) 1000000 (record { main = λ j l. a j; other = λ j l. b j }) (runLent st ce (p .frames) co ba) few x post
 
   pub report-printed : (out : List ℕ) {r : ℕ} {out' : List ℕ}
       → ((stack : List ℕ) (frames : List Frame) (copy : List ℕ) → record { count = r; out = out' } ≡ printed (reportOf (answerIn (record { stack = stack; cells = ce; frames = frames; copy = copy; backtrace = ba }) x)) out)
-      → (structs : List ℕ) → record { count = r; out = out' } ≡ printed (reportOf (runAnswer (fresh c) (programLent structs cs fs tx mn mp ot op) (emptyLent (replicate 256 (root 0))) 1000000)) out
+      → record { count = r; out = out' } ≡ printed (reportOf (runAnswer (fresh c) (programLent ss cs fs tx mn mp ot op) (emptyLent (replicate 256 (root 0))) 1000000)) out
   unfolding runLent
-  report-printed out q structs = q st (p .frames) co ∙ ap (λ (b : List ℕ). printed b out) (ap reportOf (post structs .answer))
+  report-printed out q = q st (p .frames) co ∙ ap (λ (b : List ℕ). printed b out) (ap reportOf (post .answer))
 
 -- ---- what was loaded
 
@@ -77,9 +77,9 @@ module _ (image out : List ℕ) {r : ℕ} {out' : List ℕ} where
   run-too-long h p = rw (lt-ltb 16384 (length image) h) p
 
   pub image-run : length image ≤ 16384 → (a : Loaded) (cs ss fs tx mn mp ot op : List ℕ) → record { answer = a; stores = whole.lent cs ss fs tx mn mp ot op } ≡ loadOf image emptyStores
-      → ((structs : List ℕ) → record { count = r; out = out' } ≡ printed (textOf a (programLent structs cs fs tx mn mp ot op)) out) → record { count = r; out = out' } ≡ printed (runnerText image) out
+      → record { count = r; out = out' } ≡ printed (textOf a (programLent ss cs fs tx mn mp ot op)) out → record { count = r; out = out' } ≡ printed (runnerText image) out
   unfolding runnerText loadMachineOf programLent
-  image-run h a cs ss fs tx mn mp ot op e p = rw (le-ltb 16384 (length image) h, ← e) (p ss)
+  image-run h a cs ss fs tx mn mp ot op e p = rw (le-ltb 16384 (length image) h, ← e) p
 
 -- ---- run or listed
 

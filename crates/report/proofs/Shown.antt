@@ -11,6 +11,7 @@ use borrow.Author.Tests.{leb-true, ltb-false}
 use Rattle.model.specs.declared.Counts.{Counts}
 use Rattle.model.specs.declared.Frame.{Frame}
 use Rattle.model.specs.declared.Vm.{Vm}
+use Rattle.model.specs.declared.Tally.{Tally}
 use Rattle.model.specs.declared.RunResult.{RunResult}
 use Rattle.model.specs.declared.RunResult.the-variants as r
 use Rattle.model.specs.Values.{places}
@@ -34,9 +35,9 @@ use Rattle.report.specs.Links.{Inside, Shows}
 
 -- ---- a fault's backtrace has an entry for each frame, and there is room for that many
 
-trace-short : (w : World) → SaneWorld w → (m : Machine) (u : ℕ) → Sane w (begin m u) → (n spent : ℕ) (es : List Entry) → runOf w m u .reply ≡ fault n spent es → length es ≤ w .frameRoom
-trace-short w good m u h n spent es e =
-    let r = run-recovered w m u n spent es e in
+trace-short : (w : World) → SaneWorld w → (m : Machine) (u : ℕ) → Sane w (begin m u) → (n : ℕ) (did : Tally) (es : List Entry) → runOf w m u .reply ≡ fault n did es → length es ≤ w .frameRoom
+trace-short w good m u h n did es e =
+    let r = run-recovered w m u n did es e in
     let f = recovered-faults w good h r in
     let s = path-sane w good h (r .path) in
     let a : length es ≡ suc (length (r .after .callers)) = ap length (r .traced) ∙ length-trace (w .functions) (r .after .frame ∷ r .after .callers) in

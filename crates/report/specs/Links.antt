@@ -55,6 +55,6 @@ Listable (l.Refused n) s = Unit
 
 -- ---- a run on 256 frames of its own: what is lent besides them, before and after
 
-pub record PlayPost (m : Vm) (u : ℕ) (s : List ℕ → Stores) (l : List Frame → Lent) (r : RunResult) (l' : List Frame → Lent) : Type 0 where
+pub record PlayPost (m : Vm) (u : ℕ) (s : Stores) (l : List Frame → Lent) (r : RunResult) (l' : List Frame → Lent) : Type 0 where
   pub frames : List Frame
-  pub post : (structs : List ℕ) → RunPost m (s structs) (l (replicate 256 (root 0))) u r (l' frames)
+  pub post : RunPost m s (l (replicate 256 (root 0))) u r (l' frames)

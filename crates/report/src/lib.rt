@@ -102,6 +102,7 @@ fn list_loaded<'a>(
 fn run_program(
     c: Counts,
     constants: &[u64],
+    structs: &[u64],
     functions: &[u64],
     text: &[u8],
     main: &[u8],
@@ -110,7 +111,7 @@ fn run_program(
     other_places: &[u32],
     out: &mut [u8],
 ) -> usize
-    ensures { λ r. ⌜ ((structs : List ℕ) → record { count = r; out = now (out .exit) } ≡ printed (reportOf (runAnswer (fresh c) (programLent structs (now (constants .entry)) (now (functions .entry)) (now (text .entry)) (now (main .entry)) (now («main_places» .entry)) (now (other .entry)) (now («other_places» .entry))) (emptyLent (replicate 256 (root 0))) 1000000)) (now (out .entry))) ⌝ }
+    ensures { λ r. ⌜ record { count = r; out = now (out .exit) } ≡ printed (reportOf (runAnswer (fresh c) (programLent (now (structs .entry)) (now (constants .entry)) (now (functions .entry)) (now (text .entry)) (now (main .entry)) (now («main_places» .entry)) (now (other .entry)) (now («other_places» .entry))) (emptyLent (replicate 256 (root 0))) 1000000)) (now (out .entry)) ⌝ }
 {
     let mut stack = [0u64; 2048];
     let mut cells = [0u64; 4096];
@@ -121,6 +122,7 @@ fn run_program(
         m,
         1000000,
         constants,
+        structs,
         functions,
         text,
         main,
@@ -139,6 +141,7 @@ fn run_program(
 fn run_loaded(
     loaded: Loaded,
     constants: &[u64],
+    structs: &[u64],
     functions: &[u64],
     text: &[u8],
     main: &[u8],
@@ -147,12 +150,13 @@ fn run_loaded(
     other_places: &[u32],
     out: &mut [u8],
 ) -> usize
-    ensures { λ r. ⌜ ((structs : List ℕ) → record { count = r; out = now (out .exit) } ≡ printed (started (startWith loaded (programLent structs (now (constants .entry)) (now (functions .entry)) (now (text .entry)) (now (main .entry)) (now («main_places» .entry)) (now (other .entry)) (now («other_places» .entry))) emptyStores (replicate 256 (root 0)))) (now (out .entry))) ⌝ }
+    ensures { λ r. ⌜ record { count = r; out = now (out .exit) } ≡ printed (started (startWith loaded (programLent (now (structs .entry)) (now (constants .entry)) (now (functions .entry)) (now (text .entry)) (now (main .entry)) (now («main_places» .entry)) (now (other .entry)) (now («other_places» .entry))) emptyStores (replicate 256 (root 0)))) (now (out .entry)) ⌝ }
 {
     match loaded {
         Loaded::Done(c) => run_program(
             c,
             constants,
+            structs,
             functions,
             text,
             main,
@@ -174,7 +178,7 @@ fn print_image(runs: bool, image: &[u8], out: &mut [u8]) -> usize
         return print_refused(22, out);
     }
     let mut constants = [0u64; 512];
-    let mut structs = [0u64; 256];
+    let mut structs = [0u64; 512];
     let mut functions = [0u64; 512];
     let mut text = [0u8; 16384];
     let mut main = [0u8; 8192];
@@ -196,6 +200,7 @@ fn print_image(runs: bool, image: &[u8], out: &mut [u8]) -> usize
         return run_loaded(
             loaded,
             &constants,
+            &structs,
             &functions,
             &text,
             &main,

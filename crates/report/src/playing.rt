@@ -3,8 +3,6 @@ use machine::run;
 use model::Frame;
 use model::RunResult;
 use model::Vm;
-ghost use mathlib.Core.List.{List};
-ghost use Prim.Native.Nat.{ℕ};
 ghost use Rattle.ends.specs.Links.{programLent};
 ghost use Rattle.machine.specs.Links.{runLent};
 ghost use Rattle.report.specs.Links.{PlayPost};
@@ -14,6 +12,7 @@ pub fn play(
     m: Vm,
     units: u64,
     constants: &[u64],
+    structs: &[u64],
     functions: &[u64],
     text: &[u8],
     main: &[u8],
@@ -25,7 +24,7 @@ pub fn play(
     copy: &mut [u64],
     backtrace: &mut [u32],
 ) -> RunResult
-    ensures { λ r. ⌜ PlayPost m units (λ structs. programLent structs (now (constants .entry)) (now (functions .entry)) (now (text .entry)) (now (main .entry)) (now («main_places» .entry)) (now (other .entry)) (now («other_places» .entry))) (λ frames. runLent (now (stack .entry)) (now (cells .entry)) frames (now (copy .entry)) (now (backtrace .entry))) r (λ frames. runLent (now (stack .exit)) (now (cells .exit)) frames (now (copy .exit)) (now (backtrace .exit))) ⌝ }
+    ensures { λ r. ⌜ PlayPost m units (programLent (now (structs .entry)) (now (constants .entry)) (now (functions .entry)) (now (text .entry)) (now (main .entry)) (now («main_places» .entry)) (now (other .entry)) (now («other_places» .entry))) (λ frames. runLent (now (stack .entry)) (now (cells .entry)) frames (now (copy .entry)) (now (backtrace .entry))) r (λ frames. runLent (now (stack .exit)) (now (cells .exit)) frames (now (copy .exit)) (now (backtrace .exit))) ⌝ }
 {
     let first = Frame {
         function: 0,
@@ -37,6 +36,7 @@ pub fn play(
         m,
         units,
         constants,
+        structs,
         functions,
         text,
         main,

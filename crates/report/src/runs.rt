@@ -73,17 +73,17 @@ pub fn put_report(r: RunResult, cells: &[u64], backtrace: &[u32], out: &mut [u8]
     ensures { λ p. ⌜ ((stack : List ℕ) (frames : List Frame) (copy : List ℕ) → Put (128 + 32 * length (now (backtrace .entry))) (reportOf (answerIn (record { stack = stack; cells = now (cells .entry); frames = frames; copy = copy; backtrace = now (backtrace .entry) }) r)) (now (out .entry)) 0 (now (out .exit)) p) ⌝ }
 {
     match r {
-        RunResult::Value(m, v, n) => {
+        RunResult::Value(m, v, did) => {
             let next = put_answer(v, cells, m.cells, out);
-            put_spent(n, m.stack, out, next)
+            put_spent(did.spent, m.stack, out, next)
         }
-        RunResult::Continue(m, n) => {
+        RunResult::Continue(m, did) => {
             let next = put_text(b"continue\n", out, 0);
-            put_spent(n, m.stack, out, next)
+            put_spent(did.spent, m.stack, out, next)
         }
-        RunResult::Fault(m, k, n, j) => {
+        RunResult::Fault(m, k, did, j) => {
             let spent = put_line(b"fault ", k as usize, out, 0);
-            let next = put_spent(n, m.stack, out, spent);
+            let next = put_spent(did.spent, m.stack, out, spent);
             put_entries(j, backtrace, out, next)
         }
         RunResult::Refused(n) => put_refused(n, out),

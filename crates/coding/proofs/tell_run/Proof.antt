@@ -16,8 +16,8 @@ payload-of-requires c κs = search
 put-vm-requires : tie.Need-put-vm-requires
 put-vm-requires c κs = search
 
-put-four-requires : tie.Need-put-four-requires
-put-four-requires c κs = search
+put-run-requires : tie.Need-put-run-requires
+put-run-requires c κs = search
 
 enum-known-result-2 : tie.Need-enum-known-result-2
 enum-known-result-2 c = search
@@ -25,8 +25,8 @@ enum-known-result-2 c = search
 put-vm-requires-2 : tie.Need-put-vm-requires-2
 put-vm-requires-2 c κs = search
 
-put-four-requires-2 : tie.Need-put-four-requires-2
-put-four-requires-2 c κs = search
+put-run-requires-2 : tie.Need-put-run-requires-2
+put-run-requires-2 c κs = search
 
 enum-known-result-3 : tie.Need-enum-known-result-3
 enum-known-result-3 c = search
@@ -34,11 +34,11 @@ enum-known-result-3 c = search
 put-vm-requires-3 : tie.Need-put-vm-requires-3
 put-vm-requires-3 c κs = search
 
-cast-put-four : tie.Need-cast-put-four
-cast-put-four c = search needs
+cast-put-run : tie.Need-cast-put-run
+cast-put-run c = search needs
 
-put-four-requires-3 : tie.Need-put-four-requires-3
-put-four-requires-3 c κs = search
+put-run-requires-3 : tie.Need-put-run-requires-3
+put-run-requires-3 c κs = search
 
 enum-known-result-4 : tie.Need-enum-known-result-4
 enum-known-result-4 c = search
@@ -84,14 +84,14 @@ tell-run-spec =
     kind-of-requires
     payload-of-requires
     put-vm-requires
-    put-four-requires
+    put-run-requires
     enum-known-result-2
     put-vm-requires-2
-    put-four-requires-2
+    put-run-requires-2
     enum-known-result-3
     put-vm-requires-3
-    cast-put-four
-    put-four-requires-3
+    cast-put-run
+    put-run-requires-3
     enum-known-result-4
     cast-result
     same-length

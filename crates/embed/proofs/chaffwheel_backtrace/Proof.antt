@@ -36,10 +36,10 @@ use Rattle.embed.proofs.chaffwheel_backtrace as me
 use Rattle.embed.proofs.chaffwheel_backtrace.Statement as stated
 use Rattle.embed.proofs.chaffwheel_backtrace.Code as code
 
-abbrev kinds : List (Kind 10)
+abbrev kinds : List (Kind 11)
 kinds =
     shared 0 tt u64 ∷ shared 1 tt u64 ∷ shared 2 tt u8 ∷ shared 3 tt u8 ∷ shared 4 tt u32 ∷ shared 5 tt u8 ∷ shared 6 tt u32 ∷
-    shared 7 tt R ∷ unique 8 tt u32 ∷ unique 9 tt u64 ∷ []
+    shared 7 tt u64 ∷ shared 8 tt R ∷ unique 9 tt u32 ∷ unique 10 tt u64 ∷ []
 
 module _ {M : Type 1} (𝓤 : URA M) (H : Heap 𝓤) (A : Atoms 𝓤) (W : Given 𝓤 H A) (mem : Memory → SProp 𝓤) (run : Routine → Fun 𝓤) where
   abbrev Why : Contract 𝓤
@@ -55,102 +55,113 @@ module _ {M : Type 1} (𝓤 : URA M) (H : Heap 𝓤) (A : Atoms 𝓤) (W : Given
   Tells = tripleOf 𝓤 H A tells.signature (tells.spec 𝓤 H A mem run)
 
   module _ (𝓣 : Tables 𝓤 H) (known-why : Triple 𝓤 (𝓣 .C #why) Why) (known-rec : Triple 𝓤 (𝓣 .C #rec) Rec) (known-entry : Triple 𝓤 (𝓣 .C #entry) Entry) (known-tells : Triple 𝓤 (𝓣 .C #tells) Tells)
-      (κs : Lfts 10) (qs : Shares 10) (a : Passed kinds u32 κs) (is : Known kinds u32 κs a) where
+      (κs : Lfts 11) (qs : Shares 11) (a : Passed kinds u32 κs) (is : Known kinds u32 κs a) where
     -- the parameters
-    abbrev s0 : Sl
-    s0 = sl (κs .0) (qs .0) (a .0)
-
-    abbrev s1 : Sl
-    s1 = sl (κs .1 .0) (qs .1 .0) (a .1 .0)
-
-    abbrev s2 : Sl
-    s2 = sl (κs .1 .1 .0) (qs .1 .1 .0) (a .1 .1 .0)
-
-    abbrev s3 : Sl
-    s3 = sl (κs .1 .1 .1 .0) (qs .1 .1 .1 .0) (a .1 .1 .1 .0)
-
-    abbrev s4 : Sl
-    s4 = sl (κs .1 .1 .1 .1 .0) (qs .1 .1 .1 .1 .0) (a .1 .1 .1 .1 .0)
-
-    abbrev s5 : Sl
-    s5 = sl (κs .1 .1 .1 .1 .1 .0) (qs .1 .1 .1 .1 .1 .0) (a .1 .1 .1 .1 .1 .0)
-
-    abbrev s6 : Sl
-    s6 = sl (κs .1 .1 .1 .1 .1 .1 .0) (qs .1 .1 .1 .1 .1 .1 .0) (a .1 .1 .1 .1 .1 .1 .0)
-
-    abbrev s7 : Sl
-    s7 = sl (κs .1 .1 .1 .1 .1 .1 .1 .0) (qs .1 .1 .1 .1 .1 .1 .1 .0) (a .1 .1 .1 .1 .1 .1 .1 .0)
-
-    abbrev s8 : Sl
-    s8 = sl (κs .1 .1 .1 .1 .1 .1 .1 .1 .0) (qs .1 .1 .1 .1 .1 .1 .1 .1 .0) (a .1 .1 .1 .1 .1 .1 .1 .1 .0)
-
-    abbrev s9 : Sl
-    s9 = sl (κs .1 .1 .1 .1 .1 .1 .1 .1 .1 .0) (qs .1 .1 .1 .1 .1 .1 .1 .1 .1 .0) (a .1 .1 .1 .1 .1 .1 .1 .1 .1 .0)
+    abbrev vm-at : Sl
+    vm-at = sl (κs .0) (qs .0) (a .0)
 
     abbrev vm : List ℕ
     vm = now (a .0)
 
+    abbrev vm-room : Room u64 (vm-at .count)
+    vm-room = is .0 .0 .1
+
+    abbrev functions-at : Sl
+    functions-at = sl (κs .1 .0) (qs .1 .0) (a .1 .0)
+
     abbrev functions : List ℕ
     functions = now (a .1 .0)
+
+    abbrev functions-room : Room u64 (functions-at .count)
+    functions-room = is .1 .0 .0 .1
+
+    abbrev text-at : Sl
+    text-at = sl (κs .1 .1 .0) (qs .1 .1 .0) (a .1 .1 .0)
 
     abbrev text : List ℕ
     text = now (a .1 .1 .0)
 
+    abbrev text-room : Room u8 (text-at .count)
+    text-room = is .1 .1 .0 .0 .1
+
+    abbrev main-at : Sl
+    main-at = sl (κs .1 .1 .1 .0) (qs .1 .1 .1 .0) (a .1 .1 .1 .0)
+
     abbrev main : List ℕ
     main = now (a .1 .1 .1 .0)
+
+    abbrev main-room : Room u8 (main-at .count)
+    main-room = is .1 .1 .1 .0 .0 .1
+
+    abbrev main-places-at : Sl
+    main-places-at = sl (κs .1 .1 .1 .1 .0) (qs .1 .1 .1 .1 .0) (a .1 .1 .1 .1 .0)
 
     abbrev mainPlaces : List ℕ
     mainPlaces = now (a .1 .1 .1 .1 .0)
 
+    abbrev main-places-room : Room u32 (main-places-at .count)
+    main-places-room = is .1 .1 .1 .1 .0 .0 .1
+
+    abbrev other-at : Sl
+    other-at = sl (κs .1 .1 .1 .1 .1 .0) (qs .1 .1 .1 .1 .1 .0) (a .1 .1 .1 .1 .1 .0)
+
     abbrev other : List ℕ
     other = now (a .1 .1 .1 .1 .1 .0)
+
+    abbrev other-room : Room u8 (other-at .count)
+    other-room = is .1 .1 .1 .1 .1 .0 .0 .1
+
+    abbrev other-places-at : Sl
+    other-places-at = sl (κs .1 .1 .1 .1 .1 .1 .0) (qs .1 .1 .1 .1 .1 .1 .0) (a .1 .1 .1 .1 .1 .1 .0)
 
     abbrev otherPlaces : List ℕ
     otherPlaces = now (a .1 .1 .1 .1 .1 .1 .0)
 
+    abbrev other-places-room : Room u32 (other-places-at .count)
+    other-places-room = is .1 .1 .1 .1 .1 .1 .0 .0 .1
+
+    abbrev stack-at : Sl
+    stack-at = sl (κs .1 .1 .1 .1 .1 .1 .1 .0) (qs .1 .1 .1 .1 .1 .1 .1 .0) (a .1 .1 .1 .1 .1 .1 .1 .0)
+
+    abbrev stack : List ℕ
+    stack = now (a .1 .1 .1 .1 .1 .1 .1 .0)
+
+    abbrev stack-room : Room u64 (stack-at .count)
+    stack-room = is .1 .1 .1 .1 .1 .1 .1 .0 .0 .1
+
+    abbrev frames-at : Sl
+    frames-at = sl (κs .1 .1 .1 .1 .1 .1 .1 .1 .0) (qs .1 .1 .1 .1 .1 .1 .1 .1 .0) (a .1 .1 .1 .1 .1 .1 .1 .1 .0)
+
     abbrev frames : List Frame
-    frames = now (a .1 .1 .1 .1 .1 .1 .1 .0)
+    frames = now (a .1 .1 .1 .1 .1 .1 .1 .1 .0)
+
+    abbrev frames-room : Room R (frames-at .count)
+    frames-room = is .1 .1 .1 .1 .1 .1 .1 .1 .0 .0 .1
+
+    abbrev out-at : Sl
+    out-at = sl (κs .1 .1 .1 .1 .1 .1 .1 .1 .1 .0) (qs .1 .1 .1 .1 .1 .1 .1 .1 .1 .0) (a .1 .1 .1 .1 .1 .1 .1 .1 .1 .0)
 
     abbrev out : List ℕ
-    out = now (a .1 .1 .1 .1 .1 .1 .1 .1 .0)
+    out = now (a .1 .1 .1 .1 .1 .1 .1 .1 .1 .0)
+
+    abbrev out-room : Room u32 (out-at .count)
+    out-room = is .1 .1 .1 .1 .1 .1 .1 .1 .1 .0 .0 .1
+
+    abbrev answer-at : Sl
+    answer-at =
+        sl (κs .1 .1 .1 .1 .1 .1 .1 .1 .1 .1 .0) (qs .1 .1 .1 .1 .1 .1 .1 .1 .1 .1 .0) (a .1 .1 .1 .1 .1 .1 .1 .1 .1 .1 .0)
 
     abbrev answer : List ℕ
-    answer = now (a .1 .1 .1 .1 .1 .1 .1 .1 .1 .0)
+    answer = now (a .1 .1 .1 .1 .1 .1 .1 .1 .1 .1 .0)
 
-    abbrev room0 : Room u64 (s0 .count)
-    room0 = is .0 .0 .1
-
-    abbrev room1 : Room u64 (s1 .count)
-    room1 = is .1 .0 .0 .1
-
-    abbrev room2 : Room u8 (s2 .count)
-    room2 = is .1 .1 .0 .0 .1
-
-    abbrev room3 : Room u8 (s3 .count)
-    room3 = is .1 .1 .1 .0 .0 .1
-
-    abbrev room4 : Room u32 (s4 .count)
-    room4 = is .1 .1 .1 .1 .0 .0 .1
-
-    abbrev room5 : Room u8 (s5 .count)
-    room5 = is .1 .1 .1 .1 .1 .0 .0 .1
-
-    abbrev room6 : Room u32 (s6 .count)
-    room6 = is .1 .1 .1 .1 .1 .1 .0 .0 .1
-
-    abbrev room7 : Room R (s7 .count)
-    room7 = is .1 .1 .1 .1 .1 .1 .1 .0 .0 .1
-
-    abbrev room8 : Room u32 (s8 .count)
-    room8 = is .1 .1 .1 .1 .1 .1 .1 .1 .0 .0 .1
-
-    abbrev room9 : Room u64 (s9 .count)
-    room9 = is .1 .1 .1 .1 .1 .1 .1 .1 .1 .0 .0 .1
+    abbrev answer-room : Room u64 (answer-at .count)
+    answer-room = is .1 .1 .1 .1 .1 .1 .1 .1 .1 .1 .0 .0 .1
 
     abbrev slices : List ℕ → List ℕ → List Arg
     slices out′ answer′ =
-        shr u64 s0 vm ∷ shr u64 s1 functions ∷ shr u8 s2 text ∷ shr u8 s3 main ∷ shr u32 s4 mainPlaces ∷ shr u8 s5 other ∷ shr u32
-        s6 otherPlaces ∷ shr R s7 frames ∷ mut u32 s8 out′ ∷ mut u64 s9 answer′ ∷ []
+        shr u64 vm-at vm ∷ shr u64 functions-at functions ∷ shr u8 text-at text ∷ shr u8 main-at main ∷ shr u32 main-places-at
+        mainPlaces ∷ shr u8 other-at other ∷ shr u32 other-places-at otherPlaces ∷ shr u64 stack-at stack ∷ shr R frames-at frames
+        ∷ mut u32 out-at out′ ∷ mut u64 answer-at answer′ ∷ []
 
     abbrev xs : List ℕ → List ℕ → List Arg
     xs out′ answer′ = slices out′ answer′
@@ -158,73 +169,83 @@ module _ {M : Type 1} (𝓤 : URA M) (H : Heap 𝓤) (A : Atoms 𝓤) (W : Given
     abbrev Post : Val → SProp 𝓤
     Post = walkOf 𝓤 H A me.ended (stays kinds) (me.clauses 𝓤 H A mem run) .post (passing (xs out answer))
 
-    exits : (r : ℕ) (out′ : List ℕ) (answer′ : List ℕ) → Is u32 r (vint w32 r ∷ []) → length out′ ≡ s8 .count → length answer′ ≡ s9 .count → ((structs constants : List ℕ) → record { coded = record { number = r; vm = vm; answer = answer′ }; out = out′ } ≡ outThrough (slicesRefusal vm 1 answer) vm answer out (λ (m : Vm). backtraceIn m (programLent structs constants functions text main mainPlaces other otherPlaces) frames out)) → ent 𝓤 (⋆ 𝓤 H A (‵ (Holds (slices out′ answer′)) ∷ [])) (Post (vint w32 r))
+    exits : (r : ℕ) (out′ : List ℕ) (answer′ : List ℕ) → Is u32 r (vint w32 r ∷ []) → length out′ ≡ out-at .count → length answer′ ≡ answer-at .count → ((structs constants : List ℕ) → record { coded = record { number = r; vm = vm; answer = answer′ }; out = out′ } ≡ outThrough (slicesRefusal vm 1 answer) vm answer out (λ (m : Vm). backtraceIn m (programLent structs constants functions text main mainPlaces other otherPlaces) stack frames out)) → ent 𝓤 (⋆ 𝓤 H A (‵ (Holds (slices out′ answer′)) ∷ [])) (Post (vint w32 r))
     exits r out′ answer′ isr len-out len-answer said =
         qed W (‵ (Holds (slices out′ answer′)) ∷ []) ∵ suffices ! _
         (ends-at 𝓤 H A me.ended (stays kinds) (me.clauses 𝓤 H A mem run) W (passing (xs out answer)) (vint w32 r) r
-        (tt, (tt, (tt, (tt, (tt, (tt, (tt, (tt, (out′, (answer′, tt))))))))))
-        (tt, (tt, (tt, (tt, (tt, (tt, (tt, (tt, (len-out, (len-answer, tt))))))))))) $ says ! said $ gives ! (xs out′ answer′) tt
-        (frame ! $ owned ! u32 (Is u32) (uint-makes 𝓤 H A W w32) r _ isr $ keep ! (1 ∷ 0 ∷ []) $ done !)
+        (tt, (tt, (tt, (tt, (tt, (tt, (tt, (tt, (tt, (out′, (answer′, tt)))))))))))
+        (tt, (tt, (tt, (tt, (tt, (tt, (tt, (tt, (tt, (len-out, (len-answer, tt)))))))))))) $ says ! said $ gives !
+        (xs out′ answer′) tt (frame ! $ owned ! u32 (Is u32) (uint-makes 𝓤 H A W w32) r _ isr $ keep ! (1 ∷ 0 ∷ []) $ done !)
 
     -- the calls
     abbrev to-why : List Arg
-    to-why = shr u64 s0 vm ∷ val usize 1 (vint w64 1) ∷ peek u64 s9 answer ∷ []
+    to-why = shr u64 vm-at vm ∷ val usize 1 (vint w64 1) ∷ peek u64 answer-at answer ∷ []
 
     call-why : Rule 𝓤 H A W to-why Why u32 (vint w32) (λ n zs. n ≡ slicesRefusal vm 1 answer)
     call-why =
         call-with 𝓤 H A W to-why Why u32 (vint w32) (λ n zs. n ≡ slicesRefusal vm 1 answer) (uint-tells w32)
         (λ ns. passing (lent to-why ns)) (λ ns. refl) (λ ns. unasked W (lent to-why ns)) (λ ns w. id⊢ 𝓤 _)
-        (uint-makes 𝓤 H A W w64 1 _ (refl, omega arith), tt) ((refl, room0), ((refl, room9), tt))
+        (uint-makes 𝓤 H A W w64 1 _ (refl, omega arith), tt) ((refl, vm-room), ((refl, answer-room), tt))
 
     abbrev to-rec : List Arg
-    to-rec = shr u64 s0 vm ∷ []
+    to-rec = shr u64 vm-at vm ∷ []
 
     call-rec : Rule 𝓤 H A W to-rec Rec VmRow vmVal (λ m zs. m ≡ vmIn vm)
     call-rec =
         call-with 𝓤 H A W to-rec Rec VmRow vmVal (λ m zs. m ≡ vmIn vm) vm-tells (λ ns. passing (lent to-rec ns)) (λ ns. refl)
-        (λ ns. unasked W (lent to-rec ns)) (λ ns w. id⊢ 𝓤 _) tt ((refl, room0), tt)
+        (λ ns. unasked W (lent to-rec ns)) (λ ns w. id⊢ 𝓤 _) tt ((refl, vm-room), tt)
 
     abbrev to-entry : Vm → List Arg
     to-entry m =
-        val VmRow m (vmVal m) ∷ shr u64 s1 functions ∷ shr u8 s2 text ∷ shr u8 s3 main ∷ shr u32 s4 mainPlaces ∷ shr u8 s5 other ∷
-        shr u32 s6 otherPlaces ∷ shr R s7 frames ∷ mut u32 s8 out ∷ []
+        val VmRow m (vmVal m) ∷ shr u64 functions-at functions ∷ shr u8 text-at text ∷ shr u8 main-at main ∷ shr u32
+        main-places-at mainPlaces ∷ shr u8 other-at other ∷ shr u32 other-places-at otherPlaces ∷ shr u64 stack-at stack ∷ shr R
+        frames-at frames ∷ mut u32 out-at out ∷ []
 
-    call-entry : (m : Vm) → IsVm m → Rule 𝓤 H A W (to-entry m) Entry ToldRow toldVal (λ x zs. ((structs constants : List ℕ) → record { answer = x; out = (zs .1 .1 .1 .1 .1 .1 .1 .1 .0) } ≡ backtraceIn m (programLent structs constants functions text main mainPlaces other otherPlaces) frames out))
+    call-entry : (m : Vm) → IsVm m → Rule 𝓤 H A W (to-entry m) Entry ToldRow toldVal (λ x zs. ((structs constants : List ℕ) → record { answer = x; out = (zs .1 .1 .1 .1 .1 .1 .1 .1 .1 .0) } ≡ backtraceIn m (programLent structs constants functions text main mainPlaces other otherPlaces) stack frames out))
     call-entry m ism =
         call-with 𝓤 H A W (to-entry m) Entry ToldRow toldVal
-        (λ x zs. ((structs constants : List ℕ) → record { answer = x; out = (zs .1 .1 .1 .1 .1 .1 .1 .1 .0) } ≡ backtraceIn m
-        (programLent structs constants functions text main mainPlaces other otherPlaces) frames out)) told-tells
+        (λ x zs. ((structs constants : List ℕ) → record { answer = x; out = (zs .1 .1 .1 .1 .1 .1 .1 .1 .1 .0) } ≡ backtraceIn m
+        (programLent structs constants functions text main mainPlaces other otherPlaces) stack frames out)) told-tells
         (λ ns. passing (lent (to-entry m) ns)) (λ ns. refl) (λ ns. unasked W (lent (to-entry m) ns)) (λ ns w. id⊢ 𝓤 _)
         (vm-makes 𝓤 H A W m _ ism, tt) (
-          (refl, room1),
+          (refl, functions-room),
           (
-            (refl, room2),
-            ((refl, room3), ((refl, room4), ((refl, room5), ((refl, room6), ((refl, room7), ((refl, room8), tt)))))),
+            (refl, text-room),
+            (
+              (refl, main-room),
+              (
+                (refl, main-places-room),
+                (
+                  (refl, other-room),
+                  ((refl, other-places-room), ((refl, stack-room), ((refl, frames-room), ((refl, out-room), tt)))),
+                ),
+              ),
+            ),
           ),
         )
 
     abbrev to-tells : Told → List Arg
-    to-tells x = val ToldRow x (toldVal x) ∷ mut u64 s9 answer ∷ []
+    to-tells x = val ToldRow x (toldVal x) ∷ mut u64 answer-at answer ∷ []
 
     call-tells : (x : Told) → IsTold x → Rule 𝓤 H A W (to-tells x) Tells u32 (vint w32) (λ n zs. ((w : List ℕ) → record { number = n; vm = w; answer = (zs .1 .0) } ≡ toldCoded x w answer))
     call-tells x isx =
         call-with 𝓤 H A W (to-tells x) Tells u32 (vint w32)
         (λ n zs. ((w : List ℕ) → record { number = n; vm = w; answer = (zs .1 .0) } ≡ toldCoded x w answer)) (uint-tells w32)
         (λ ns. passing (lent (to-tells x) ns)) (λ ns. refl) (λ ns. unasked W (lent (to-tells x) ns)) (λ ns w. id⊢ 𝓤 _)
-        (told-makes 𝓤 H A W x _ isx, tt) ((refl, room9), tt)
+        (told-makes 𝓤 H A W x _ isx, tt) ((refl, answer-room), tt)
 
     walk : ent 𝓤 (onEntry 𝓤 H A me.signature (lfts (xs out answer)) (shares (xs out answer)) (denots (xs out answer)) (valss (xs out answer))) (WpFn 𝓤 H (𝓣 .C) (𝓣 .Λ) code.function (values (xs out answer)) Post)
     walk =
         qed W (‵ (Toks (xs out answer)) ∷ ‵ (Owns (xs out answer)) ∷ []) ∵ takes ! (xs out answer) (enters ! (𝓣 .C) (𝓣 .Λ) code.function (values (xs out answer)) Post
-        ((tt, (tt, (record { fits = room0 .0 }, tt))), ((tt, (tt, (record { fits = room1 .0 }, tt))), ((tt, (tt, (record { fits = room2 .0 }, tt))), ((tt, (tt, (record { fits = room3 .0 }, tt))), ((tt, (tt, (record { fits = room4 .0 }, tt))), ((tt, (tt, (record { fits = room5 .0 }, tt))), ((tt, (tt, (record { fits = room6 .0 }, tt))), ((tt, (tt, (record { fits = room7 .0 }, tt))), ((tt, (tt, (record { fits = room8 .0 }, tt))), ((tt, (tt, (record { fits = room9 .0 }, tt))), tt)))))))))) (λ ls.
-        sets ! (addr ! (behind ! refl refl)) (tt, tt) $ sets ! (agg ! (ofs ! refl)) (tt, (tt, (record { fits = room9 .0 }, tt))) $
-        calls-on ! (true ∷ false ∷ false ∷ false ∷ false ∷ false ∷ false ∷ false ∷ false ∷ true ∷ []) (slices out answer) (call-why) (λ zs. slices out answer) refl (λ zs. refl) (λ zs. refl) fm known-why refl (λ n zs ew lens isn. lands-in ! (tt, record { fits = isn .1 }) $
+        ((tt, (tt, (record { fits = vm-room .0 }, tt))), ((tt, (tt, (record { fits = functions-room .0 }, tt))), ((tt, (tt, (record { fits = text-room .0 }, tt))), ((tt, (tt, (record { fits = main-room .0 }, tt))), ((tt, (tt, (record { fits = main-places-room .0 }, tt))), ((tt, (tt, (record { fits = other-room .0 }, tt))), ((tt, (tt, (record { fits = other-places-room .0 }, tt))), ((tt, (tt, (record { fits = stack-room .0 }, tt))), ((tt, (tt, (record { fits = frames-room .0 }, tt))), ((tt, (tt, (record { fits = out-room .0 }, tt))), ((tt, (tt, (record { fits = answer-room .0 }, tt))), tt))))))))))) (λ ls.
+        sets ! (addr ! (behind ! refl refl)) (tt, tt) $ sets ! (agg ! (ofs ! refl)) (tt, (tt, (record { fits = answer-room .0 }, tt))) $
+        calls-on ! (true ∷ false ∷ false ∷ false ∷ false ∷ false ∷ false ∷ false ∷ false ∷ false ∷ true ∷ []) (slices out answer) (call-why) (λ zs. slices out answer) refl (λ zs. refl) (λ zs. refl) fm known-why refl (λ n zs ew lens isn. lands-in ! (tt, record { fits = isn .1 }) $
         sets ! (bin ! (of ! refl) (of ! refl) tt) (tt, tt) $ returns-if ! 𝓣 (of ! refl)
         (λ on. calls-on ! (true ∷ []) (slices out answer) (call-rec) (λ zs. slices out answer) refl (λ zs. refl) (λ zs. refl) fm known-rec refl (λ m zs₁ em lens₁ ism. lands-in ! (vm-typed 𝓤 H A W m ism) $
-        sets ! (addr ! (behind ! refl refl)) (tt, tt) $ sets ! (agg ! (ofs ! refl)) (tt, (tt, (record { fits = room8 .0 }, tt))) $ calls-on ! (false ∷ true ∷ true ∷ true ∷ true ∷ true ∷ true ∷ true ∷ true ∷ []) (slices out answer) (call-entry m ism) (λ zs. slices (zs .1 .1 .1 .1 .1 .1 .1 .1 .0) answer) refl (λ zs. refl) (λ zs. refl) fm known-entry refl (λ x zs₂ ex lens₂ isx. lands-in ! (told-typed 𝓤 H A W x isx) $
-        sets ! (addr ! (behind ! refl refl)) (tt, tt) $ sets ! (agg ! (ofs ! refl)) (tt, (tt, (record { fits = room9 .0 }, tt))) $ calls-on ! (false ∷ false ∷ false ∷ false ∷ false ∷ false ∷ false ∷ false ∷ false ∷ true ∷ []) (slices (zs₂ .1 .1 .1 .1 .1 .1 .1 .1 .0) answer) (call-tells x isx) (λ zs. slices (zs₂ .1 .1 .1 .1 .1 .1 .1 .1 .0) (zs .1 .0)) refl (λ zs. refl) (λ zs. refl) fm known-tells refl (λ k zs₃ ek lens₃ isk. lands-in ! (tt, record { fits = isk .1 }) $
-        sets ! (of-opd ! (of ! refl)) (tt, record { fits = isk .1 }) $ leaves ! refl $ by ! (exits k (zs₂ .1 .1 .1 .1 .1 .1 .1 .1 .0) (zs₃ .1 .0) isk (lens₂ .0) (lens₃ .0) (λ structs constants. out-through vm answer out (λ (m : Vm). backtraceIn m (programLent structs constants functions text main mainPlaces other otherPlaces) frames out) n ew (is-zero n on) m em x (zs₂ .1 .1 .1 .1 .1 .1 .1 .1 .0) (ex structs constants) (record { number = k; vm = vm; answer = (zs₃ .1 .0) }) (ek vm)))))))
-        (λ off. sets ! (of-opd ! (of ! refl)) (tt, record { fits = isn .1 }) $ leaves ! refl $ by ! (exits n out answer isn refl refl (λ structs constants. out-refused vm answer out (λ (m : Vm). backtraceIn m (programLent structs constants functions text main mainPlaces other otherPlaces) frames out) n ew (not-zero n off)))))))
+        sets ! (addr ! (behind ! refl refl)) (tt, tt) $ sets ! (agg ! (ofs ! refl)) (tt, (tt, (record { fits = out-room .0 }, tt))) $ calls-on ! (false ∷ true ∷ true ∷ true ∷ true ∷ true ∷ true ∷ true ∷ true ∷ true ∷ []) (slices out answer) (call-entry m ism) (λ zs. slices (zs .1 .1 .1 .1 .1 .1 .1 .1 .1 .0) answer) refl (λ zs. refl) (λ zs. refl) fm known-entry refl (λ x zs₂ ex lens₂ isx. lands-in ! (told-typed 𝓤 H A W x isx) $
+        sets ! (addr ! (behind ! refl refl)) (tt, tt) $ sets ! (agg ! (ofs ! refl)) (tt, (tt, (record { fits = answer-room .0 }, tt))) $ calls-on ! (false ∷ false ∷ false ∷ false ∷ false ∷ false ∷ false ∷ false ∷ false ∷ false ∷ true ∷ []) (slices (zs₂ .1 .1 .1 .1 .1 .1 .1 .1 .1 .0) answer) (call-tells x isx) (λ zs. slices (zs₂ .1 .1 .1 .1 .1 .1 .1 .1 .1 .0) (zs .1 .0)) refl (λ zs. refl) (λ zs. refl) fm known-tells refl (λ k zs₃ ek lens₃ isk. lands-in ! (tt, record { fits = isk .1 }) $
+        sets ! (of-opd ! (of ! refl)) (tt, record { fits = isk .1 }) $ leaves ! refl $ by ! (exits k (zs₂ .1 .1 .1 .1 .1 .1 .1 .1 .1 .0) (zs₃ .1 .0) isk (lens₂ .0) (lens₃ .0) (λ structs constants. out-through vm answer out (λ (m : Vm). backtraceIn m (programLent structs constants functions text main mainPlaces other otherPlaces) stack frames out) n ew (is-zero n on) m em x (zs₂ .1 .1 .1 .1 .1 .1 .1 .1 .1 .0) (ex structs constants) (record { number = k; vm = vm; answer = (zs₃ .1 .0) }) (ek vm)))))))
+        (λ off. sets ! (of-opd ! (of ! refl)) (tt, record { fits = isn .1 }) $ leaves ! refl $ by ! (exits n out answer isn refl refl (λ structs constants. out-refused vm answer out (λ (m : Vm). backtraceIn m (programLent structs constants functions text main mainPlaces other otherPlaces) stack frames out) n ew (not-zero n off)))))))
       where
         fm : FmC 𝓤 H (W .laws) (𝓣 .C)
         fm = fmOf 𝓤 H (W .laws) 𝓣

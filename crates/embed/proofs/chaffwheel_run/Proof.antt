@@ -37,11 +37,11 @@ use Rattle.embed.proofs.chaffwheel_run as me
 use Rattle.embed.proofs.chaffwheel_run.Statement as stated
 use Rattle.embed.proofs.chaffwheel_run.Code as code
 
-abbrev kinds : List (Kind 14)
+abbrev kinds : List (Kind 15)
 kinds =
-    own u64 (vint w64) (uint-tells w64) (λ x f. refl) ∷ unique 0 tt u64 ∷ shared 1 tt u64 ∷ shared 2 tt u64 ∷ shared 3 tt u8 ∷
-    shared 4 tt u8 ∷ shared 5 tt u32 ∷ shared 6 tt u8 ∷ shared 7 tt u32 ∷ unique 8 tt u64 ∷ unique 9 tt u64 ∷ unique 10 tt R ∷
-    unique 11 tt u64 ∷ unique 12 tt u32 ∷ unique 13 tt u64 ∷ []
+    own u64 (vint w64) (uint-tells w64) (λ x f. refl) ∷ unique 0 tt u64 ∷ shared 1 tt u64 ∷ shared 2 tt u64 ∷ shared 3 tt u64 ∷
+    shared 4 tt u8 ∷ shared 5 tt u8 ∷ shared 6 tt u32 ∷ shared 7 tt u8 ∷ shared 8 tt u32 ∷ unique 9 tt u64 ∷ unique 10 tt u64 ∷
+    unique 11 tt R ∷ unique 12 tt u64 ∷ unique 13 tt u32 ∷ unique 14 tt u64 ∷ []
 
 module _ {M : Type 1} (𝓤 : URA M) (H : Heap 𝓤) (A : Atoms 𝓤) (W : Given 𝓤 H A) (mem : Memory → SProp 𝓤) (run : Routine → Fun 𝓤) where
   abbrev Why : Contract 𝓤
@@ -57,148 +57,161 @@ module _ {M : Type 1} (𝓤 : URA M) (H : Heap 𝓤) (A : Atoms 𝓤) (W : Given
   Tells = tripleOf 𝓤 H A tells.signature (tells.spec 𝓤 H A mem run)
 
   module _ (𝓣 : Tables 𝓤 H) (known-why : Triple 𝓤 (𝓣 .C #why) Why) (known-rec : Triple 𝓤 (𝓣 .C #rec) Rec) (known-entry : Triple 𝓤 (𝓣 .C #entry) Entry) (known-tells : Triple 𝓤 (𝓣 .C #tells) Tells)
-      (κs : Lfts 14) (qs : Shares 14) (a : Passed kinds u32 κs) (is : Known kinds u32 κs a) where
+      (κs : Lfts 15) (qs : Shares 15) (a : Passed kinds u32 κs) (is : Known kinds u32 κs a) where
     -- the parameters
     abbrev units : ℕ
     units = a .0
 
-    abbrev s0 : Sl
-    s0 = sl (κs .0) (qs .0) (a .1 .0)
-
-    abbrev s1 : Sl
-    s1 = sl (κs .1 .0) (qs .1 .0) (a .1 .1 .0)
-
-    abbrev s2 : Sl
-    s2 = sl (κs .1 .1 .0) (qs .1 .1 .0) (a .1 .1 .1 .0)
-
-    abbrev s3 : Sl
-    s3 = sl (κs .1 .1 .1 .0) (qs .1 .1 .1 .0) (a .1 .1 .1 .1 .0)
-
-    abbrev s4 : Sl
-    s4 = sl (κs .1 .1 .1 .1 .0) (qs .1 .1 .1 .1 .0) (a .1 .1 .1 .1 .1 .0)
-
-    abbrev s5 : Sl
-    s5 = sl (κs .1 .1 .1 .1 .1 .0) (qs .1 .1 .1 .1 .1 .0) (a .1 .1 .1 .1 .1 .1 .0)
-
-    abbrev s6 : Sl
-    s6 = sl (κs .1 .1 .1 .1 .1 .1 .0) (qs .1 .1 .1 .1 .1 .1 .0) (a .1 .1 .1 .1 .1 .1 .1 .0)
-
-    abbrev s7 : Sl
-    s7 = sl (κs .1 .1 .1 .1 .1 .1 .1 .0) (qs .1 .1 .1 .1 .1 .1 .1 .0) (a .1 .1 .1 .1 .1 .1 .1 .1 .0)
-
-    abbrev s8 : Sl
-    s8 = sl (κs .1 .1 .1 .1 .1 .1 .1 .1 .0) (qs .1 .1 .1 .1 .1 .1 .1 .1 .0) (a .1 .1 .1 .1 .1 .1 .1 .1 .1 .0)
-
-    abbrev s9 : Sl
-    s9 = sl (κs .1 .1 .1 .1 .1 .1 .1 .1 .1 .0) (qs .1 .1 .1 .1 .1 .1 .1 .1 .1 .0) (a .1 .1 .1 .1 .1 .1 .1 .1 .1 .1 .0)
-
-    abbrev s10 : Sl
-    s10 = sl (κs .1 .1 .1 .1 .1 .1 .1 .1 .1 .1 .0) (qs .1 .1 .1 .1 .1 .1 .1 .1 .1 .1 .0) (a .1 .1 .1 .1 .1 .1 .1 .1 .1 .1 .1 .0)
-
-    abbrev s11 : Sl
-    s11 =
-        sl (κs .1 .1 .1 .1 .1 .1 .1 .1 .1 .1 .1 .0) (qs .1 .1 .1 .1 .1 .1 .1 .1 .1 .1 .1 .0)
-        (a .1 .1 .1 .1 .1 .1 .1 .1 .1 .1 .1 .1 .0)
-
-    abbrev s12 : Sl
-    s12 =
-        sl (κs .1 .1 .1 .1 .1 .1 .1 .1 .1 .1 .1 .1 .0) (qs .1 .1 .1 .1 .1 .1 .1 .1 .1 .1 .1 .1 .0)
-        (a .1 .1 .1 .1 .1 .1 .1 .1 .1 .1 .1 .1 .1 .0)
-
-    abbrev s13 : Sl
-    s13 =
-        sl (κs .1 .1 .1 .1 .1 .1 .1 .1 .1 .1 .1 .1 .1 .0) (qs .1 .1 .1 .1 .1 .1 .1 .1 .1 .1 .1 .1 .1 .0)
-        (a .1 .1 .1 .1 .1 .1 .1 .1 .1 .1 .1 .1 .1 .1 .0)
+    abbrev vm-at : Sl
+    vm-at = sl (κs .0) (qs .0) (a .1 .0)
 
     abbrev vm : List ℕ
     vm = now (a .1 .0)
 
+    abbrev vm-room : Room u64 (vm-at .count)
+    vm-room = is .1 .0 .0 .1
+
+    abbrev constants-at : Sl
+    constants-at = sl (κs .1 .0) (qs .1 .0) (a .1 .1 .0)
+
     abbrev constants : List ℕ
     constants = now (a .1 .1 .0)
 
+    abbrev constants-room : Room u64 (constants-at .count)
+    constants-room = is .1 .1 .0 .0 .1
+
+    abbrev structs-at : Sl
+    structs-at = sl (κs .1 .1 .0) (qs .1 .1 .0) (a .1 .1 .1 .0)
+
+    abbrev structs : List ℕ
+    structs = now (a .1 .1 .1 .0)
+
+    abbrev structs-room : Room u64 (structs-at .count)
+    structs-room = is .1 .1 .1 .0 .0 .1
+
+    abbrev functions-at : Sl
+    functions-at = sl (κs .1 .1 .1 .0) (qs .1 .1 .1 .0) (a .1 .1 .1 .1 .0)
+
     abbrev functions : List ℕ
-    functions = now (a .1 .1 .1 .0)
+    functions = now (a .1 .1 .1 .1 .0)
+
+    abbrev functions-room : Room u64 (functions-at .count)
+    functions-room = is .1 .1 .1 .1 .0 .0 .1
+
+    abbrev text-at : Sl
+    text-at = sl (κs .1 .1 .1 .1 .0) (qs .1 .1 .1 .1 .0) (a .1 .1 .1 .1 .1 .0)
 
     abbrev text : List ℕ
-    text = now (a .1 .1 .1 .1 .0)
+    text = now (a .1 .1 .1 .1 .1 .0)
+
+    abbrev text-room : Room u8 (text-at .count)
+    text-room = is .1 .1 .1 .1 .1 .0 .0 .1
+
+    abbrev main-at : Sl
+    main-at = sl (κs .1 .1 .1 .1 .1 .0) (qs .1 .1 .1 .1 .1 .0) (a .1 .1 .1 .1 .1 .1 .0)
 
     abbrev main : List ℕ
-    main = now (a .1 .1 .1 .1 .1 .0)
+    main = now (a .1 .1 .1 .1 .1 .1 .0)
+
+    abbrev main-room : Room u8 (main-at .count)
+    main-room = is .1 .1 .1 .1 .1 .1 .0 .0 .1
+
+    abbrev main-places-at : Sl
+    main-places-at = sl (κs .1 .1 .1 .1 .1 .1 .0) (qs .1 .1 .1 .1 .1 .1 .0) (a .1 .1 .1 .1 .1 .1 .1 .0)
 
     abbrev mainPlaces : List ℕ
-    mainPlaces = now (a .1 .1 .1 .1 .1 .1 .0)
+    mainPlaces = now (a .1 .1 .1 .1 .1 .1 .1 .0)
+
+    abbrev main-places-room : Room u32 (main-places-at .count)
+    main-places-room = is .1 .1 .1 .1 .1 .1 .1 .0 .0 .1
+
+    abbrev other-at : Sl
+    other-at = sl (κs .1 .1 .1 .1 .1 .1 .1 .0) (qs .1 .1 .1 .1 .1 .1 .1 .0) (a .1 .1 .1 .1 .1 .1 .1 .1 .0)
 
     abbrev other : List ℕ
-    other = now (a .1 .1 .1 .1 .1 .1 .1 .0)
+    other = now (a .1 .1 .1 .1 .1 .1 .1 .1 .0)
+
+    abbrev other-room : Room u8 (other-at .count)
+    other-room = is .1 .1 .1 .1 .1 .1 .1 .1 .0 .0 .1
+
+    abbrev other-places-at : Sl
+    other-places-at = sl (κs .1 .1 .1 .1 .1 .1 .1 .1 .0) (qs .1 .1 .1 .1 .1 .1 .1 .1 .0) (a .1 .1 .1 .1 .1 .1 .1 .1 .1 .0)
 
     abbrev otherPlaces : List ℕ
-    otherPlaces = now (a .1 .1 .1 .1 .1 .1 .1 .1 .0)
+    otherPlaces = now (a .1 .1 .1 .1 .1 .1 .1 .1 .1 .0)
+
+    abbrev other-places-room : Room u32 (other-places-at .count)
+    other-places-room = is .1 .1 .1 .1 .1 .1 .1 .1 .1 .0 .0 .1
+
+    abbrev stack-at : Sl
+    stack-at = sl (κs .1 .1 .1 .1 .1 .1 .1 .1 .1 .0) (qs .1 .1 .1 .1 .1 .1 .1 .1 .1 .0) (a .1 .1 .1 .1 .1 .1 .1 .1 .1 .1 .0)
 
     abbrev stack : List ℕ
-    stack = now (a .1 .1 .1 .1 .1 .1 .1 .1 .1 .0)
+    stack = now (a .1 .1 .1 .1 .1 .1 .1 .1 .1 .1 .0)
+
+    abbrev stack-room : Room u64 (stack-at .count)
+    stack-room = is .1 .1 .1 .1 .1 .1 .1 .1 .1 .1 .0 .0 .1
+
+    abbrev cells-at : Sl
+    cells-at =
+        sl (κs .1 .1 .1 .1 .1 .1 .1 .1 .1 .1 .0) (qs .1 .1 .1 .1 .1 .1 .1 .1 .1 .1 .0) (a .1 .1 .1 .1 .1 .1 .1 .1 .1 .1 .1 .0)
 
     abbrev cells : List ℕ
-    cells = now (a .1 .1 .1 .1 .1 .1 .1 .1 .1 .1 .0)
+    cells = now (a .1 .1 .1 .1 .1 .1 .1 .1 .1 .1 .1 .0)
+
+    abbrev cells-room : Room u64 (cells-at .count)
+    cells-room = is .1 .1 .1 .1 .1 .1 .1 .1 .1 .1 .1 .0 .0 .1
+
+    abbrev frames-at : Sl
+    frames-at =
+        sl (κs .1 .1 .1 .1 .1 .1 .1 .1 .1 .1 .1 .0) (qs .1 .1 .1 .1 .1 .1 .1 .1 .1 .1 .1 .0)
+        (a .1 .1 .1 .1 .1 .1 .1 .1 .1 .1 .1 .1 .0)
 
     abbrev frames : List Frame
-    frames = now (a .1 .1 .1 .1 .1 .1 .1 .1 .1 .1 .1 .0)
+    frames = now (a .1 .1 .1 .1 .1 .1 .1 .1 .1 .1 .1 .1 .0)
+
+    abbrev frames-room : Room R (frames-at .count)
+    frames-room = is .1 .1 .1 .1 .1 .1 .1 .1 .1 .1 .1 .1 .0 .0 .1
+
+    abbrev copy-at : Sl
+    copy-at =
+        sl (κs .1 .1 .1 .1 .1 .1 .1 .1 .1 .1 .1 .1 .0) (qs .1 .1 .1 .1 .1 .1 .1 .1 .1 .1 .1 .1 .0)
+        (a .1 .1 .1 .1 .1 .1 .1 .1 .1 .1 .1 .1 .1 .0)
 
     abbrev copy : List ℕ
-    copy = now (a .1 .1 .1 .1 .1 .1 .1 .1 .1 .1 .1 .1 .0)
+    copy = now (a .1 .1 .1 .1 .1 .1 .1 .1 .1 .1 .1 .1 .1 .0)
+
+    abbrev copy-room : Room u64 (copy-at .count)
+    copy-room = is .1 .1 .1 .1 .1 .1 .1 .1 .1 .1 .1 .1 .1 .0 .0 .1
+
+    abbrev trace-at : Sl
+    trace-at =
+        sl (κs .1 .1 .1 .1 .1 .1 .1 .1 .1 .1 .1 .1 .1 .0) (qs .1 .1 .1 .1 .1 .1 .1 .1 .1 .1 .1 .1 .1 .0)
+        (a .1 .1 .1 .1 .1 .1 .1 .1 .1 .1 .1 .1 .1 .1 .0)
 
     abbrev trace : List ℕ
-    trace = now (a .1 .1 .1 .1 .1 .1 .1 .1 .1 .1 .1 .1 .1 .0)
+    trace = now (a .1 .1 .1 .1 .1 .1 .1 .1 .1 .1 .1 .1 .1 .1 .0)
+
+    abbrev trace-room : Room u32 (trace-at .count)
+    trace-room = is .1 .1 .1 .1 .1 .1 .1 .1 .1 .1 .1 .1 .1 .1 .0 .0 .1
+
+    abbrev answer-at : Sl
+    answer-at =
+        sl (κs .1 .1 .1 .1 .1 .1 .1 .1 .1 .1 .1 .1 .1 .1 .0) (qs .1 .1 .1 .1 .1 .1 .1 .1 .1 .1 .1 .1 .1 .1 .0)
+        (a .1 .1 .1 .1 .1 .1 .1 .1 .1 .1 .1 .1 .1 .1 .1 .0)
 
     abbrev answer : List ℕ
-    answer = now (a .1 .1 .1 .1 .1 .1 .1 .1 .1 .1 .1 .1 .1 .1 .0)
+    answer = now (a .1 .1 .1 .1 .1 .1 .1 .1 .1 .1 .1 .1 .1 .1 .1 .0)
 
-    abbrev room0 : Room u64 (s0 .count)
-    room0 = is .1 .0 .0 .1
-
-    abbrev room1 : Room u64 (s1 .count)
-    room1 = is .1 .1 .0 .0 .1
-
-    abbrev room2 : Room u64 (s2 .count)
-    room2 = is .1 .1 .1 .0 .0 .1
-
-    abbrev room3 : Room u8 (s3 .count)
-    room3 = is .1 .1 .1 .1 .0 .0 .1
-
-    abbrev room4 : Room u8 (s4 .count)
-    room4 = is .1 .1 .1 .1 .1 .0 .0 .1
-
-    abbrev room5 : Room u32 (s5 .count)
-    room5 = is .1 .1 .1 .1 .1 .1 .0 .0 .1
-
-    abbrev room6 : Room u8 (s6 .count)
-    room6 = is .1 .1 .1 .1 .1 .1 .1 .0 .0 .1
-
-    abbrev room7 : Room u32 (s7 .count)
-    room7 = is .1 .1 .1 .1 .1 .1 .1 .1 .0 .0 .1
-
-    abbrev room8 : Room u64 (s8 .count)
-    room8 = is .1 .1 .1 .1 .1 .1 .1 .1 .1 .0 .0 .1
-
-    abbrev room9 : Room u64 (s9 .count)
-    room9 = is .1 .1 .1 .1 .1 .1 .1 .1 .1 .1 .0 .0 .1
-
-    abbrev room10 : Room R (s10 .count)
-    room10 = is .1 .1 .1 .1 .1 .1 .1 .1 .1 .1 .1 .0 .0 .1
-
-    abbrev room11 : Room u64 (s11 .count)
-    room11 = is .1 .1 .1 .1 .1 .1 .1 .1 .1 .1 .1 .1 .0 .0 .1
-
-    abbrev room12 : Room u32 (s12 .count)
-    room12 = is .1 .1 .1 .1 .1 .1 .1 .1 .1 .1 .1 .1 .1 .0 .0 .1
-
-    abbrev room13 : Room u64 (s13 .count)
-    room13 = is .1 .1 .1 .1 .1 .1 .1 .1 .1 .1 .1 .1 .1 .1 .0 .0 .1
+    abbrev answer-room : Room u64 (answer-at .count)
+    answer-room = is .1 .1 .1 .1 .1 .1 .1 .1 .1 .1 .1 .1 .1 .1 .1 .0 .0 .1
 
     abbrev slices : List ℕ → List ℕ → List ℕ → List Frame → List ℕ → List ℕ → List ℕ → List Arg
     slices vm′ stack′ cells′ frames′ copy′ trace′ answer′ =
-        mut u64 s0 vm′ ∷ shr u64 s1 constants ∷ shr u64 s2 functions ∷ shr u8 s3 text ∷ shr u8 s4 main ∷ shr u32 s5 mainPlaces ∷
-        shr u8 s6 other ∷ shr u32 s7 otherPlaces ∷ mut u64 s8 stack′ ∷ mut u64 s9 cells′ ∷ mut R s10 frames′ ∷ mut u64 s11 copy′ ∷
-        mut u32 s12 trace′ ∷ mut u64 s13 answer′ ∷ []
+        mut u64 vm-at vm′ ∷ shr u64 constants-at constants ∷ shr u64 structs-at structs ∷ shr u64 functions-at functions ∷ shr u8
+        text-at text ∷ shr u8 main-at main ∷ shr u32 main-places-at mainPlaces ∷ shr u8 other-at other ∷ shr u32 other-places-at
+        otherPlaces ∷ mut u64 stack-at stack′ ∷ mut u64 cells-at cells′ ∷ mut R frames-at frames′ ∷ mut u64 copy-at copy′ ∷ mut
+        u32 trace-at trace′ ∷ mut u64 answer-at answer′ ∷ []
 
     abbrev xs : List ℕ → List ℕ → List ℕ → List Frame → List ℕ → List ℕ → List ℕ → List Arg
     xs vm′ stack′ cells′ frames′ copy′ trace′ answer′ =
@@ -209,12 +222,14 @@ module _ {M : Type 1} (𝓤 : URA M) (H : Heap 𝓤) (A : Atoms 𝓤) (W : Given
         walkOf 𝓤 H A me.ended (stays kinds) (me.clauses 𝓤 H A mem run) .post
         (passing (xs vm stack cells frames copy trace answer))
 
-    exits : (r : ℕ) (vm′ : List ℕ) (stack′ : List ℕ) (cells′ : List ℕ) (frames′ : List Frame) (copy′ : List ℕ) (trace′ : List ℕ) (answer′ : List ℕ) → Is u32 r (vint w32 r ∷ []) → length vm′ ≡ s0 .count → length stack′ ≡ s8 .count → length cells′ ≡ s9 .count → length frames′ ≡ s10 .count → length copy′ ≡ s11 .count → length trace′ ≡ s12 .count → length answer′ ≡ s13 .count → RunThrough vm answer (λ (structs : List ℕ). programLent structs constants functions text main mainPlaces other otherPlaces) (runLent stack cells frames copy trace) units (record { number = r; vm = vm′; answer = answer′ }) (runLent stack′ cells′ frames′ copy′ trace′) → ent 𝓤 (⋆ 𝓤 H A (‵ (Holds (slices vm′ stack′ cells′ frames′ copy′ trace′ answer′)) ∷ [])) (Post (vint w32 r))
+    exits : (r : ℕ) (vm′ : List ℕ) (stack′ : List ℕ) (cells′ : List ℕ) (frames′ : List Frame) (copy′ : List ℕ) (trace′ : List ℕ) (answer′ : List ℕ) → Is u32 r (vint w32 r ∷ []) → length vm′ ≡ vm-at .count → length stack′ ≡ stack-at .count → length cells′ ≡ cells-at .count → length frames′ ≡ frames-at .count → length copy′ ≡ copy-at .count → length trace′ ≡ trace-at .count → length answer′ ≡ answer-at .count → RunThrough vm answer (programLent structs constants functions text main mainPlaces other otherPlaces) (runLent stack cells frames copy trace) units (record { number = r; vm = vm′; answer = answer′ }) (runLent stack′ cells′ frames′ copy′ trace′) → ent 𝓤 (⋆ 𝓤 H A (‵ (Holds (slices vm′ stack′ cells′ frames′ copy′ trace′ answer′)) ∷ [])) (Post (vint w32 r))
     exits r vm′ stack′ cells′ frames′ copy′ trace′ answer′ isr len-vm len-stack len-cells len-frames len-copy len-trace len-answer said =
         qed W (‵ (Holds (slices vm′ stack′ cells′ frames′ copy′ trace′ answer′)) ∷ []) ∵ suffices ! _
         (ends-at 𝓤 H A me.ended (stays kinds) (me.clauses 𝓤 H A mem run) W (passing (xs vm stack cells frames copy trace answer))
-        (vint w32 r) r
-        (tt, (vm′, (tt, (tt, (tt, (tt, (tt, (tt, (tt, (stack′, (cells′, (frames′, (copy′, (trace′, (answer′, tt))))))))))))))) (
+        (vint w32 r) r (
+          tt,
+          (vm′, (tt, (tt, (tt, (tt, (tt, (tt, (tt, (tt, (stack′, (cells′, (frames′, (copy′, (trace′, (answer′, tt))))))))))))))),
+        ) (
           tt,
           (
             len-vm,
@@ -222,7 +237,10 @@ module _ {M : Type 1} (𝓤 : URA M) (H : Heap 𝓤) (A : Atoms 𝓤) (W : Given
               tt,
               (
                 tt,
-                (tt, (tt, (tt, (tt, (tt, (len-stack, (len-cells, (len-frames, (len-copy, (len-trace, (len-answer, tt))))))))))),
+                (
+                  tt,
+                  (tt, (tt, (tt, (tt, (tt, (len-stack, (len-cells, (len-frames, (len-copy, (len-trace, (len-answer, tt))))))))))),
+                ),
               ),
             ),
           ),
@@ -232,49 +250,60 @@ module _ {M : Type 1} (𝓤 : URA M) (H : Heap 𝓤) (A : Atoms 𝓤) (W : Given
 
     -- the calls
     abbrev to-why : List Arg
-    to-why = peek u64 s0 vm ∷ val usize 4 (vint w64 4) ∷ peek u64 s13 answer ∷ []
+    to-why = peek u64 vm-at vm ∷ val usize 5 (vint w64 5) ∷ peek u64 answer-at answer ∷ []
 
-    call-why : Rule 𝓤 H A W to-why Why u32 (vint w32) (λ n zs. n ≡ slicesRefusal vm 4 answer)
+    call-why : Rule 𝓤 H A W to-why Why u32 (vint w32) (λ n zs. n ≡ slicesRefusal vm 5 answer)
     call-why =
-        call-with 𝓤 H A W to-why Why u32 (vint w32) (λ n zs. n ≡ slicesRefusal vm 4 answer) (uint-tells w32)
+        call-with 𝓤 H A W to-why Why u32 (vint w32) (λ n zs. n ≡ slicesRefusal vm 5 answer) (uint-tells w32)
         (λ ns. passing (lent to-why ns)) (λ ns. refl) (λ ns. unasked W (lent to-why ns)) (λ ns w. id⊢ 𝓤 _)
-        (uint-makes 𝓤 H A W w64 4 _ (refl, omega arith), tt) ((refl, room0), ((refl, room13), tt))
+        (uint-makes 𝓤 H A W w64 5 _ (refl, omega arith), tt) ((refl, vm-room), ((refl, answer-room), tt))
 
     abbrev to-rec : List Arg
-    to-rec = peek u64 s0 vm ∷ []
+    to-rec = peek u64 vm-at vm ∷ []
 
     call-rec : Rule 𝓤 H A W to-rec Rec VmRow vmVal (λ m zs. m ≡ vmIn vm)
     call-rec =
         call-with 𝓤 H A W to-rec Rec VmRow vmVal (λ m zs. m ≡ vmIn vm) vm-tells (λ ns. passing (lent to-rec ns)) (λ ns. refl)
-        (λ ns. unasked W (lent to-rec ns)) (λ ns w. id⊢ 𝓤 _) tt ((refl, room0), tt)
+        (λ ns. unasked W (lent to-rec ns)) (λ ns w. id⊢ 𝓤 _) tt ((refl, vm-room), tt)
 
     abbrev to-entry : Vm → List Arg
     to-entry m =
-        val VmRow m (vmVal m) ∷ val u64 units (vint w64 units) ∷ shr u64 s1 constants ∷ shr u64 s2 functions ∷ shr u8 s3 text ∷
-        shr u8 s4 main ∷ shr u32 s5 mainPlaces ∷ shr u8 s6 other ∷ shr u32 s7 otherPlaces ∷ mut u64 s8 stack ∷ mut u64 s9 cells ∷
-        mut R s10 frames ∷ mut u64 s11 copy ∷ mut u32 s12 trace ∷ []
+        val VmRow m (vmVal m) ∷ val u64 units (vint w64 units) ∷ shr u64 constants-at constants ∷ shr u64 structs-at structs ∷ shr
+        u64 functions-at functions ∷ shr u8 text-at text ∷ shr u8 main-at main ∷ shr u32 main-places-at mainPlaces ∷ shr u8
+        other-at other ∷ shr u32 other-places-at otherPlaces ∷ mut u64 stack-at stack ∷ mut u64 cells-at cells ∷ mut R frames-at
+        frames ∷ mut u64 copy-at copy ∷ mut u32 trace-at trace ∷ []
 
-    call-entry : (m : Vm) → IsVm m → Rule 𝓤 H A W (to-entry m) Entry ResultRow resultVal (λ x zs. ((structs : List ℕ) → RunPost m (programLent structs constants functions text main mainPlaces other otherPlaces) (runLent stack cells frames copy trace) units x (runLent (zs .1 .1 .1 .1 .1 .1 .1 .1 .1 .0) (zs .1 .1 .1 .1 .1 .1 .1 .1 .1 .1 .0) (zs .1 .1 .1 .1 .1 .1 .1 .1 .1 .1 .1 .0) (zs .1 .1 .1 .1 .1 .1 .1 .1 .1 .1 .1 .1 .0) (zs .1 .1 .1 .1 .1 .1 .1 .1 .1 .1 .1 .1 .1 .0))))
+    call-entry : (m : Vm) → IsVm m → Rule 𝓤 H A W (to-entry m) Entry ResultRow resultVal (λ x zs. (RunPost m (programLent structs constants functions text main mainPlaces other otherPlaces) (runLent stack cells frames copy trace) units x (runLent (zs .1 .1 .1 .1 .1 .1 .1 .1 .1 .1 .0) (zs .1 .1 .1 .1 .1 .1 .1 .1 .1 .1 .1 .0) (zs .1 .1 .1 .1 .1 .1 .1 .1 .1 .1 .1 .1 .0) (zs .1 .1 .1 .1 .1 .1 .1 .1 .1 .1 .1 .1 .1 .0) (zs .1 .1 .1 .1 .1 .1 .1 .1 .1 .1 .1 .1 .1 .1 .0))))
     call-entry m ism =
         call-with 𝓤 H A W (to-entry m) Entry ResultRow resultVal
-        (λ x zs. ((structs : List ℕ) → RunPost m (programLent structs constants functions text main mainPlaces other otherPlaces)
+        (λ x zs. (RunPost m (programLent structs constants functions text main mainPlaces other otherPlaces)
         (runLent stack cells frames copy trace) units x
-        (runLent (zs .1 .1 .1 .1 .1 .1 .1 .1 .1 .0) (zs .1 .1 .1 .1 .1 .1 .1 .1 .1 .1 .0) (zs .1 .1 .1 .1 .1 .1 .1 .1 .1 .1 .1 .0)
-        (zs .1 .1 .1 .1 .1 .1 .1 .1 .1 .1 .1 .1 .0) (zs .1 .1 .1 .1 .1 .1 .1 .1 .1 .1 .1 .1 .1 .0)))) result-tells
-        (λ ns. passing (lent (to-entry m) ns)) (λ ns. refl) (λ ns. unasked W (lent (to-entry m) ns)) (λ ns w. id⊢ 𝓤 _)
+        (runLent (zs .1 .1 .1 .1 .1 .1 .1 .1 .1 .1 .0) (zs .1 .1 .1 .1 .1 .1 .1 .1 .1 .1 .1 .0)
+        (zs .1 .1 .1 .1 .1 .1 .1 .1 .1 .1 .1 .1 .0) (zs .1 .1 .1 .1 .1 .1 .1 .1 .1 .1 .1 .1 .1 .0)
+        (zs .1 .1 .1 .1 .1 .1 .1 .1 .1 .1 .1 .1 .1 .1 .0)))) result-tells (λ ns. passing (lent (to-entry m) ns)) (λ ns. refl)
+        (λ ns. unasked W (lent (to-entry m) ns)) (λ ns w. id⊢ 𝓤 _)
         (vm-makes 𝓤 H A W m _ ism, (uint-makes 𝓤 H A W w64 units _ (is .0), tt)) (
-          (refl, room1),
+          (refl, constants-room),
           (
-            (refl, room2),
+            (refl, structs-room),
             (
-              (refl, room3),
+              (refl, functions-room),
               (
-                (refl, room4),
+                (refl, text-room),
                 (
-                  (refl, room5),
+                  (refl, main-room),
                   (
-                    (refl, room6),
-                    ((refl, room7), ((refl, room8), ((refl, room9), ((refl, room10), ((refl, room11), ((refl, room12), tt)))))),
+                    (refl, main-places-room),
+                    (
+                      (refl, other-room),
+                      (
+                        (refl, other-places-room),
+                        (
+                          (refl, stack-room),
+                          ((refl, cells-room), ((refl, frames-room), ((refl, copy-room), ((refl, trace-room), tt)))),
+                        ),
+                      ),
+                    ),
                   ),
                 ),
               ),
@@ -283,27 +312,27 @@ module _ {M : Type 1} (𝓤 : URA M) (H : Heap 𝓤) (A : Atoms 𝓤) (W : Given
         )
 
     abbrev to-tells : RunResult → List Arg
-    to-tells x = val ResultRow x (resultVal x) ∷ mut u64 s0 vm ∷ mut u64 s13 answer ∷ []
+    to-tells x = val ResultRow x (resultVal x) ∷ mut u64 vm-at vm ∷ mut u64 answer-at answer ∷ []
 
     call-tells : (x : RunResult) → IsResult x → Rule 𝓤 H A W (to-tells x) Tells u32 (vint w32) (λ n zs. record { number = n; vm = (zs .1 .0); answer = (zs .1 .1 .0) } ≡ runCoded x vm answer)
     call-tells x isx =
         call-with 𝓤 H A W (to-tells x) Tells u32 (vint w32)
         (λ n zs. record { number = n; vm = (zs .1 .0); answer = (zs .1 .1 .0) } ≡ runCoded x vm answer) (uint-tells w32)
         (λ ns. passing (lent (to-tells x) ns)) (λ ns. refl) (λ ns. unasked W (lent (to-tells x) ns)) (λ ns w. id⊢ 𝓤 _)
-        (result-makes 𝓤 H A W x _ isx, tt) ((refl, room0), ((refl, room13), tt))
+        (result-makes 𝓤 H A W x _ isx, tt) ((refl, vm-room), ((refl, answer-room), tt))
 
     walk : ent 𝓤 (onEntry 𝓤 H A me.signature (lfts (xs vm stack cells frames copy trace answer)) (shares (xs vm stack cells frames copy trace answer)) (denots (xs vm stack cells frames copy trace answer)) (valss (xs vm stack cells frames copy trace answer))) (WpFn 𝓤 H (𝓣 .C) (𝓣 .Λ) code.function (values (xs vm stack cells frames copy trace answer)) Post)
     walk =
         qed W (‵ (Toks (xs vm stack cells frames copy trace answer)) ∷ ‵ (Owns (xs vm stack cells frames copy trace answer)) ∷ []) ∵ takes ! (xs vm stack cells frames copy trace answer) (enters ! (𝓣 .C) (𝓣 .Λ) code.function (values (xs vm stack cells frames copy trace answer)) Post
-        ((tt, record { fits = (is .0) .1 }), ((tt, (tt, (record { fits = room0 .0 }, tt))), ((tt, (tt, (record { fits = room1 .0 }, tt))), ((tt, (tt, (record { fits = room2 .0 }, tt))), ((tt, (tt, (record { fits = room3 .0 }, tt))), ((tt, (tt, (record { fits = room4 .0 }, tt))), ((tt, (tt, (record { fits = room5 .0 }, tt))), ((tt, (tt, (record { fits = room6 .0 }, tt))), ((tt, (tt, (record { fits = room7 .0 }, tt))), ((tt, (tt, (record { fits = room8 .0 }, tt))), ((tt, (tt, (record { fits = room9 .0 }, tt))), ((tt, (tt, (record { fits = room10 .0 }, tt))), ((tt, (tt, (record { fits = room11 .0 }, tt))), ((tt, (tt, (record { fits = room12 .0 }, tt))), ((tt, (tt, (record { fits = room13 .0 }, tt))), tt))))))))))))))) (λ ls.
-        sets ! (addr ! (behind ! refl refl)) (tt, tt) $ sets ! (agg ! (ofs ! refl)) (tt, (tt, (record { fits = room0 .0 }, tt))) $ sets ! (addr ! (behind ! refl refl)) (tt, tt) $ sets ! (agg ! (ofs ! refl)) (tt, (tt, (record { fits = room13 .0 }, tt))) $
-        calls-on ! (true ∷ false ∷ false ∷ false ∷ false ∷ false ∷ false ∷ false ∷ false ∷ false ∷ false ∷ false ∷ false ∷ true ∷ []) (slices vm stack cells frames copy trace answer) (call-why) (λ zs. slices vm stack cells frames copy trace answer) refl (λ zs. refl) (λ zs. refl) fm known-why refl (λ n zs ew lens isn. lands-in ! (tt, record { fits = isn .1 }) $
+        ((tt, record { fits = (is .0) .1 }), ((tt, (tt, (record { fits = vm-room .0 }, tt))), ((tt, (tt, (record { fits = constants-room .0 }, tt))), ((tt, (tt, (record { fits = structs-room .0 }, tt))), ((tt, (tt, (record { fits = functions-room .0 }, tt))), ((tt, (tt, (record { fits = text-room .0 }, tt))), ((tt, (tt, (record { fits = main-room .0 }, tt))), ((tt, (tt, (record { fits = main-places-room .0 }, tt))), ((tt, (tt, (record { fits = other-room .0 }, tt))), ((tt, (tt, (record { fits = other-places-room .0 }, tt))), ((tt, (tt, (record { fits = stack-room .0 }, tt))), ((tt, (tt, (record { fits = cells-room .0 }, tt))), ((tt, (tt, (record { fits = frames-room .0 }, tt))), ((tt, (tt, (record { fits = copy-room .0 }, tt))), ((tt, (tt, (record { fits = trace-room .0 }, tt))), ((tt, (tt, (record { fits = answer-room .0 }, tt))), tt)))))))))))))))) (λ ls.
+        sets ! (addr ! (behind ! refl refl)) (tt, tt) $ sets ! (agg ! (ofs ! refl)) (tt, (tt, (record { fits = vm-room .0 }, tt))) $ sets ! (addr ! (behind ! refl refl)) (tt, tt) $ sets ! (agg ! (ofs ! refl)) (tt, (tt, (record { fits = answer-room .0 }, tt))) $
+        calls-on ! (true ∷ false ∷ false ∷ false ∷ false ∷ false ∷ false ∷ false ∷ false ∷ false ∷ false ∷ false ∷ false ∷ false ∷ true ∷ []) (slices vm stack cells frames copy trace answer) (call-why) (λ zs. slices vm stack cells frames copy trace answer) refl (λ zs. refl) (λ zs. refl) fm known-why refl (λ n zs ew lens isn. lands-in ! (tt, record { fits = isn .1 }) $
         sets ! (bin ! (of ! refl) (of ! refl) tt) (tt, tt) $ returns-if ! 𝓣 (of ! refl)
-        (λ on. sets ! (addr ! (behind ! refl refl)) (tt, tt) $ sets ! (agg ! (ofs ! refl)) (tt, (tt, (record { fits = room0 .0 }, tt))) $ calls-on ! (true ∷ []) (slices vm stack cells frames copy trace answer) (call-rec) (λ zs. slices vm stack cells frames copy trace answer) refl (λ zs. refl) (λ zs. refl) fm known-rec refl (λ m zs₁ em lens₁ ism. lands-in ! (vm-typed 𝓤 H A W m ism) $
-        sets ! (addr ! (behind ! refl refl)) (tt, tt) $ sets ! (agg ! (ofs ! refl)) (tt, (tt, (record { fits = room8 .0 }, tt))) $ sets ! (addr ! (behind ! refl refl)) (tt, tt) $ sets ! (agg ! (ofs ! refl)) (tt, (tt, (record { fits = room9 .0 }, tt))) $ sets ! (addr ! (behind ! refl refl)) (tt, tt) $ sets ! (agg ! (ofs ! refl)) (tt, (tt, (record { fits = room10 .0 }, tt))) $ sets ! (addr ! (behind ! refl refl)) (tt, tt) $ sets ! (agg ! (ofs ! refl)) (tt, (tt, (record { fits = room11 .0 }, tt))) $ sets ! (addr ! (behind ! refl refl)) (tt, tt) $ sets ! (agg ! (ofs ! refl)) (tt, (tt, (record { fits = room12 .0 }, tt))) $ calls-on ! (false ∷ true ∷ true ∷ true ∷ true ∷ true ∷ true ∷ true ∷ true ∷ true ∷ true ∷ true ∷ true ∷ []) (slices vm stack cells frames copy trace answer) (call-entry m ism) (λ zs. slices vm (zs .1 .1 .1 .1 .1 .1 .1 .1 .1 .0) (zs .1 .1 .1 .1 .1 .1 .1 .1 .1 .1 .0) (zs .1 .1 .1 .1 .1 .1 .1 .1 .1 .1 .1 .0) (zs .1 .1 .1 .1 .1 .1 .1 .1 .1 .1 .1 .1 .0) (zs .1 .1 .1 .1 .1 .1 .1 .1 .1 .1 .1 .1 .1 .0) answer) refl (λ zs. refl) (λ zs. refl) fm known-entry refl (λ x zs₂ ex lens₂ isx. lands-in ! (result-typed 𝓤 H A W x isx) $
-        sets ! (addr ! (behind ! refl refl)) (tt, tt) $ sets ! (agg ! (ofs ! refl)) (tt, (tt, (record { fits = room0 .0 }, tt))) $ sets ! (addr ! (behind ! refl refl)) (tt, tt) $ sets ! (agg ! (ofs ! refl)) (tt, (tt, (record { fits = room13 .0 }, tt))) $ calls-on ! (true ∷ false ∷ false ∷ false ∷ false ∷ false ∷ false ∷ false ∷ false ∷ false ∷ false ∷ false ∷ false ∷ true ∷ []) (slices vm (zs₂ .1 .1 .1 .1 .1 .1 .1 .1 .1 .0) (zs₂ .1 .1 .1 .1 .1 .1 .1 .1 .1 .1 .0) (zs₂ .1 .1 .1 .1 .1 .1 .1 .1 .1 .1 .1 .0) (zs₂ .1 .1 .1 .1 .1 .1 .1 .1 .1 .1 .1 .1 .0) (zs₂ .1 .1 .1 .1 .1 .1 .1 .1 .1 .1 .1 .1 .1 .0) answer) (call-tells x isx) (λ zs. slices (zs .1 .0) (zs₂ .1 .1 .1 .1 .1 .1 .1 .1 .1 .0) (zs₂ .1 .1 .1 .1 .1 .1 .1 .1 .1 .1 .0) (zs₂ .1 .1 .1 .1 .1 .1 .1 .1 .1 .1 .1 .0) (zs₂ .1 .1 .1 .1 .1 .1 .1 .1 .1 .1 .1 .1 .0) (zs₂ .1 .1 .1 .1 .1 .1 .1 .1 .1 .1 .1 .1 .1 .0) (zs .1 .1 .0)) refl (λ zs. refl) (λ zs. refl) fm known-tells refl (λ k zs₃ ek lens₃ isk. lands-in ! (tt, record { fits = isk .1 }) $
-        sets ! (of-opd ! (of ! refl)) (tt, record { fits = isk .1 }) $ leaves ! refl $ by ! (exits k (zs₃ .1 .0) (zs₂ .1 .1 .1 .1 .1 .1 .1 .1 .1 .0) (zs₂ .1 .1 .1 .1 .1 .1 .1 .1 .1 .1 .0) (zs₂ .1 .1 .1 .1 .1 .1 .1 .1 .1 .1 .1 .0) (zs₂ .1 .1 .1 .1 .1 .1 .1 .1 .1 .1 .1 .1 .0) (zs₂ .1 .1 .1 .1 .1 .1 .1 .1 .1 .1 .1 .1 .1 .0) (zs₃ .1 .1 .0) isk (lens₃ .0) (lens₂ .0) (lens₂ .1 .0) (lens₂ .1 .1 .0) (lens₂ .1 .1 .1 .0) (lens₂ .1 .1 .1 .1 .0) (lens₃ .1 .0) (run-through vm answer (λ (structs : List ℕ). programLent structs constants functions text main mainPlaces other otherPlaces) (runLent stack cells frames copy trace) units n ew (is-zero n on) m em x (runLent (zs₂ .1 .1 .1 .1 .1 .1 .1 .1 .1 .0) (zs₂ .1 .1 .1 .1 .1 .1 .1 .1 .1 .1 .0) (zs₂ .1 .1 .1 .1 .1 .1 .1 .1 .1 .1 .1 .0) (zs₂ .1 .1 .1 .1 .1 .1 .1 .1 .1 .1 .1 .1 .0) (zs₂ .1 .1 .1 .1 .1 .1 .1 .1 .1 .1 .1 .1 .1 .0)) ex (record { number = k; vm = (zs₃ .1 .0); answer = (zs₃ .1 .1 .0) }) ek))))))
-        (λ off. sets ! (of-opd ! (of ! refl)) (tt, record { fits = isn .1 }) $ leaves ! refl $ by ! (exits n vm stack cells frames copy trace answer isn refl refl refl refl refl refl refl (run-refused vm answer (λ (structs : List ℕ). programLent structs constants functions text main mainPlaces other otherPlaces) (runLent stack cells frames copy trace) units n ew (not-zero n off)))))))
+        (λ on. sets ! (addr ! (behind ! refl refl)) (tt, tt) $ sets ! (agg ! (ofs ! refl)) (tt, (tt, (record { fits = vm-room .0 }, tt))) $ calls-on ! (true ∷ []) (slices vm stack cells frames copy trace answer) (call-rec) (λ zs. slices vm stack cells frames copy trace answer) refl (λ zs. refl) (λ zs. refl) fm known-rec refl (λ m zs₁ em lens₁ ism. lands-in ! (vm-typed 𝓤 H A W m ism) $
+        sets ! (addr ! (behind ! refl refl)) (tt, tt) $ sets ! (agg ! (ofs ! refl)) (tt, (tt, (record { fits = stack-room .0 }, tt))) $ sets ! (addr ! (behind ! refl refl)) (tt, tt) $ sets ! (agg ! (ofs ! refl)) (tt, (tt, (record { fits = cells-room .0 }, tt))) $ sets ! (addr ! (behind ! refl refl)) (tt, tt) $ sets ! (agg ! (ofs ! refl)) (tt, (tt, (record { fits = frames-room .0 }, tt))) $ sets ! (addr ! (behind ! refl refl)) (tt, tt) $ sets ! (agg ! (ofs ! refl)) (tt, (tt, (record { fits = copy-room .0 }, tt))) $ sets ! (addr ! (behind ! refl refl)) (tt, tt) $ sets ! (agg ! (ofs ! refl)) (tt, (tt, (record { fits = trace-room .0 }, tt))) $ calls-on ! (false ∷ true ∷ true ∷ true ∷ true ∷ true ∷ true ∷ true ∷ true ∷ true ∷ true ∷ true ∷ true ∷ true ∷ []) (slices vm stack cells frames copy trace answer) (call-entry m ism) (λ zs. slices vm (zs .1 .1 .1 .1 .1 .1 .1 .1 .1 .1 .0) (zs .1 .1 .1 .1 .1 .1 .1 .1 .1 .1 .1 .0) (zs .1 .1 .1 .1 .1 .1 .1 .1 .1 .1 .1 .1 .0) (zs .1 .1 .1 .1 .1 .1 .1 .1 .1 .1 .1 .1 .1 .0) (zs .1 .1 .1 .1 .1 .1 .1 .1 .1 .1 .1 .1 .1 .1 .0) answer) refl (λ zs. refl) (λ zs. refl) fm known-entry refl (λ x zs₂ ex lens₂ isx. lands-in ! (result-typed 𝓤 H A W x isx) $
+        sets ! (addr ! (behind ! refl refl)) (tt, tt) $ sets ! (agg ! (ofs ! refl)) (tt, (tt, (record { fits = vm-room .0 }, tt))) $ sets ! (addr ! (behind ! refl refl)) (tt, tt) $ sets ! (agg ! (ofs ! refl)) (tt, (tt, (record { fits = answer-room .0 }, tt))) $ calls-on ! (true ∷ false ∷ false ∷ false ∷ false ∷ false ∷ false ∷ false ∷ false ∷ false ∷ false ∷ false ∷ false ∷ false ∷ true ∷ []) (slices vm (zs₂ .1 .1 .1 .1 .1 .1 .1 .1 .1 .1 .0) (zs₂ .1 .1 .1 .1 .1 .1 .1 .1 .1 .1 .1 .0) (zs₂ .1 .1 .1 .1 .1 .1 .1 .1 .1 .1 .1 .1 .0) (zs₂ .1 .1 .1 .1 .1 .1 .1 .1 .1 .1 .1 .1 .1 .0) (zs₂ .1 .1 .1 .1 .1 .1 .1 .1 .1 .1 .1 .1 .1 .1 .0) answer) (call-tells x isx) (λ zs. slices (zs .1 .0) (zs₂ .1 .1 .1 .1 .1 .1 .1 .1 .1 .1 .0) (zs₂ .1 .1 .1 .1 .1 .1 .1 .1 .1 .1 .1 .0) (zs₂ .1 .1 .1 .1 .1 .1 .1 .1 .1 .1 .1 .1 .0) (zs₂ .1 .1 .1 .1 .1 .1 .1 .1 .1 .1 .1 .1 .1 .0) (zs₂ .1 .1 .1 .1 .1 .1 .1 .1 .1 .1 .1 .1 .1 .1 .0) (zs .1 .1 .0)) refl (λ zs. refl) (λ zs. refl) fm known-tells refl (λ k zs₃ ek lens₃ isk. lands-in ! (tt, record { fits = isk .1 }) $
+        sets ! (of-opd ! (of ! refl)) (tt, record { fits = isk .1 }) $ leaves ! refl $ by ! (exits k (zs₃ .1 .0) (zs₂ .1 .1 .1 .1 .1 .1 .1 .1 .1 .1 .0) (zs₂ .1 .1 .1 .1 .1 .1 .1 .1 .1 .1 .1 .0) (zs₂ .1 .1 .1 .1 .1 .1 .1 .1 .1 .1 .1 .1 .0) (zs₂ .1 .1 .1 .1 .1 .1 .1 .1 .1 .1 .1 .1 .1 .0) (zs₂ .1 .1 .1 .1 .1 .1 .1 .1 .1 .1 .1 .1 .1 .1 .0) (zs₃ .1 .1 .0) isk (lens₃ .0) (lens₂ .0) (lens₂ .1 .0) (lens₂ .1 .1 .0) (lens₂ .1 .1 .1 .0) (lens₂ .1 .1 .1 .1 .0) (lens₃ .1 .0) (run-through vm answer (programLent structs constants functions text main mainPlaces other otherPlaces) (runLent stack cells frames copy trace) units n ew (is-zero n on) m em x (runLent (zs₂ .1 .1 .1 .1 .1 .1 .1 .1 .1 .1 .0) (zs₂ .1 .1 .1 .1 .1 .1 .1 .1 .1 .1 .1 .0) (zs₂ .1 .1 .1 .1 .1 .1 .1 .1 .1 .1 .1 .1 .0) (zs₂ .1 .1 .1 .1 .1 .1 .1 .1 .1 .1 .1 .1 .1 .0) (zs₂ .1 .1 .1 .1 .1 .1 .1 .1 .1 .1 .1 .1 .1 .1 .0)) ex (record { number = k; vm = (zs₃ .1 .0); answer = (zs₃ .1 .1 .0) }) ek))))))
+        (λ off. sets ! (of-opd ! (of ! refl)) (tt, record { fits = isn .1 }) $ leaves ! refl $ by ! (exits n vm stack cells frames copy trace answer isn refl refl refl refl refl refl refl (run-refused vm answer (programLent structs constants functions text main mainPlaces other otherPlaces) (runLent stack cells frames copy trace) units n ew (not-zero n off)))))))
       where
         fm : FmC 𝓤 H (W .laws) (𝓣 .C)
         fm = fmOf 𝓤 H (W .laws) 𝓣

@@ -62,7 +62,10 @@ slice-aggregate-run-loaded-6 : tie.Need-slice-aggregate-run-loaded-6
 slice-aggregate-run-loaded-6 c = search needs
 
 slice-aggregate-run-loaded-7 : tie.Need-slice-aggregate-run-loaded-7
-slice-aggregate-run-loaded-7 c = search
+slice-aggregate-run-loaded-7 c = search needs
+
+slice-aggregate-run-loaded-8 : tie.Need-slice-aggregate-run-loaded-8
+slice-aggregate-run-loaded-8 c = search
 
 run-loaded-requires : tie.Need-run-loaded-requires
 run-loaded-requires c κs = search
@@ -127,6 +130,7 @@ print-image-spec =
     slice-aggregate-run-loaded-5
     slice-aggregate-run-loaded-6
     slice-aggregate-run-loaded-7
+    slice-aggregate-run-loaded-8
     run-loaded-requires
     same-length-2
     returns-2

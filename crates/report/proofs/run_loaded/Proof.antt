@@ -26,9 +26,7 @@ same-length : tie.Need-same-length
 same-length c = search
 
 returns : tie.Need-returns
-returns c =
-    λ structs. done-run _ _ (c .before .before .before .before .before .loaded .given .1)
-    (c .before .before .run-program .ensures structs)
+returns c = search done-run
 
 same-length-2 : tie.Need-same-length-2
 same-length-2 c = search

@@ -31,29 +31,14 @@ slice-aggregate-print-report-2 c = search
 
 print-report-requires : tie.Need-print-report-requires
 print-report-requires c κs =
-    can-print _ _ _ _ _ _ _ _ _
-    (c .before .before .before .before .before .before .before .before .before .before .before .before .fresh-vm .ensures) _ _ _ _
-    _ (c .before .before .before .before .before .before .before .play .ensures)
-    (λ j. omega (
-      arith,
-      c .before .before .before .before .before .before .before .before .before .before .before .before .before .before .before
-          .before .before .shared-slice-known4 .given j,
-    ))
-    (λ j. omega (
-      arith,
-      c .before .before .before .before .before .before .before .before .before .before .before .before .before .before .before
-          .shared-slice-known6 .given j,
-    ))
+    can-print _ _ _ _ _ _ _ _ _ _ (@fresh-vm .ensures) _ _ _ _ _ (@play .ensures)
+    (λ j. omega (arith, @shared-slice-known5 .given j)) (λ j. omega (arith, @shared-slice-known7 .given j))
 
 same-length : tie.Need-same-length
 same-length c = search
 
 returns : tie.Need-returns
-returns c =
-    let at-play = c .before .before .before .before .before .before .before .before .before .before in
-    let at-fresh-vm = at-play .before .before .before .before .before in
-    report-printed _ _ _ _ _ _ _ _ _ (at-fresh-vm .fresh-vm .ensures) _ _ _ _ _ (at-play .play .ensures) _
-    (c .before .before .print-report .ensures)
+returns c = report-printed _ _ _ _ _ _ _ _ _ _ (@fresh-vm .ensures) _ _ _ _ _ (@play .ensures) _ (@print-report .ensures)
 
 pub run-program-spec : {M : Type 1} → statement M
 run-program-spec =

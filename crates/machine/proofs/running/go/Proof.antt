@@ -85,51 +85,135 @@ module _ {M : Type 1} (𝓤 : URA M) (H : Heap 𝓤) (A : Atoms 𝓤) (W : Given
 
     exits : (r : RunResult) (stack′ : List ℕ) (cells′ : List ℕ) (frames′ : List Frame) (copy′ : List ℕ) (backtrace′ : List ℕ) → Is ResultRow r (resultVal r ∷ []) → length stack′ ≡ stack-at p .count → length cells′ ≡ cells-at p .count → length frames′ ≡ frames-at p .count → length copy′ ≡ copy-at p .count → length backtrace′ ≡ backtrace-at p .count → RunPost (m p) (stores p) (lent₀ p) (units p) r (runLent stack′ cells′ frames′ copy′ backtrace′) → ent 𝓤 (⋆ 𝓤 H A (‵ (Holds (slices p stack′ cells′ frames′ copy′ backtrace′)) ∷ [])) (Post (resultVal r))
     exits r stack′ cells′ frames′ copy′ backtrace′ isr len-stack len-cells len-frames len-copy len-backtrace said =
-        qed W (‵ (Holds (slices p stack′ cells′ frames′ copy′ backtrace′)) ∷ []) ∵ suffices ! _ (ends-at 𝓤 H A me.ended (stays kinds) (me.clauses 𝓤 H A mem run) W (passing (xs₀ p)) (resultVal r) r (tt, (tt, (tt, (tt, (tt, (tt, (tt, (tt, (tt, (tt, (stack′, (cells′, (frames′, (copy′, (backtrace′, tt))))))))))))))) (tt, (tt, (tt, (tt, (tt, (tt, (tt, (tt, (tt, (tt, (len-stack, (len-cells, (len-frames, (len-copy, (len-backtrace, tt)))))))))))))))) $ says ! said $
-        gives ! (xs p stack′ cells′ frames′ copy′ backtrace′) (vm-makes 𝓤 H A W (m p) _ (p .is .0), (uint-makes 𝓤 H A W w64 (units p) _ (p .is .1 .0), tt)) (frame ! $ owned ! ResultRow (Is ResultRow) (result-makes 𝓤 H A W) r _ isr $ keep ! (1 ∷ 0 ∷ []) $ done !)
+        qed W (‵ (Holds (slices p stack′ cells′ frames′ copy′ backtrace′)) ∷ []) ∵ suffices ! _
+        (ends-at 𝓤 H A me.ended (stays kinds) (me.clauses 𝓤 H A mem run) W (passing (xs₀ p)) (resultVal r) r
+        (tt, (tt, (tt, (tt, (tt, (tt, (tt, (tt, (tt, (tt, (stack′, (cells′, (frames′, (copy′, (backtrace′, tt))))))))))))))) (
+          tt,
+          (
+            tt,
+            (
+              tt,
+              (tt, (tt, (tt, (tt, (tt, (tt, (tt, (len-stack, (len-cells, (len-frames, (len-copy, (len-backtrace, tt)))))))))))),
+            ),
+          ),
+        )) $ says ! said $ gives ! (xs p stack′ cells′ frames′ copy′ backtrace′)
+        (vm-makes 𝓤 H A W (m p) _ (p .is .0), (uint-makes 𝓤 H A W w64 (units p) _ (p .is .1 .0), tt))
+        (frame ! $ owned ! ResultRow (Is ResultRow) (result-makes 𝓤 H A W) r _ isr $ keep ! (1 ∷ 0 ∷ []) $ done !)
 
     -- the calls
     abbrev to-bounds : List Arg
-    to-bounds = val VmRow (m p) (vmVal (m p)) ∷ val usize (stack-at p .count) (vint w64 (stack-at p .count)) ∷ val usize (frames-at p .count) (vint w64 (frames-at p .count)) ∷ []
+    to-bounds =
+        val VmRow (m p) (vmVal (m p)) ∷ val usize (stack-at p .count) (vint w64 (stack-at p .count)) ∷ val usize
+        (frames-at p .count) (vint w64 (frames-at p .count)) ∷ []
 
     call-bounds : Rule 𝓤 H A W to-bounds Bounds FixedRow fixedVal (λ k zs. FixedPost (m p) (stack-at p .count) (frames-at p .count) k)
-    call-bounds = call-with 𝓤 H A W to-bounds Bounds FixedRow fixedVal (λ k zs. FixedPost (m p) (stack-at p .count) (frames-at p .count) k) fixed-tells (λ ns. passing (lent to-bounds ns)) (λ ns. refl)
-        (λ ns. unasked W (lent to-bounds ns)) (λ ns w. id⊢ 𝓤 _) (vm-makes 𝓤 H A W (m p) _ (p .is .0), (uint-makes 𝓤 H A W w64 (stack-at p .count) _ (refl, stack-room p .0), (uint-makes 𝓤 H A W w64 (frames-at p .count) _ (refl, frames-room p .0), tt))) tt
+    call-bounds =
+        call-with 𝓤 H A W to-bounds Bounds FixedRow fixedVal (λ k zs. FixedPost (m p) (stack-at p .count) (frames-at p .count) k)
+        fixed-tells (λ ns. passing (lent to-bounds ns)) (λ ns. refl) (λ ns. unasked W (lent to-bounds ns)) (λ ns w. id⊢ 𝓤 _) (
+          vm-makes 𝓤 H A W (m p) _ (p .is .0),
+          (
+            uint-makes 𝓤 H A W w64 (stack-at p .count) _ (refl, stack-room p .0),
+            (uint-makes 𝓤 H A W w64 (frames-at p .count) _ (refl, frames-room p .0), tt),
+          ),
+        ) tt
 
     abbrev to-start : List Arg
-    to-start = val VmRow (m p) (vmVal (m p)) ∷ val u64 (units p) (vint w64 (units p)) ∷ peek u64 (stack-at p) (stack p) ∷ peek R (frames-at p) (frames p) ∷ mut u64 (copy-at p) (copy p) ∷ []
+    to-start =
+        val VmRow (m p) (vmVal (m p)) ∷ val u64 (units p) (vint w64 (units p)) ∷ peek u64 (stack-at p) (stack p) ∷ peek R
+        (frames-at p) (frames p) ∷ mut u64 (copy-at p) (copy p) ∷ []
 
     call-start : (2 * m p .stack ≤ length (stack p)) × (2 * m p .stack ≤ length (copy p)) × (m p .frames - 1 < length (frames p)) → Rule 𝓤 H A W to-start Start GoingRow goingVal (λ g zs. Begun (m p) (getD (frames p) (m p .frames - 1) noFrame) (units p) g × (zs .1 .1 .1 .1 .0 ≡ written (copy p) 0 (take (2 * m p .stack) (stack p))))
-    call-start can = call-with 𝓤 H A W to-start Start GoingRow goingVal (λ g zs. Begun (m p) (getD (frames p) (m p .frames - 1) noFrame) (units p) g × (zs .1 .1 .1 .1 .0 ≡ written (copy p) 0 (take (2 * m p .stack) (stack p)))) going-tells (λ ns. passing (lent to-start ns)) (λ ns. refl)
-        (λ ns. asked W (lent to-start ns) can) (λ ns w. id⊢ 𝓤 _) (vm-makes 𝓤 H A W (m p) _ (p .is .0), (uint-makes 𝓤 H A W w64 (units p) _ (p .is .1 .0), tt)) ((refl, stack-room p), ((refl, frames-room p), ((refl, copy-room p), tt)))
+    call-start can =
+        call-with 𝓤 H A W to-start Start GoingRow goingVal
+        (λ g zs. Begun (m p) (getD (frames p) (m p .frames - 1) noFrame) (units p) g ×
+        (zs .1 .1 .1 .1 .0 ≡ written (copy p) 0 (take (2 * m p .stack) (stack p)))) going-tells (λ ns. passing (lent to-start ns))
+        (λ ns. refl) (λ ns. asked W (lent to-start ns) can) (λ ns w. id⊢ 𝓤 _)
+        (vm-makes 𝓤 H A W (m p) _ (p .is .0), (uint-makes 𝓤 H A W w64 (units p) _ (p .is .1 .0), tt))
+        ((refl, stack-room p), ((refl, frames-room p), ((refl, copy-room p), tt)))
 
     abbrev to-taken : List Arg
     to-taken = val VmRow (m p) (vmVal (m p)) ∷ []
 
     call-taken : Rule 𝓤 H A W to-taken Taken usize (vint w64) (λ n zs. n ≡ m p .program .text)
-    call-taken = call-with 𝓤 H A W to-taken Taken usize (vint w64) (λ n zs. n ≡ m p .program .text) (uint-tells w64) (λ ns. passing (lent to-taken ns)) (λ ns. refl)
-        (λ ns. unasked W (lent to-taken ns)) (λ ns w. id⊢ 𝓤 _) (vm-makes 𝓤 H A W (m p) _ (p .is .0), tt) tt
+    call-taken =
+        call-with 𝓤 H A W to-taken Taken usize (vint w64) (λ n zs. n ≡ m p .program .text) (uint-tells w64)
+        (λ ns. passing (lent to-taken ns)) (λ ns. refl) (λ ns. unasked W (lent to-taken ns)) (λ ns w. id⊢ 𝓤 _)
+        (vm-makes 𝓤 H A W (m p) _ (p .is .0), tt) tt
 
     abbrev to-turns : Fixed → Going → ℕ → List Arg
-    to-turns k g n = val FixedRow k (fixedVal k) ∷ val GoingRow g (goingVal g) ∷ val usize n (vint w64 n) ∷ shr u64 (constants-at p) (constants p) ∷ shr u64 (functions-at p) (functions p) ∷ shr u8 (text-at p) (text p) ∷ shr u8 (main-at p) (main p) ∷ shr u8 (other-at p) (other p) ∷ mut u64 (stack-at p) (stack p) ∷ mut u64 (cells-at p) (cells p) ∷ mut R (frames-at p) (frames p) ∷ []
+    to-turns k g n =
+        val FixedRow k (fixedVal k) ∷ val GoingRow g (goingVal g) ∷ val usize n (vint w64 n) ∷ shr u64 (constants-at p)
+        (constants p) ∷ shr u64 (functions-at p) (functions p) ∷ shr u8 (text-at p) (text p) ∷ shr u8 (main-at p) (main p) ∷ shr
+        u8 (other-at p) (other p) ∷ mut u64 (stack-at p) (stack p) ∷ mut u64 (cells-at p) (cells p) ∷ mut R (frames-at p)
+        (frames p) ∷ []
 
     call-turns : (k : Fixed) (g : Going) (n : ℕ) → Is FixedRow k (fixedVal k ∷ []) → Is GoingRow g (goingVal g ∷ []) → n < 2 ^ 64 → ((w : World) × Under w k g n (constants p) (functions p) (text p) (main p) (other p) (stack p) (cells p) (frames p)) → Rule 𝓤 H A W (to-turns k g n) Turns CourseRow courseVal (λ c zs. ((w : World) → Under w k g n (constants p) (functions p) (text p) (main p) (other p) (stack p) (cells p) (frames p) → TurnsPost w k g (stack p) (cells p) (frames p) c (zs .1 .1 .1 .1 .1 .1 .1 .1 .0) (zs .1 .1 .1 .1 .1 .1 .1 .1 .1 .0) (zs .1 .1 .1 .1 .1 .1 .1 .1 .1 .1 .0)))
-    call-turns k g n isk isg fits can = call-with 𝓤 H A W (to-turns k g n) Turns CourseRow courseVal (λ c zs. ((w : World) → Under w k g n (constants p) (functions p) (text p) (main p) (other p) (stack p) (cells p) (frames p) → TurnsPost w k g (stack p) (cells p) (frames p) c (zs .1 .1 .1 .1 .1 .1 .1 .1 .0) (zs .1 .1 .1 .1 .1 .1 .1 .1 .1 .0) (zs .1 .1 .1 .1 .1 .1 .1 .1 .1 .1 .0))) course-tells (λ ns. passing (lent (to-turns k g n) ns)) (λ ns. refl)
-        (λ ns. asked W (lent (to-turns k g n) ns) can) (λ ns w. id⊢ 𝓤 _) (fixed-makes 𝓤 H A W k _ isk, (going-makes 𝓤 H A W g _ isg, (uint-makes 𝓤 H A W w64 n _ (refl, fits), tt))) ((refl, constants-room p), ((refl, functions-room p), ((refl, text-room p), ((refl, main-room p), ((refl, other-room p), ((refl, stack-room p), ((refl, cells-room p), ((refl, frames-room p), tt))))))))
+    call-turns k g n isk isg fits can =
+        call-with 𝓤 H A W (to-turns k g n) Turns CourseRow courseVal
+        (λ c zs. ((w : World) → Under w k g n (constants p) (functions p) (text p) (main p) (other p) (stack p) (cells p)
+        (frames p) → TurnsPost w k g (stack p) (cells p) (frames p) c (zs .1 .1 .1 .1 .1 .1 .1 .1 .0)
+        (zs .1 .1 .1 .1 .1 .1 .1 .1 .1 .0) (zs .1 .1 .1 .1 .1 .1 .1 .1 .1 .1 .0))) course-tells
+        (λ ns. passing (lent (to-turns k g n) ns)) (λ ns. refl) (λ ns. asked W (lent (to-turns k g n) ns) can) (λ ns w. id⊢ 𝓤 _)
+        (fixed-makes 𝓤 H A W k _ isk, (going-makes 𝓤 H A W g _ isg, (uint-makes 𝓤 H A W w64 n _ (refl, fits), tt))) (
+          (refl, constants-room p),
+          (
+            (refl, functions-room p),
+            (
+              (refl, text-room p),
+              (
+                (refl, main-room p),
+                ((refl, other-room p), ((refl, stack-room p), ((refl, cells-room p), ((refl, frames-room p), tt)))),
+              ),
+            ),
+          ),
+        )
 
     abbrev to-finish : Going → List Frame → List Arg
-    to-finish h fs = val VmRow (m p) (vmVal (m p)) ∷ val u64 (units p) (vint w64 (units p)) ∷ val GoingRow h (goingVal h) ∷ mut R (frames-at p) fs ∷ []
+    to-finish h fs =
+        val VmRow (m p) (vmVal (m p)) ∷ val u64 (units p) (vint w64 (units p)) ∷ val GoingRow h (goingVal h) ∷ mut R (frames-at p)
+        fs ∷ []
 
     call-finish : (h : Going) (fs : List Frame) → Is GoingRow h (goingVal h ∷ []) → length fs ≡ frames-at p .count → (h .units ≤ units p) × (h .callers < 2 ^ 32) × (h .callers < length fs) → Rule 𝓤 H A W (to-finish h fs) Finish ResultRow resultVal (λ r zs. (r ≡ endedWith (m p) (units p) h) × (zs .1 .1 .1 .0 ≡ set fs (h .callers) (frameIn h)))
-    call-finish h fs ish len can = call-with 𝓤 H A W (to-finish h fs) Finish ResultRow resultVal (λ r zs. (r ≡ endedWith (m p) (units p) h) × (zs .1 .1 .1 .0 ≡ set fs (h .callers) (frameIn h))) result-tells (λ ns. passing (lent (to-finish h fs) ns)) (λ ns. refl)
-        (λ ns. asked W (lent (to-finish h fs) ns) can) (λ ns w. id⊢ 𝓤 _) (vm-makes 𝓤 H A W (m p) _ (p .is .0), (uint-makes 𝓤 H A W w64 (units p) _ (p .is .1 .0), (going-makes 𝓤 H A W h _ ish, tt))) ((len, frames-room p), tt)
+    call-finish h fs ish len can =
+        call-with 𝓤 H A W (to-finish h fs) Finish ResultRow resultVal
+        (λ r zs. (r ≡ endedWith (m p) (units p) h) × (zs .1 .1 .1 .0 ≡ set fs (h .callers) (frameIn h))) result-tells
+        (λ ns. passing (lent (to-finish h fs) ns)) (λ ns. refl) (λ ns. asked W (lent (to-finish h fs) ns) can) (λ ns w. id⊢ 𝓤 _) (
+          vm-makes 𝓤 H A W (m p) _ (p .is .0),
+          (uint-makes 𝓤 H A W w64 (units p) _ (p .is .1 .0), (going-makes 𝓤 H A W h _ ish, tt)),
+        ) ((len, frames-room p), tt)
 
     abbrev to-stop : Going → ℕ → List ℕ → List Frame → List ℕ → List Arg
-    to-stop h e st fs cs = val VmRow (m p) (vmVal (m p)) ∷ val u64 (units p) (vint w64 (units p)) ∷ val GoingRow h (goingVal h) ∷ val u8 e (vint w8 e) ∷ shr u64 (functions-at p) (functions p) ∷ shr u32 (main-places-at p) (mainPlaces p) ∷ shr u32 (other-places-at p) (otherPlaces p) ∷ mut u64 (stack-at p) st ∷ mut R (frames-at p) fs ∷ peek u64 (copy-at p) cs ∷ mut u32 (backtrace-at p) (backtrace p) ∷ []
+    to-stop h e st fs cs =
+        val VmRow (m p) (vmVal (m p)) ∷ val u64 (units p) (vint w64 (units p)) ∷ val GoingRow h (goingVal h) ∷ val u8 e
+        (vint w8 e) ∷ shr u64 (functions-at p) (functions p) ∷ shr u32 (main-places-at p) (mainPlaces p) ∷ shr u32
+        (other-places-at p) (otherPlaces p) ∷ mut u64 (stack-at p) st ∷ mut R (frames-at p) fs ∷ peek u64 (copy-at p) cs ∷ mut u32
+        (backtrace-at p) (backtrace p) ∷ []
 
     call-stop : (h : Going) (e : ℕ) (st : List ℕ) (fs : List Frame) (cs : List ℕ) → Is GoingRow h (goingVal h ∷ []) → e < 2 ^ 8 → length st ≡ stack-at p .count → length fs ≡ frames-at p .count → length cs ≡ copy-at p .count → (h .units ≤ units p) × (h .callers < 2 ^ 32) × TraceFits (functions p) (mainPlaces p) (otherPlaces p) (frameIn h) (h .callers) fs (length (backtrace p)) × (2 * m p .stack ≤ length cs) × (2 * m p .stack ≤ length st) × (0 < length fs) → Rule 𝓤 H A W (to-stop h e st fs cs) Stop ResultRow resultVal (λ r zs. (r ≡ faultedWith (m p) (units p) h e) × (zs .1 .1 .1 .1 .1 .1 .1 .1 .1 .1 .0 ≡ written (backtrace p) 0 (traceWords (functions p) (mainPlaces p) (otherPlaces p) (frameIn h ∷ callersOf (h .callers) fs))) × (zs .1 .1 .1 .1 .1 .1 .1 .0 ≡ written st 0 (take (2 * m p .stack) cs)) × (zs .1 .1 .1 .1 .1 .1 .1 .1 .0 ≡ set fs 0 (root (size (codeWord (functions p) 0)))))
-    call-stop h e st fs cs ish fits len-st len-fs len-cs can = call-with 𝓤 H A W (to-stop h e st fs cs) Stop ResultRow resultVal (λ r zs. (r ≡ faultedWith (m p) (units p) h e) × (zs .1 .1 .1 .1 .1 .1 .1 .1 .1 .1 .0 ≡ written (backtrace p) 0 (traceWords (functions p) (mainPlaces p) (otherPlaces p) (frameIn h ∷ callersOf (h .callers) fs))) × (zs .1 .1 .1 .1 .1 .1 .1 .0 ≡ written st 0 (take (2 * m p .stack) cs)) × (zs .1 .1 .1 .1 .1 .1 .1 .1 .0 ≡ set fs 0 (root (size (codeWord (functions p) 0))))) result-tells (λ ns. passing (lent (to-stop h e st fs cs) ns)) (λ ns. refl)
-        (λ ns. asked W (lent (to-stop h e st fs cs) ns) can) (λ ns w. id⊢ 𝓤 _) (vm-makes 𝓤 H A W (m p) _ (p .is .0), (uint-makes 𝓤 H A W w64 (units p) _ (p .is .1 .0), (going-makes 𝓤 H A W h _ ish, (uint-makes 𝓤 H A W w8 e _ (refl, fits), tt)))) ((refl, functions-room p), ((refl, main-places-room p), ((refl, other-places-room p), ((len-st, stack-room p), ((len-fs, frames-room p), ((len-cs, copy-room p), ((refl, backtrace-room p), tt)))))))
+    call-stop h e st fs cs ish fits len-st len-fs len-cs can =
+        call-with 𝓤 H A W (to-stop h e st fs cs) Stop ResultRow resultVal
+        (λ r zs. (r ≡ faultedWith (m p) (units p) h e) ×
+        (zs .1 .1 .1 .1 .1 .1 .1 .1 .1 .1 .0 ≡ written (backtrace p) 0
+        (traceWords (functions p) (mainPlaces p) (otherPlaces p) (frameIn h ∷ callersOf (h .callers) fs))) ×
+        (zs .1 .1 .1 .1 .1 .1 .1 .0 ≡ written st 0 (take (2 * m p .stack) cs)) ×
+        (zs .1 .1 .1 .1 .1 .1 .1 .1 .0 ≡ set fs 0 (root (size (codeWord (functions p) 0))))) result-tells
+        (λ ns. passing (lent (to-stop h e st fs cs) ns)) (λ ns. refl) (λ ns. asked W (lent (to-stop h e st fs cs) ns) can)
+        (λ ns w. id⊢ 𝓤 _) (
+          vm-makes 𝓤 H A W (m p) _ (p .is .0),
+          (
+            uint-makes 𝓤 H A W w64 (units p) _ (p .is .1 .0),
+            (going-makes 𝓤 H A W h _ ish, (uint-makes 𝓤 H A W w8 e _ (refl, fits), tt)),
+          ),
+        ) (
+          (refl, functions-room p),
+          (
+            (refl, main-places-room p),
+            (
+              (refl, other-places-room p),
+              ((len-st, stack-room p), ((len-fs, frames-room p), ((len-cs, copy-room p), ((refl, backtrace-room p), tt)))),
+            ),
+          ),
+        )
 
     walk : Granted (m p) (stores p) (lent₀ p) → ent 𝓤 (onEntry 𝓤 H A me.signature (lfts (xs₀ p)) (shares (xs₀ p)) (denots (xs₀ p)) (valss (xs₀ p))) (WpFn 𝓤 H (𝓣 .C) (𝓣 .Λ) code.function (values (xs₀ p)) Post)
     walk can =
@@ -164,14 +248,20 @@ module _ {M : Type 1} (𝓤 : URA M) (H : Heap 𝓤) (A : Atoms 𝓤) (W : Given
         current = current-ready p can
 
         begins-at : (k : Fixed) (g : Going) → ((j : ℕ) → j < length (main p) → getD (main p) j 0 < 256) → ((j : ℕ) → j < length (other p) → getD (other p) j 0 < 256) → FixedPost (m p) (stack-at p .count) (frames-at p .count) k → Begun (m p) (getD (frames p) (m p .frames - 1) noFrame) (units p) g → Begins (m p) (stores p) (lent₀ p) (units p) k g
-        begins-at k g mb ob ek eg = begins p can k g mb ob ((p .is .1 .0) .1) (ek .constants) (ek .structs) (ek .functions) (ek .slots (stack p) refl) (ek .frames (frames p) refl) eg
+        begins-at k g mb ob ek eg =
+            begins p can k g mb ob ((p .is .1 .0) .1) (ek .constants) (ek .structs) (ek .functions) (ek .slots (stack p) refl)
+            (ek .frames (frames p) refl) eg
 
         under-at : (k : Fixed) (g : Going) (n : ℕ) → ((j : ℕ) → j < length (main p) → getD (main p) j 0 < 256) → ((j : ℕ) → j < length (other p) → getD (other p) j 0 < 256) → FixedPost (m p) (stack-at p .count) (frames-at p .count) k → Begun (m p) (getD (frames p) (m p .frames - 1) noFrame) (units p) g → n ≡ m p .program .text → Under (worldOf (m p) (stores p) (lent₀ p)) k g n (constants p) (functions p) (text p) (main p) (other p) (stack p) (cells p) (frames p)
-        under-at k g n mb ob ek eg en = subst (λ (j : ℕ). Under (worldOf (m p) (stores p) (lent₀ p)) k g j (constants p) (functions p) (text p) (main p) (other p) (stack p) (cells p) (frames p)) (sym en) (under p (begins-at k g mb ob ek eg))
+        under-at k g n mb ob ek eg en =
+            subst
+            (λ (j : ℕ). Under (worldOf (m p) (stores p) (lent₀ p)) k g j (constants p) (functions p) (text p) (main p) (other p)
+            (stack p) (cells p) (frames p)) (sym en) (under p (begins-at k g mb ob ek eg))
 
         came-at : (k : Fixed) (g : Going) (n : ℕ) (c : Course) (st cs : List ℕ) (fs : List Frame) → ((j : ℕ) → j < length (main p) → getD (main p) j 0 < 256) → ((j : ℕ) → j < length (other p) → getD (other p) j 0 < 256) → FixedPost (m p) (stack-at p .count) (frames-at p .count) k → Begun (m p) (getD (frames p) (m p .frames - 1) noFrame) (units p) g → n ≡ m p .program .text
             → ((w : World) → Under w k g n (constants p) (functions p) (text p) (main p) (other p) (stack p) (cells p) (frames p) → TurnsPost w k g (stack p) (cells p) (frames p) c st cs fs) → length st ≡ stack-at p .count → length cs ≡ cells-at p .count → length fs ≡ frames-at p .count → Came (m p) (stores p) (lent₀ p) (units p) k g c st cs fs
-        came-at k g n c st cs fs mb ob ek eg en ec ls lc lf = came p (begins-at k g mb ob ek eg) (ec (worldOf (m p) (stores p) (lent₀ p)) (under-at k g n mb ob ek eg en)) ls lc lf
+        came-at k g n c st cs fs mb ob ek eg en ec ls lc lf =
+            came p (begins-at k g mb ob ek eg) (ec (worldOf (m p) (stores p) (lent₀ p)) (under-at k g n mb ob ek eg en)) ls lc lf
 
         finishes : {k : Fixed} {g : Going} {c : Course} (st cs : List ℕ) (fs : List Frame) → Came (m p) (stores p) (lent₀ p) (units p) k g c st cs fs → (c .going .units ≤ units p) × (c .going .callers < 2 ^ 32) × (c .going .callers < length fs)
         finishes st cs fs h = (units-ready p h, callers-ready p h, frame-ready p h)
@@ -187,11 +277,18 @@ unfolding code.routine tablesOf
 go-spec 𝓤 H 𝓜 𝓖 𝓡 =
     let W : Given 𝓤 H (𝓖 .A) = givenOf 𝓤 H 𝓜 𝓖 in
     closed kinds ResultRow 𝓤 H 𝓜 𝓖 𝓡 code.env #me code.function (code.unfolded 𝓤 H 𝓜 𝓡) (me.clauses 𝓤 H (𝓖 .A) (𝓜 .mem) (𝓡 .run))
-    (λ κs qs a g is. needs 𝓤 (let p : Passing = record { κs = κs; qs = qs; a = a; is = is } in Granted (m p) (stores p) (lent₀ p)) _
+    (λ κs qs a g is. needs 𝓤 (let p : Passing = record { κs = κs; qs = qs; a = a; is = is } in Granted (m p) (stores p) (lent₀ p))
+    _
     (walk 𝓤 H (𝓖 .A) W (𝓜 .mem) (𝓡 .run) (tablesOf 𝓤 H 𝓜 (tables 𝓤 H 𝓜 𝓡 code.env))
-    (cited 𝓤 H (Bounds 𝓤 H (𝓖 .A) W (𝓜 .mem) (𝓡 .run)) 𝓜 𝓡 code.env #bounds bounds-def.routine code.calls-ends·fixed (bounds-thm.met 𝓤 H 𝓜 𝓖 𝓡))
-    (cited 𝓤 H (Start 𝓤 H (𝓖 .A) W (𝓜 .mem) (𝓡 .run)) 𝓜 𝓡 code.env #start start-def.routine code.calls-machine·running·start (start-thm.met 𝓤 H 𝓜 𝓖 𝓡))
-    (cited 𝓤 H (Taken 𝓤 H (𝓖 .A) W (𝓜 .mem) (𝓡 .run)) 𝓜 𝓡 code.env #taken taken-def.routine code.calls-machine·running·text-of (taken-thm.met 𝓤 H 𝓜 𝓖 𝓡))
-    (cited 𝓤 H (Turns 𝓤 H (𝓖 .A) W (𝓜 .mem) (𝓡 .run)) 𝓜 𝓡 code.env #turns turns-def.routine code.calls-turns·turns (turns-thm.met 𝓤 H 𝓜 𝓖 𝓡))
-    (cited 𝓤 H (Finish 𝓤 H (𝓖 .A) W (𝓜 .mem) (𝓡 .run)) 𝓜 𝓡 code.env #finish finish-def.routine code.calls-machine·running·finish (finish-thm.met 𝓤 H 𝓜 𝓖 𝓡))
-    (cited 𝓤 H (Stop 𝓤 H (𝓖 .A) W (𝓜 .mem) (𝓡 .run)) 𝓜 𝓡 code.env #stop stop-def.routine code.calls-machine·running·stop (stop-thm.met 𝓤 H 𝓜 𝓖 𝓡)) (record { κs = κs; qs = qs; a = a; is = is })))
+    (cited 𝓤 H (Bounds 𝓤 H (𝓖 .A) W (𝓜 .mem) (𝓡 .run)) 𝓜 𝓡 code.env #bounds bounds-def.routine code.calls-ends·fixed
+    (bounds-thm.met 𝓤 H 𝓜 𝓖 𝓡))
+    (cited 𝓤 H (Start 𝓤 H (𝓖 .A) W (𝓜 .mem) (𝓡 .run)) 𝓜 𝓡 code.env #start start-def.routine code.calls-machine·running·start
+    (start-thm.met 𝓤 H 𝓜 𝓖 𝓡))
+    (cited 𝓤 H (Taken 𝓤 H (𝓖 .A) W (𝓜 .mem) (𝓡 .run)) 𝓜 𝓡 code.env #taken taken-def.routine code.calls-machine·running·text-of
+    (taken-thm.met 𝓤 H 𝓜 𝓖 𝓡))
+    (cited 𝓤 H (Turns 𝓤 H (𝓖 .A) W (𝓜 .mem) (𝓡 .run)) 𝓜 𝓡 code.env #turns turns-def.routine code.calls-turns·turns
+    (turns-thm.met 𝓤 H 𝓜 𝓖 𝓡))
+    (cited 𝓤 H (Finish 𝓤 H (𝓖 .A) W (𝓜 .mem) (𝓡 .run)) 𝓜 𝓡 code.env #finish finish-def.routine code.calls-machine·running·finish
+    (finish-thm.met 𝓤 H 𝓜 𝓖 𝓡))
+    (cited 𝓤 H (Stop 𝓤 H (𝓖 .A) W (𝓜 .mem) (𝓡 .run)) 𝓜 𝓡 code.env #stop stop-def.routine code.calls-machine·running·stop
+    (stop-thm.met 𝓤 H 𝓜 𝓖 𝓡)) (record { κs = κs; qs = qs; a = a; is = is })))

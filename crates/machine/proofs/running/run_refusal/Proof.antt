@@ -46,7 +46,10 @@ use Rattle.machine.proofs.running.run_refusal.Statement as stated
 use Rattle.machine.proofs.running.run_refusal.Code as code
 
 abbrev kinds : List (Kind 11)
-kinds = own VmRow vmVal vm-tells (λ x f. refl) ∷ number ∷ number ∷ shared 0 tt u64 ∷ shared 1 tt u64 ∷ shared 2 tt u64 ∷ shared 3 tt u8 ∷ shared 4 tt u8 ∷ shared 5 tt u32 ∷ shared 6 tt u8 ∷ shared 7 tt u32 ∷ shared 8 tt u64 ∷ shared 9 tt u64 ∷ shared 10 tt R ∷ []
+kinds =
+    own VmRow vmVal vm-tells (λ x f. refl) ∷ number ∷ number ∷ shared 0 tt u64 ∷ shared 1 tt u64 ∷ shared 2 tt u64 ∷ shared 3 tt
+    u8 ∷ shared 4 tt u8 ∷ shared 5 tt u32 ∷ shared 6 tt u8 ∷ shared 7 tt u32 ∷ shared 8 tt u64 ∷ shared 9 tt u64 ∷ shared 10 tt R
+    ∷ []
 
 module _ {M : Type 1} (𝓤 : URA M) (H : Heap 𝓤) (A : Atoms 𝓤) (W : Given 𝓤 H A) (mem : Memory → SProp 𝓤) (run : Routine → Fun 𝓤) where
   abbrev Judge : Contract 𝓤
@@ -170,7 +173,9 @@ module _ {M : Type 1} (𝓤 : URA M) (H : Heap 𝓤) (A : Atoms 𝓤) (W : Given
     cells-room = is .1 .1 .1 .1 .1 .1 .1 .1 .1 .1 .1 .1 .0 .0 .1
 
     abbrev frames-at : Sl
-    frames-at = sl (κs .1 .1 .1 .1 .1 .1 .1 .1 .1 .1 .0) (qs .1 .1 .1 .1 .1 .1 .1 .1 .1 .1 .0) (a .1 .1 .1 .1 .1 .1 .1 .1 .1 .1 .1 .1 .1 .0)
+    frames-at =
+        sl (κs .1 .1 .1 .1 .1 .1 .1 .1 .1 .1 .0) (qs .1 .1 .1 .1 .1 .1 .1 .1 .1 .1 .0)
+        (a .1 .1 .1 .1 .1 .1 .1 .1 .1 .1 .1 .1 .1 .0)
 
     abbrev frames : List Frame
     frames = now (a .1 .1 .1 .1 .1 .1 .1 .1 .1 .1 .1 .1 .1 .0)
@@ -179,7 +184,10 @@ module _ {M : Type 1} (𝓤 : URA M) (H : Heap 𝓤) (A : Atoms 𝓤) (W : Given
     frames-room = is .1 .1 .1 .1 .1 .1 .1 .1 .1 .1 .1 .1 .1 .0 .0 .1
 
     abbrev slices : List Arg
-    slices = shr u64 constants-at constants ∷ shr u64 structs-at structs ∷ shr u64 functions-at functions ∷ shr u8 text-at text ∷ shr u8 main-at main ∷ shr u32 main-places-at mainPlaces ∷ shr u8 other-at other ∷ shr u32 other-places-at otherPlaces ∷ shr u64 stack-at stack ∷ shr u64 cells-at cells ∷ shr R frames-at frames ∷ []
+    slices =
+        shr u64 constants-at constants ∷ shr u64 structs-at structs ∷ shr u64 functions-at functions ∷ shr u8 text-at text ∷ shr
+        u8 main-at main ∷ shr u32 main-places-at mainPlaces ∷ shr u8 other-at other ∷ shr u32 other-places-at otherPlaces ∷ shr
+        u64 stack-at stack ∷ shr u64 cells-at cells ∷ shr R frames-at frames ∷ []
 
     abbrev xs : List Arg
     xs = val VmRow m (vmVal m) ∷ val usize copies (vint w64 copies) ∷ val usize entries (vint w64 entries) ∷ slices
@@ -189,51 +197,103 @@ module _ {M : Type 1} (𝓤 : URA M) (H : Heap 𝓤) (A : Atoms 𝓤) (W : Given
 
     exits : (r : ℕ) → Is u8 r (vint w8 r ∷ []) → ((copy backtrace : List ℕ) → length copy ≡ copies → length backtrace ≡ entries → RunJudged m (programLent structs constants functions text main mainPlaces other otherPlaces) (runLent stack cells frames copy backtrace) r) → ent 𝓤 (⋆ 𝓤 H A (‵ (Holds slices) ∷ [])) (Post (vint w8 r))
     exits r isr said =
-        qed W (‵ (Holds slices) ∷ []) ∵ suffices ! _ (ends-at 𝓤 H A me.ended (stays kinds) (me.clauses 𝓤 H A mem run) W (passing xs) (vint w8 r) r (tt, (tt, (tt, (tt, (tt, (tt, (tt, (tt, (tt, (tt, (tt, (tt, (tt, (tt, tt)))))))))))))) (tt, (tt, (tt, (tt, (tt, (tt, (tt, (tt, (tt, (tt, (tt, (tt, (tt, (tt, tt))))))))))))))) $ says ! said $
-        gives ! xs (vm-makes 𝓤 H A W m _ (is .0), (uint-makes 𝓤 H A W w64 copies _ (is .1 .0), (uint-makes 𝓤 H A W w64 entries _ (is .1 .1 .0), tt))) (frame ! $ owned ! u8 (Is u8) (uint-makes 𝓤 H A W w8) r _ isr $ keep ! (1 ∷ 0 ∷ []) $ done !)
+        qed W (‵ (Holds slices) ∷ []) ∵ suffices ! _
+        (ends-at 𝓤 H A me.ended (stays kinds) (me.clauses 𝓤 H A mem run) W (passing xs) (vint w8 r) r
+        (tt, (tt, (tt, (tt, (tt, (tt, (tt, (tt, (tt, (tt, (tt, (tt, (tt, (tt, tt))))))))))))))
+        (tt, (tt, (tt, (tt, (tt, (tt, (tt, (tt, (tt, (tt, (tt, (tt, (tt, (tt, tt))))))))))))))) $ says ! said $ gives ! xs (
+          vm-makes 𝓤 H A W m _ (is .0),
+          (uint-makes 𝓤 H A W w64 copies _ (is .1 .0), (uint-makes 𝓤 H A W w64 entries _ (is .1 .1 .0), tt)),
+        ) (frame ! $ owned ! u8 (Is u8) (uint-makes 𝓤 H A W w8) r _ isr $ keep ! (1 ∷ 0 ∷ []) $ done !)
 
     -- the calls
     abbrev to-judge : List Arg
-    to-judge = val VmRow m (vmVal m) ∷ shr u64 constants-at constants ∷ shr u64 structs-at structs ∷ shr u64 functions-at functions ∷ shr u8 text-at text ∷ shr u8 main-at main ∷ shr u32 main-places-at mainPlaces ∷ shr u8 other-at other ∷ shr u32 other-places-at otherPlaces ∷ shr u64 stack-at stack ∷ shr u64 cells-at cells ∷ []
+    to-judge =
+        val VmRow m (vmVal m) ∷ shr u64 constants-at constants ∷ shr u64 structs-at structs ∷ shr u64 functions-at functions ∷ shr
+        u8 text-at text ∷ shr u8 main-at main ∷ shr u32 main-places-at mainPlaces ∷ shr u8 other-at other ∷ shr u32
+        other-places-at otherPlaces ∷ shr u64 stack-at stack ∷ shr u64 cells-at cells ∷ []
 
     call-judge : Rule 𝓤 H A W to-judge Judge Boolean vbool (λ b zs. b ≡ restOrder m (programLent structs constants functions text main mainPlaces other otherPlaces) stack cells)
-    call-judge = call-with 𝓤 H A W to-judge Judge Boolean vbool (λ b zs. b ≡ restOrder m (programLent structs constants functions text main mainPlaces other otherPlaces) stack cells) bool-tells (λ ns. passing (lent to-judge ns)) (λ ns. refl)
-        (λ ns. unasked W (lent to-judge ns)) (λ ns w. id⊢ 𝓤 _) (vm-makes 𝓤 H A W m _ (is .0), tt) ((refl, constants-room), ((refl, structs-room), ((refl, functions-room), ((refl, text-room), ((refl, main-room), ((refl, main-places-room), ((refl, other-room), ((refl, other-places-room), ((refl, stack-room), ((refl, cells-room), tt))))))))))
+    call-judge =
+        call-with 𝓤 H A W to-judge Judge Boolean vbool
+        (λ b zs. b ≡ restOrder m (programLent structs constants functions text main mainPlaces other otherPlaces) stack cells)
+        bool-tells (λ ns. passing (lent to-judge ns)) (λ ns. refl) (λ ns. unasked W (lent to-judge ns)) (λ ns w. id⊢ 𝓤 _)
+        (vm-makes 𝓤 H A W m _ (is .0), tt) (
+          (refl, constants-room),
+          (
+            (refl, structs-room),
+            (
+              (refl, functions-room),
+              (
+                (refl, text-room),
+                (
+                  (refl, main-room),
+                  (
+                    (refl, main-places-room),
+                    ((refl, other-room), ((refl, other-places-room), ((refl, stack-room), ((refl, cells-room), tt)))),
+                  ),
+                ),
+              ),
+            ),
+          ),
+        )
 
     abbrev to-count : Bool → List Arg
     to-count b = val Boolean b (vbool b) ∷ val VmRow m (vmVal m) ∷ []
 
     call-count : (b : Bool) → Is Boolean b (vbool b ∷ []) → Rule 𝓤 H A W (to-count b) Count usize (vint w64) (λ k zs. k ≡ (if b then m .program .functions else 0))
-    call-count b isb = call-with 𝓤 H A W (to-count b) Count usize (vint w64) (λ k zs. k ≡ (if b then m .program .functions else 0)) (uint-tells w64) (λ ns. passing (lent (to-count b) ns)) (λ ns. refl)
-        (λ ns. unasked W (lent (to-count b) ns)) (λ ns w. id⊢ 𝓤 _) (bool-makes 𝓤 H A W b _ isb, (vm-makes 𝓤 H A W m _ (is .0), tt)) tt
+    call-count b isb =
+        call-with 𝓤 H A W (to-count b) Count usize (vint w64) (λ k zs. k ≡ (if b then m .program .functions else 0))
+        (uint-tells w64) (λ ns. passing (lent (to-count b) ns)) (λ ns. refl) (λ ns. unasked W (lent (to-count b) ns))
+        (λ ns w. id⊢ 𝓤 _) (bool-makes 𝓤 H A W b _ isb, (vm-makes 𝓤 H A W m _ (is .0), tt)) tt
 
     abbrev to-slots : List Arg
     to-slots = val usize (stack-at .count) (vint w64 (stack-at .count)) ∷ val usize 2 (vint w64 2) ∷ []
 
     call-slots : Rule 𝓤 H A W to-slots Slots usize (vint w64) (λ p zs. ((os : List ℕ) → length os ≡ stack-at .count → p ≡ places 2 os))
-    call-slots = call-with 𝓤 H A W to-slots Slots usize (vint w64) (λ p zs. ((os : List ℕ) → length os ≡ stack-at .count → p ≡ places 2 os)) (uint-tells w64) (λ ns. passing (lent to-slots ns)) (λ ns. refl)
-        (λ ns. asked W (lent to-slots ns) (omega arith)) (λ ns w. id⊢ 𝓤 _) (uint-makes 𝓤 H A W w64 (stack-at .count) _ (refl, stack-room .0), (uint-makes 𝓤 H A W w64 2 _ (refl, omega arith), tt)) tt
+    call-slots =
+        call-with 𝓤 H A W to-slots Slots usize (vint w64)
+        (λ p zs. ((os : List ℕ) → length os ≡ stack-at .count → p ≡ places 2 os)) (uint-tells w64)
+        (λ ns. passing (lent to-slots ns)) (λ ns. refl) (λ ns. asked W (lent to-slots ns) (omega arith)) (λ ns w. id⊢ 𝓤 _)
+        (uint-makes 𝓤 H A W w64 (stack-at .count) _ (refl, stack-room .0), (uint-makes 𝓤 H A W w64 2 _ (refl, omega arith), tt))
+        tt
 
     abbrev to-good : ℕ → ℕ → List Arg
-    to-good k p = shr u64 functions-at functions ∷ val usize k (vint w64 k) ∷ val usize p (vint w64 p) ∷ val usize (m .frames) (vint w64 (m .frames)) ∷ shr R frames-at frames ∷ []
+    to-good k p =
+        shr u64 functions-at functions ∷ val usize k (vint w64 k) ∷ val usize p (vint w64 p) ∷ val usize (m .frames)
+        (vint w64 (m .frames)) ∷ shr R frames-at frames ∷ []
 
     call-good : (k : ℕ) (p : ℕ) → k < 2 ^ 64 → p < 2 ^ 64 → 2 * k ≤ length functions → Rule 𝓤 H A W (to-good k p) Good Boolean vbool (λ f zs. f ≡ framesGood functions k p (m .frames) frames)
-    call-good k p fits fitp there = call-with 𝓤 H A W (to-good k p) Good Boolean vbool (λ f zs. f ≡ framesGood functions k p (m .frames) frames) bool-tells (λ ns. passing (lent (to-good k p) ns)) (λ ns. refl)
-        (λ ns. asked W (lent (to-good k p) ns) there) (λ ns w. id⊢ 𝓤 _) (uint-makes 𝓤 H A W w64 k _ (refl, fits), (uint-makes 𝓤 H A W w64 p _ (refl, fitp), (uint-makes 𝓤 H A W w64 (m .frames) _ (refl, frames-fit m (is .0)), tt))) ((refl, functions-room), ((refl, frames-room), tt))
+    call-good k p fits fitp there =
+        call-with 𝓤 H A W (to-good k p) Good Boolean vbool (λ f zs. f ≡ framesGood functions k p (m .frames) frames) bool-tells
+        (λ ns. passing (lent (to-good k p) ns)) (λ ns. refl) (λ ns. asked W (lent (to-good k p) ns) there) (λ ns w. id⊢ 𝓤 _) (
+          uint-makes 𝓤 H A W w64 k _ (refl, fits),
+          (uint-makes 𝓤 H A W w64 p _ (refl, fitp), (uint-makes 𝓤 H A W w64 (m .frames) _ (refl, frames-fit m (is .0)), tt)),
+        ) ((refl, functions-room), ((refl, frames-room), tt))
 
     abbrev to-short : List Arg
-    to-short = val usize (stack-at .count) (vint w64 (stack-at .count)) ∷ val usize (frames-at .count) (vint w64 (frames-at .count)) ∷ val usize copies (vint w64 copies) ∷ val usize entries (vint w64 entries) ∷ []
+    to-short =
+        val usize (stack-at .count) (vint w64 (stack-at .count)) ∷ val usize (frames-at .count) (vint w64 (frames-at .count)) ∷
+        val usize copies (vint w64 copies) ∷ val usize entries (vint w64 entries) ∷ []
 
     call-short : Rule 𝓤 H A W to-short Short Boolean vbool (λ s zs. ShortPost (stack-at .count) (frames-at .count) copies entries s)
-    call-short = call-with 𝓤 H A W to-short Short Boolean vbool (λ s zs. ShortPost (stack-at .count) (frames-at .count) copies entries s) bool-tells (λ ns. passing (lent to-short ns)) (λ ns. refl)
-        (λ ns. unasked W (lent to-short ns)) (λ ns w. id⊢ 𝓤 _) (uint-makes 𝓤 H A W w64 (stack-at .count) _ (refl, stack-room .0), (uint-makes 𝓤 H A W w64 (frames-at .count) _ (refl, frames-room .0), (uint-makes 𝓤 H A W w64 copies _ (is .1 .0), (uint-makes 𝓤 H A W w64 entries _ (is .1 .1 .0), tt)))) tt
+    call-short =
+        call-with 𝓤 H A W to-short Short Boolean vbool (λ s zs. ShortPost (stack-at .count) (frames-at .count) copies entries s)
+        bool-tells (λ ns. passing (lent to-short ns)) (λ ns. refl) (λ ns. unasked W (lent to-short ns)) (λ ns w. id⊢ 𝓤 _) (
+          uint-makes 𝓤 H A W w64 (stack-at .count) _ (refl, stack-room .0),
+          (
+            uint-makes 𝓤 H A W w64 (frames-at .count) _ (refl, frames-room .0),
+            (uint-makes 𝓤 H A W w64 copies _ (is .1 .0), (uint-makes 𝓤 H A W w64 entries _ (is .1 .1 .0), tt)),
+          ),
+        ) tt
 
     abbrev to-why : Bool → Bool → Bool → List Arg
     to-why b f s = val Boolean b (vbool b) ∷ val Boolean f (vbool f) ∷ val Boolean s (vbool s) ∷ []
 
     call-why : (b : Bool) (f : Bool) (s : Bool) → Is Boolean b (vbool b ∷ []) → Is Boolean f (vbool f ∷ []) → Is Boolean s (vbool s ∷ []) → Rule 𝓤 H A W (to-why b f s) Why u8 (vint w8) (λ w zs. w ≡ refusalBy b f s)
-    call-why b f s isb isf iss = call-with 𝓤 H A W (to-why b f s) Why u8 (vint w8) (λ w zs. w ≡ refusalBy b f s) (uint-tells w8) (λ ns. passing (lent (to-why b f s) ns)) (λ ns. refl)
-        (λ ns. unasked W (lent (to-why b f s) ns)) (λ ns w. id⊢ 𝓤 _) (bool-makes 𝓤 H A W b _ isb, (bool-makes 𝓤 H A W f _ isf, (bool-makes 𝓤 H A W s _ iss, tt))) tt
+    call-why b f s isb isf iss =
+        call-with 𝓤 H A W (to-why b f s) Why u8 (vint w8) (λ w zs. w ≡ refusalBy b f s) (uint-tells w8)
+        (λ ns. passing (lent (to-why b f s) ns)) (λ ns. refl) (λ ns. unasked W (lent (to-why b f s) ns)) (λ ns w. id⊢ 𝓤 _)
+        (bool-makes 𝓤 H A W b _ isb, (bool-makes 𝓤 H A W f _ isf, (bool-makes 𝓤 H A W s _ iss, tt))) tt
 
     walk : ent 𝓤 (onEntry 𝓤 H A me.signature (lfts xs) (shares xs) (denots xs) (valss xs)) (WpFn 𝓤 H (𝓣 .C) (𝓣 .Λ) code.function (values xs) Post)
     walk =
@@ -254,12 +314,22 @@ module _ {M : Type 1} (𝓤 : URA M) (H : Heap 𝓤) (A : Atoms 𝓤) (W : Given
         fm = fmOf 𝓤 H (W .laws) 𝓣
 
         there : (b : Bool) (k : ℕ) → b ≡ restOrder m (programLent structs constants functions text main mainPlaces other otherPlaces) stack cells → k ≡ (if b then m .program .functions else 0) → 2 * k ≤ length functions
-        there b k eb ek = subst (λ (j : ℕ). 2 * j ≤ length functions) (sym ek) (functions-counted m structs constants functions text main mainPlaces other otherPlaces stack cells frames [] [] b eb)
+        there b k eb ek =
+            subst (λ (j : ℕ). 2 * j ≤ length functions) (sym ek)
+            (functions-counted m structs constants functions text main mainPlaces other otherPlaces stack cells frames [] [] b eb)
 
         judged : (b : Bool) (k p : ℕ) (f s : Bool) (r : ℕ) → b ≡ restOrder m (programLent structs constants functions text main mainPlaces other otherPlaces) stack cells → k ≡ (if b then m .program .functions else 0) → ((os : List ℕ) → length os ≡ stack-at .count → p ≡ places 2 os) → f ≡ framesGood functions k p (m .frames) frames → ShortPost (stack-at .count) (frames-at .count) copies entries s → r ≡ refusalBy b f s
             → (copy backtrace : List ℕ) → length copy ≡ copies → length backtrace ≡ entries → RunJudged m (programLent structs constants functions text main mainPlaces other otherPlaces) (runLent stack cells frames copy backtrace) r
-        judged b k p f s r eb ek ep ef es er copy backtrace ec et = subst (RunJudged m (programLent structs constants functions text main mainPlaces other otherPlaces) (runLent stack cells frames copy backtrace)) (sym er)
-            (run-judged m structs constants functions text main mainPlaces other otherPlaces stack cells frames copy backtrace b f s eb (ef ∙ ap (λ (j : ℕ). framesGood functions j p (m .frames) frames) ek ∙ ap (λ (j : ℕ). framesGood functions (if b then m .program .functions else 0) j (m .frames) frames) (ep stack refl)) (too-short m structs constants functions text main mainPlaces other otherPlaces stack cells frames copy backtrace es ec et))
+        judged b k p f s r eb ek ep ef es er copy backtrace ec et =
+            subst
+            (RunJudged m (programLent structs constants functions text main mainPlaces other otherPlaces)
+            (runLent stack cells frames copy backtrace)) (sym er)
+            (run-judged m structs constants functions text main mainPlaces other otherPlaces stack cells frames copy backtrace b f
+            s eb
+            (ef ∙ ap (λ (j : ℕ). framesGood functions j p (m .frames) frames) ek ∙ ap
+            (λ (j : ℕ). framesGood functions (if b then m .program .functions else 0) j (m .frames) frames) (ep stack refl))
+            (too-short m structs constants functions text main mainPlaces other otherPlaces stack cells frames copy backtrace es
+            ec et))
 
 pub run-refusal-spec : {M : Type 1} → stated.statement M
 unfolding code.routine tablesOf
@@ -268,9 +338,15 @@ run-refusal-spec 𝓤 H 𝓜 𝓖 𝓡 =
     closed kinds u8 𝓤 H 𝓜 𝓖 𝓡 code.env #me code.function (code.unfolded 𝓤 H 𝓜 𝓡) (me.clauses 𝓤 H (𝓖 .A) (𝓜 .mem) (𝓡 .run))
     (λ κs qs a g is. unneeded 𝓤 _
     (walk 𝓤 H (𝓖 .A) W (𝓜 .mem) (𝓡 .run) (tablesOf 𝓤 H 𝓜 (tables 𝓤 H 𝓜 𝓡 code.env))
-    (cited 𝓤 H (Judge 𝓤 H (𝓖 .A) W (𝓜 .mem) (𝓡 .run)) 𝓜 𝓡 code.env #judge judge-def.routine code.calls-ends·judge (judge-thm.met 𝓤 H 𝓜 𝓖 𝓡))
-    (cited 𝓤 H (Count 𝓤 H (𝓖 .A) W (𝓜 .mem) (𝓡 .run)) 𝓜 𝓡 code.env #count count-def.routine code.calls-machine·tracing·counted (count-thm.met 𝓤 H 𝓜 𝓖 𝓡))
-    (cited 𝓤 H (Slots 𝓤 H (𝓖 .A) W (𝓜 .mem) (𝓡 .run)) 𝓜 𝓡 code.env #slots slots-def.routine code.calls-program·words·room (slots-thm.met 𝓤 H 𝓜 𝓖 𝓡))
-    (cited 𝓤 H (Good 𝓤 H (𝓖 .A) W (𝓜 .mem) (𝓡 .run)) 𝓜 𝓡 code.env #good good-def.routine code.calls-frames·order·frames-ok (good-thm.met 𝓤 H 𝓜 𝓖 𝓡))
-    (cited 𝓤 H (Short 𝓤 H (𝓖 .A) W (𝓜 .mem) (𝓡 .run)) 𝓜 𝓡 code.env #short short-def.routine code.calls-ends·too-short (short-thm.met 𝓤 H 𝓜 𝓖 𝓡))
-    (cited 𝓤 H (Why 𝓤 H (𝓖 .A) W (𝓜 .mem) (𝓡 .run)) 𝓜 𝓡 code.env #why why-def.routine code.calls-machine·running·refusal (why-thm.met 𝓤 H 𝓜 𝓖 𝓡)) κs qs a is))
+    (cited 𝓤 H (Judge 𝓤 H (𝓖 .A) W (𝓜 .mem) (𝓡 .run)) 𝓜 𝓡 code.env #judge judge-def.routine code.calls-ends·judge
+    (judge-thm.met 𝓤 H 𝓜 𝓖 𝓡))
+    (cited 𝓤 H (Count 𝓤 H (𝓖 .A) W (𝓜 .mem) (𝓡 .run)) 𝓜 𝓡 code.env #count count-def.routine code.calls-machine·tracing·counted
+    (count-thm.met 𝓤 H 𝓜 𝓖 𝓡))
+    (cited 𝓤 H (Slots 𝓤 H (𝓖 .A) W (𝓜 .mem) (𝓡 .run)) 𝓜 𝓡 code.env #slots slots-def.routine code.calls-program·words·room
+    (slots-thm.met 𝓤 H 𝓜 𝓖 𝓡))
+    (cited 𝓤 H (Good 𝓤 H (𝓖 .A) W (𝓜 .mem) (𝓡 .run)) 𝓜 𝓡 code.env #good good-def.routine code.calls-frames·order·frames-ok
+    (good-thm.met 𝓤 H 𝓜 𝓖 𝓡))
+    (cited 𝓤 H (Short 𝓤 H (𝓖 .A) W (𝓜 .mem) (𝓡 .run)) 𝓜 𝓡 code.env #short short-def.routine code.calls-ends·too-short
+    (short-thm.met 𝓤 H 𝓜 𝓖 𝓡))
+    (cited 𝓤 H (Why 𝓤 H (𝓖 .A) W (𝓜 .mem) (𝓡 .run)) 𝓜 𝓡 code.env #why why-def.routine code.calls-machine·running·refusal
+    (why-thm.met 𝓤 H 𝓜 𝓖 𝓡)) κs qs a is))

@@ -40,11 +40,11 @@ use Rattle.report.proofs.playing.play as me
 use Rattle.report.proofs.playing.play.Statement as stated
 use Rattle.report.proofs.playing.play.Code as code
 
-abbrev kinds : List (Kind 11)
+abbrev kinds : List (Kind 12)
 kinds =
     own VmRow vmVal vm-tells (λ x f. refl) ∷ own u64 (vint w64) (uint-tells w64) (λ x f. refl) ∷ shared 0 tt u64 ∷ shared 1 tt u64
-    ∷ shared 2 tt u8 ∷ shared 3 tt u8 ∷ shared 4 tt u32 ∷ shared 5 tt u8 ∷ shared 6 tt u32 ∷ unique 7 tt u64 ∷ unique 8 tt u64 ∷
-    unique 9 tt u64 ∷ unique 10 tt u32 ∷ []
+    ∷ shared 2 tt u64 ∷ shared 3 tt u8 ∷ shared 4 tt u8 ∷ shared 5 tt u32 ∷ shared 6 tt u8 ∷ shared 7 tt u32 ∷ unique 8 tt u64
+    ∷ unique 9 tt u64 ∷ unique 10 tt u64 ∷ unique 11 tt u32 ∷ []
 
 -- the frames as they are made
 abbrev frames₀ : List Frame
@@ -63,7 +63,7 @@ module _ {M : Type 1} (𝓤 : URA M) (H : Heap 𝓤) (A : Atoms 𝓤) (W : Given
   abbrev It : Contract 𝓤
   It = tripleOf 𝓤 H A it.signature (it.spec 𝓤 H A mem run)
 
-  module _ (𝓣 : Tables 𝓤 H) (known : Triple 𝓤 (𝓣 .C #it) It) (κs : Lfts 11) (qs : Shares 11) (a : Passed kinds ResultRow κs) (is : Known kinds ResultRow κs a) where
+  module _ (𝓣 : Tables 𝓤 H) (known : Triple 𝓤 (𝓣 .C #it) It) (κs : Lfts 12) (qs : Shares 12) (a : Passed kinds ResultRow κs) (is : Known kinds ResultRow κs a) where
     -- the parameters
     abbrev m : Vm
     m = a .0
@@ -71,114 +71,122 @@ module _ {M : Type 1} (𝓤 : URA M) (H : Heap 𝓤) (A : Atoms 𝓤) (W : Given
     abbrev units : ℕ
     units = a .1 .0
 
-    abbrev s0 : Sl
-    s0 = sl (κs .0) (qs .0) (a .1 .1 .0)
-
-    abbrev s1 : Sl
-    s1 = sl (κs .1 .0) (qs .1 .0) (a .1 .1 .1 .0)
-
-    abbrev s2 : Sl
-    s2 = sl (κs .1 .1 .0) (qs .1 .1 .0) (a .1 .1 .1 .1 .0)
-
-    abbrev s3 : Sl
-    s3 = sl (κs .1 .1 .1 .0) (qs .1 .1 .1 .0) (a .1 .1 .1 .1 .1 .0)
-
-    abbrev s4 : Sl
-    s4 = sl (κs .1 .1 .1 .1 .0) (qs .1 .1 .1 .1 .0) (a .1 .1 .1 .1 .1 .1 .0)
-
-    abbrev s5 : Sl
-    s5 = sl (κs .1 .1 .1 .1 .1 .0) (qs .1 .1 .1 .1 .1 .0) (a .1 .1 .1 .1 .1 .1 .1 .0)
-
-    abbrev s6 : Sl
-    s6 = sl (κs .1 .1 .1 .1 .1 .1 .0) (qs .1 .1 .1 .1 .1 .1 .0) (a .1 .1 .1 .1 .1 .1 .1 .1 .0)
-
-    abbrev s7 : Sl
-    s7 = sl (κs .1 .1 .1 .1 .1 .1 .1 .0) (qs .1 .1 .1 .1 .1 .1 .1 .0) (a .1 .1 .1 .1 .1 .1 .1 .1 .1 .0)
-
-    abbrev s8 : Sl
-    s8 = sl (κs .1 .1 .1 .1 .1 .1 .1 .1 .0) (qs .1 .1 .1 .1 .1 .1 .1 .1 .0) (a .1 .1 .1 .1 .1 .1 .1 .1 .1 .1 .0)
-
-    abbrev s9 : Sl
-    s9 = sl (κs .1 .1 .1 .1 .1 .1 .1 .1 .1 .0) (qs .1 .1 .1 .1 .1 .1 .1 .1 .1 .0) (a .1 .1 .1 .1 .1 .1 .1 .1 .1 .1 .1 .0)
-
-    abbrev s10 : Sl
-    s10 =
-        sl (κs .1 .1 .1 .1 .1 .1 .1 .1 .1 .1 .0) (qs .1 .1 .1 .1 .1 .1 .1 .1 .1 .1 .0) (a .1 .1 .1 .1 .1 .1 .1 .1 .1 .1 .1 .1 .0)
+    abbrev constants-at : Sl
+    constants-at = sl (κs .0) (qs .0) (a .1 .1 .0)
 
     abbrev constants : List ℕ
     constants = now (a .1 .1 .0)
 
+    abbrev constants-room : Room u64 (constants-at .count)
+    constants-room = is .1 .1 .0 .0 .1
+
+    abbrev structs-at : Sl
+    structs-at = sl (κs .1 .0) (qs .1 .0) (a .1 .1 .1 .0)
+
+    abbrev structs : List ℕ
+    structs = now (a .1 .1 .1 .0)
+
+    abbrev structs-room : Room u64 (structs-at .count)
+    structs-room = is .1 .1 .1 .0 .0 .1
+
+    abbrev functions-at : Sl
+    functions-at = sl (κs .1 .1 .0) (qs .1 .1 .0) (a .1 .1 .1 .1 .0)
+
     abbrev functions : List ℕ
-    functions = now (a .1 .1 .1 .0)
+    functions = now (a .1 .1 .1 .1 .0)
+
+    abbrev functions-room : Room u64 (functions-at .count)
+    functions-room = is .1 .1 .1 .1 .0 .0 .1
+
+    abbrev text-at : Sl
+    text-at = sl (κs .1 .1 .1 .0) (qs .1 .1 .1 .0) (a .1 .1 .1 .1 .1 .0)
 
     abbrev text : List ℕ
-    text = now (a .1 .1 .1 .1 .0)
+    text = now (a .1 .1 .1 .1 .1 .0)
+
+    abbrev text-room : Room u8 (text-at .count)
+    text-room = is .1 .1 .1 .1 .1 .0 .0 .1
+
+    abbrev main-at : Sl
+    main-at = sl (κs .1 .1 .1 .1 .0) (qs .1 .1 .1 .1 .0) (a .1 .1 .1 .1 .1 .1 .0)
 
     abbrev main : List ℕ
-    main = now (a .1 .1 .1 .1 .1 .0)
+    main = now (a .1 .1 .1 .1 .1 .1 .0)
+
+    abbrev main-room : Room u8 (main-at .count)
+    main-room = is .1 .1 .1 .1 .1 .1 .0 .0 .1
+
+    abbrev main-places-at : Sl
+    main-places-at = sl (κs .1 .1 .1 .1 .1 .0) (qs .1 .1 .1 .1 .1 .0) (a .1 .1 .1 .1 .1 .1 .1 .0)
 
     abbrev mainPlaces : List ℕ
-    mainPlaces = now (a .1 .1 .1 .1 .1 .1 .0)
+    mainPlaces = now (a .1 .1 .1 .1 .1 .1 .1 .0)
+
+    abbrev main-places-room : Room u32 (main-places-at .count)
+    main-places-room = is .1 .1 .1 .1 .1 .1 .1 .0 .0 .1
+
+    abbrev other-at : Sl
+    other-at = sl (κs .1 .1 .1 .1 .1 .1 .0) (qs .1 .1 .1 .1 .1 .1 .0) (a .1 .1 .1 .1 .1 .1 .1 .1 .0)
 
     abbrev other : List ℕ
-    other = now (a .1 .1 .1 .1 .1 .1 .1 .0)
+    other = now (a .1 .1 .1 .1 .1 .1 .1 .1 .0)
+
+    abbrev other-room : Room u8 (other-at .count)
+    other-room = is .1 .1 .1 .1 .1 .1 .1 .1 .0 .0 .1
+
+    abbrev other-places-at : Sl
+    other-places-at = sl (κs .1 .1 .1 .1 .1 .1 .1 .0) (qs .1 .1 .1 .1 .1 .1 .1 .0) (a .1 .1 .1 .1 .1 .1 .1 .1 .1 .0)
 
     abbrev otherPlaces : List ℕ
-    otherPlaces = now (a .1 .1 .1 .1 .1 .1 .1 .1 .0)
+    otherPlaces = now (a .1 .1 .1 .1 .1 .1 .1 .1 .1 .0)
+
+    abbrev other-places-room : Room u32 (other-places-at .count)
+    other-places-room = is .1 .1 .1 .1 .1 .1 .1 .1 .1 .0 .0 .1
+
+    abbrev stack-at : Sl
+    stack-at = sl (κs .1 .1 .1 .1 .1 .1 .1 .1 .0) (qs .1 .1 .1 .1 .1 .1 .1 .1 .0) (a .1 .1 .1 .1 .1 .1 .1 .1 .1 .1 .0)
 
     abbrev stack : List ℕ
-    stack = now (a .1 .1 .1 .1 .1 .1 .1 .1 .1 .0)
+    stack = now (a .1 .1 .1 .1 .1 .1 .1 .1 .1 .1 .0)
+
+    abbrev stack-room : Room u64 (stack-at .count)
+    stack-room = is .1 .1 .1 .1 .1 .1 .1 .1 .1 .1 .0 .0 .1
+
+    abbrev cells-at : Sl
+    cells-at = sl (κs .1 .1 .1 .1 .1 .1 .1 .1 .1 .0) (qs .1 .1 .1 .1 .1 .1 .1 .1 .1 .0) (a .1 .1 .1 .1 .1 .1 .1 .1 .1 .1 .1 .0)
 
     abbrev cells : List ℕ
-    cells = now (a .1 .1 .1 .1 .1 .1 .1 .1 .1 .1 .0)
+    cells = now (a .1 .1 .1 .1 .1 .1 .1 .1 .1 .1 .1 .0)
+
+    abbrev cells-room : Room u64 (cells-at .count)
+    cells-room = is .1 .1 .1 .1 .1 .1 .1 .1 .1 .1 .1 .0 .0 .1
+
+    abbrev copy-at : Sl
+    copy-at = sl (κs .1 .1 .1 .1 .1 .1 .1 .1 .1 .1 .0) (qs .1 .1 .1 .1 .1 .1 .1 .1 .1 .1 .0) (a .1 .1 .1 .1 .1 .1 .1 .1 .1 .1 .1 .1 .0)
 
     abbrev copy : List ℕ
-    copy = now (a .1 .1 .1 .1 .1 .1 .1 .1 .1 .1 .1 .0)
+    copy = now (a .1 .1 .1 .1 .1 .1 .1 .1 .1 .1 .1 .1 .0)
+
+    abbrev copy-room : Room u64 (copy-at .count)
+    copy-room = is .1 .1 .1 .1 .1 .1 .1 .1 .1 .1 .1 .1 .0 .0 .1
+
+    abbrev backtrace-at : Sl
+    backtrace-at = sl (κs .1 .1 .1 .1 .1 .1 .1 .1 .1 .1 .1 .0) (qs .1 .1 .1 .1 .1 .1 .1 .1 .1 .1 .1 .0) (a .1 .1 .1 .1 .1 .1 .1 .1 .1 .1 .1 .1 .1 .0)
 
     abbrev backtrace : List ℕ
-    backtrace = now (a .1 .1 .1 .1 .1 .1 .1 .1 .1 .1 .1 .1 .0)
+    backtrace = now (a .1 .1 .1 .1 .1 .1 .1 .1 .1 .1 .1 .1 .1 .0)
 
-    abbrev room0 : Room u64 (s0 .count)
-    room0 = is .1 .1 .0 .0 .1
-
-    abbrev room1 : Room u64 (s1 .count)
-    room1 = is .1 .1 .1 .0 .0 .1
-
-    abbrev room2 : Room u8 (s2 .count)
-    room2 = is .1 .1 .1 .1 .0 .0 .1
-
-    abbrev room3 : Room u8 (s3 .count)
-    room3 = is .1 .1 .1 .1 .1 .0 .0 .1
-
-    abbrev room4 : Room u32 (s4 .count)
-    room4 = is .1 .1 .1 .1 .1 .1 .0 .0 .1
-
-    abbrev room5 : Room u8 (s5 .count)
-    room5 = is .1 .1 .1 .1 .1 .1 .1 .0 .0 .1
-
-    abbrev room6 : Room u32 (s6 .count)
-    room6 = is .1 .1 .1 .1 .1 .1 .1 .1 .0 .0 .1
-
-    abbrev room7 : Room u64 (s7 .count)
-    room7 = is .1 .1 .1 .1 .1 .1 .1 .1 .1 .0 .0 .1
-
-    abbrev room8 : Room u64 (s8 .count)
-    room8 = is .1 .1 .1 .1 .1 .1 .1 .1 .1 .1 .0 .0 .1
-
-    abbrev room9 : Room u64 (s9 .count)
-    room9 = is .1 .1 .1 .1 .1 .1 .1 .1 .1 .1 .1 .0 .0 .1
-
-    abbrev room10 : Room u32 (s10 .count)
-    room10 = is .1 .1 .1 .1 .1 .1 .1 .1 .1 .1 .1 .1 .0 .0 .1
+    abbrev backtrace-room : Room u32 (backtrace-at .count)
+    backtrace-room = is .1 .1 .1 .1 .1 .1 .1 .1 .1 .1 .1 .1 .1 .0 .0 .1
 
     -- the slices before and behind the frames
     abbrev firsts : List ℕ → List ℕ → List Arg
     firsts stack′ cells′ =
-        shr u64 s0 constants ∷ shr u64 s1 functions ∷ shr u8 s2 text ∷ shr u8 s3 main ∷ shr u32 s4 mainPlaces ∷ shr u8 s5 other ∷
-        shr u32 s6 otherPlaces ∷ mut u64 s7 stack′ ∷ mut u64 s8 cells′ ∷ []
+        shr u64 constants-at constants ∷ shr u64 structs-at structs ∷ shr u64 functions-at functions ∷ shr u8 text-at text ∷ shr u8 main-at main ∷ shr u32 main-places-at mainPlaces ∷ shr u8 other-at other ∷
+        shr u32 other-places-at otherPlaces ∷ mut u64 stack-at stack′ ∷ mut u64 cells-at cells′ ∷ []
 
     abbrev lasts : List ℕ → List ℕ → List Arg
-    lasts copy′ backtrace′ = mut u64 s9 copy′ ∷ mut u32 s10 backtrace′ ∷ []
+    lasts copy′ backtrace′ = mut u64 copy-at copy′ ∷ mut u32 backtrace-at backtrace′ ∷ []
 
     abbrev slices : List ℕ → List ℕ → List ℕ → List ℕ → List Arg
     slices stack′ cells′ copy′ backtrace′ = firsts stack′ cells′ ++ lasts copy′ backtrace′
@@ -193,19 +201,19 @@ module _ {M : Type 1} (𝓤 : URA M) (H : Heap 𝓤) (A : Atoms 𝓤) (W : Given
     abbrev Post : Val → SProp 𝓤
     Post = walkOf 𝓤 H A me.ended (stays kinds) (me.clauses 𝓤 H A mem run) .post (passing entry)
 
-    abbrev stores : List ℕ → Stores
-    stores structs = programLent structs constants functions text main mainPlaces other otherPlaces
+    abbrev stores : Stores
+    stores = programLent structs constants functions text main mainPlaces other otherPlaces
 
     abbrev before : List Frame → Lent
     before frames = runLent stack cells frames copy backtrace
 
-    exits : (r : RunResult) (stack′ cells′ copy′ backtrace′ : List ℕ) → Is ResultRow r (resultVal r ∷ []) → length stack′ ≡ s7 .count → length cells′ ≡ s8 .count → length copy′ ≡ s9 .count → length backtrace′ ≡ s10 .count
+    exits : (r : RunResult) (stack′ cells′ copy′ backtrace′ : List ℕ) → Is ResultRow r (resultVal r ∷ []) → length stack′ ≡ stack-at .count → length cells′ ≡ cells-at .count → length copy′ ≡ copy-at .count → length backtrace′ ≡ backtrace-at .count
         → PlayPost m units stores before r (λ frames. runLent stack′ cells′ frames copy′ backtrace′) → ent 𝓤 (⋆ 𝓤 H A (‵ (Holds (slices stack′ cells′ copy′ backtrace′)) ∷ [])) (Post (resultVal r))
     exits r stack′ cells′ copy′ backtrace′ isr len-stack len-cells len-copy len-backtrace said =
         qed W (‵ (Holds (slices stack′ cells′ copy′ backtrace′)) ∷ []) ∵ suffices ! _
         (ends-at 𝓤 H A me.ended (stays kinds) (me.clauses 𝓤 H A mem run) W (passing entry) (resultVal r) r
-        (tt, (tt, (tt, (tt, (tt, (tt, (tt, (tt, (tt, (stack′, (cells′, (copy′, (backtrace′, tt)))))))))))))
-        (tt, (tt, (tt, (tt, (tt, (tt, (tt, (tt, (tt, (len-stack, (len-cells, (len-copy, (len-backtrace, tt)))))))))))))) $ says !
+        (tt, (tt, (tt, (tt, (tt, (tt, (tt, (tt, (tt, (tt, (stack′, (cells′, (copy′, (backtrace′, tt))))))))))))))
+        (tt, (tt, (tt, (tt, (tt, (tt, (tt, (tt, (tt, (tt, (len-stack, (len-cells, (len-copy, (len-backtrace, tt))))))))))))))) $ says !
         said $ gives ! (xs stack′ cells′ copy′ backtrace′)
         (vm-makes 𝓤 H A W m _ (is .0), (uint-makes 𝓤 H A W w64 units _ (is .1 .0), tt))
         (frame ! $ owned ! ResultRow (Is ResultRow) (result-makes 𝓤 H A W) r _ isr $ keep ! (1 ∷ 0 ∷ []) $ done !)
@@ -221,29 +229,29 @@ module _ {M : Type 1} (𝓤 : URA M) (H : Heap 𝓤) (A : Atoms 𝓤) (W : Given
 
       abbrev Ran : RunResult → Lists to-it → Type 0
       Ran r zs =
-          (structs : List ℕ) → RunPost m (stores structs) (before frames₀) units r
-          (runLent (zs .1 .1 .1 .1 .1 .1 .1 .1 .1 .0) (zs .1 .1 .1 .1 .1 .1 .1 .1 .1 .1 .0)
-          (zs .1 .1 .1 .1 .1 .1 .1 .1 .1 .1 .1 .0) (zs .1 .1 .1 .1 .1 .1 .1 .1 .1 .1 .1 .1 .0)
-          (zs .1 .1 .1 .1 .1 .1 .1 .1 .1 .1 .1 .1 .1 .0))
+          RunPost m stores (before frames₀) units r
+          (runLent (zs .1 .1 .1 .1 .1 .1 .1 .1 .1 .1 .0) (zs .1 .1 .1 .1 .1 .1 .1 .1 .1 .1 .1 .0)
+          (zs .1 .1 .1 .1 .1 .1 .1 .1 .1 .1 .1 .1 .0) (zs .1 .1 .1 .1 .1 .1 .1 .1 .1 .1 .1 .1 .1 .0)
+          (zs .1 .1 .1 .1 .1 .1 .1 .1 .1 .1 .1 .1 .1 .1 .0))
 
     -- the locals before and behind the array
     abbrev fs : List Local
-    fs = take 15 (code.function .locals)
+    fs = take 16 (code.function .locals)
 
     abbrev bs : List Local
-    bs = drop 16 (code.function .locals)
+    bs = drop 17 (code.function .locals)
 
     abbrev us : List (Option Val)
     us =
-        none ∷ some (vmVal m) ∷ some (vint w64 units) ∷ some (sval s0) ∷ some (sval s1) ∷ some (sval s2) ∷ some (sval s3) ∷ some
-        (sval s4) ∷ some (sval s5) ∷ some (sval s6) ∷ some (sval s7) ∷ some (sval s8) ∷ some (sval s9) ∷ some (sval s10) ∷ some
+        none ∷ some (vmVal m) ∷ some (vint w64 units) ∷ some (sval constants-at) ∷ some (sval structs-at) ∷ some (sval functions-at) ∷ some (sval text-at) ∷ some (sval main-at) ∷ some
+        (sval main-places-at) ∷ some (sval other-at) ∷ some (sval other-places-at) ∷ some (sval stack-at) ∷ some (sval cells-at) ∷ some (sval copy-at) ∷ some (sval backtrace-at) ∷ some
         (fval (root 0)) ∷ []
 
     abbrev ws : ℕ → List (Option Val)
     ws l =
-        none ∷ some (vptr (s7 .block) (s7 .offset)) ∷ some (sval s7) ∷ some (vptr (s8 .block) (s8 .offset)) ∷ some (sval s8) ∷
-        some (vptr l 0) ∷ some (sliceVal (l, 0) 256) ∷ some (vptr (s9 .block) (s9 .offset)) ∷ some (sval s9) ∷ some
-        (vptr (s10 .block) (s10 .offset)) ∷ some (sval s10) ∷ []
+        none ∷ some (vptr (stack-at .block) (stack-at .offset)) ∷ some (sval stack-at) ∷ some (vptr (cells-at .block) (cells-at .offset)) ∷ some (sval cells-at) ∷
+        some (vptr l 0) ∷ some (sliceVal (l, 0) 256) ∷ some (vptr (copy-at .block) (copy-at .offset)) ∷ some (sval copy-at) ∷ some
+        (vptr (backtrace-at .block) (backtrace-at .offset)) ∷ some (sval backtrace-at) ∷ []
 
     walk : ent 𝓤 (onEntry 𝓤 H A me.signature (lfts entry) (shares entry) (denots entry) (valss entry)) (WpFn 𝓤 H (𝓣 .C) (𝓣 .Λ) code.function (values entry) Post)
     walk =
@@ -251,27 +259,27 @@ module _ {M : Type 1} (𝓤 : URA M) (H : Heap 𝓤) (A : Atoms 𝓤) (W : Given
         -- what the array owns, and that its machine value is one of the type
         owned ! R (Is R) (frame-makes 𝓤 H A W) (root 0) (fval (root 0) ∷ []) is-root $ use1 W (‵ (Array R 256 .own frames₀ (array₀ ∷ []))) (array-repeat 𝓤 H A W R (frame-copy 𝓤 H A W) 256 (root 0) (fval (root 0))) $
         peeks ! (Array R 256) (Is (Array R 256)) (shows 𝓤 H A (Array R 256)) frames₀ (array₀ ∷ []) (λ isa. enters ! (𝓣 .C) (𝓣 .Λ) code.function (values entry) Post
-        (vm-typed 𝓤 H A W m (is .0), ((tt, record { fits = is .1 .0 .1 }), ((tt, (tt, (record { fits = room0 .0 }, tt))), ((tt, (tt, (record { fits = room1 .0 }, tt))), ((tt, (tt, (record { fits = room2 .0 }, tt))), ((tt, (tt, (record { fits = room3 .0 }, tt))), ((tt, (tt, (record { fits = room4 .0 }, tt))), ((tt, (tt, (record { fits = room5 .0 }, tt))), ((tt, (tt, (record { fits = room6 .0 }, tt))), ((tt, (tt, (record { fits = room7 .0 }, tt))), ((tt, (tt, (record { fits = room8 .0 }, tt))), ((tt, (tt, (record { fits = room9 .0 }, tt))), ((tt, (tt, (record { fits = room10 .0 }, tt))), tt))))))))))))) (λ ls.
+        (vm-typed 𝓤 H A W m (is .0), ((tt, record { fits = is .1 .0 .1 }), ((tt, (tt, (record { fits = constants-room .0 }, tt))), ((tt, (tt, (record { fits = structs-room .0 }, tt))), ((tt, (tt, (record { fits = functions-room .0 }, tt))), ((tt, (tt, (record { fits = text-room .0 }, tt))), ((tt, (tt, (record { fits = main-room .0 }, tt))), ((tt, (tt, (record { fits = main-places-room .0 }, tt))), ((tt, (tt, (record { fits = other-room .0 }, tt))), ((tt, (tt, (record { fits = other-places-room .0 }, tt))), ((tt, (tt, (record { fits = stack-room .0 }, tt))), ((tt, (tt, (record { fits = cells-room .0 }, tt))), ((tt, (tt, (record { fits = copy-room .0 }, tt))), ((tt, (tt, (record { fits = backtrace-room .0 }, tt))), tt)))))))))))))) (λ ls.
         sets ! (agg ! (ofs ! refl)) (frame-typed 𝓤 H A W (root 0) is-root) $
         sets ! (rep ! 256 (of ! refl)) (array-lawful 𝓤 H A W R (LL.lawful T.the-type T′.the-laws 𝓤 H A W) 256 .typed frames₀ (array₀ ∷ []) isa .0) $
-        sets ! (addr ! (behind ! refl refl)) (tt, tt) $ sets ! (agg ! (ofs ! refl)) (tt, (tt, (record { fits = room7 .0 }, tt))) $
-        sets ! (addr ! (behind ! refl refl)) (tt, tt) $ sets ! (agg ! (ofs ! refl)) (tt, (tt, (record { fits = room8 .0 }, tt))) $
+        sets ! (addr ! (behind ! refl refl)) (tt, tt) $ sets ! (agg ! (ofs ! refl)) (tt, (tt, (record { fits = stack-room .0 }, tt))) $
+        sets ! (addr ! (behind ! refl refl)) (tt, tt) $ sets ! (agg ! (ofs ! refl)) (tt, (tt, (record { fits = cells-room .0 }, tt))) $
         sets ! (addr ! (from ! (stop !))) (tt, tt) $ sets ! (agg ! (ofs ! refl)) (tt, (tt, (record { fits = lit< tt }, tt))) $
-        sets ! (addr ! (behind ! refl refl)) (tt, tt) $ sets ! (agg ! (ofs ! refl)) (tt, (tt, (record { fits = room9 .0 }, tt))) $
-        sets ! (addr ! (behind ! refl refl)) (tt, tt) $ sets ! (agg ! (ofs ! refl)) (tt, (tt, (record { fits = room10 .0 }, tt))) $
+        sets ! (addr ! (behind ! refl refl)) (tt, tt) $ sets ! (agg ! (ofs ! refl)) (tt, (tt, (record { fits = copy-room .0 }, tt))) $
+        sets ! (addr ! (behind ! refl refl)) (tt, tt) $ sets ! (agg ! (ofs ! refl)) (tt, (tt, (record { fits = backtrace-room .0 }, tt))) $
         -- [the locals; what the array owns; the slices]
-        apart _ memorySlot bs (ws (ls .1 .1 .1 .1 .1 .1 .1 .1 .1 .1 .1 .1 .1 .1 .1 .0)) ! fs us tt array₀ ls (move ! (1 ∷ 4 ∷ []) $ lend-array ! tt R tt 256 room frames₀ (ls .1 .1 .1 .1 .1 .1 .1 .1 .1 .1 .1 .1 .1 .1 .1 .0) array₀ (λ ν δ e.
+        apart _ memorySlot bs (ws (ls .1 .1 .1 .1 .1 .1 .1 .1 .1 .1 .1 .1 .1 .1 .1 .1 .0)) ! fs us tt array₀ ls (move ! (1 ∷ 4 ∷ []) $ lend-array ! tt R tt 256 room frames₀ (ls .1 .1 .1 .1 .1 .1 .1 .1 .1 .1 .1 .1 .1 .1 .1 .1 .0) array₀ (λ ν δ e.
         -- [the frames; the lender's part; the locals before; what frees the array; the locals behind; the slices]
-        move ! (5 ∷ []) $ splits ! (firsts stack cells) (lasts copy backtrace) (move ! (2 ∷ 1 ∷ []) $ fjoin ! $ move ! (1 ∷ 0 ∷ []) $ joins ! (firsts stack cells) (mut R (sf ν δ (ls .1 .1 .1 .1 .1 .1 .1 .1 .1 .1 .1 .1 .1 .1 .1 .0)) frames₀ ∷ lasts copy backtrace) (
+        move ! (5 ∷ []) $ splits ! (firsts stack cells) (lasts copy backtrace) (move ! (2 ∷ 1 ∷ []) $ fjoin ! $ move ! (1 ∷ 0 ∷ []) $ joins ! (firsts stack cells) (mut R (sf ν δ (ls .1 .1 .1 .1 .1 .1 .1 .1 .1 .1 .1 .1 .1 .1 .1 .1 .0)) frames₀ ∷ lasts copy backtrace) (
         -- [all the slices; the lender's part; the locals before; what frees the array; the locals behind]
-        calls-with 𝓤 H A W (to-it ν δ (ls .1 .1 .1 .1 .1 .1 .1 .1 .1 .1 .1 .1 .1 .1 .1 .0)) It ResultRow resultVal (Ran ν δ (ls .1 .1 .1 .1 .1 .1 .1 .1 .1 .1 .1 .1 .1 .1 .1 .0)) result-tells (λ ns. passing (lent (to-it ν δ (ls .1 .1 .1 .1 .1 .1 .1 .1 .1 .1 .1 .1 .1 .1 .1 .0)) ns)) (λ ns. unasked W (lent (to-it ν δ (ls .1 .1 .1 .1 .1 .1 .1 .1 .1 .1 .1 .1 .1 .1 .1 .0)) ns)) (λ ns w. id⊢ 𝓤 _)
-        (vm-makes 𝓤 H A W m _ (is .0), (uint-makes 𝓤 H A W w64 units _ (is .1 .0), tt)) ((refl, room0), ((refl, room1), ((refl, room2), ((refl, room3), ((refl, room4), ((refl, room5), ((refl, room6), ((refl, room7), ((refl, room8), ((e, room), ((refl, room9), ((refl, room10), tt))))))))))))
-        ! fm known (λ ns. and-then ! (load ! (from ! (stop !)) (look-in ! 3 (here ! 1 refl))) (and-then ! (load ! (from ! (stop !)) (look-in ! 3 (here ! 2 refl))) (and-then ! (load ! (from ! (stop !)) (look-in ! 3 (here ! 3 refl))) (and-then ! (load ! (from ! (stop !)) (look-in ! 3 (here ! 4 refl))) (and-then ! (load ! (from ! (stop !)) (look-in ! 3 (here ! 5 refl))) (and-then ! (load ! (from ! (stop !)) (look-in ! 3 (here ! 6 refl))) (and-then ! (load ! (from ! (stop !)) (look-in ! 3 (here ! 7 refl))) (and-then ! (load ! (from ! (stop !)) (look-in ! 3 (here ! 8 refl))) (and-then ! (load ! (from ! (stop !)) (look-in ! 3 (here ! 9 refl))) (and-then ! (load ! (from ! (stop !)) (look-in ! 5 (here ! 2 refl))) (and-then ! (load ! (from ! (stop !)) (look-in ! 5 (here ! 4 refl))) (and-then ! (load ! (from ! (stop !)) (look-in ! 5 (here ! 6 refl))) (and-then ! (load ! (from ! (stop !)) (look-in ! 5 (here ! 8 refl))) (and-then ! (load ! (from ! (stop !)) (look-in ! 5 (here ! 10 refl))) (no-more !))))))))))))))) (λ r zs said lens isr.
-        splits ! (firsts (zs .1 .1 .1 .1 .1 .1 .1 .1 .1 .0) (zs .1 .1 .1 .1 .1 .1 .1 .1 .1 .1 .0)) (mut R (sf ν δ (ls .1 .1 .1 .1 .1 .1 .1 .1 .1 .1 .1 .1 .1 .1 .1 .0)) (zs .1 .1 .1 .1 .1 .1 .1 .1 .1 .1 .1 .0) ∷ lasts (zs .1 .1 .1 .1 .1 .1 .1 .1 .1 .1 .1 .1 .0) (zs .1 .1 .1 .1 .1 .1 .1 .1 .1 .1 .1 .1 .1 .0)) (move ! (1 ∷ []) $ fsplit ! $ move ! (2 ∷ 1 ∷ []) $ joins ! (firsts (zs .1 .1 .1 .1 .1 .1 .1 .1 .1 .0) (zs .1 .1 .1 .1 .1 .1 .1 .1 .1 .1 .0)) (lasts (zs .1 .1 .1 .1 .1 .1 .1 .1 .1 .1 .1 .1 .0) (zs .1 .1 .1 .1 .1 .1 .1 .1 .1 .1 .1 .1 .1 .0)) (
+        calls-with 𝓤 H A W (to-it ν δ (ls .1 .1 .1 .1 .1 .1 .1 .1 .1 .1 .1 .1 .1 .1 .1 .1 .0)) It ResultRow resultVal (Ran ν δ (ls .1 .1 .1 .1 .1 .1 .1 .1 .1 .1 .1 .1 .1 .1 .1 .1 .0)) result-tells (λ ns. passing (lent (to-it ν δ (ls .1 .1 .1 .1 .1 .1 .1 .1 .1 .1 .1 .1 .1 .1 .1 .1 .0)) ns)) (λ ns. unasked W (lent (to-it ν δ (ls .1 .1 .1 .1 .1 .1 .1 .1 .1 .1 .1 .1 .1 .1 .1 .1 .0)) ns)) (λ ns w. id⊢ 𝓤 _)
+        (vm-makes 𝓤 H A W m _ (is .0), (uint-makes 𝓤 H A W w64 units _ (is .1 .0), tt)) ((refl, constants-room), ((refl, structs-room), ((refl, functions-room), ((refl, text-room), ((refl, main-room), ((refl, main-places-room), ((refl, other-room), ((refl, other-places-room), ((refl, stack-room), ((refl, cells-room), ((e, room), ((refl, copy-room), ((refl, backtrace-room), tt)))))))))))))
+        ! fm known (λ ns. and-then ! (load ! (from ! (stop !)) (look-in ! 3 (here ! 1 refl))) (and-then ! (load ! (from ! (stop !)) (look-in ! 3 (here ! 2 refl))) (and-then ! (load ! (from ! (stop !)) (look-in ! 3 (here ! 3 refl))) (and-then ! (load ! (from ! (stop !)) (look-in ! 3 (here ! 4 refl))) (and-then ! (load ! (from ! (stop !)) (look-in ! 3 (here ! 5 refl))) (and-then ! (load ! (from ! (stop !)) (look-in ! 3 (here ! 6 refl))) (and-then ! (load ! (from ! (stop !)) (look-in ! 3 (here ! 7 refl))) (and-then ! (load ! (from ! (stop !)) (look-in ! 3 (here ! 8 refl))) (and-then ! (load ! (from ! (stop !)) (look-in ! 3 (here ! 9 refl))) (and-then ! (load ! (from ! (stop !)) (look-in ! 3 (here ! 10 refl))) (and-then ! (load ! (from ! (stop !)) (look-in ! 5 (here ! 2 refl))) (and-then ! (load ! (from ! (stop !)) (look-in ! 5 (here ! 4 refl))) (and-then ! (load ! (from ! (stop !)) (look-in ! 5 (here ! 6 refl))) (and-then ! (load ! (from ! (stop !)) (look-in ! 5 (here ! 8 refl))) (and-then ! (load ! (from ! (stop !)) (look-in ! 5 (here ! 10 refl))) (no-more !)))))))))))))))) (λ r zs said lens isr.
+        splits ! (firsts (zs .1 .1 .1 .1 .1 .1 .1 .1 .1 .1 .0) (zs .1 .1 .1 .1 .1 .1 .1 .1 .1 .1 .1 .0)) (mut R (sf ν δ (ls .1 .1 .1 .1 .1 .1 .1 .1 .1 .1 .1 .1 .1 .1 .1 .1 .0)) (zs .1 .1 .1 .1 .1 .1 .1 .1 .1 .1 .1 .1 .0) ∷ lasts (zs .1 .1 .1 .1 .1 .1 .1 .1 .1 .1 .1 .1 .1 .0) (zs .1 .1 .1 .1 .1 .1 .1 .1 .1 .1 .1 .1 .1 .1 .0)) (move ! (1 ∷ []) $ fsplit ! $ move ! (2 ∷ 1 ∷ []) $ joins ! (firsts (zs .1 .1 .1 .1 .1 .1 .1 .1 .1 .1 .0) (zs .1 .1 .1 .1 .1 .1 .1 .1 .1 .1 .1 .0)) (lasts (zs .1 .1 .1 .1 .1 .1 .1 .1 .1 .1 .1 .1 .1 .0) (zs .1 .1 .1 .1 .1 .1 .1 .1 .1 .1 .1 .1 .1 .1 .0)) (
         -- [the slices; the frames; the lender's part; the locals before; what frees the array; the locals behind]
-        move ! (1 ∷ 2 ∷ []) $ back-array ! tt R 256 (zs .1 .1 .1 .1 .1 .1 .1 .1 .1 .1 .1 .0) (ls .1 .1 .1 .1 .1 .1 .1 .1 .1 .1 .1 .1 .1 .1 .1 .0) ν δ 256 (λ u. move ! (2 ∷ 0 ∷ 3 ∷ 4 ∷ []) $ whole _ memorySlot bs (ws (ls .1 .1 .1 .1 .1 .1 .1 .1 .1 .1 .1 .1 .1 .1 .1 .0)) ! fs us tt u ls (
+        move ! (1 ∷ 2 ∷ []) $ back-array ! tt R 256 (zs .1 .1 .1 .1 .1 .1 .1 .1 .1 .1 .1 .1 .0) (ls .1 .1 .1 .1 .1 .1 .1 .1 .1 .1 .1 .1 .1 .1 .1 .1 .0) ν δ 256 (λ u. move ! (2 ∷ 0 ∷ 3 ∷ 4 ∷ []) $ whole _ memorySlot bs (ws (ls .1 .1 .1 .1 .1 .1 .1 .1 .1 .1 .1 .1 .1 .1 .1 .1 .0)) ! fs us tt u ls (
         lands-in ! (result-typed 𝓤 H A W r isr) $ sets ! (of-opd ! (of ! refl)) (result-typed 𝓤 H A W r isr) $ leaves ! refl $
-        by ! (exits r (zs .1 .1 .1 .1 .1 .1 .1 .1 .1 .0) (zs .1 .1 .1 .1 .1 .1 .1 .1 .1 .1 .0) (zs .1 .1 .1 .1 .1 .1 .1 .1 .1 .1 .1 .1 .0) (zs .1 .1 .1 .1 .1 .1 .1 .1 .1 .1 .1 .1 .1 .0) isr (lens .0) (lens .1 .0) (lens .1 .1 .1 .0) (lens .1 .1 .1 .1 .0) (record { frames = (zs .1 .1 .1 .1 .1 .1 .1 .1 .1 .1 .1 .0); post = said }))))))))))))))
+        by ! (exits r (zs .1 .1 .1 .1 .1 .1 .1 .1 .1 .1 .0) (zs .1 .1 .1 .1 .1 .1 .1 .1 .1 .1 .1 .0) (zs .1 .1 .1 .1 .1 .1 .1 .1 .1 .1 .1 .1 .1 .0) (zs .1 .1 .1 .1 .1 .1 .1 .1 .1 .1 .1 .1 .1 .1 .0) isr (lens .0) (lens .1 .0) (lens .1 .1 .1 .0) (lens .1 .1 .1 .1 .0) (record { frames = (zs .1 .1 .1 .1 .1 .1 .1 .1 .1 .1 .1 .1 .0); post = said }))))))))))))))
       where
         fm : FmC 𝓤 H (W .laws) (𝓣 .C)
         fm = fmOf 𝓤 H (W .laws) 𝓣
