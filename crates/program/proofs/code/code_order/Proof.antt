@@ -6,19 +6,21 @@ use Rattle.program.proofs.code.code_order.Statement.{statement}
 use Rattle.program.proofs.code.code_order.Tie as tie
 
 counts-ok-requires : tie.Need-counts-ok-requires
-counts-ok-requires c κs = search needs
+counts-ok-requires c κs = search
 
 functions-ok-requires : tie.Need-functions-ok-requires
-functions-ok-requires c κs = search needs
+functions-ok-requires c κs = search
 
 inside-codes-requires : tie.Need-inside-codes-requires
-inside-codes-requires c κs = search needs
+inside-codes-requires c κs = search
 
 inside-codes-requires-2 : tie.Need-inside-codes-requires-2
-inside-codes-requires-2 c κs = search needs
+inside-codes-requires-2 c κs = search
 
 returns : tie.Need-returns
-returns c = order-is _ _ _ _ _ _ _ _ _ _ (c .before .before .before .counts-ok .ensures) (c .before .before .functions-ok .ensures) (c .before .inside-codes .ensures _ _ refl refl) (c .inside-codes2 .ensures _ _ refl refl)
+returns c =
+    order-is _ _ _ _ _ _ _ _ _ _ (c .before .before .before .counts-ok .ensures) (c .before .before .functions-ok .ensures)
+    (c .before .inside-codes .ensures _ _ refl refl) (c .inside-codes2 .ensures _ _ refl refl)
 
 pub code-order-spec : {M : Type 1} → statement M
 code-order-spec =

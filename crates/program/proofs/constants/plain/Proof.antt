@@ -6,17 +6,17 @@ use Rattle.program.proofs.constants.plain.Statement.{statement}
 use Rattle.program.proofs.constants.plain.Tie as tie
 
 put-words-requires : tie.Need-put-words-requires
-put-words-requires c κs = search needs
+put-words-requires c κs = search
 
 add-t9 : tie.Need-add-t9
 add-t9 c = search needs
 
 same-length : tie.Need-same-length
-same-length c = search needs
+same-length c = search
 
 returns : tie.Need-returns
 unfolding constantsLent
-returns c = λ rest t. plain-added _ _ _ _ _ (c .before .before .put-words .ensures)
+returns c = search plain-added
 
 pub plain-spec : {M : Type 1} → statement M
 plain-spec = tie.close (tie.spec put-words-requires add-t9 same-length returns)

@@ -5,19 +5,19 @@ use Rattle.program.proofs.functions.function_order.Statement.{statement
 use Rattle.program.proofs.functions.function_order.Tie as tie
 
 counts-ok-requires : tie.Need-counts-ok-requires
-counts-ok-requires c κs = search needs
+counts-ok-requires c κs = search
 
 text-ok-requires : tie.Need-text-ok-requires
-text-ok-requires c κs = search needs
+text-ok-requires c κs = search
 
 functions-ok-requires : tie.Need-functions-ok-requires
-functions-ok-requires c κs = search needs
+functions-ok-requires c κs = search
 
 main-ok-requires : tie.Need-main-ok-requires
-main-ok-requires c κs = search needs
+main-ok-requires c κs = search
 
 returns : tie.Need-returns
-returns c = function-order-is _ _ _ _ _ _ _ (c .before .before .before .counts-ok .ensures) (c .before .before .text-ok .ensures) (c .before .functions-ok .ensures) (c .main-ok .ensures)
+returns c = search function-order-is
 
 pub function-order-spec : {M : Type 1} → statement M
 function-order-spec =

@@ -16,19 +16,19 @@ loop-holds : tie.Need-loop-holds Inv-loop μ-loop
 loop-holds c = different-start _ _ _
 
 word-requires : tie.Need-word-requires Inv-loop μ-loop
-word-requires c κs = search needs
+word-requires c κs = search
 
 part-requires : tie.Need-part-requires Inv-loop μ-loop
-part-requires c κs = search needs
+part-requires c κs = search
 
 add-among : tie.Need-add-among Inv-loop μ-loop
 add-among c = omega arith
 
 among-requires : tie.Need-among-requires Inv-loop μ-loop
-among-requires c κs = search needs
+among-requires c κs = search
 
 returns : tie.Need-returns Inv-loop μ-loop
-returns c = different-not _ _ _ _ (c .before .before .before .before .before .loop .inv) (c .before .before .before .before .loop-test .taken) _ _ _ (c .before .before .before .word .ensures) (c .before .before .part .ensures) (c .before .among .ensures) (c .if1 .taken)
+returns c = search different-not
 
 add-i : tie.Need-add-i Inv-loop μ-loop
 add-i c = omega arith
@@ -37,10 +37,10 @@ loop-less : tie.Need-loop-less Inv-loop μ-loop
 loop-less c = omega arith
 
 loop-again : tie.Need-loop-again Inv-loop μ-loop
-loop-again c = different-next _ _ _ _ (c .before .before .before .before .before .loop .inv) (c .before .before .before .before .loop-test .taken) _ _ _ (c .before .before .before .word .ensures) (c .before .before .part .ensures) (c .before .among .ensures) (c .if1 .left)
+loop-again c = search different-next
 
 returns-2 : tie.Need-returns-2 Inv-loop μ-loop
-returns-2 c = different-all _ _ _ _ (c .before .loop .inv) (c .loop-test .left)
+returns-2 c = search different-all
 
 pub all-different-spec : {M : Type 1} → statement M
 all-different-spec =

@@ -16,16 +16,16 @@ loop-holds : tie.Need-loop-holds Inv-loop μ-loop
 loop-holds c = first-start _ _ _ _ _
 
 word-requires : tie.Need-word-requires Inv-loop μ-loop
-word-requires c κs = search needs
+word-requires c κs = search
 
 part-requires : tie.Need-part-requires Inv-loop μ-loop
-part-requires c κs = search needs
+part-requires c κs = search
 
 same-bytes-requires : tie.Need-same-bytes-requires Inv-loop μ-loop
-same-bytes-requires c κs = search needs
+same-bytes-requires c κs = search
 
 returns : tie.Need-returns Inv-loop μ-loop
-returns c = first-here _ _ _ _ _ _ (c .before .before .before .before .before .loop .inv) (c .before .before .before .before .loop-test .taken) _ _ _ (c .before .before .before .word .ensures) (c .before .before .part .ensures) (c .before .same-bytes .ensures) (c .if1 .taken)
+returns c = search first-here
 
 add-at : tie.Need-add-at Inv-loop μ-loop
 add-at c = omega arith
@@ -34,10 +34,10 @@ loop-less : tie.Need-loop-less Inv-loop μ-loop
 loop-less c = omega arith
 
 loop-again : tie.Need-loop-again Inv-loop μ-loop
-loop-again c = first-next _ _ _ _ _ _ (c .before .before .before .before .before .loop .inv) (c .before .before .before .before .loop-test .taken) _ _ _ (c .before .before .before .word .ensures) (c .before .before .part .ensures) (c .before .same-bytes .ensures) (c .if1 .left)
+loop-again c = search first-next
 
 returns-2 : tie.Need-returns-2 Inv-loop μ-loop
-returns-2 c = first-none _ _ _ _ _ _ (c .before .loop .inv) (c .loop-test .left)
+returns-2 c = search first-none
 
 pub first-struct-spec : {M : Type 1} → statement M
 first-struct-spec =

@@ -18,25 +18,25 @@ sub-i : tie.Need-sub-i Inv-loop μ-loop
 sub-i c = omega arith
 
 first-requires : tie.Need-first-requires Inv-loop μ-loop
-first-requires c κs = search needs
+first-requires c κs = search
 
 part-requires : tie.Need-part-requires Inv-loop μ-loop
-part-requires c κs = search needs
+part-requires c κs = search
 
 same-bytes-requires : tie.Need-same-bytes-requires Inv-loop μ-loop
-same-bytes-requires c κs = search needs
+same-bytes-requires c κs = search
 
 returns : tie.Need-returns Inv-loop μ-loop
-returns c = newest-here _ _ _ _ _ (c .before .before .before .before .before .loop .inv) (c .before .before .before .before .loop-test .taken) _ _ _ (c .before .before .before .first .ensures) (c .before .before .part .ensures) (c .before .same-bytes .ensures) (c .if1 .taken)
+returns c = search newest-here
 
 loop-less : tie.Need-loop-less Inv-loop μ-loop
 loop-less c = omega arith
 
 loop-again : tie.Need-loop-again Inv-loop μ-loop
-loop-again c = newest-below _ _ _ _ _ (c .before .before .before .before .before .loop .inv) (c .before .before .before .before .loop-test .taken) _ _ _ (c .before .before .before .first .ensures) (c .before .before .part .ensures) (c .before .same-bytes .ensures) (c .if1 .left)
+loop-again c = search newest-below
 
 returns-2 : tie.Need-returns-2 Inv-loop μ-loop
-returns-2 c = newest-none _ _ _ _ _ (c .before .loop .inv) (c .loop-test .left)
+returns-2 c = search newest-none
 
 pub newest-function-spec : {M : Type 1} → statement M
 newest-function-spec =

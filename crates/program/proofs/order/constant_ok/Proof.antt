@@ -11,13 +11,13 @@ returns-2 : tie.Need-returns-2
 returns-2 c = kind-1 _ _ _ (c .before .if1 .left) (c .if2 .taken)
 
 inside-text-requires : tie.Need-inside-text-requires
-inside-text-requires c κs = search needs
+inside-text-requires c κs = search
 
 returns-3 : tie.Need-returns-3
-returns-3 c = kind-text _ _ _ (c .before .before .before .if1 .left) (c .before .before .if2 .left) (c .before .if3 .taken) _ (c .inside-text .ensures)
+returns-3 c = search kind-text
 
 returns-4 : tie.Need-returns-4
-returns-4 c = kind-none _ _ _ (c .before .before .if1 .left) (c .before .if2 .left) (c .if3 .left)
+returns-4 c = search kind-none
 
 pub constant-ok-spec : {M : Type 1} → statement M
 constant-ok-spec = tie.close (tie.spec returns returns-2 inside-text-requires returns-3 returns-4)

@@ -12,7 +12,8 @@ use Rattle.program.proofs.order.constants_ok.Statement.{statement}
 use Rattle.program.proofs.order.constants_ok.Tie as tie
 
 abbrev Inv-loop : tie.InvT-loop
-Inv-loop c constants n i₀ i = Passed (constantsOk c constants) (c .constants) (λ j. constantOk c (kindAt constants j) (payloadAt constants j)) i
+Inv-loop c constants n i₀ i =
+    Passed (constantsOk c constants) (c .constants) (λ j. constantOk c (kindAt constants j) (payloadAt constants j)) i
 
 abbrev μ-loop : tie.MeasureT-loop
 μ-loop c constants n i₀ i = c .constants - i
@@ -27,16 +28,16 @@ loop-holds : tie.Need-loop-holds Inv-loop μ-loop
 loop-holds c = none-yet (constants-judged _ _) _ (c .before .room .ensures _ refl) (c .if1 .left)
 
 first-requires : tie.Need-first-requires Inv-loop μ-loop
-first-requires c κs = search needs
+first-requires c κs = search
 
 second-requires : tie.Need-second-requires Inv-loop μ-loop
-second-requires c κs = search needs
+second-requires c κs = search
 
 constant-ok-requires : tie.Need-constant-ok-requires Inv-loop μ-loop
-constant-ok-requires c κs = search needs
+constant-ok-requires c κs = search
 
 returns-2 : tie.Need-returns-2 Inv-loop μ-loop
-returns-2 c = one-fails (c .before .before .before .before .before .loop .inv) (c .before .before .before .before .loop-test .taken) _ (constant-here _ _ _ _ _ _ (c .before .before .before .first .ensures) (c .before .before .second .ensures) (c .before .constant-ok .ensures)) (not-true _ (c .if2 .taken))
+returns-2 c = search (one-fails, constant-here, not-true)
 
 add-i : tie.Need-add-i Inv-loop μ-loop
 add-i c = omega arith
@@ -45,7 +46,7 @@ loop-less : tie.Need-loop-less Inv-loop μ-loop
 loop-less c = omega arith
 
 loop-again : tie.Need-loop-again Inv-loop μ-loop
-loop-again c = one-more (c .before .before .before .before .before .loop .inv) (c .before .before .before .before .loop-test .taken) _ (constant-here _ _ _ _ _ _ (c .before .before .before .first .ensures) (c .before .before .second .ensures) (c .before .constant-ok .ensures)) (not-false _ (c .if2 .left))
+loop-again c = search (one-more, constant-here, not-false)
 
 returns-3 : tie.Need-returns-3 Inv-loop μ-loop
 returns-3 c = all-passed (c .before .loop .inv) (c .loop-test .left)

@@ -5,7 +5,7 @@ use Rattle.program.proofs.order.counts_ok.Statement.{statement}
 use Rattle.program.proofs.order.counts_ok.Tie as tie
 
 last-of-requires : tie.Need-last-of-requires
-last-of-requires c κs = search needs
+last-of-requires c κs = search
 
 returns : tie.Need-returns
 returns c = counts-is _ _ (c .last-of .ensures)

@@ -5,28 +5,28 @@ use Rattle.program.proofs.order.function_ok.Statement.{statement}
 use Rattle.program.proofs.order.function_ok.Tie as tie
 
 second-requires : tie.Need-second-requires
-second-requires c κs = search needs
+second-requires c κs = search
 
 first-requires : tie.Need-first-requires
-first-requires c κs = search needs
+first-requires c κs = search
 
 inside-text-requires : tie.Need-inside-text-requires
-inside-text-requires c κs = search needs
+inside-text-requires c κs = search
 
 start-of-requires : tie.Need-start-of-requires
-start-of-requires c κs = search needs
+start-of-requires c κs = search
 
 code-start-requires : tie.Need-code-start-requires
-code-start-requires c κs = search needs
+code-start-requires c κs = search
 
 size-of-requires : tie.Need-size-of-requires
-size-of-requires c κs = search needs
+size-of-requires c κs = search
 
 code-end-requires : tie.Need-code-end-requires
-code-end-requires c κs = search needs
+code-end-requires c κs = search
 
 returns : tie.Need-returns
-returns c = function-is _ _ _ _ _ _ _ _ _ _ (c .before .before .before .before .before .before .second .ensures) (c .before .before .before .before .before .first .ensures) (c .before .before .before .before .inside-text .ensures) (c .before .before .before .start-of .ensures .0) (c .before .size-of .ensures .0) (c .before .before .code-start .ensures) (c .code-end .ensures)
+returns c = search function-is
 
 pub function-ok-spec : {M : Type 1} → statement M
 function-ok-spec =

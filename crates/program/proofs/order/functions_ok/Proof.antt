@@ -26,10 +26,10 @@ loop-holds : tie.Need-loop-holds Inv-loop μ-loop
 loop-holds c = none-yet (functions-judged _ _) _ (c .before .room .ensures _ refl) (c .if1 .left)
 
 function-ok-requires : tie.Need-function-ok-requires Inv-loop μ-loop
-function-ok-requires c κs = search needs
+function-ok-requires c κs = search
 
 returns-2 : tie.Need-returns-2 Inv-loop μ-loop
-returns-2 c = one-fails (c .before .before .before .loop .inv) (c .before .before .loop-test .taken) _ (c .before .function-ok .ensures) (not-true _ (c .if2 .taken))
+returns-2 c = search (one-fails, not-true)
 
 add-i : tie.Need-add-i Inv-loop μ-loop
 add-i c = omega arith
@@ -38,7 +38,7 @@ loop-less : tie.Need-loop-less Inv-loop μ-loop
 loop-less c = omega arith
 
 loop-again : tie.Need-loop-again Inv-loop μ-loop
-loop-again c = one-more (c .before .before .before .loop .inv) (c .before .before .loop-test .taken) _ (c .before .function-ok .ensures) (not-false _ (c .if2 .left))
+loop-again c = search (one-more, not-false)
 
 returns-3 : tie.Need-returns-3 Inv-loop μ-loop
 returns-3 c = all-passed (c .before .loop .inv) (c .loop-test .left)

@@ -5,16 +5,16 @@ use Rattle.program.proofs.order.inside_text.Statement.{statement}
 use Rattle.program.proofs.order.inside_text.Tie as tie
 
 start-of-requires : tie.Need-start-of-requires
-start-of-requires c κs = search needs
+start-of-requires c κs = search
 
 size-of-requires : tie.Need-size-of-requires
-size-of-requires c κs = search needs
+size-of-requires c κs = search
 
 add-result : tie.Need-add-result
 add-result c = search needs
 
 returns : tie.Need-returns
-returns c = inside-is _ _ _ _ (c .before .before .start-of .ensures .0) (c .before .size-of .ensures .0)
+returns c = search inside-is
 
 pub inside-text-spec : {M : Type 1} → statement M
 inside-text-spec = tie.close (tie.spec start-of-requires size-of-requires add-result returns)

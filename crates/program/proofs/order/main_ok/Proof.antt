@@ -5,19 +5,19 @@ use Rattle.program.proofs.order.main_ok.Statement.{statement}
 use Rattle.program.proofs.order.main_ok.Tie as tie
 
 first-requires : tie.Need-first-requires
-first-requires c κs = search needs
+first-requires c κs = search
 
 part-requires : tie.Need-part-requires
-part-requires c κs = search needs
+part-requires c κs = search
 
 slice-aggregate-same-bytes : tie.Need-slice-aggregate-same-bytes
-slice-aggregate-same-bytes c = search needs
+slice-aggregate-same-bytes c = search
 
 same-bytes-requires : tie.Need-same-bytes-requires
-same-bytes-requires c κs = search needs
+same-bytes-requires c κs = search
 
 returns : tie.Need-returns
-returns c = main-is _ _ _ _ _ (c .before .before .before .first .ensures) (c .before .before .part .ensures) (c .same-bytes .ensures)
+returns c = search main-is
 
 pub main-ok-spec : {M : Type 1} → statement M
 main-ok-spec =

@@ -16,7 +16,9 @@ use Rattle.program.proofs.order.structs_inside.Statement.{statement}
 use Rattle.program.proofs.order.structs_inside.Tie as tie
 
 abbrev Inv-loop : tie.InvT-loop
-Inv-loop c structs n i₀ i = Passed (leb (c .structs) (places 1 structs) && everyFrom (c .structs) 0 (λ j. insideText c (structWord structs j))) (c .structs) (λ j. insideText c (structWord structs j)) i
+Inv-loop c structs n i₀ i =
+    Passed (leb (c .structs) (places 1 structs) && everyFrom (c .structs) 0 (λ j. insideText c (structWord structs j)))
+    (c .structs) (λ j. insideText c (structWord structs j)) i
 
 abbrev μ-loop : tie.MeasureT-loop
 μ-loop c structs n i₀ i = c .structs - i
@@ -25,19 +27,25 @@ room-requires : tie.Need-room-requires Inv-loop μ-loop
 room-requires c κs = search needs
 
 returns : tie.Need-returns Inv-loop μ-loop
-returns c = too-many (structs-judged (c .before .before .before .args .c) (c .before .before .before .args .structs .now)) _ (c .before .room .ensures _ refl) (c .if1 .taken)
+returns c =
+    let at-start = c .before .before .before in
+    too-many (structs-judged (at-start .args .c) (at-start .args .structs .now)) _ (c .before .room .ensures _ refl)
+    (c .if1 .taken)
 
 loop-holds : tie.Need-loop-holds Inv-loop μ-loop
-loop-holds c = none-yet (structs-judged (c .before .before .before .args .c) (c .before .before .before .args .structs .now)) _ (c .before .room .ensures _ refl) (c .if1 .left)
+loop-holds c =
+    let at-start = c .before .before .before in
+    none-yet (structs-judged (at-start .args .c) (at-start .args .structs .now)) _ (c .before .room .ensures _ refl)
+    (c .if1 .left)
 
 word-requires : tie.Need-word-requires Inv-loop μ-loop
-word-requires c κs = search needs
+word-requires c κs = search
 
 inside-text-requires : tie.Need-inside-text-requires Inv-loop μ-loop
-inside-text-requires c κs = search needs
+inside-text-requires c κs = search
 
 returns-2 : tie.Need-returns-2 Inv-loop μ-loop
-returns-2 c = one-fails (c .before .before .before .before .loop .inv) (c .before .before .before .loop-test .taken) _ (struct-here _ _ _ _ _ (c .before .before .word .ensures) (c .before .inside-text .ensures)) (not-true _ (c .if2 .taken))
+returns-2 c = search (one-fails, struct-here, not-true)
 
 add-i : tie.Need-add-i Inv-loop μ-loop
 add-i c = omega arith
@@ -46,7 +54,7 @@ loop-less : tie.Need-loop-less Inv-loop μ-loop
 loop-less c = omega arith
 
 loop-again : tie.Need-loop-again Inv-loop μ-loop
-loop-again c = one-more (c .before .before .before .before .loop .inv) (c .before .before .before .loop-test .taken) _ (struct-here _ _ _ _ _ (c .before .before .word .ensures) (c .before .inside-text .ensures)) (not-false _ (c .if2 .left))
+loop-again c = search (one-more, struct-here, not-false)
 
 returns-3 : tie.Need-returns-3 Inv-loop μ-loop
 returns-3 c = all-passed (c .before .loop .inv) (c .loop-test .left)

@@ -18,7 +18,7 @@ unfolding structsLent
 returns-2 c = λ rest. struct-21 _ _ _ (c .before .before .if1 .left) _ (c .before .room .ensures _ refl) (c .if2 .taken)
 
 text-room-requires : tie.Need-text-room-requires
-text-room-requires c κs = search needs
+text-room-requires c κs = search
 
 add-end : tie.Need-add-end
 add-end c = let h = lent-fits _ _ _ _ (c .before .text-room .ensures) (c .if3 .taken) in omega arith
@@ -27,13 +27,22 @@ put-bytes-requires : tie.Need-put-bytes-requires
 put-bytes-requires c κs = lent-fits _ _ _ _ (c .before .before .text-room .ensures) (c .before .if3 .taken) .0
 
 pack-requires : tie.Need-pack-requires
-pack-requires c κs = let h = lent-fits _ _ _ _ (c .before .before .before .before .before .text-room .ensures) (c .before .before .before .before .if3 .taken) in (omega arith, omega arith)
+pack-requires c κs =
+    let h =
+    let at-if3 = c .before .before .before .before in
+    let at-text-room = at-if3 .before in
+    lent-fits _ _ _ _ (at-text-room .text-room .ensures) (at-if3 .if3 .taken) in
+    (omega arith, omega arith)
 
 mul-structs : tie.Need-mul-structs
 mul-structs c = search needs
 
 slice-write-structs : tie.Need-slice-write-structs
-slice-write-structs c = word-fits _ _ (c .before .before .before .before .before .before .before .before .before .before .before .before .before .before .args .structs .now) (c .before .before .before .before .before .before .before .before .before .room .ensures _ refl) (c .before .before .before .before .before .before .before .before .if2 .left)
+slice-write-structs c =
+    let at-if2 = c .before .before .before .before .before .before .before .before in
+    let at-room = at-if2 .before in
+    let at-start = at-room .before .before .before .before .before in
+    word-fits _ _ (at-start .args .structs .now) (at-room .room .ensures _ refl) (at-if2 .if2 .left)
 
 add-t19 : tie.Need-add-t19
 add-t19 c = search needs
@@ -42,18 +51,32 @@ same-length : tie.Need-same-length
 same-length c = search needs
 
 same-length-2 : tie.Need-same-length-2
-same-length-2 c = search needs
+same-length-2 c = search
 
 returns-3 : tie.Need-returns-3
 unfolding structsLent
-returns-3 c = λ rest. struct-added _ _ _ (c .before .before .before .before .before .before .before .before .before .before .if1 .left) _ (c .before .before .before .before .before .before .before .before .before .room .ensures _ refl) (c .before .before .before .before .before .before .before .before .if2 .left) _ (c .before .before .before .before .before .before .text-room .ensures _ refl) (c .before .before .before .before .before .if3 .taken) _ _ _ (c .before .before .before .put-bytes .ensures) (c .pack .ensures) refl
+returns-3 c =
+    let at-put-bytes = c .before .before .before in
+    let at-if3 = at-put-bytes .before .before in
+    let at-text-room = at-if3 .before in
+    let at-if2 = at-text-room .before .before in
+    let at-room = at-if2 .before in
+    let at-if1 = at-room .before in
+    λ rest. struct-added _ _ _ (at-if1 .if1 .left) _ (at-room .room .ensures _ refl) (at-if2 .if2 .left) _
+    (at-text-room .text-room .ensures _ refl) (at-if3 .if3 .taken) _ _ _ (at-put-bytes .put-bytes .ensures) (c .pack .ensures)
+    refl
 
 same-length-3 : tie.Need-same-length-3
-same-length-3 c = search needs
+same-length-3 c = search
 
 returns-4 : tie.Need-returns-4
 unfolding structsLent
-returns-4 c = λ rest. struct-text-21 _ _ _ (c .before .before .before .before .before .if1 .left) _ (c .before .before .before .before .room .ensures _ refl) (c .before .before .before .if2 .left) _ (c .before .text-room .ensures _ refl) (c .if3 .left)
+returns-4 c =
+    let at-if2 = c .before .before .before in
+    let at-room = at-if2 .before in
+    let at-if1 = at-room .before in
+    λ rest. struct-text-21 _ _ _ (at-if1 .if1 .left) _ (at-room .room .ensures _ refl) (at-if2 .if2 .left) _
+    (c .before .text-room .ensures _ refl) (c .if3 .left)
 
 pub add-struct-spec : {M : Type 1} → statement M
 add-struct-spec =

@@ -5,19 +5,19 @@ use Rattle.program.proofs.structs.struct_order.Statement.{statement}
 use Rattle.program.proofs.structs.struct_order.Tie as tie
 
 counts-ok-requires : tie.Need-counts-ok-requires
-counts-ok-requires c κs = search needs
+counts-ok-requires c κs = search
 
 text-ok-requires : tie.Need-text-ok-requires
-text-ok-requires c κs = search needs
+text-ok-requires c κs = search
 
 structs-ok-requires : tie.Need-structs-ok-requires
-structs-ok-requires c κs = search needs
+structs-ok-requires c κs = search
 
 returns : tie.Need-returns
-returns c = struct-order-is _ _ _ _ _ (c .before .before .before .counts-ok .ensures) (c .before .before .text-ok .ensures) (c .before .if1 .taken) _ (c .structs-ok .ensures)
+returns c = search struct-order-is
 
 returns-2 : tie.Need-returns-2
-returns-2 c = struct-order-not _ _ _ _ _ (c .before .before .counts-ok .ensures) (c .before .text-ok .ensures) (c .if1 .left)
+returns-2 c = search struct-order-not
 
 pub struct-order-spec : {M : Type 1} → statement M
 struct-order-spec =

@@ -5,19 +5,19 @@ use Rattle.program.proofs.words.code_end.Statement.{statement}
 use Rattle.program.proofs.words.code_end.Tie as tie
 
 second-requires : tie.Need-second-requires
-second-requires c κs = search needs
+second-requires c κs = search
 
 start-of-requires : tie.Need-start-of-requires
-start-of-requires c κs = search needs
+start-of-requires c κs = search
 
 size-of-requires : tie.Need-size-of-requires
-size-of-requires c κs = search needs
+size-of-requires c κs = search
 
 add-result : tie.Need-add-result
 add-result c = search needs
 
 returns : tie.Need-returns
-returns c = end-is _ _ _ _ _ (c .before .before .second .ensures) (c .before .start-of .ensures .0) (c .size-of .ensures .0)
+returns c = search end-is
 
 pub code-end-spec : {M : Type 1} → statement M
 code-end-spec =

@@ -11,10 +11,10 @@ sub-code-end : tie.Need-sub-code-end
 sub-code-end c = search needs
 
 code-end-requires : tie.Need-code-end-requires
-code-end-requires c κs = search needs
+code-end-requires c κs = search
 
 returns-2 : tie.Need-returns-2
-returns-2 c = starts-behind _ _ _ (c .before .if1 .left) (c .code-end .ensures)
+returns-2 c = search starts-behind
 
 pub code-start-spec : {M : Type 1} → statement M
 code-start-spec = tie.close (tie.spec returns sub-code-end code-end-requires returns-2)

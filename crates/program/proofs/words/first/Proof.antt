@@ -13,7 +13,7 @@ mul-word : tie.Need-mul-word
 mul-word c = search needs
 
 word-requires : tie.Need-word-requires
-word-requires c κs = search needs
+word-requires c κs = search
 
 returns-2 : tie.Need-returns-2
 unfolding kindAt structWord

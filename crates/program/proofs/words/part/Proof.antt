@@ -5,19 +5,19 @@ use Rattle.program.proofs.words.part.Statement.{statement}
 use Rattle.program.proofs.words.part.Tie as tie
 
 start-of-requires : tie.Need-start-of-requires
-start-of-requires c κs = search needs
+start-of-requires c κs = search
 
 lesser-requires : tie.Need-lesser-requires
-lesser-requires c κs = search needs
+lesser-requires c κs = search
 
 size-of-requires : tie.Need-size-of-requires
-size-of-requires c κs = search needs
+size-of-requires c κs = search
 
 add-lesser : tie.Need-add-lesser
 add-lesser c = search needs
 
 lesser-requires-2 : tie.Need-lesser-requires-2
-lesser-requires-2 c κs = search needs
+lesser-requires-2 c κs = search
 
 sub-result : tie.Need-sub-result
 sub-result c = search needs
@@ -29,7 +29,7 @@ part-result-end : tie.Need-part-result-end
 part-result-end c = search needs
 
 returns : tie.Need-returns
-returns c = part-is _ _ _ _ _ _ (c .before .before .before .before .start-of .ensures .0) (c .before .before .size-of .ensures .0) (c .before .before .before .lesser .ensures) (c .before .lesser2 .ensures)
+returns c = search part-is
 
 pub part-spec : {M : Type 1} → statement M
 part-spec =

@@ -5,10 +5,10 @@ use Rattle.program.proofs.words.room.Statement.{statement}
 use Rattle.program.proofs.words.room.Tie as tie
 
 div-lesser : tie.Need-div-lesser
-div-lesser c = search needs
+div-lesser c = search
 
 lesser-requires : tie.Need-lesser-requires
-lesser-requires c κs = search needs
+lesser-requires c κs = search
 
 returns : tie.Need-returns
 returns c = room-is _ _ _ (c .before .pre) (c .lesser .ensures)

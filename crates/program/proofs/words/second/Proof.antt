@@ -16,7 +16,7 @@ add-word : tie.Need-add-word
 add-word c = search needs
 
 word-requires : tie.Need-word-requires
-word-requires c κs = search needs
+word-requires c κs = search
 
 returns-2 : tie.Need-returns-2
 unfolding payloadAt structWord

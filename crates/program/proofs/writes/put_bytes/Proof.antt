@@ -32,7 +32,7 @@ loop-less : tie.Need-loop-less Inv-loop μ-loop
 loop-less c = let i = c .before .before .loop .inv in let p = c .before .before .before .pre in omega arith
 
 loop-again : tie.Need-loop-again Inv-loop μ-loop
-loop-again c = another (c .before .before .loop .inv) _ refl (c .before .loop-test .taken)
+loop-again c = search another
 
 same-length : tie.Need-same-length Inv-loop μ-loop
 same-length c = c .before .loop .inv .same

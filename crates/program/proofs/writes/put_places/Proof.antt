@@ -31,13 +31,13 @@ loop-less : tie.Need-loop-less Inv-loop μ-loop
 loop-less c = omega arith
 
 loop-again : tie.Need-loop-again Inv-loop μ-loop
-loop-again c = another (c .before .loop .inv) _ (again _ _ _ (c .loop-test .taken)) (omega (arith, length-replicate (c .before .before .args .n) (c .before .before .args .place)))
+loop-again c = search (another, again, length-replicate)
 
 same-length : tie.Need-same-length Inv-loop μ-loop
 same-length c = c .before .loop .inv .same
 
 returns : tie.Need-returns Inv-loop μ-loop
-returns c = whole (c .before .loop .inv) (omega (arith, length-replicate (c .before .before .args .n) (c .before .before .args .place)))
+returns c = search (whole, length-replicate)
 
 pub put-places-spec : {M : Type 1} → statement M
 put-places-spec =
