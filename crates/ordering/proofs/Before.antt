@@ -3,10 +3,12 @@ use mathlib.Core.Path.{_≡_, refl, sym, ap, _∙_}
 use mathlib.Core.Bool.{Bool, true, false, _&&_, true≢false}
 use mathlib.Core.List.{List, [], _∷_}
 use mathlib.Mathlib.Data.Bool.Basic.{and-elim-left as and-left, and-elim-right as and-right}
-use Prim.Native.Nat.{ℕ, zero, suc, _≤_, _<_}
+use Prim.Native.Nat.{ℕ, zero, suc, _+_, _≤_, _<_}
 use native.Mathlib.Omega.{arith}
-use native.Mathlib.Numerals.{lt-of-le-of-ne}
+use native.Mathlib.Numerals.{lt-of-le-of-ne, add-one}
 use lib.Dec.{eqb, ltb}
+use lib.ListN.{length, getD, drop, drop-of-length-le}
+use lib.Seq.{drop-cons}
 use borrow.Author.Tests.{ltb-true, ltb-false, lt-ltb, le-ltb, eqb-true, eqb-false, eq-eqb, ne-eqb}
 use Rattle.model.specs.Basics.{if_then_else_}
 use Rattle.model.specs.Equality.{sameBytes}
@@ -104,3 +106,45 @@ one-before (x ∷ a) (y ∷ b) e f =
     (λ xy. apart _ (by-less x y a b xy) e)
     (λ xy. by-rest y x b a (sym xy) ∙ one-before a b (sym (by-rest x y a b xy) ∙ e) (rw (eq-eqb x y xy) at f))
     (λ yx. by-less y x b a yx)
+
+-- ---- a loop that compares byte after byte: the first i are the same, and the rest decides
+
+pub record Comparing (a b : List ℕ) (i : ℕ) : Type 0 where
+  pub in-first : i ≤ length a
+  pub in-second : i ≤ length b
+  pub means : before a b ≡ before (drop i a) (drop i b)
+
+pub comparing-start : (a b : List ℕ) → Comparing a b 0
+comparing-start a b = record { in-first = omega arith; in-second = omega arith; means = refl }
+
+module _ (a b : List ℕ) (i : ℕ) (h : Comparing a b i) where
+  -- the second ends first
+  pub second-ends : i < length a → length b ≤ i → false ≡ before a b
+  unfolding before
+  second-ends l m = let e : drop i b ≡ [] = drop-of-length-le b m in sym (h .means ∙ rw (drop-cons a i 0 l, e))
+
+  -- the first has ended
+  pub first-ends : length a ≤ i → ltb (length a) (length b) ≡ before a b
+  unfolding before
+  first-ends l =
+      let k = h .in-first in let z : i ≡ length a = omega arith in
+      let e : drop i a ≡ [] = drop-of-length-le a l in
+      sym (h .means ∙ rw e (either-way (ltb (length a) (length b))
+      (λ t. let g : i < length b = (let q = ltb-true (length a) (length b) t in omega arith) in rw (drop-cons b i 0 g, t))
+      (λ f. let g : length b ≤ i = (let q = ltb-false (length a) (length b) f in omega arith) in let d : drop i b ≡ [] = drop-of-length-le b g in rw (d, f))))
+
+  module _ (l : i < length a) (m : i < length b) where
+    pub differ-here : (getD a i 0 ≡ getD b i 0 → ⊥) → ltb (getD a i 0) (getD b i 0) ≡ before a b
+    differ-here d =
+        sym (h .means ∙ rw (drop-cons a i 0 l, drop-cons b i 0 m)
+        (by-first (getD a i 0) (getD b i 0) [] []
+        (λ x. by-less _ _ _ _ x ∙ sym (lt-ltb _ _ x))
+        (λ e. absurd (d e))
+        (λ x. let y : getD b i 0 ≤ getD a i 0 = omega arith in by-more _ _ _ _ x ∙ sym (le-ltb _ _ y))))
+
+    pub agree-here : getD a i 0 ≡ getD b i 0 → Comparing a b (i + 1)
+    agree-here e = record {
+      in-first = omega arith;
+      in-second = omega arith;
+      means = h .means ∙ rw (drop-cons a i 0 l, drop-cons b i 0 m, add-one i) (by-rest _ _ _ _ e);
+    }

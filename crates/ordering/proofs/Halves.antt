@@ -109,3 +109,18 @@ module _ (n : ℕ) (f : ℕ → List ℕ) (t : List ℕ) (low high : ℕ) (h : H
 
     pub halving-down : before (f mid) t ≡ false → Halving n f t low mid
     halving-down e = record { order = omega arith; most = let m = h .most in omega arith; below = h .below; there = λ _. e }
+
+    -- one turn: of the two halves the one where the name belongs
+    module _ (b : Bool) (eb : b ≡ before (f mid) t) (low' high' : ℕ) (el : low' ≡ (if b then mid + 1 else low)) (eh : high' ≡ (if b then high else mid)) where
+      pub halving-turn : Halving n f t low' high'
+      halving-turn = rw (el, eh) (either-way b (λ x. rw x (halving-up (sym eb ∙ x))) (λ x. rw x (halving-down (sym eb ∙ x))))
+
+      pub halving-less : high' - low' < high - low
+      halving-less = rw (el, eh) (either-way b (λ x. rw x (omega arith)) (λ x. rw x (omega arith)))
+
+-- what the test of a place says
+pub stands-yes : (at n : ℕ) (s : Bool) → (ltb at n && s) ≡ true → (at < n) × (s ≡ true)
+stands-yes at n s e = (ltb-true at n (and-left (ltb at n) s e), and-right (ltb at n) s e)
+
+pub stands-no : (at n : ℕ) (s : Bool) → (ltb at n && s) ≡ false → at < n → s ≡ false
+stands-no at n s e h = rw (lt-ltb at n h) at e

@@ -30,6 +30,11 @@ pub record InOrder (n : ℕ) (ss t : List ℕ) : Type 0 where
   pub below : (i : ℕ) → i < n → orderWord ss i < n
   pub ascending : Ascending n (nameInOrder ss t)
 
+-- and this is the place of a name among them
+pub record Placed (n at : ℕ) (name ss t : List ℕ) : Type 0 where
+  pub order : InOrder n ss t
+  pub spot : Spot n (nameInOrder ss t) name at
+
 -- the names are all different
 unfoldable pub allDifferent : List (List ℕ) → Bool
 allDifferent [] = true
