@@ -6,34 +6,36 @@ use native.Mathlib.Omega.{arith}
 use Rattle.image.proofs.Functions.{span-none, span-runs, span-bad, span-read}
 
 read-head-requires : tie.Need-read-head-requires
-read-head-requires c κs = search needs
+read-head-requires c κs = search
 
 enum-known-h : tie.Need-enum-known-h
-enum-known-h c = search needs
+enum-known-h c = search
 
 add-runs : tie.Need-add-runs
-add-runs c = let z = span-runs _ _ _ _ (c .before .before .before .before .read-head .ensures) _ (c .before .before .h .given .1) in omega arith
+add-runs c =
+    let z = span-runs _ _ _ _ (c .before .before .before .before .read-head .ensures) _ (c .before .before .h .given .1) in
+    omega arith
 
 check-runs-requires : tie.Need-check-runs-requires
-check-runs-requires c κs = span-runs _ _ _ _ (c .before .before .before .before .read-head .ensures) _ (c .before .before .h .given .1)
+check-runs-requires c κs = search span-runs
 
 enum-known-next : tie.Need-enum-known-next
-enum-known-next c = search needs
+enum-known-next c = search
 
 enum-known-o : tie.Need-enum-known-o
-enum-known-o c = search needs
+enum-known-o c = search
 
 enum-known-o-2 : tie.Need-enum-known-o-2
-enum-known-o-2 c = search needs
+enum-known-o-2 c = search
 
 returns : tie.Need-returns
-returns c = span-read _ _ _ _ (c .before .before .before .before .before .before .before .before .read-head .ensures) _ (c .before .before .before .before .before .before .h .given .1) _ (c .before .before .before .check-runs .ensures) _ (c .before .next .given .1)
+returns c = search span-read
 
 returns-2 : tie.Need-returns-2
-returns-2 c = span-bad _ _ _ _ (c .before .before .before .before .before .before .before .before .read-head .ensures) _ (c .before .before .before .before .before .before .h .given .1) _ (c .before .before .before .check-runs .ensures) _ (c .before .o .given .1)
+returns-2 c = search span-bad
 
 returns-3 : tie.Need-returns-3
-returns-3 c = span-none _ _ _ _ (c .before .before .before .read-head .ensures) _ (c .before .o2 .given .1)
+returns-3 c = search span-none
 
 pub check-function-spec : {M : Type 1} → statement M
 check-function-spec =

@@ -19,19 +19,34 @@ check-function-requires : tie.Need-check-function-requires Inv-loop μ-loop
 check-function-requires c κs = c .before .loop .inv .along .within
 
 enum-known-p : tie.Need-enum-known-p Inv-loop μ-loop
-enum-known-p c = search needs
+enum-known-p c = search
 
 add-text : tie.Need-add-text Inv-loop μ-loop
-add-text c = let z = others-fit _ _ _ _ _ _ _ _ (c .before .before .before .before .before .before .loop .inv) (c .before .before .before .before .before .loop-test .taken) _ (c .before .before .before .before .check-function .ensures) _ (c .before .before .p .given .1) in omega arith
+add-text c =
+    let z =
+    let at-check-function = c .before .before .before .before in
+    let at-loop-test = at-check-function .before in
+    let at-loop = at-loop-test .before in
+    others-fit _ _ _ _ _ _ _ _ (at-loop .loop .inv) (at-loop-test .loop-test .taken) _
+    (at-check-function .check-function .ensures) _ (c .before .before .p .given .1) in
+    omega arith
 
 add-code : tie.Need-add-code Inv-loop μ-loop
-add-code c = let z = others-fit _ _ _ _ _ _ _ _ (c .before .before .before .before .before .before .before .loop .inv) (c .before .before .before .before .before .before .loop-test .taken) _ (c .before .before .before .before .before .check-function .ensures) _ (c .before .before .before .p .given .1) in omega arith
+add-code c =
+    let z =
+    let at-p = c .before .before .before in
+    let at-check-function = at-p .before .before in
+    let at-loop-test = at-check-function .before in
+    let at-loop = at-loop-test .before in
+    others-fit _ _ _ _ _ _ _ _ (at-loop .loop .inv) (at-loop-test .loop-test .taken) _
+    (at-check-function .check-function .ensures) _ (at-p .p .given .1) in
+    omega arith
 
 enum-known-o : tie.Need-enum-known-o Inv-loop μ-loop
-enum-known-o c = search needs
+enum-known-o c = search
 
 returns : tie.Need-returns Inv-loop μ-loop
-returns c = others-bad _ _ _ _ _ _ _ _ (c .before .before .before .before .before .loop .inv) (c .before .before .before .before .loop-test .taken) _ (c .before .before .before .check-function .ensures) _ (c .before .o .given .1)
+returns c = search others-bad
 
 add-i : tie.Need-add-i Inv-loop μ-loop
 add-i c = let z = c .before .before .before .before .before .before .before .loop-test .taken in omega arith
@@ -40,10 +55,10 @@ loop-less : tie.Need-loop-less Inv-loop μ-loop
 loop-less c = let z = c .before .before .before .before .before .before .before .loop-test .taken in omega arith
 
 loop-again : tie.Need-loop-again Inv-loop μ-loop
-loop-again c = others-step _ _ _ _ _ _ _ _ (c .before .before .before .before .before .before .before .before .loop .inv) (c .before .before .before .before .before .before .before .loop-test .taken) _ (c .before .before .before .before .before .before .check-function .ensures) _ (c .before .before .before .before .p .given .1)
+loop-again c = search others-step
 
 returns-2 : tie.Need-returns-2 Inv-loop μ-loop
-returns-2 c = others-end _ _ _ _ _ _ _ _ (c .before .loop .inv) (c .loop-test .left)
+returns-2 c = search others-end
 
 pub check-others-spec : {M : Type 1} → statement M
 check-others-spec =

@@ -17,28 +17,40 @@ read-run-requires : tie.Need-read-run-requires Inv-loop μ-loop
 read-run-requires c κs = c .before .loop .inv .runs .within
 
 enum-known-p : tie.Need-enum-known-p Inv-loop μ-loop
-enum-known-p c = search needs
+enum-known-p c = search
 
 wide-requires : tie.Need-wide-requires Inv-loop μ-loop
-wide-requires c κs = search needs
+wide-requires c κs = search
 
 sub-left : tie.Need-sub-left Inv-loop μ-loop
-sub-left c = judging-fits _ _ _ _ _ _ (c .before .before .before .before .before .before .before .loop .inv) (c .before .before .before .before .before .before .loop-test .taken) _ (c .before .before .before .before .before .read-run .ensures) _ (c .before .before .before .p .given .1) .0
+sub-left c =
+    let at-p = c .before .before .before in
+    let at-read-run = at-p .before .before in
+    let at-loop-test = at-read-run .before in
+    let at-loop = at-loop-test .before in
+    judging-fits _ _ _ _ _ _ (at-loop .loop .inv) (at-loop-test .loop-test .taken) _ (at-read-run .read-run .ensures) _
+    (at-p .p .given .1) .0
 
 loop-less : tie.Need-loop-less Inv-loop μ-loop
-loop-less c = judging-fits _ _ _ _ _ _ (c .before .before .before .before .before .before .before .loop .inv) (c .before .before .before .before .before .before .loop-test .taken) _ (c .before .before .before .before .before .read-run .ensures) _ (c .before .before .before .p .given .1) .1
+loop-less c =
+    let at-p = c .before .before .before in
+    let at-read-run = at-p .before .before in
+    let at-loop-test = at-read-run .before in
+    let at-loop = at-loop-test .before in
+    judging-fits _ _ _ _ _ _ (at-loop .loop .inv) (at-loop-test .loop-test .taken) _ (at-read-run .read-run .ensures) _
+    (at-p .p .given .1) .1
 
 loop-again : tie.Need-loop-again Inv-loop μ-loop
-loop-again c = judging-step _ _ _ _ _ _ (c .before .before .before .before .before .before .before .loop .inv) (c .before .before .before .before .before .before .loop-test .taken) _ (c .before .before .before .before .before .read-run .ensures) _ (c .before .before .before .p .given .1) _ (c .before .wide .ensures .0)
+loop-again c = search judging-step
 
 enum-known-o : tie.Need-enum-known-o Inv-loop μ-loop
-enum-known-o c = search needs
+enum-known-o c = search
 
 returns : tie.Need-returns Inv-loop μ-loop
-returns c = judging-bad _ _ _ _ _ _ (c .before .before .before .before .before .loop .inv) (c .before .before .before .before .loop-test .taken) _ (c .before .before .before .read-run .ensures) _ (c .before .o .given .1)
+returns c = search judging-bad
 
 returns-2 : tie.Need-returns-2 Inv-loop μ-loop
-returns-2 c = judging-end _ _ _ _ _ _ (c .before .loop .inv) (c .loop-test .left)
+returns-2 c = search judging-end
 
 pub check-runs-spec : {M : Type 1} → statement M
 check-runs-spec =

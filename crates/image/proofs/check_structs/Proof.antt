@@ -13,55 +13,92 @@ abbrev μ-loop : tie.MeasureT-loop
 μ-loop image at n first count next₀ text₀ i₀ next text i = count - i
 
 read-number-requires : tie.Need-read-number-requires Inv-loop μ-loop
-read-number-requires c κs = search needs
+read-number-requires c κs = search
 
 enum-known-n : tie.Need-enum-known-n Inv-loop μ-loop
-enum-known-n c = search needs
+enum-known-n c = search
 
 enum-told : tie.Need-enum-told Inv-loop μ-loop
-enum-told c = search needs
+enum-told c = search
 
 returns : tie.Need-returns Inv-loop μ-loop
-returns c = names-none _ _ (c .before .before .before .before .pre) _ (c .before .before .read-number .ensures) (c .enum-told .given .1)
+returns c = search names-none
 
 wide-requires : tie.Need-wide-requires Inv-loop μ-loop
-wide-requires c κs = search needs
+wide-requires c κs = search
 
 loop-holds : tie.Need-loop-holds Inv-loop μ-loop
-loop-holds c = names-start _ _ _ (counted-at _ _ _ (c .before .before .before .before .read-number .ensures) _ _ _ (c .before .before .n .given .1) (c .wide .ensures) .within)
+loop-holds c =
+    names-start _ _ _
+    (counted-at _ _ _ (c .before .before .before .before .read-number .ensures) _ _ _ (c .before .before .n .given .1)
+    (c .wide .ensures) .within)
 
 read-text-requires : tie.Need-read-text-requires Inv-loop μ-loop
 read-text-requires c κs = c .before .loop .inv .pass .along .within
 
 enum-known-here : tie.Need-enum-known-here Inv-loop μ-loop
-enum-known-here c = search needs
+enum-known-here c = search
 
 enum-told-2 : tie.Need-enum-told-2 Inv-loop μ-loop
-enum-told-2 c = search needs
+enum-told-2 c = search
 
 returns-2 : tie.Need-returns-2 Inv-loop μ-loop
-returns-2 c = names-bad _ _ _ _ (counted-at _ _ _ (c .before .before .before .before .before .before .before .before .before .read-number .ensures) _ _ _ (c .before .before .before .before .before .before .before .n .given .1) (c .before .before .before .before .before .wide .ensures)) _ _ _ (c .before .before .before .before .loop .inv) (c .before .before .before .loop-test .taken) _ (c .before .before .read-text .ensures) (c .enum-told2 .given .1)
+returns-2 c = search (names-bad, counted-at)
 
 add-behind : tie.Need-add-behind Inv-loop μ-loop
-add-behind c = let z = names-in _ _ _ _ (counted-at _ _ _ (c .before .before .before .before .before .before .before .before .before .before .read-number .ensures) _ _ _ (c .before .before .before .before .before .before .before .before .n .given .1) (c .before .before .before .before .before .before .wide .ensures)) _ _ _ (c .before .before .before .before .before .loop .inv) (c .before .before .before .before .loop-test .taken) _ (c .before .before .before .read-text .ensures) _ _ (c .before .here .given .1) in omega arith
+add-behind c =
+    let z =
+    let at-read-text = c .before .before .before in
+    let at-loop-test = at-read-text .before in
+    let at-loop = at-loop-test .before in
+    let at-wide = at-loop .before in
+    let at-n = at-wide .before .before in
+    let at-read-number = at-n .before .before in
+    names-in _ _ _ _ (counted-at _ _ _ (at-read-number .read-number .ensures) _ _ _ (at-n .n .given .1) (at-wide .wide .ensures))
+    _ _ _ (at-loop .loop .inv) (at-loop-test .loop-test .taken) _ (at-read-text .read-text .ensures) _ _
+    (c .before .here .given .1) in
+    omega arith
 
 sub-seen : tie.Need-sub-seen Inv-loop μ-loop
 sub-seen c = omega arith
 
 part-seen-start : tie.Need-part-seen-start Inv-loop μ-loop
-part-seen-start c = let z = names-in _ _ _ _ (counted-at _ _ _ (c .before .before .before .before .before .before .before .before .before .before .read-number .ensures) _ _ _ (c .before .before .before .before .before .before .before .before .n .given .1) (c .before .before .before .before .before .before .wide .ensures)) _ _ _ (c .before .before .before .before .before .loop .inv) (c .before .before .before .before .loop-test .taken) _ (c .before .before .before .read-text .ensures) _ _ (c .before .here .given .1) in omega arith
+part-seen-start c = search (names-in, counted-at, needs)
 
 part-seen-end : tie.Need-part-seen-end Inv-loop μ-loop
-part-seen-end c = let z = names-in _ _ _ _ (counted-at _ _ _ (c .before .before .before .before .before .before .before .before .before .before .read-number .ensures) _ _ _ (c .before .before .before .before .before .before .before .before .n .given .1) (c .before .before .before .before .before .before .wide .ensures)) _ _ _ (c .before .before .before .before .before .loop .inv) (c .before .before .before .before .loop-test .taken) _ (c .before .before .before .read-text .ensures) _ _ (c .before .here .given .1) in omega arith
+part-seen-end c =
+    let z =
+    let at-read-text = c .before .before .before in
+    let at-loop-test = at-read-text .before in
+    let at-loop = at-loop-test .before in
+    let at-wide = at-loop .before in
+    let at-n = at-wide .before .before in
+    let at-read-number = at-n .before .before in
+    names-in _ _ _ _ (counted-at _ _ _ (at-read-number .read-number .ensures) _ _ _ (at-n .n .given .1) (at-wide .wide .ensures))
+    _ _ _ (at-loop .loop .inv) (at-loop-test .loop-test .taken) _ (at-read-text .read-text .ensures) _ _
+    (c .before .here .given .1) in
+    omega arith
 
 seen-requires : tie.Need-seen-requires Inv-loop μ-loop
-seen-requires c κs = names-texts _ _ _ _ (counted-at _ _ _ (c .before .before .before .before .before .before .before .before .before .before .before .read-number .ensures) _ _ _ (c .before .before .before .before .before .before .before .before .before .n .given .1) (c .before .before .before .before .before .before .before .wide .ensures)) _ _ _ (c .before .before .before .before .before .before .loop .inv)
+seen-requires c κs = search names-texts
 
 returns-3 : tie.Need-returns-3 Inv-loop μ-loop
-returns-3 c = names-seen _ _ _ _ (counted-at _ _ _ (c .before .before .before .before .before .before .before .before .before .before .before .before .before .read-number .ensures) _ _ _ (c .before .before .before .before .before .before .before .before .before .before .before .n .given .1) (c .before .before .before .before .before .before .before .before .before .wide .ensures)) _ _ _ (c .before .before .before .before .before .before .before .before .loop .inv) (c .before .before .before .before .before .before .before .loop-test .taken) _ (c .before .before .before .before .before .before .read-text .ensures) _ _ (c .before .before .before .before .here .given .1) _ (c .before .seen .ensures) (c .if1 .taken)
+returns-3 c = search (names-seen, counted-at)
 
 add-text : tie.Need-add-text Inv-loop μ-loop
-add-text c = let z = names-fit _ _ _ _ (counted-at _ _ _ (c .before .before .before .before .before .before .before .before .before .before .before .before .before .read-number .ensures) _ _ _ (c .before .before .before .before .before .before .before .before .before .before .before .n .given .1) (c .before .before .before .before .before .before .before .before .before .wide .ensures)) _ _ _ (c .before .before .before .before .before .before .before .before .loop .inv) (c .before .before .before .before .before .before .before .loop-test .taken) _ (c .before .before .before .before .before .before .read-text .ensures) _ _ (c .before .before .before .before .here .given .1) in omega arith
+add-text c =
+    let z =
+    let at-here = c .before .before .before .before in
+    let at-read-text = at-here .before .before in
+    let at-loop-test = at-read-text .before in
+    let at-loop = at-loop-test .before in
+    let at-wide = at-loop .before in
+    let at-n = at-wide .before .before in
+    let at-read-number = at-n .before .before in
+    names-fit _ _ _ _ (counted-at _ _ _ (at-read-number .read-number .ensures) _ _ _ (at-n .n .given .1) (at-wide .wide .ensures))
+    _ _ _ (at-loop .loop .inv) (at-loop-test .loop-test .taken) _ (at-read-text .read-text .ensures) _ _
+    (at-here .here .given .1) in
+    omega arith
 
 add-i : tie.Need-add-i Inv-loop μ-loop
 add-i c = let z = c .before .before .before .before .before .before .before .loop-test .taken in omega arith
@@ -70,10 +107,21 @@ loop-less : tie.Need-loop-less Inv-loop μ-loop
 loop-less c = let z = c .before .before .before .before .before .before .before .loop-test .taken in omega arith
 
 loop-again : tie.Need-loop-again Inv-loop μ-loop
-loop-again c = names-step _ _ _ _ (counted-at _ _ _ (c .before .before .before .before .before .before .before .before .before .before .before .before .before .read-number .ensures) _ _ _ (c .before .before .before .before .before .before .before .before .before .before .before .n .given .1) (c .before .before .before .before .before .before .before .before .before .wide .ensures)) _ _ _ (c .before .before .before .before .before .before .before .before .loop .inv) (c .before .before .before .before .before .before .before .loop-test .taken) _ (c .before .before .before .before .before .before .read-text .ensures) _ _ (c .before .before .before .before .here .given .1) _ (c .before .seen .ensures) (c .if1 .left)
+loop-again c =
+    let at-here = c .before .before .before .before in
+    let at-read-text = at-here .before .before in
+    let at-loop-test = at-read-text .before in
+    let at-loop = at-loop-test .before in
+    let at-wide = at-loop .before in
+    let at-n = at-wide .before .before in
+    let at-read-number = at-n .before .before in
+    names-step _ _ _ _
+    (counted-at _ _ _ (at-read-number .read-number .ensures) _ _ _ (at-n .n .given .1) (at-wide .wide .ensures)) _ _ _
+    (at-loop .loop .inv) (at-loop-test .loop-test .taken) _ (at-read-text .read-text .ensures) _ _ (at-here .here .given .1) _
+    (c .before .seen .ensures) (c .if1 .left)
 
 returns-4 : tie.Need-returns-4 Inv-loop μ-loop
-returns-4 c = names-end _ _ _ _ (counted-at _ _ _ (c .before .before .before .before .before .before .read-number .ensures) _ _ _ (c .before .before .before .before .n .given .1) (c .before .before .wide .ensures)) _ _ _ (c .before .loop .inv) (c .loop-test .left)
+returns-4 c = search (names-end, counted-at)
 
 pub check-structs-spec : {M : Type 1} → statement M
 check-structs-spec =

@@ -9,49 +9,71 @@ check-constants-requires : tie.Need-check-constants-requires
 check-constants-requires c κs = search needs
 
 enum-known-c : tie.Need-enum-known-c
-enum-known-c c = search needs
+enum-known-c c = search
 
 check-structs-requires : tie.Need-check-structs-requires
-check-structs-requires c κs = structs-at _ _ (c .before .before .before .check-constants .ensures) _ (c .before .c .given .1)
+check-structs-requires c κs = search structs-at
 
 enum-known-s : tie.Need-enum-known-s
-enum-known-s c = search needs
+enum-known-s c = search
 
 check-functions-requires : tie.Need-check-functions-requires
-check-functions-requires c κs = functions-at _ _ (c .before .before .before .before .before .before .before .check-constants .ensures) _ (c .before .before .before .before .before .c .given .1) _ (c .before .before .before .check-structs .ensures) _ (c .before .s .given .1)
+check-functions-requires c κs = search functions-at
 
 enum-known-f : tie.Need-enum-known-f
-enum-known-f c = search needs
+enum-known-f c = search
 
 returns : tie.Need-returns
-returns c = judge-4 _ _ (c .before .before .before .before .before .before .before .before .before .before .before .before .check-constants .ensures) _ (c .before .before .before .before .before .before .before .before .before .before .c .given .1) _ (c .before .before .before .before .before .before .before .before .check-structs .ensures) _ (c .before .before .before .before .before .before .s .given .1) _ (c .before .before .before .before .check-functions .ensures) _ (c .before .before .f .given .1) (c .if1 .taken)
+returns c = search judge-4
 
 add-t17 : tie.Need-add-t17
-add-t17 c = let z = text-fits _ _ (c .before .before .before .before .before .before .before .before .before .before .before .before .before .before .check-constants .ensures) _ (c .before .before .before .before .before .before .before .before .before .before .before .before .c .given .1) _ (c .before .before .before .before .before .before .before .before .before .before .check-structs .ensures) _ (c .before .before .before .before .before .before .before .before .s .given .1) _ (c .before .before .before .before .before .before .check-functions .ensures) _ (c .before .before .before .before .f .given .1) in omega arith
+add-t17 c =
+    let z =
+    let at-f = c .before .before .before .before in
+    let at-check-functions = at-f .before .before in
+    let at-s = at-check-functions .before .before in
+    let at-check-structs = at-s .before .before in
+    let at-c = at-check-structs .before .before in
+    let at-check-constants = at-c .before .before in
+    text-fits _ _ (at-check-constants .check-constants .ensures) _ (at-c .c .given .1) _
+    (at-check-structs .check-structs .ensures) _ (at-s .s .given .1) _ (at-check-functions .check-functions .ensures) _
+    (at-f .f .given .1) in
+    omega arith
 
 add-t19 : tie.Need-add-t19
-add-t19 c = let z = text-fits _ _ (c .before .before .before .before .before .before .before .before .before .before .before .before .before .before .before .check-constants .ensures) _ (c .before .before .before .before .before .before .before .before .before .before .before .before .before .c .given .1) _ (c .before .before .before .before .before .before .before .before .before .before .before .check-structs .ensures) _ (c .before .before .before .before .before .before .before .before .before .s .given .1) _ (c .before .before .before .before .before .before .before .check-functions .ensures) _ (c .before .before .before .before .before .f .given .1) in omega arith
+add-t19 c =
+    let z =
+    let at-f = c .before .before .before .before .before in
+    let at-check-functions = at-f .before .before in
+    let at-s = at-check-functions .before .before in
+    let at-check-structs = at-s .before .before in
+    let at-c = at-check-structs .before .before in
+    let at-check-constants = at-c .before .before in
+    text-fits _ _ (at-check-constants .check-constants .ensures) _ (at-c .c .given .1) _
+    (at-check-structs .check-structs .ensures) _ (at-s .s .given .1) _ (at-check-functions .check-functions .ensures) _
+    (at-f .f .given .1) in
+    omega arith
 
 enum-known-o : tie.Need-enum-known-o
-enum-known-o c = search needs
+enum-known-o c = search
 
 enum-known-o-2 : tie.Need-enum-known-o-2
-enum-known-o-2 c = search needs
+enum-known-o-2 c = search
 
 enum-known-o-3 : tie.Need-enum-known-o-3
-enum-known-o-3 c = search needs
+enum-known-o-3 c = search
 
 returns-2 : tie.Need-returns-2
-returns-2 c = judge-5 _ _ (c .before .before .before .before .before .before .before .before .before .before .before .before .before .before .before .check-constants .ensures) _ (c .before .before .before .before .before .before .before .before .before .before .before .before .before .c .given .1) _ (c .before .before .before .before .before .before .before .before .before .before .before .check-structs .ensures) _ (c .before .before .before .before .before .before .before .before .before .s .given .1) _ (c .before .before .before .before .before .before .before .check-functions .ensures) _ (c .before .before .before .before .before .f .given .1) (c .before .before .before .if1 .left)
+returns-2 c = search judge-5
 
 returns-3 : tie.Need-returns-3
-returns-3 c = judge-3 _ _ (c .before .before .before .before .before .before .before .before .before .before .before .check-constants .ensures) _ (c .before .before .before .before .before .before .before .before .before .c .given .1) _ (c .before .before .before .before .before .before .before .check-structs .ensures) _ (c .before .before .before .before .before .s .given .1) _ (c .before .before .before .check-functions .ensures) _ (c .before .o .given .1)
+returns-3 c = search judge-3
 
 returns-4 : tie.Need-returns-4
-returns-4 c = judge-2 _ _ (c .before .before .before .before .before .before .before .check-constants .ensures) _ (c .before .before .before .before .before .c .given .1) _ (c .before .before .before .check-structs .ensures) _ (c .before .o2 .given .1)
+returns-4 c = search judge-2
 
 returns-5 : tie.Need-returns-5
-returns-5 c = judge-1 _ _ (c .before .before .before .check-constants .ensures) _ (c .before .o3 .given .1)
+returns-5 c = search judge-1
 
 pub judge-spec : {M : Type 1} → statement M
 judge-spec =

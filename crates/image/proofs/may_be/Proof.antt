@@ -5,13 +5,13 @@ use Rattle.image.proofs.may_be.Tie as tie
 use Rattle.image.proofs.Functions.{may-main, may-other}
 
 slice-aggregate-same-bytes : tie.Need-slice-aggregate-same-bytes
-slice-aggregate-same-bytes c = search needs
+slice-aggregate-same-bytes c = search
 
 same-bytes-requires : tie.Need-same-bytes-requires
-same-bytes-requires c κs = search needs
+same-bytes-requires c κs = search
 
 returns : tie.Need-returns
-returns c = may-main _ _ _ (c .before .before .if1 .taken) (c .same-bytes .ensures)
+returns c = search may-main
 
 returns-2 : tie.Need-returns-2
 returns-2 c = may-other _ _ (c .if1 .left)

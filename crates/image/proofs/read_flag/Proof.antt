@@ -8,19 +8,19 @@ returns : tie.Need-returns
 returns c = flag-none _ _ (c .before .before .pre) (c .if1 .taken)
 
 shared-slice-read-byte : tie.Need-shared-slice-read-byte
-shared-slice-read-byte c = search needs
+shared-slice-read-byte c = search
 
 byte-requires : tie.Need-byte-requires
-byte-requires c κs = search needs
+byte-requires c κs = search
 
 returns-2 : tie.Need-returns-2
-returns-2 c = flag-bad _ _ (c .before .before .before .before .before .pre) (c .before .before .before .if1 .left) _ (c .before .byte .ensures .0) (c .if2 .taken)
+returns-2 c = search flag-bad
 
 add-t4 : tie.Need-add-t4
 add-t4 c = search needs
 
 returns-3 : tie.Need-returns-3
-returns-3 c = flag-read _ _ (c .before .before .before .before .before .pre) (c .before .before .before .if1 .left) _ (c .before .byte .ensures .0) (c .if2 .left)
+returns-3 c = search flag-read
 
 pub read-flag-spec : {M : Type 1} → statement M
 read-flag-spec =

@@ -7,19 +7,21 @@ use native.Mathlib.Omega.{arith}
 use Rattle.image.proofs.Items.{text-end}
 
 read-text-requires : tie.Need-read-text-requires
-read-text-requires c κs = search needs
+read-text-requires c κs = search
 
 enum-known-name : tie.Need-enum-known-name
-enum-known-name c = search needs
+enum-known-name c = search
 
 enum-told : tie.Need-enum-told
-enum-told c = search needs
+enum-told c = search
 
 returns : tie.Need-returns
-returns c = head-none _ _ _ _ (c .before .before .read-text .ensures) (c .enum-told .given .1)
+returns c = search head-none
 
 add-behind : tie.Need-add-behind
-add-behind c = let z = text-end _ _ _ (c .before .before .before .read-text .ensures) _ _ (c .before .name .given .1) in omega arith
+add-behind c =
+    let z = text-end _ _ _ (c .before .before .before .read-text .ensures) _ _ (c .before .name .given .1) in
+    omega arith
 
 sub-may-be : tie.Need-sub-may-be
 sub-may-be c = search needs
@@ -28,37 +30,44 @@ part-may-be-start : tie.Need-part-may-be-start
 part-may-be-start c = search needs
 
 part-may-be-end : tie.Need-part-may-be-end
-part-may-be-end c = let z = text-end _ _ _ (c .before .before .before .read-text .ensures) _ _ (c .before .name .given .1) in omega arith
+part-may-be-end c = search (text-end, needs)
 
 may-be-requires : tie.Need-may-be-requires
-may-be-requires c κs = search needs
+may-be-requires c κs = search
 
 read-number-requires : tie.Need-read-number-requires
-read-number-requires c κs = search needs
+read-number-requires c κs = search
 
 enum-known-n : tie.Need-enum-known-n
-enum-known-n c = search needs
+enum-known-n c = search
 
 enum-told-2 : tie.Need-enum-told-2
-enum-told-2 c = search needs
+enum-told-2 c = search
 
 returns-2 : tie.Need-returns-2
-returns-2 c = head-no-size _ _ _ _ (c .before .before .before .before .before .before .before .before .before .read-text .ensures) _ _ (c .before .before .before .before .before .before .before .name .given .1) _ (c .before .before .before .before .may-be .ensures) (c .before .before .before .if1 .taken) _ (c .before .before .read-number .ensures) (c .enum-told2 .given .1)
+returns-2 c = search head-no-size
 
 wide-requires : tie.Need-wide-requires
-wide-requires c κs = search needs
+wide-requires c κs = search
 
 sub-if2 : tie.Need-sub-if2
-sub-if2 c = head-code _ _ _ _ (c .before .before .before .before .before .before .before .before .before .before .before .read-text .ensures) _ _ (c .before .before .before .before .before .before .before .before .before .name .given .1) _ (c .before .before .before .before .before .before .may-be .ensures) (c .before .before .before .before .before .if1 .taken) _ (c .before .before .before .before .read-number .ensures) _ _ _ (c .before .before .n .given .1) (c .wide .ensures)
+sub-if2 c =
+    let at-read-number = c .before .before .before .before in
+    let at-if1 = at-read-number .before in
+    let at-may-be = at-if1 .before in
+    let at-name = at-may-be .before .before .before in
+    let at-read-text = at-name .before .before in
+    head-code _ _ _ _ (at-read-text .read-text .ensures) _ _ (at-name .name .given .1) _ (at-may-be .may-be .ensures)
+    (at-if1 .if1 .taken) _ (at-read-number .read-number .ensures) _ _ _ (c .before .before .n .given .1) (c .wide .ensures)
 
 returns-3 : tie.Need-returns-3
-returns-3 c = head-short _ _ _ _ (c .before .before .before .before .before .before .before .before .before .before .before .before .read-text .ensures) _ _ (c .before .before .before .before .before .before .before .before .before .before .name .given .1) _ (c .before .before .before .before .before .before .before .may-be .ensures) (c .before .before .before .before .before .before .if1 .taken) _ (c .before .before .before .before .before .read-number .ensures) _ _ _ (c .before .before .before .n .given .1) (c .before .wide .ensures) (c .if2 .taken)
+returns-3 c = search head-short
 
 returns-4 : tie.Need-returns-4
-returns-4 c = head-read _ _ _ _ (c .before .before .before .before .before .before .before .before .before .before .before .before .read-text .ensures) _ _ (c .before .before .before .before .before .before .before .before .before .before .name .given .1) _ (c .before .before .before .before .before .before .before .may-be .ensures) (c .before .before .before .before .before .before .if1 .taken) _ (c .before .before .before .before .before .read-number .ensures) _ _ _ (c .before .before .before .n .given .1) (c .before .wide .ensures) (c .if2 .left)
+returns-4 c = search head-read
 
 returns-5 : tie.Need-returns-5
-returns-5 c = head-other _ _ _ _ (c .before .before .before .before .before .before .read-text .ensures) _ _ (c .before .before .before .before .name .given .1) _ (c .before .may-be .ensures) (c .if1 .left)
+returns-5 c = search head-other
 
 pub read-head-spec : {M : Type 1} → statement M
 read-head-spec =

@@ -6,22 +6,22 @@ use native.Mathlib.Omega.{arith}
 use Rattle.image.proofs.Items.{text-end, letters-none, letters-read}
 
 read-text-requires : tie.Need-read-text-requires
-read-text-requires c κs = search needs
+read-text-requires c κs = search
 
 enum-known-from : tie.Need-enum-known-from
-enum-known-from c = search needs
+enum-known-from c = search
 
 enum-told : tie.Need-enum-told
-enum-told c = search needs
+enum-told c = search
 
 returns : tie.Need-returns
-returns c = letters-none _ _ (c .before .before .before .before .pre .0) _ (c .before .before .read-text .ensures) _ (c .before .before .before .before .pre .1 .0) (c .before .before .before .before .pre .1 .1) (c .enum-told .given .1)
+returns c = search letters-none
 
 add-t7 : tie.Need-add-t7
 add-t7 c = let z = text-end _ _ _ (c .before .before .before .read-text .ensures) _ _ (c .before .from .given .1) in omega arith
 
 returns-2 : tie.Need-returns-2
-returns-2 c = letters-read _ _ (c .before .before .before .before .before .pre .0) _ (c .before .before .before .read-text .ensures) _ (c .before .before .before .before .before .pre .1 .0) (c .before .before .before .before .before .pre .1 .1) _ _ (c .before .from .given .1)
+returns-2 c = search letters-read
 
 pub read-letters-spec : {M : Type 1} → statement M
 read-letters-spec =

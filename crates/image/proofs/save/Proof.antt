@@ -7,10 +7,10 @@ use Rattle.image.specs.Fills.{lent}
 use Rattle.image.proofs.Orderly.{save-19, in-order, save-17, save-done}
 
 in-order-requires : tie.Need-in-order-requires
-in-order-requires c κs = search needs
+in-order-requires c κs = search
 
 returns : tie.Need-returns
-returns c = save-19 _ (lent (c .before .before .before .before .before .before .before .before .before .before .before .args .constants .now) (c .before .before .before .before .before .before .before .before .before .before .before .args .structs .now) (c .before .before .before .before .before .before .before .before .before .before .before .args .functions .now) (c .before .before .before .before .before .before .before .before .before .before .before .args .text .now) (c .before .before .before .before .before .before .before .before .before .before .before .args .main .now) (c .before .before .before .before .before .before .before .before .before .before .before .args .main-places .now) (c .before .before .before .before .before .before .before .before .before .before .before .args .other .now) (c .before .before .before .before .before .before .before .before .before .before .before .args .other-places .now)) _ _ (c .before .in-order .ensures) (c .if1 .taken)
+returns c = search save-19
 
 sub-put-image : tie.Need-sub-put-image
 sub-put-image c = search needs
@@ -22,25 +22,53 @@ part-put-image-end : tie.Need-part-put-image-end
 part-put-image-end c = search needs
 
 put-image-requires : tie.Need-put-image-requires
-put-image-requires c κs = in-order _ (lent (c .before .before .before .before .before .before .before .before .before .before .before .before .args .constants .now) (c .before .before .before .before .before .before .before .before .before .before .before .before .args .structs .now) (c .before .before .before .before .before .before .before .before .before .before .before .before .args .functions .now) (c .before .before .before .before .before .before .before .before .before .before .before .before .args .text .now) (c .before .before .before .before .before .before .before .before .before .before .before .before .args .main .now) (c .before .before .before .before .before .before .before .before .before .before .before .before .args .main-places .now) (c .before .before .before .before .before .before .before .before .before .before .before .before .args .other .now) (c .before .before .before .before .before .before .before .before .before .before .before .before .args .other-places .now)) (c .before .before .before .before .before .before .before .before .before .before .before .before .args .out .now) _ (c .before .before .in-order .ensures) (c .before .if1 .left)
+put-image-requires c κs = search in-order
 
 room-requires : tie.Need-room-requires
 room-requires c κs = search needs
 
 same-length : tie.Need-same-length
-same-length c = search needs
+same-length c = search
 
 returns-2 : tie.Need-returns-2
-returns-2 c = save-17 _ (lent (c .before .before .before .before .before .before .before .before .before .before .before .before .before .before .before .before .before .args .constants .now) (c .before .before .before .before .before .before .before .before .before .before .before .before .before .before .before .before .before .args .structs .now) (c .before .before .before .before .before .before .before .before .before .before .before .before .before .before .before .before .before .args .functions .now) (c .before .before .before .before .before .before .before .before .before .before .before .before .before .before .before .before .before .args .text .now) (c .before .before .before .before .before .before .before .before .before .before .before .before .before .before .before .before .before .args .main .now) (c .before .before .before .before .before .before .before .before .before .before .before .before .before .before .before .before .before .args .main-places .now) (c .before .before .before .before .before .before .before .before .before .before .before .before .before .before .before .before .before .args .other .now) (c .before .before .before .before .before .before .before .before .before .before .before .before .before .before .before .before .before .args .other-places .now)) (c .before .before .before .before .before .before .before .before .before .before .before .before .before .before .before .before .before .args .out .now) _ (c .before .before .before .before .before .before .before .in-order .ensures) (c .before .before .before .before .before .before .if1 .left) _ _ refl _ (c .before .before .before .before .put-image .ensures) _ (c .before .room .ensures _ refl) (c .if2 .taken)
+returns-2 c =
+    let at-put-image = c .before .before .before .before in
+    let at-if1 = at-put-image .before .before in
+    let at-in-order = at-if1 .before in
+    let at-start = at-in-order .before .before .before .before .before .before .before .before .before .before in
+    save-17 _
+    (lent (at-start .args .constants .now) (at-start .args .structs .now) (at-start .args .functions .now)
+    (at-start .args .text .now) (at-start .args .main .now) (at-start .args .main-places .now) (at-start .args .other .now)
+    (at-start .args .other-places .now)) (at-start .args .out .now) _ (at-in-order .in-order .ensures) (at-if1 .if1 .left) _ _
+    refl _ (at-put-image .put-image .ensures) _ (c .before .room .ensures _ refl) (c .if2 .taken)
 
 put-image-requires-2 : tie.Need-put-image-requires-2
-put-image-requires-2 c κs = in-order _ (lent (c .before .before .before .before .before .before .before .before .before .before .before .before .before .before .before .before .before .before .args .constants .now) (c .before .before .before .before .before .before .before .before .before .before .before .before .before .before .before .before .before .before .args .structs .now) (c .before .before .before .before .before .before .before .before .before .before .before .before .before .before .before .before .before .before .args .functions .now) (c .before .before .before .before .before .before .before .before .before .before .before .before .before .before .before .before .before .before .args .text .now) (c .before .before .before .before .before .before .before .before .before .before .before .before .before .before .before .before .before .before .args .main .now) (c .before .before .before .before .before .before .before .before .before .before .before .before .before .before .before .before .before .before .args .main-places .now) (c .before .before .before .before .before .before .before .before .before .before .before .before .before .before .before .before .before .before .args .other .now) (c .before .before .before .before .before .before .before .before .before .before .before .before .before .before .before .before .before .before .args .other-places .now)) (c .before .before .before .before .before .before .before .before .before .before .before .before .before .before .before .before .before .before .args .out .now) _ (c .before .before .before .before .before .before .before .before .in-order .ensures) (c .before .before .before .before .before .before .before .if1 .left)
+put-image-requires-2 c κs =
+    let at-if1 = c .before .before .before .before .before .before .before in
+    let at-in-order = at-if1 .before in
+    let at-start = at-in-order .before .before .before .before .before .before .before .before .before .before in
+    in-order _
+    (lent (at-start .args .constants .now) (at-start .args .structs .now) (at-start .args .functions .now)
+    (at-start .args .text .now) (at-start .args .main .now) (at-start .args .main-places .now) (at-start .args .other .now)
+    (at-start .args .other-places .now)) (at-start .args .out .now) _ (at-in-order .in-order .ensures) (at-if1 .if1 .left)
 
 same-length-2 : tie.Need-same-length-2
 same-length-2 c = search needs
 
 returns-3 : tie.Need-returns-3
-returns-3 c = save-done _ (lent (c .before .before .before .before .before .before .before .before .before .before .before .before .before .before .before .before .before .before .before .before .before .args .constants .now) (c .before .before .before .before .before .before .before .before .before .before .before .before .before .before .before .before .before .before .before .before .before .args .structs .now) (c .before .before .before .before .before .before .before .before .before .before .before .before .before .before .before .before .before .before .before .before .before .args .functions .now) (c .before .before .before .before .before .before .before .before .before .before .before .before .before .before .before .before .before .before .before .before .before .args .text .now) (c .before .before .before .before .before .before .before .before .before .before .before .before .before .before .before .before .before .before .before .before .before .args .main .now) (c .before .before .before .before .before .before .before .before .before .before .before .before .before .before .before .before .before .before .before .before .before .args .main-places .now) (c .before .before .before .before .before .before .before .before .before .before .before .before .before .before .before .before .before .before .before .before .before .args .other .now) (c .before .before .before .before .before .before .before .before .before .before .before .before .before .before .before .before .before .before .before .before .before .args .other-places .now)) (c .before .before .before .before .before .before .before .before .before .before .before .before .before .before .before .before .before .before .before .before .before .args .out .now) _ (c .before .before .before .before .before .before .before .before .before .before .before .in-order .ensures) (c .before .before .before .before .before .before .before .before .before .before .if1 .left) _ _ refl _ (c .before .before .before .before .before .before .before .before .put-image .ensures) _ (c .before .before .before .before .before .room .ensures _ refl) (c .before .before .before .before .if2 .left) _ _ (c .before .before .put-image2 .ensures)
+returns-3 c =
+    let at-if2 = c .before .before .before .before in
+    let at-room = at-if2 .before in
+    let at-put-image = at-room .before .before .before in
+    let at-if1 = at-put-image .before .before in
+    let at-in-order = at-if1 .before in
+    let at-start = at-in-order .before .before .before .before .before .before .before .before .before .before in
+    save-done _
+    (lent (at-start .args .constants .now) (at-start .args .structs .now) (at-start .args .functions .now)
+    (at-start .args .text .now) (at-start .args .main .now) (at-start .args .main-places .now) (at-start .args .other .now)
+    (at-start .args .other-places .now)) (at-start .args .out .now) _ (at-in-order .in-order .ensures) (at-if1 .if1 .left) _ _
+    refl _ (at-put-image .put-image .ensures) _ (at-room .room .ensures _ refl) (at-if2 .if2 .left) _ _
+    (c .before .before .put-image2 .ensures)
 
 pub save-spec : {M : Type 1} → statement M
 save-spec =

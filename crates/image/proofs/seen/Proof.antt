@@ -19,31 +19,39 @@ read-text-requires : tie.Need-read-text-requires Inv-loop μ-loop
 read-text-requires c κs = c .before .loop .inv .along .within
 
 enum-known-here : tie.Need-enum-known-here Inv-loop μ-loop
-enum-known-here c = search needs
+enum-known-here c = search
 
 enum-told : tie.Need-enum-told Inv-loop μ-loop
-enum-told c = search needs
+enum-told c = search
 
 returns : tie.Need-returns Inv-loop μ-loop
-returns c = absurd (seek-never _ _ _ (c .before .before .before .before .before .before .before .pre) _ _ _ (c .before .before .before .before .loop .inv) (c .before .before .before .loop-test .taken) _ (c .before .before .read-text .ensures) (c .enum-told .given .1))
+returns c = search seek-never
 
 add-next : tie.Need-add-next Inv-loop μ-loop
-add-next c = let z = seek-in _ _ _ (c .before .before .before .before .before .before .before .before .pre) _ _ _ (c .before .before .before .before .before .loop .inv) (c .before .before .before .before .loop-test .taken) _ (c .before .before .before .read-text .ensures) _ _ (c .before .here .given .1) in omega arith
+add-next c =
+    let z =
+    let at-read-text = c .before .before .before in
+    let at-loop-test = at-read-text .before in
+    let at-loop = at-loop-test .before in
+    let at-start = at-loop .before .before .before in
+    seek-in _ _ _ (at-start .pre) _ _ _ (at-loop .loop .inv) (at-loop-test .loop-test .taken) _ (at-read-text .read-text .ensures)
+    _ _ (c .before .here .given .1) in
+    omega arith
 
 sub-same-bytes : tie.Need-sub-same-bytes Inv-loop μ-loop
 sub-same-bytes c = omega arith
 
 part-same-bytes-start : tie.Need-part-same-bytes-start Inv-loop μ-loop
-part-same-bytes-start c = let z = seek-in _ _ _ (c .before .before .before .before .before .before .before .before .pre) _ _ _ (c .before .before .before .before .before .loop .inv) (c .before .before .before .before .loop-test .taken) _ (c .before .before .before .read-text .ensures) _ _ (c .before .here .given .1) in omega arith
+part-same-bytes-start c = search (seek-in, needs)
 
 part-same-bytes-end : tie.Need-part-same-bytes-end Inv-loop μ-loop
-part-same-bytes-end c = let z = seek-in _ _ _ (c .before .before .before .before .before .before .before .before .pre) _ _ _ (c .before .before .before .before .before .loop .inv) (c .before .before .before .before .loop-test .taken) _ (c .before .before .before .read-text .ensures) _ _ (c .before .here .given .1) in omega arith
+part-same-bytes-end c = search (seek-in, needs)
 
 same-bytes-requires : tie.Need-same-bytes-requires Inv-loop μ-loop
-same-bytes-requires c κs = search needs
+same-bytes-requires c κs = search
 
 returns-2 : tie.Need-returns-2 Inv-loop μ-loop
-returns-2 c = seek-found _ _ _ (c .before .before .before .before .before .before .before .before .before .before .before .pre) _ _ _ (c .before .before .before .before .before .before .before .before .loop .inv) (c .before .before .before .before .before .before .before .loop-test .taken) _ (c .before .before .before .before .before .before .read-text .ensures) _ _ (c .before .before .before .before .here .given .1) _ (c .before .same-bytes .ensures) (c .if1 .taken)
+returns-2 c = search seek-found
 
 add-i : tie.Need-add-i Inv-loop μ-loop
 add-i c = let z = c .before .before .before .before .before .before .before .loop-test .taken in omega arith
@@ -52,10 +60,10 @@ loop-less : tie.Need-loop-less Inv-loop μ-loop
 loop-less c = let z = c .before .before .before .before .before .before .before .loop-test .taken in omega arith
 
 loop-again : tie.Need-loop-again Inv-loop μ-loop
-loop-again c = seek-step _ _ _ (c .before .before .before .before .before .before .before .before .before .before .before .pre) _ _ _ (c .before .before .before .before .before .before .before .before .loop .inv) (c .before .before .before .before .before .before .before .loop-test .taken) _ (c .before .before .before .before .before .before .read-text .ensures) _ _ (c .before .before .before .before .here .given .1) _ (c .before .same-bytes .ensures) (c .if1 .left)
+loop-again c = search seek-step
 
 returns-3 : tie.Need-returns-3 Inv-loop μ-loop
-returns-3 c = seek-end _ _ _ (c .before .before .before .before .pre) _ _ _ (c .before .loop .inv) (c .loop-test .left)
+returns-3 c = search seek-end
 
 pub seen-spec : {M : Type 1} → statement M
 seen-spec =

@@ -24,22 +24,29 @@ add-byte : tie.Need-add-byte Inv-loop μ-loop
 add-byte c = let y = c .before .loop .inv .most in let z = c .before .before .before .pre in omega arith
 
 shared-slice-read-byte : tie.Need-shared-slice-read-byte Inv-loop μ-loop
-shared-slice-read-byte c = let y = c .before .before .loop .inv .most in let z = c .before .before .before .before .pre in let t = c .before .loop-test .taken in omega arith
+shared-slice-read-byte c =
+    let y = c .before .before .loop .inv .most in
+    let z = c .before .before .before .before .pre in
+    let t = c .before .loop-test .taken in
+    omega arith
 
 byte-requires : tie.Need-byte-requires Inv-loop μ-loop
-byte-requires c κs = search needs
+byte-requires c κs = search
 
 add-w : tie.Need-add-w Inv-loop μ-loop
-add-w c = let z = word-small _ _ _ _ (c .before .before .before .loop .inv) (c .before .before .loop-test .taken) in let y = c .byte .ensures .1 in omega arith
+add-w c =
+    let z = word-small _ _ _ _ (c .before .before .before .loop .inv) (c .before .before .loop-test .taken) in
+    let y = c .byte .ensures .1 in
+    omega arith
 
 loop-less : tie.Need-loop-less Inv-loop μ-loop
 loop-less c = let y = c .before .before .loop-test .taken in omega arith
 
 loop-again : tie.Need-loop-again Inv-loop μ-loop
-loop-again c = word-step _ _ _ _ (c .before .before .before .loop .inv) (c .before .before .loop-test .taken) (c .before .before .before .before .before .pre) _ (c .byte .ensures .0) (c .byte .ensures .1)
+loop-again c = search word-step
 
 returns : tie.Need-returns Inv-loop μ-loop
-returns c = word-ends _ _ _ _ (c .before .loop .inv) (c .loop-test .left)
+returns c = search word-ends
 
 pub word-at-spec : {M : Type 1} → statement M
 word-at-spec =

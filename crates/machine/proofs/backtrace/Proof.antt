@@ -38,7 +38,9 @@ use Rattle.machine.proofs.backtrace.Statement as stated
 use Rattle.machine.proofs.backtrace.Code as code
 
 abbrev kinds : List (Kind 8)
-kinds = own VmRow vmVal vm-tells (λ x f. refl) ∷ shared 0 tt u64 ∷ shared 1 tt u8 ∷ shared 2 tt u8 ∷ shared 3 tt u32 ∷ shared 4 tt u8 ∷ shared 5 tt u32 ∷ shared 6 tt R ∷ unique 7 tt u32 ∷ []
+kinds =
+    own VmRow vmVal vm-tells (λ x f. refl) ∷ shared 0 tt u64 ∷ shared 1 tt u8 ∷ shared 2 tt u8 ∷ shared 3 tt u32 ∷ shared 4 tt u8
+    ∷ shared 5 tt u32 ∷ shared 6 tt R ∷ unique 7 tt u32 ∷ []
 
 module _ {M : Type 1} (𝓤 : URA M) (H : Heap 𝓤) (A : Atoms 𝓤) (W : Given 𝓤 H A) (mem : Memory → SProp 𝓤) (run : Routine → Fun 𝓤) where
   abbrev Judge : Contract 𝓤
@@ -132,7 +134,9 @@ module _ {M : Type 1} (𝓤 : URA M) (H : Heap 𝓤) (A : Atoms 𝓤) (W : Given
     room7 = is .1 .1 .1 .1 .1 .1 .1 .1 .0 .0 .1
 
     abbrev slices : List ℕ → List Arg
-    slices out′ = shr u64 s0 functions ∷ shr u8 s1 text ∷ shr u8 s2 main ∷ shr u32 s3 mainPlaces ∷ shr u8 s4 other ∷ shr u32 s5 otherPlaces ∷ shr R s6 frames ∷ mut u32 s7 out′ ∷ []
+    slices out′ =
+        shr u64 s0 functions ∷ shr u8 s1 text ∷ shr u8 s2 main ∷ shr u32 s3 mainPlaces ∷ shr u8 s4 other ∷ shr u32 s5 otherPlaces
+        ∷ shr R s6 frames ∷ mut u32 s7 out′ ∷ []
 
     abbrev xs : List ℕ → List Arg
     xs out′ = val VmRow m (vmVal m) ∷ slices out′
@@ -142,37 +146,63 @@ module _ {M : Type 1} (𝓤 : URA M) (H : Heap 𝓤) (A : Atoms 𝓤) (W : Given
 
     exits : (r : Told) (out′ : List ℕ) → Is ToldRow r (toldVal r ∷ []) → length out′ ≡ s7 .count → ((structs constants : List ℕ) → record { answer = r; out = out′ } ≡ backtraceIn m (programLent structs constants functions text main mainPlaces other otherPlaces) frames out) → ent 𝓤 (⋆ 𝓤 H A (‵ (Holds (slices out′)) ∷ [])) (Post (toldVal r))
     exits r out′ isr len-out said =
-        qed W (‵ (Holds (slices out′)) ∷ []) ∵ suffices ! _ (ends-at 𝓤 H A me.ended (stays kinds) (me.clauses 𝓤 H A mem run) W (passing (xs out)) (toldVal r) r (tt, (tt, (tt, (tt, (tt, (tt, (tt, (tt, (out′, tt))))))))) (tt, (tt, (tt, (tt, (tt, (tt, (tt, (tt, (len-out, tt)))))))))) $ says ! said $
-        gives ! (xs out′) (vm-makes 𝓤 H A W m _ (is .0), tt) (frame ! $ owned ! ToldRow (Is ToldRow) (told-makes 𝓤 H A W) r _ isr $ keep ! (1 ∷ 0 ∷ []) $ done !)
+        qed W (‵ (Holds (slices out′)) ∷ []) ∵ suffices ! _
+        (ends-at 𝓤 H A me.ended (stays kinds) (me.clauses 𝓤 H A mem run) W (passing (xs out)) (toldVal r) r
+        (tt, (tt, (tt, (tt, (tt, (tt, (tt, (tt, (out′, tt))))))))) (tt, (tt, (tt, (tt, (tt, (tt, (tt, (tt, (len-out, tt))))))))))
+        $ says ! said $ gives ! (xs out′) (vm-makes 𝓤 H A W m _ (is .0), tt)
+        (frame ! $ owned ! ToldRow (Is ToldRow) (told-makes 𝓤 H A W) r _ isr $ keep ! (1 ∷ 0 ∷ []) $ done !)
 
     -- the calls
     abbrev to-judge : List Arg
-    to-judge = val VmRow m (vmVal m) ∷ shr u64 s0 functions ∷ shr u8 s1 text ∷ shr u8 s2 main ∷ shr u32 s3 mainPlaces ∷ shr u8 s4 other ∷ shr u32 s5 otherPlaces ∷ shr R s6 frames ∷ []
+    to-judge =
+        val VmRow m (vmVal m) ∷ shr u64 s0 functions ∷ shr u8 s1 text ∷ shr u8 s2 main ∷ shr u32 s3 mainPlaces ∷ shr u8 s4 other ∷
+        shr u32 s5 otherPlaces ∷ shr R s6 frames ∷ []
 
     call-judge : Rule 𝓤 H A W to-judge Judge Boolean vbool (λ b zs. ((structs constants : List ℕ) → b ≡ traceOrder m (programLent structs constants functions text main mainPlaces other otherPlaces) frames))
-    call-judge = call-with 𝓤 H A W to-judge Judge Boolean vbool (λ b zs. ((structs constants : List ℕ) → b ≡ traceOrder m (programLent structs constants functions text main mainPlaces other otherPlaces) frames)) bool-tells (λ ns. passing (lent to-judge ns)) (λ ns. refl)
-        (λ ns. unasked W (lent to-judge ns)) (λ ns w. id⊢ 𝓤 _) (vm-makes 𝓤 H A W m _ (is .0), tt) ((refl, room0), ((refl, room1), ((refl, room2), ((refl, room3), ((refl, room4), ((refl, room5), ((refl, room6), tt)))))))
+    call-judge =
+        call-with 𝓤 H A W to-judge Judge Boolean vbool
+        (λ b zs. ((structs constants : List ℕ) → b ≡ traceOrder m
+        (programLent structs constants functions text main mainPlaces other otherPlaces) frames)) bool-tells
+        (λ ns. passing (lent to-judge ns)) (λ ns. refl) (λ ns. unasked W (lent to-judge ns)) (λ ns w. id⊢ 𝓤 _)
+        (vm-makes 𝓤 H A W m _ (is .0), tt)
+        ((refl, room0), ((refl, room1), ((refl, room2), ((refl, room3), ((refl, room4), ((refl, room5), ((refl, room6), tt)))))))
 
     abbrev to-why : Bool → List Arg
-    to-why b = val Boolean b (vbool b) ∷ val usize (m .frames) (vint w64 (m .frames)) ∷ val usize (s7 .count) (vint w64 (s7 .count)) ∷ []
+    to-why b =
+        val Boolean b (vbool b) ∷ val usize (m .frames) (vint w64 (m .frames)) ∷ val usize (s7 .count) (vint w64 (s7 .count)) ∷ []
 
     call-why : (b : Bool) → Is Boolean b (vbool b ∷ []) → Rule 𝓤 H A W (to-why b) Why u8 (vint w8) (λ w zs. ((os : List ℕ) → length os ≡ s7 .count → w ≡ traceRefusal b (m .frames) os))
-    call-why b isb = call-with 𝓤 H A W (to-why b) Why u8 (vint w8) (λ w zs. ((os : List ℕ) → length os ≡ s7 .count → w ≡ traceRefusal b (m .frames) os)) (uint-tells w8) (λ ns. passing (lent (to-why b) ns)) (λ ns. refl)
-        (λ ns. unasked W (lent (to-why b) ns)) (λ ns w. id⊢ 𝓤 _) (bool-makes 𝓤 H A W b _ isb, (uint-makes 𝓤 H A W w64 (m .frames) _ (refl, frames-fit m (is .0)), (uint-makes 𝓤 H A W w64 (s7 .count) _ (refl, room7 .0), tt))) tt
+    call-why b isb =
+        call-with 𝓤 H A W (to-why b) Why u8 (vint w8)
+        (λ w zs. ((os : List ℕ) → length os ≡ s7 .count → w ≡ traceRefusal b (m .frames) os)) (uint-tells w8)
+        (λ ns. passing (lent (to-why b) ns)) (λ ns. refl) (λ ns. unasked W (lent (to-why b) ns)) (λ ns w. id⊢ 𝓤 _) (
+          bool-makes 𝓤 H A W b _ isb,
+          (
+            uint-makes 𝓤 H A W w64 (m .frames) _ (refl, frames-fit m (is .0)),
+            (uint-makes 𝓤 H A W w64 (s7 .count) _ (refl, room7 .0), tt),
+          ),
+        ) tt
 
     abbrev to-put : List Arg
-    to-put = val usize (m .frames) (vint w64 (m .frames)) ∷ shr u64 s0 functions ∷ shr u32 s3 mainPlaces ∷ shr u32 s5 otherPlaces ∷ shr R s6 frames ∷ mut u32 s7 out ∷ []
+    to-put =
+        val usize (m .frames) (vint w64 (m .frames)) ∷ shr u64 s0 functions ∷ shr u32 s3 mainPlaces ∷ shr u32 s5 otherPlaces ∷ shr
+        R s6 frames ∷ mut u32 s7 out ∷ []
 
     call-put : Traceable functions mainPlaces otherPlaces (m .frames) frames (length out) → Rule 𝓤 H A W to-put Put ToldRow toldVal (λ r zs. record { answer = r; out = zs .1 .1 .1 .1 .1 .0 } ≡ traceInto functions mainPlaces otherPlaces (m .frames) frames out)
-    call-put can = call-with 𝓤 H A W to-put Put ToldRow toldVal (λ r zs. record { answer = r; out = zs .1 .1 .1 .1 .1 .0 } ≡ traceInto functions mainPlaces otherPlaces (m .frames) frames out) told-tells (λ ns. passing (lent to-put ns)) (λ ns. refl)
-        (λ ns. asked W (lent to-put ns) can) (λ ns w. id⊢ 𝓤 _) (uint-makes 𝓤 H A W w64 (m .frames) _ (refl, frames-fit m (is .0)), tt) ((refl, room0), ((refl, room3), ((refl, room5), ((refl, room6), ((refl, room7), tt)))))
+    call-put can =
+        call-with 𝓤 H A W to-put Put ToldRow toldVal
+        (λ r zs. record { answer = r; out = zs .1 .1 .1 .1 .1 .0 } ≡ traceInto functions mainPlaces otherPlaces (m .frames) frames
+        out) told-tells (λ ns. passing (lent to-put ns)) (λ ns. refl) (λ ns. asked W (lent to-put ns) can) (λ ns w. id⊢ 𝓤 _)
+        (uint-makes 𝓤 H A W w64 (m .frames) _ (refl, frames-fit m (is .0)), tt)
+        ((refl, room0), ((refl, room3), ((refl, room5), ((refl, room6), ((refl, room7), tt)))))
 
     abbrev to-not : ℕ → List Arg
     to-not w = val u8 w (vint w8 w) ∷ []
 
     call-not : (w : ℕ) → Is u8 w (vint w8 w ∷ []) → Rule 𝓤 H A W (to-not w) Not ToldRow toldVal (λ r zs. r ≡ t.Refused w)
-    call-not w isw = call-with 𝓤 H A W (to-not w) Not ToldRow toldVal (λ r zs. r ≡ t.Refused w) told-tells (λ ns. passing (lent (to-not w) ns)) (λ ns. refl)
-        (λ ns. unasked W (lent (to-not w) ns)) (λ ns w. id⊢ 𝓤 _) (uint-makes 𝓤 H A W w8 w _ isw, tt) tt
+    call-not w isw =
+        call-with 𝓤 H A W (to-not w) Not ToldRow toldVal (λ r zs. r ≡ t.Refused w) told-tells (λ ns. passing (lent (to-not w) ns))
+        (λ ns. refl) (λ ns. unasked W (lent (to-not w) ns)) (λ ns w. id⊢ 𝓤 _) (uint-makes 𝓤 H A W w8 w _ isw, tt) tt
 
     walk : ent 𝓤 (onEntry 𝓤 H A me.signature (lfts (xs out)) (shares (xs out)) (denots (xs out)) (valss (xs out))) (WpFn 𝓤 H (𝓣 .C) (𝓣 .Λ) code.function (values (xs out)) Post)
     walk =
@@ -193,16 +223,22 @@ module _ {M : Type 1} (𝓤 : URA M) (H : Heap 𝓤) (A : Atoms 𝓤) (W : Given
         fm = fmOf 𝓤 H (W .laws) 𝓣
 
         why-is : (b : Bool) (w : ℕ) → ((structs constants : List ℕ) → b ≡ traceOrder m (programLent structs constants functions text main mainPlaces other otherPlaces) frames) → ((os : List ℕ) → length os ≡ s7 .count → w ≡ traceRefusal b (m .frames) os) → (structs constants : List ℕ) → w ≡ traceRefusal (traceOrder m (programLent structs constants functions text main mainPlaces other otherPlaces) frames) (m .frames) out
-        why-is b w eb ew structs constants = ew out refl ∙ ap (λ (x : Bool). traceRefusal x (m .frames) out) (eb structs constants)
+        why-is b w eb ew structs constants =
+            ew out refl ∙ ap (λ (x : Bool). traceRefusal x (m .frames) out) (eb structs constants)
 
         ready : (b : Bool) (w : ℕ) → ((structs constants : List ℕ) → b ≡ traceOrder m (programLent structs constants functions text main mainPlaces other otherPlaces) frames) → ((os : List ℕ) → length os ≡ s7 .count → w ≡ traceRefusal b (m .frames) os) → w ≡ 0 → Traceable functions mainPlaces otherPlaces (m .frames) frames (length out)
-        ready b w eb ew z = trace-ready m [] [] functions text main mainPlaces other otherPlaces frames out (why-is b w eb ew [] []) z
+        ready b w eb ew z =
+            trace-ready m [] [] functions text main mainPlaces other otherPlaces frames out (why-is b w eb ew [] []) z
 
         traced : (b : Bool) (w : ℕ) → ((structs constants : List ℕ) → b ≡ traceOrder m (programLent structs constants functions text main mainPlaces other otherPlaces) frames) → ((os : List ℕ) → length os ≡ s7 .count → w ≡ traceRefusal b (m .frames) os) → w ≡ 0 → (structs constants : List ℕ) → traceInto functions mainPlaces otherPlaces (m .frames) frames out ≡ backtraceIn m (programLent structs constants functions text main mainPlaces other otherPlaces) frames out
-        traced b w eb ew z structs constants = trace-is m structs constants functions text main mainPlaces other otherPlaces frames out (why-is b w eb ew structs constants) z
+        traced b w eb ew z structs constants =
+            trace-is m structs constants functions text main mainPlaces other otherPlaces frames out
+            (why-is b w eb ew structs constants) z
 
         not-traced : (b : Bool) (w : ℕ) → ((structs constants : List ℕ) → b ≡ traceOrder m (programLent structs constants functions text main mainPlaces other otherPlaces) frames) → ((os : List ℕ) → length os ≡ s7 .count → w ≡ traceRefusal b (m .frames) os) → (w ≡ 0 → ⊥) → (structs constants : List ℕ) → record { answer = t.Refused w; out = out } ≡ backtraceIn m (programLent structs constants functions text main mainPlaces other otherPlaces) frames out
-        not-traced b w eb ew z structs constants = trace-refused m structs constants functions text main mainPlaces other otherPlaces frames out (why-is b w eb ew structs constants) z
+        not-traced b w eb ew z structs constants =
+            trace-refused m structs constants functions text main mainPlaces other otherPlaces frames out
+            (why-is b w eb ew structs constants) z
 
 pub backtrace-spec : {M : Type 1} → stated.statement M
 unfolding code.routine tablesOf
@@ -211,7 +247,11 @@ backtrace-spec 𝓤 H 𝓜 𝓖 𝓡 =
     closed kinds ToldRow 𝓤 H 𝓜 𝓖 𝓡 code.env #me code.function (code.unfolded 𝓤 H 𝓜 𝓡) (me.clauses 𝓤 H (𝓖 .A) (𝓜 .mem) (𝓡 .run))
     (λ κs qs a g is. unneeded 𝓤 _
     (walk 𝓤 H (𝓖 .A) W (𝓜 .mem) (𝓡 .run) (tablesOf 𝓤 H 𝓜 (tables 𝓤 H 𝓜 𝓡 code.env))
-    (cited 𝓤 H (Judge 𝓤 H (𝓖 .A) W (𝓜 .mem) (𝓡 .run)) 𝓜 𝓡 code.env #judge judge-def.routine code.calls-machine·tracing·trace-order (judge-thm.met 𝓤 H 𝓜 𝓖 𝓡))
-    (cited 𝓤 H (Why 𝓤 H (𝓖 .A) W (𝓜 .mem) (𝓡 .run)) 𝓜 𝓡 code.env #why why-def.routine code.calls-machine·tracing·trace-refusal (why-thm.met 𝓤 H 𝓜 𝓖 𝓡))
-    (cited 𝓤 H (Put 𝓤 H (𝓖 .A) W (𝓜 .mem) (𝓡 .run)) 𝓜 𝓡 code.env #put put-def.routine code.calls-machine·tracing·put-trace (put-thm.met 𝓤 H 𝓜 𝓖 𝓡))
-    (cited 𝓤 H (Not 𝓤 H (𝓖 .A) W (𝓜 .mem) (𝓡 .run)) 𝓜 𝓡 code.env #not not-def.routine code.calls-machine·tracing·refused (not-thm.met 𝓤 H 𝓜 𝓖 𝓡)) κs qs a is))
+    (cited 𝓤 H (Judge 𝓤 H (𝓖 .A) W (𝓜 .mem) (𝓡 .run)) 𝓜 𝓡 code.env #judge judge-def.routine code.calls-machine·tracing·trace-order
+    (judge-thm.met 𝓤 H 𝓜 𝓖 𝓡))
+    (cited 𝓤 H (Why 𝓤 H (𝓖 .A) W (𝓜 .mem) (𝓡 .run)) 𝓜 𝓡 code.env #why why-def.routine code.calls-machine·tracing·trace-refusal
+    (why-thm.met 𝓤 H 𝓜 𝓖 𝓡))
+    (cited 𝓤 H (Put 𝓤 H (𝓖 .A) W (𝓜 .mem) (𝓡 .run)) 𝓜 𝓡 code.env #put put-def.routine code.calls-machine·tracing·put-trace
+    (put-thm.met 𝓤 H 𝓜 𝓖 𝓡))
+    (cited 𝓤 H (Not 𝓤 H (𝓖 .A) W (𝓜 .mem) (𝓡 .run)) 𝓜 𝓡 code.env #not not-def.routine code.calls-machine·tracing·refused
+    (not-thm.met 𝓤 H 𝓜 𝓖 𝓡)) κs qs a is))

@@ -36,7 +36,9 @@ use Rattle.machine.proofs.load.Statement as stated
 use Rattle.machine.proofs.load.Code as code
 
 abbrev kinds : List (Kind 10)
-kinds = shared 0 tt u8 ∷ unique 1 tt u64 ∷ unique 2 tt u64 ∷ unique 3 tt u64 ∷ unique 4 tt u8 ∷ unique 5 tt u8 ∷ unique 6 tt u32 ∷ unique 7 tt u8 ∷ unique 8 tt u32 ∷ unique 9 tt R ∷ []
+kinds =
+    shared 0 tt u8 ∷ unique 1 tt u64 ∷ unique 2 tt u64 ∷ unique 3 tt u64 ∷ unique 4 tt u8 ∷ unique 5 tt u8 ∷ unique 6 tt u32 ∷
+    unique 7 tt u8 ∷ unique 8 tt u32 ∷ unique 9 tt R ∷ []
 
 module _ {M : Type 1} (𝓤 : URA M) (H : Heap 𝓤) (A : Atoms 𝓤) (W : Given 𝓤 H A) (mem : Memory → SProp 𝓤) (run : Routine → Fun 𝓤) where
   abbrev Made : Contract 𝓤
@@ -142,39 +144,76 @@ module _ {M : Type 1} (𝓤 : URA M) (H : Heap 𝓤) (A : Atoms 𝓤) (W : Given
     room9 = is .1 .1 .1 .1 .1 .1 .1 .1 .1 .0 .0 .1
 
     abbrev slices : List ℕ → List ℕ → List ℕ → List ℕ → List ℕ → List ℕ → List ℕ → List ℕ → List Frame → List Arg
-    slices constants′ structs′ functions′ text′ main′ mainPlaces′ other′ otherPlaces′ frames′ = shr u8 s0 image ∷ mut u64 s1 constants′ ∷ mut u64 s2 structs′ ∷ mut u64 s3 functions′ ∷ mut u8 s4 text′ ∷ mut u8 s5 main′ ∷ mut u32 s6 mainPlaces′ ∷ mut u8 s7 other′ ∷ mut u32 s8 otherPlaces′ ∷ mut R s9 frames′ ∷ []
+    slices constants′ structs′ functions′ text′ main′ mainPlaces′ other′ otherPlaces′ frames′ =
+        shr u8 s0 image ∷ mut u64 s1 constants′ ∷ mut u64 s2 structs′ ∷ mut u64 s3 functions′ ∷ mut u8 s4 text′ ∷ mut u8 s5 main′
+        ∷ mut u32 s6 mainPlaces′ ∷ mut u8 s7 other′ ∷ mut u32 s8 otherPlaces′ ∷ mut R s9 frames′ ∷ []
 
     abbrev xs : List ℕ → List ℕ → List ℕ → List ℕ → List ℕ → List ℕ → List ℕ → List ℕ → List Frame → List Arg
-    xs constants′ structs′ functions′ text′ main′ mainPlaces′ other′ otherPlaces′ frames′ = slices constants′ structs′ functions′ text′ main′ mainPlaces′ other′ otherPlaces′ frames′
+    xs constants′ structs′ functions′ text′ main′ mainPlaces′ other′ otherPlaces′ frames′ =
+        slices constants′ structs′ functions′ text′ main′ mainPlaces′ other′ otherPlaces′ frames′
 
     abbrev Post : Val → SProp 𝓤
-    Post = walkOf 𝓤 H A me.ended (stays kinds) (me.clauses 𝓤 H A mem run) .post (passing (xs constants structs functions text main mainPlaces other otherPlaces frames))
+    Post =
+        walkOf 𝓤 H A me.ended (stays kinds) (me.clauses 𝓤 H A mem run) .post
+        (passing (xs constants structs functions text main mainPlaces other otherPlaces frames))
 
     exits : (r : Started) (constants′ : List ℕ) (structs′ : List ℕ) (functions′ : List ℕ) (text′ : List ℕ) (main′ : List ℕ) (mainPlaces′ : List ℕ) (other′ : List ℕ) (otherPlaces′ : List ℕ) (frames′ : List Frame) → Is StartedRow r (startedVal r ∷ []) → length constants′ ≡ s1 .count → length structs′ ≡ s2 .count → length functions′ ≡ s3 .count → length text′ ≡ s4 .count → length main′ ≡ s5 .count → length mainPlaces′ ≡ s6 .count → length other′ ≡ s7 .count → length otherPlaces′ ≡ s8 .count → length frames′ ≡ s9 .count → (record { answer = r; stores = stored constants′ structs′ functions′ text′ main′ mainPlaces′ other′ otherPlaces′; frames = frames′ } ≡ loadMachineOf image (stored constants structs functions text main mainPlaces other otherPlaces) frames) → ent 𝓤 (⋆ 𝓤 H A (‵ (Holds (slices constants′ structs′ functions′ text′ main′ mainPlaces′ other′ otherPlaces′ frames′)) ∷ [])) (Post (startedVal r))
     exits r constants′ structs′ functions′ text′ main′ mainPlaces′ other′ otherPlaces′ frames′ isr len-constants len-structs len-functions len-text len-main len-mainPlaces len-other len-otherPlaces len-frames said =
-        qed W (‵ (Holds (slices constants′ structs′ functions′ text′ main′ mainPlaces′ other′ otherPlaces′ frames′)) ∷ []) ∵ suffices ! _ (ends-at 𝓤 H A me.ended (stays kinds) (me.clauses 𝓤 H A mem run) W (passing (xs constants structs functions text main mainPlaces other otherPlaces frames)) (startedVal r) r (tt, (constants′, (structs′, (functions′, (text′, (main′, (mainPlaces′, (other′, (otherPlaces′, (frames′, tt)))))))))) (tt, (len-constants, (len-structs, (len-functions, (len-text, (len-main, (len-mainPlaces, (len-other, (len-otherPlaces, (len-frames, tt))))))))))) $ says ! said $
-        gives ! (xs constants′ structs′ functions′ text′ main′ mainPlaces′ other′ otherPlaces′ frames′) tt (frame ! $ owned ! StartedRow (Is StartedRow) (started-makes 𝓤 H A W) r _ isr $ keep ! (1 ∷ 0 ∷ []) $ done !)
+        qed W (‵ (Holds (slices constants′ structs′ functions′ text′ main′ mainPlaces′ other′ otherPlaces′ frames′)) ∷ []) ∵
+        suffices ! _
+        (ends-at 𝓤 H A me.ended (stays kinds) (me.clauses 𝓤 H A mem run) W
+        (passing (xs constants structs functions text main mainPlaces other otherPlaces frames)) (startedVal r) r
+        (tt, (constants′, (structs′, (functions′, (text′, (main′, (mainPlaces′, (other′, (otherPlaces′, (frames′, tt)))))))))) (
+          tt,
+          (
+            len-constants,
+            (
+              len-structs,
+              (len-functions, (len-text, (len-main, (len-mainPlaces, (len-other, (len-otherPlaces, (len-frames, tt))))))),
+            ),
+          ),
+        )) $ says ! said $ gives ! (xs constants′ structs′ functions′ text′ main′ mainPlaces′ other′ otherPlaces′ frames′) tt
+        (frame ! $ owned ! StartedRow (Is StartedRow) (started-makes 𝓤 H A W) r _ isr $ keep ! (1 ∷ 0 ∷ []) $ done !)
 
     -- the calls
     abbrev to-made : List Arg
-    to-made = shr u8 s0 image ∷ mut u64 s1 constants ∷ mut u64 s2 structs ∷ mut u64 s3 functions ∷ mut u8 s4 text ∷ mut u8 s5 main ∷ mut u32 s6 mainPlaces ∷ mut u8 s7 other ∷ mut u32 s8 otherPlaces ∷ val usize (s9 .count) (vint w64 (s9 .count)) ∷ []
+    to-made =
+        shr u8 s0 image ∷ mut u64 s1 constants ∷ mut u64 s2 structs ∷ mut u64 s3 functions ∷ mut u8 s4 text ∷ mut u8 s5 main ∷ mut
+        u32 s6 mainPlaces ∷ mut u8 s7 other ∷ mut u32 s8 otherPlaces ∷ val usize (s9 .count) (vint w64 (s9 .count)) ∷ []
 
     call-made : Rule 𝓤 H A W to-made Made StartedRow startedVal (λ r zs. Makes (loadMachineOf image (stored constants structs functions text main mainPlaces other otherPlaces)) (s9 .count) r (stored (zs .1 .0) (zs .1 .1 .0) (zs .1 .1 .1 .0) (zs .1 .1 .1 .1 .0) (zs .1 .1 .1 .1 .1 .0) (zs .1 .1 .1 .1 .1 .1 .0) (zs .1 .1 .1 .1 .1 .1 .1 .0) (zs .1 .1 .1 .1 .1 .1 .1 .1 .0)))
-    call-made = call-with 𝓤 H A W to-made Made StartedRow startedVal (λ r zs. Makes (loadMachineOf image (stored constants structs functions text main mainPlaces other otherPlaces)) (s9 .count) r (stored (zs .1 .0) (zs .1 .1 .0) (zs .1 .1 .1 .0) (zs .1 .1 .1 .1 .0) (zs .1 .1 .1 .1 .1 .0) (zs .1 .1 .1 .1 .1 .1 .0) (zs .1 .1 .1 .1 .1 .1 .1 .0) (zs .1 .1 .1 .1 .1 .1 .1 .1 .0))) started-tells (λ ns. passing (lent to-made ns)) (λ ns. refl)
-        (λ ns. unasked W (lent to-made ns)) (λ ns w. id⊢ 𝓤 _) (uint-makes 𝓤 H A W w64 (s9 .count) _ (refl, room9 .0), tt) ((refl, room0), ((refl, room1), ((refl, room2), ((refl, room3), ((refl, room4), ((refl, room5), ((refl, room6), ((refl, room7), ((refl, room8), tt)))))))))
+    call-made =
+        call-with 𝓤 H A W to-made Made StartedRow startedVal
+        (λ r zs. Makes (loadMachineOf image (stored constants structs functions text main mainPlaces other otherPlaces))
+        (s9 .count) r
+        (stored (zs .1 .0) (zs .1 .1 .0) (zs .1 .1 .1 .0) (zs .1 .1 .1 .1 .0) (zs .1 .1 .1 .1 .1 .0) (zs .1 .1 .1 .1 .1 .1 .0)
+        (zs .1 .1 .1 .1 .1 .1 .1 .0) (zs .1 .1 .1 .1 .1 .1 .1 .1 .0))) started-tells (λ ns. passing (lent to-made ns))
+        (λ ns. refl) (λ ns. unasked W (lent to-made ns)) (λ ns w. id⊢ 𝓤 _)
+        (uint-makes 𝓤 H A W w64 (s9 .count) _ (refl, room9 .0), tt) (
+          (refl, room0),
+          (
+            (refl, room1),
+            (
+              (refl, room2),
+              ((refl, room3), ((refl, room4), ((refl, room5), ((refl, room6), ((refl, room7), ((refl, room8), tt)))))),
+            ),
+          ),
+        )
 
     abbrev to-done : Started → List Arg
     to-done r = val StartedRow r (startedVal r) ∷ []
 
     call-done : (r : Started) → Is StartedRow r (startedVal r ∷ []) → Rule 𝓤 H A W (to-done r) Done Boolean vbool (λ b zs. b ≡ isDone r)
-    call-done r isr = call-with 𝓤 H A W (to-done r) Done Boolean vbool (λ b zs. b ≡ isDone r) bool-tells (λ ns. passing (lent (to-done r) ns)) (λ ns. refl)
-        (λ ns. unasked W (lent (to-done r) ns)) (λ ns w. id⊢ 𝓤 _) (started-makes 𝓤 H A W r _ isr, tt) tt
+    call-done r isr =
+        call-with 𝓤 H A W (to-done r) Done Boolean vbool (λ b zs. b ≡ isDone r) bool-tells (λ ns. passing (lent (to-done r) ns))
+        (λ ns. refl) (λ ns. unasked W (lent (to-done r) ns)) (λ ns w. id⊢ 𝓤 _) (started-makes 𝓤 H A W r _ isr, tt) tt
 
     abbrev to-first : List Arg
     to-first = []
 
     call-first : Rule 𝓤 H A W to-first First R fval (λ f zs. f ≡ root 0)
-    call-first = call-with 𝓤 H A W to-first First R fval (λ f zs. f ≡ root 0) tells (λ ns. passing (lent to-first ns)) (λ ns. refl)
+    call-first =
+        call-with 𝓤 H A W to-first First R fval (λ f zs. f ≡ root 0) tells (λ ns. passing (lent to-first ns)) (λ ns. refl)
         (λ ns. unasked W (lent to-first ns)) (λ ns w. id⊢ 𝓤 _) tt tt
 
     walk : ent 𝓤 (onEntry 𝓤 H A me.signature (lfts (xs constants structs functions text main mainPlaces other otherPlaces frames)) (shares (xs constants structs functions text main mainPlaces other otherPlaces frames)) (denots (xs constants structs functions text main mainPlaces other otherPlaces frames)) (valss (xs constants structs functions text main mainPlaces other otherPlaces frames))) (WpFn 𝓤 H (𝓣 .C) (𝓣 .Λ) code.function (values (xs constants structs functions text main mainPlaces other otherPlaces frames)) Post)
@@ -196,13 +235,19 @@ module _ {M : Type 1} (𝓤 : URA M) (H : Heap 𝓤) (A : Atoms 𝓤) (W : Given
         fm = fmOf 𝓤 H (W .laws) 𝓣
 
         place : (r : Started) (b : Bool) (constants′ structs′ functions′ text′ main′ mainPlaces′ other′ otherPlaces′ : List ℕ) → (Makes (loadMachineOf image (stored constants structs functions text main mainPlaces other otherPlaces)) (s9 .count) r (stored constants′ structs′ functions′ text′ main′ mainPlaces′ other′ otherPlaces′)) → b ≡ isDone r → b ≡ true → 0 < length frames
-        place r b constants′ structs′ functions′ text′ main′ mainPlaces′ other′ otherPlaces′ er eb on = place-there (sym eb ∙ on) (load-starts image (stored constants structs functions text main mainPlaces other otherPlaces) frames er)
+        place r b constants′ structs′ functions′ text′ main′ mainPlaces′ other′ otherPlaces′ er eb on =
+            place-there (sym eb ∙ on)
+            (load-starts image (stored constants structs functions text main mainPlaces other otherPlaces) frames er)
 
         laid-all : (r : Started) (b : Bool) (constants′ structs′ functions′ text′ main′ mainPlaces′ other′ otherPlaces′ : List ℕ) (fs : List Frame) → (Makes (loadMachineOf image (stored constants structs functions text main mainPlaces other otherPlaces)) (s9 .count) r (stored constants′ structs′ functions′ text′ main′ mainPlaces′ other′ otherPlaces′)) → b ≡ isDone r → b ≡ true → fs ≡ set frames 0 (root 0) → record { answer = r; stores = stored constants′ structs′ functions′ text′ main′ mainPlaces′ other′ otherPlaces′; frames = fs } ≡ loadMachineOf image (stored constants structs functions text main mainPlaces other otherPlaces) frames
-        laid-all r b constants′ structs′ functions′ text′ main′ mainPlaces′ other′ otherPlaces′ fs er eb on ef = frame-laid (sym eb ∙ on) ef (load-starts image (stored constants structs functions text main mainPlaces other otherPlaces) frames er)
+        laid-all r b constants′ structs′ functions′ text′ main′ mainPlaces′ other′ otherPlaces′ fs er eb on ef =
+            frame-laid (sym eb ∙ on) ef
+            (load-starts image (stored constants structs functions text main mainPlaces other otherPlaces) frames er)
 
         kept-all : (r : Started) (b : Bool) (constants′ structs′ functions′ text′ main′ mainPlaces′ other′ otherPlaces′ : List ℕ) → (Makes (loadMachineOf image (stored constants structs functions text main mainPlaces other otherPlaces)) (s9 .count) r (stored constants′ structs′ functions′ text′ main′ mainPlaces′ other′ otherPlaces′)) → b ≡ isDone r → b ≡ false → record { answer = r; stores = stored constants′ structs′ functions′ text′ main′ mainPlaces′ other′ otherPlaces′; frames = frames } ≡ loadMachineOf image (stored constants structs functions text main mainPlaces other otherPlaces) frames
-        kept-all r b constants′ structs′ functions′ text′ main′ mainPlaces′ other′ otherPlaces′ er eb off = frame-not (sym eb ∙ off) (load-starts image (stored constants structs functions text main mainPlaces other otherPlaces) frames er)
+        kept-all r b constants′ structs′ functions′ text′ main′ mainPlaces′ other′ otherPlaces′ er eb off =
+            frame-not (sym eb ∙ off)
+            (load-starts image (stored constants structs functions text main mainPlaces other otherPlaces) frames er)
 
 pub load-spec : {M : Type 1} → stated.statement M
 unfolding code.routine tablesOf
@@ -211,7 +256,11 @@ load-spec 𝓤 H 𝓜 𝓖 𝓡 =
     closed kinds StartedRow 𝓤 H 𝓜 𝓖 𝓡 code.env #me code.function (code.unfolded 𝓤 H 𝓜 𝓡) (me.clauses 𝓤 H (𝓖 .A) (𝓜 .mem) (𝓡 .run))
     (λ κs qs a g is. unneeded 𝓤 _
     (walk 𝓤 H (𝓖 .A) W (𝓜 .mem) (𝓡 .run) (tablesOf 𝓤 H 𝓜 (tables 𝓤 H 𝓜 𝓡 code.env))
-    (cited 𝓤 H (Made 𝓤 H (𝓖 .A) W (𝓜 .mem) (𝓡 .run)) 𝓜 𝓡 code.env #made made-def.routine code.calls-machine·starting·load-program (made-thm.met 𝓤 H 𝓜 𝓖 𝓡))
-    (cited 𝓤 H (Done 𝓤 H (𝓖 .A) W (𝓜 .mem) (𝓡 .run)) 𝓜 𝓡 code.env #done done-def.routine code.calls-machine·starting·is-done (done-thm.met 𝓤 H 𝓜 𝓖 𝓡))
-    (cited 𝓤 H (First 𝓤 H (𝓖 .A) W (𝓜 .mem) (𝓡 .run)) 𝓜 𝓡 code.env #first first-def.routine code.calls-machine·starting·first-frame (first-thm.met 𝓤 H 𝓜 𝓖 𝓡))
-    (cited 𝓤 H (Write 𝓤 H (𝓖 .A) W (𝓜 .mem) (𝓡 .run)) 𝓜 𝓡 code.env #writef writef-def.routine code.calls-frames·write-frame (writef-thm.met 𝓤 H 𝓜 𝓖 𝓡)) κs qs a is))
+    (cited 𝓤 H (Made 𝓤 H (𝓖 .A) W (𝓜 .mem) (𝓡 .run)) 𝓜 𝓡 code.env #made made-def.routine code.calls-machine·starting·load-program
+    (made-thm.met 𝓤 H 𝓜 𝓖 𝓡))
+    (cited 𝓤 H (Done 𝓤 H (𝓖 .A) W (𝓜 .mem) (𝓡 .run)) 𝓜 𝓡 code.env #done done-def.routine code.calls-machine·starting·is-done
+    (done-thm.met 𝓤 H 𝓜 𝓖 𝓡))
+    (cited 𝓤 H (First 𝓤 H (𝓖 .A) W (𝓜 .mem) (𝓡 .run)) 𝓜 𝓡 code.env #first first-def.routine
+    code.calls-machine·starting·first-frame (first-thm.met 𝓤 H 𝓜 𝓖 𝓡))
+    (cited 𝓤 H (Write 𝓤 H (𝓖 .A) W (𝓜 .mem) (𝓡 .run)) 𝓜 𝓡 code.env #writef writef-def.routine code.calls-frames·write-frame
+    (writef-thm.met 𝓤 H 𝓜 𝓖 𝓡)) κs qs a is))

@@ -90,29 +90,38 @@ module _ {M : Type 1} (𝓤 : URA M) (H : Heap 𝓤) (A : Atoms 𝓤) (W : Given
 
     exits : (r : Started) (functions′ : List ℕ) (text′ : List ℕ) (frames′ : List Frame) → Is StartedRow r (startedVal r ∷ []) → length functions′ ≡ s0 .count → length text′ ≡ s1 .count → length frames′ ≡ s2 .count → (((rest : Stores) → record { answer = r; stores = namesLent rest functions′ text′; frames = frames′ } ≡ newMachineOf (namesLent rest functions text) frames)) → ent 𝓤 (⋆ 𝓤 H A (‵ (Holds (slices functions′ text′ frames′)) ∷ [])) (Post (startedVal r))
     exits r functions′ text′ frames′ isr len-functions len-text len-frames said =
-        qed W (‵ (Holds (slices functions′ text′ frames′)) ∷ []) ∵ suffices ! _ (ends-at 𝓤 H A me.ended (stays kinds) (me.clauses 𝓤 H A mem run) W (passing (xs functions text frames)) (startedVal r) r (functions′, (text′, (frames′, tt))) (len-functions, (len-text, (len-frames, tt)))) $ says ! said $
-        gives ! (xs functions′ text′ frames′) tt (frame ! $ owned ! StartedRow (Is StartedRow) (started-makes 𝓤 H A W) r _ isr $ keep ! (1 ∷ 0 ∷ []) $ done !)
+        qed W (‵ (Holds (slices functions′ text′ frames′)) ∷ []) ∵ suffices ! _
+        (ends-at 𝓤 H A me.ended (stays kinds) (me.clauses 𝓤 H A mem run) W (passing (xs functions text frames)) (startedVal r) r
+        (functions′, (text′, (frames′, tt))) (len-functions, (len-text, (len-frames, tt)))) $ says ! said $ gives !
+        (xs functions′ text′ frames′) tt
+        (frame ! $ owned ! StartedRow (Is StartedRow) (started-makes 𝓤 H A W) r _ isr $ keep ! (1 ∷ 0 ∷ []) $ done !)
 
     -- the calls
     abbrev to-made : List Arg
     to-made = mut u64 s0 functions ∷ mut u8 s1 text ∷ val usize (s2 .count) (vint w64 (s2 .count)) ∷ []
 
     call-made : Rule 𝓤 H A W to-made Made StartedRow startedVal (λ r zs. ((rest : Stores) → Makes (newMachineOf (namesLent rest functions text)) (s2 .count) r (namesLent rest (zs .0) (zs .1 .0))))
-    call-made = call-with 𝓤 H A W to-made Made StartedRow startedVal (λ r zs. ((rest : Stores) → Makes (newMachineOf (namesLent rest functions text)) (s2 .count) r (namesLent rest (zs .0) (zs .1 .0)))) started-tells (λ ns. passing (lent to-made ns)) (λ ns. refl)
-        (λ ns. unasked W (lent to-made ns)) (λ ns w. id⊢ 𝓤 _) (uint-makes 𝓤 H A W w64 (s2 .count) _ (refl, room2 .0), tt) ((refl, room0), ((refl, room1), tt))
+    call-made =
+        call-with 𝓤 H A W to-made Made StartedRow startedVal
+        (λ r zs. ((rest : Stores) → Makes (newMachineOf (namesLent rest functions text)) (s2 .count) r
+        (namesLent rest (zs .0) (zs .1 .0)))) started-tells (λ ns. passing (lent to-made ns)) (λ ns. refl)
+        (λ ns. unasked W (lent to-made ns)) (λ ns w. id⊢ 𝓤 _) (uint-makes 𝓤 H A W w64 (s2 .count) _ (refl, room2 .0), tt)
+        ((refl, room0), ((refl, room1), tt))
 
     abbrev to-done : Started → List Arg
     to-done r = val StartedRow r (startedVal r) ∷ []
 
     call-done : (r : Started) → Is StartedRow r (startedVal r ∷ []) → Rule 𝓤 H A W (to-done r) Done Boolean vbool (λ b zs. b ≡ isDone r)
-    call-done r isr = call-with 𝓤 H A W (to-done r) Done Boolean vbool (λ b zs. b ≡ isDone r) bool-tells (λ ns. passing (lent (to-done r) ns)) (λ ns. refl)
-        (λ ns. unasked W (lent (to-done r) ns)) (λ ns w. id⊢ 𝓤 _) (started-makes 𝓤 H A W r _ isr, tt) tt
+    call-done r isr =
+        call-with 𝓤 H A W (to-done r) Done Boolean vbool (λ b zs. b ≡ isDone r) bool-tells (λ ns. passing (lent (to-done r) ns))
+        (λ ns. refl) (λ ns. unasked W (lent (to-done r) ns)) (λ ns w. id⊢ 𝓤 _) (started-makes 𝓤 H A W r _ isr, tt) tt
 
     abbrev to-first : List Arg
     to-first = []
 
     call-first : Rule 𝓤 H A W to-first First R fval (λ f zs. f ≡ root 0)
-    call-first = call-with 𝓤 H A W to-first First R fval (λ f zs. f ≡ root 0) tells (λ ns. passing (lent to-first ns)) (λ ns. refl)
+    call-first =
+        call-with 𝓤 H A W to-first First R fval (λ f zs. f ≡ root 0) tells (λ ns. passing (lent to-first ns)) (λ ns. refl)
         (λ ns. unasked W (lent to-first ns)) (λ ns w. id⊢ 𝓤 _) tt tt
 
     walk : ent 𝓤 (onEntry 𝓤 H A me.signature (lfts (xs functions text frames)) (shares (xs functions text frames)) (denots (xs functions text frames)) (valss (xs functions text frames))) (WpFn 𝓤 H (𝓣 .C) (𝓣 .Λ) code.function (values (xs functions text frames)) Post)
@@ -134,13 +143,16 @@ module _ {M : Type 1} (𝓤 : URA M) (H : Heap 𝓤) (A : Atoms 𝓤) (W : Given
         fm = fmOf 𝓤 H (W .laws) 𝓣
 
         place : (r : Started) (b : Bool) (functions′ text′ : List ℕ) → (((rest : Stores) → Makes (newMachineOf (namesLent rest functions text)) (s2 .count) r (namesLent rest functions′ text′))) → b ≡ isDone r → b ≡ true → 0 < length frames
-        place r b functions′ text′ er eb on = place-there (sym eb ∙ on) (new-starts (namesLent no-stores functions text) frames (er no-stores))
+        place r b functions′ text′ er eb on =
+            place-there (sym eb ∙ on) (new-starts (namesLent no-stores functions text) frames (er no-stores))
 
         laid-all : (r : Started) (b : Bool) (functions′ text′ : List ℕ) (fs : List Frame) → (((rest : Stores) → Makes (newMachineOf (namesLent rest functions text)) (s2 .count) r (namesLent rest functions′ text′))) → b ≡ isDone r → b ≡ true → fs ≡ set frames 0 (root 0) → ((rest : Stores) → record { answer = r; stores = namesLent rest functions′ text′; frames = fs } ≡ newMachineOf (namesLent rest functions text) frames)
-        laid-all r b functions′ text′ fs er eb on ef = λ rest. frame-laid (sym eb ∙ on) ef (new-starts (namesLent rest functions text) frames (er rest))
+        laid-all r b functions′ text′ fs er eb on ef =
+            λ rest. frame-laid (sym eb ∙ on) ef (new-starts (namesLent rest functions text) frames (er rest))
 
         kept-all : (r : Started) (b : Bool) (functions′ text′ : List ℕ) → (((rest : Stores) → Makes (newMachineOf (namesLent rest functions text)) (s2 .count) r (namesLent rest functions′ text′))) → b ≡ isDone r → b ≡ false → ((rest : Stores) → record { answer = r; stores = namesLent rest functions′ text′; frames = frames } ≡ newMachineOf (namesLent rest functions text) frames)
-        kept-all r b functions′ text′ er eb off = λ rest. frame-not (sym eb ∙ off) (new-starts (namesLent rest functions text) frames (er rest))
+        kept-all r b functions′ text′ er eb off =
+            λ rest. frame-not (sym eb ∙ off) (new-starts (namesLent rest functions text) frames (er rest))
 
 pub new-spec : {M : Type 1} → stated.statement M
 unfolding code.routine tablesOf
@@ -149,7 +161,11 @@ new-spec 𝓤 H 𝓜 𝓖 𝓡 =
     closed kinds StartedRow 𝓤 H 𝓜 𝓖 𝓡 code.env #me code.function (code.unfolded 𝓤 H 𝓜 𝓡) (me.clauses 𝓤 H (𝓖 .A) (𝓜 .mem) (𝓡 .run))
     (λ κs qs a g is. unneeded 𝓤 _
     (walk 𝓤 H (𝓖 .A) W (𝓜 .mem) (𝓡 .run) (tablesOf 𝓤 H 𝓜 (tables 𝓤 H 𝓜 𝓡 code.env))
-    (cited 𝓤 H (Made 𝓤 H (𝓖 .A) W (𝓜 .mem) (𝓡 .run)) 𝓜 𝓡 code.env #made made-def.routine code.calls-machine·starting·new-program (made-thm.met 𝓤 H 𝓜 𝓖 𝓡))
-    (cited 𝓤 H (Done 𝓤 H (𝓖 .A) W (𝓜 .mem) (𝓡 .run)) 𝓜 𝓡 code.env #done done-def.routine code.calls-machine·starting·is-done (done-thm.met 𝓤 H 𝓜 𝓖 𝓡))
-    (cited 𝓤 H (First 𝓤 H (𝓖 .A) W (𝓜 .mem) (𝓡 .run)) 𝓜 𝓡 code.env #first first-def.routine code.calls-machine·starting·first-frame (first-thm.met 𝓤 H 𝓜 𝓖 𝓡))
-    (cited 𝓤 H (Write 𝓤 H (𝓖 .A) W (𝓜 .mem) (𝓡 .run)) 𝓜 𝓡 code.env #writef writef-def.routine code.calls-frames·write-frame (writef-thm.met 𝓤 H 𝓜 𝓖 𝓡)) κs qs a is))
+    (cited 𝓤 H (Made 𝓤 H (𝓖 .A) W (𝓜 .mem) (𝓡 .run)) 𝓜 𝓡 code.env #made made-def.routine code.calls-machine·starting·new-program
+    (made-thm.met 𝓤 H 𝓜 𝓖 𝓡))
+    (cited 𝓤 H (Done 𝓤 H (𝓖 .A) W (𝓜 .mem) (𝓡 .run)) 𝓜 𝓡 code.env #done done-def.routine code.calls-machine·starting·is-done
+    (done-thm.met 𝓤 H 𝓜 𝓖 𝓡))
+    (cited 𝓤 H (First 𝓤 H (𝓖 .A) W (𝓜 .mem) (𝓡 .run)) 𝓜 𝓡 code.env #first first-def.routine
+    code.calls-machine·starting·first-frame (first-thm.met 𝓤 H 𝓜 𝓖 𝓡))
+    (cited 𝓤 H (Write 𝓤 H (𝓖 .A) W (𝓜 .mem) (𝓡 .run)) 𝓜 𝓡 code.env #writef writef-def.routine code.calls-frames·write-frame
+    (writef-thm.met 𝓤 H 𝓜 𝓖 𝓡)) κs qs a is))

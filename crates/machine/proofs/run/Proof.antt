@@ -48,30 +48,96 @@ module _ {M : Type 1} (𝓤 : URA M) (H : Heap 𝓤) (A : Atoms 𝓤) (W : Given
 
     exits : (r : RunResult) (stack′ : List ℕ) (cells′ : List ℕ) (frames′ : List Frame) (copy′ : List ℕ) (backtrace′ : List ℕ) → Is ResultRow r (resultVal r ∷ []) → length stack′ ≡ s7 p .count → length cells′ ≡ s8 p .count → length frames′ ≡ s9 p .count → length copy′ ≡ s10 p .count → length backtrace′ ≡ s11 p .count → ((structs : List ℕ) → RunPost (m p) (stores p structs) (lent₀ p) (units p) r (runLent stack′ cells′ frames′ copy′ backtrace′)) → ent 𝓤 (⋆ 𝓤 H A (‵ (Holds (slices p stack′ cells′ frames′ copy′ backtrace′)) ∷ [])) (Post (resultVal r))
     exits r stack′ cells′ frames′ copy′ backtrace′ isr len-stack len-cells len-frames len-copy len-backtrace said =
-        qed W (‵ (Holds (slices p stack′ cells′ frames′ copy′ backtrace′)) ∷ []) ∵ suffices ! _ (ends-at 𝓤 H A me.ended (stays kinds) (me.clauses 𝓤 H A mem run) W (passing (xs₀ p)) (resultVal r) r (tt, (tt, (tt, (tt, (tt, (tt, (tt, (tt, (tt, (stack′, (cells′, (frames′, (copy′, (backtrace′, tt)))))))))))))) (tt, (tt, (tt, (tt, (tt, (tt, (tt, (tt, (tt, (len-stack, (len-cells, (len-frames, (len-copy, (len-backtrace, tt))))))))))))))) $ says ! said $
-        gives ! (xs p stack′ cells′ frames′ copy′ backtrace′) (vm-makes 𝓤 H A W (m p) _ (p .is .0), (uint-makes 𝓤 H A W w64 (units p) _ (p .is .1 .0), tt)) (frame ! $ owned ! ResultRow (Is ResultRow) (result-makes 𝓤 H A W) r _ isr $ keep ! (1 ∷ 0 ∷ []) $ done !)
+        qed W (‵ (Holds (slices p stack′ cells′ frames′ copy′ backtrace′)) ∷ []) ∵ suffices ! _
+        (ends-at 𝓤 H A me.ended (stays kinds) (me.clauses 𝓤 H A mem run) W (passing (xs₀ p)) (resultVal r) r
+        (tt, (tt, (tt, (tt, (tt, (tt, (tt, (tt, (tt, (stack′, (cells′, (frames′, (copy′, (backtrace′, tt)))))))))))))) (
+          tt,
+          (tt, (tt, (tt, (tt, (tt, (tt, (tt, (tt, (len-stack, (len-cells, (len-frames, (len-copy, (len-backtrace, tt))))))))))))),
+        )) $ says ! said $ gives ! (xs p stack′ cells′ frames′ copy′ backtrace′)
+        (vm-makes 𝓤 H A W (m p) _ (p .is .0), (uint-makes 𝓤 H A W w64 (units p) _ (p .is .1 .0), tt))
+        (frame ! $ owned ! ResultRow (Is ResultRow) (result-makes 𝓤 H A W) r _ isr $ keep ! (1 ∷ 0 ∷ []) $ done !)
 
     -- the calls
     abbrev to-why : List Arg
-    to-why = val VmRow (m p) (vmVal (m p)) ∷ val usize (s10 p .count) (vint w64 (s10 p .count)) ∷ val usize (s11 p .count) (vint w64 (s11 p .count)) ∷ shr u64 (s0 p) (constants p) ∷ shr u64 (s1 p) (functions p) ∷ shr u8 (s2 p) (text p) ∷ shr u8 (s3 p) (main p) ∷ shr u32 (s4 p) (mainPlaces p) ∷ shr u8 (s5 p) (other p) ∷ shr u32 (s6 p) (otherPlaces p) ∷ peek u64 (s7 p) (stack p) ∷ peek u64 (s8 p) (cells p) ∷ peek R (s9 p) (frames p) ∷ []
+    to-why =
+        val VmRow (m p) (vmVal (m p)) ∷ val usize (s10 p .count) (vint w64 (s10 p .count)) ∷ val usize (s11 p .count)
+        (vint w64 (s11 p .count)) ∷ shr u64 (s0 p) (constants p) ∷ shr u64 (s1 p) (functions p) ∷ shr u8 (s2 p) (text p) ∷ shr u8
+        (s3 p) (main p) ∷ shr u32 (s4 p) (mainPlaces p) ∷ shr u8 (s5 p) (other p) ∷ shr u32 (s6 p) (otherPlaces p) ∷ peek u64
+        (s7 p) (stack p) ∷ peek u64 (s8 p) (cells p) ∷ peek R (s9 p) (frames p) ∷ []
 
     call-why : Rule 𝓤 H A W to-why Why u8 (vint w8) (λ n zs. ((structs cs bs : List ℕ) → length cs ≡ s10 p .count → length bs ≡ s11 p .count → RunJudged (m p) (stores p structs) (runLent (stack p) (cells p) (frames p) cs bs) n))
-    call-why = call-with 𝓤 H A W to-why Why u8 (vint w8) (λ n zs. ((structs cs bs : List ℕ) → length cs ≡ s10 p .count → length bs ≡ s11 p .count → RunJudged (m p) (stores p structs) (runLent (stack p) (cells p) (frames p) cs bs) n)) (uint-tells w8) (λ ns. passing (lent to-why ns)) (λ ns. refl)
-        (λ ns. unasked W (lent to-why ns)) (λ ns w. id⊢ 𝓤 _) (vm-makes 𝓤 H A W (m p) _ (p .is .0), (uint-makes 𝓤 H A W w64 (s10 p .count) _ (refl, room10 p .0), (uint-makes 𝓤 H A W w64 (s11 p .count) _ (refl, room11 p .0), tt))) ((refl, room0 p), ((refl, room1 p), ((refl, room2 p), ((refl, room3 p), ((refl, room4 p), ((refl, room5 p), ((refl, room6 p), ((refl, room7 p), ((refl, room8 p), ((refl, room9 p), tt))))))))))
+    call-why =
+        call-with 𝓤 H A W to-why Why u8 (vint w8)
+        (λ n zs. ((structs cs bs : List ℕ) → length cs ≡ s10 p .count → length bs ≡ s11 p .count → RunJudged (m p)
+        (stores p structs) (runLent (stack p) (cells p) (frames p) cs bs) n)) (uint-tells w8) (λ ns. passing (lent to-why ns))
+        (λ ns. refl) (λ ns. unasked W (lent to-why ns)) (λ ns w. id⊢ 𝓤 _) (
+          vm-makes 𝓤 H A W (m p) _ (p .is .0),
+          (
+            uint-makes 𝓤 H A W w64 (s10 p .count) _ (refl, room10 p .0),
+            (uint-makes 𝓤 H A W w64 (s11 p .count) _ (refl, room11 p .0), tt),
+          ),
+        ) (
+          (refl, room0 p),
+          (
+            (refl, room1 p),
+            (
+              (refl, room2 p),
+              (
+                (refl, room3 p),
+                (
+                  (refl, room4 p),
+                  ((refl, room5 p), ((refl, room6 p), ((refl, room7 p), ((refl, room8 p), ((refl, room9 p), tt))))),
+                ),
+              ),
+            ),
+          ),
+        )
 
     abbrev to-go : List Arg
-    to-go = val VmRow (m p) (vmVal (m p)) ∷ val u64 (units p) (vint w64 (units p)) ∷ shr u64 (s0 p) (constants p) ∷ shr u64 (s1 p) (functions p) ∷ shr u8 (s2 p) (text p) ∷ shr u8 (s3 p) (main p) ∷ shr u32 (s4 p) (mainPlaces p) ∷ shr u8 (s5 p) (other p) ∷ shr u32 (s6 p) (otherPlaces p) ∷ mut u64 (s7 p) (stack p) ∷ mut u64 (s8 p) (cells p) ∷ mut R (s9 p) (frames p) ∷ mut u64 (s10 p) (copy p) ∷ mut u32 (s11 p) (backtrace p) ∷ []
+    to-go =
+        val VmRow (m p) (vmVal (m p)) ∷ val u64 (units p) (vint w64 (units p)) ∷ shr u64 (s0 p) (constants p) ∷ shr u64 (s1 p)
+        (functions p) ∷ shr u8 (s2 p) (text p) ∷ shr u8 (s3 p) (main p) ∷ shr u32 (s4 p) (mainPlaces p) ∷ shr u8 (s5 p) (other p)
+        ∷ shr u32 (s6 p) (otherPlaces p) ∷ mut u64 (s7 p) (stack p) ∷ mut u64 (s8 p) (cells p) ∷ mut R (s9 p) (frames p) ∷ mut u64
+        (s10 p) (copy p) ∷ mut u32 (s11 p) (backtrace p) ∷ []
 
     call-go : ((structs : List ℕ) → Granted (m p) (stores p structs) (lent₀ p)) → Rule 𝓤 H A W to-go Go ResultRow resultVal (λ r zs. ((structs : List ℕ) → RunPost (m p) (stores p structs) (lent₀ p) (units p) r (runLent (zs .1 .1 .1 .1 .1 .1 .1 .1 .1 .0) (zs .1 .1 .1 .1 .1 .1 .1 .1 .1 .1 .0) (zs .1 .1 .1 .1 .1 .1 .1 .1 .1 .1 .1 .0) (zs .1 .1 .1 .1 .1 .1 .1 .1 .1 .1 .1 .1 .0) (zs .1 .1 .1 .1 .1 .1 .1 .1 .1 .1 .1 .1 .1 .0))))
-    call-go can = call-with 𝓤 H A W to-go Go ResultRow resultVal (λ r zs. ((structs : List ℕ) → RunPost (m p) (stores p structs) (lent₀ p) (units p) r (runLent (zs .1 .1 .1 .1 .1 .1 .1 .1 .1 .0) (zs .1 .1 .1 .1 .1 .1 .1 .1 .1 .1 .0) (zs .1 .1 .1 .1 .1 .1 .1 .1 .1 .1 .1 .0) (zs .1 .1 .1 .1 .1 .1 .1 .1 .1 .1 .1 .1 .0) (zs .1 .1 .1 .1 .1 .1 .1 .1 .1 .1 .1 .1 .1 .0)))) result-tells (λ ns. passing (lent to-go ns)) (λ ns. refl)
-        (λ ns. asked W (lent to-go ns) can) (λ ns w. id⊢ 𝓤 _) (vm-makes 𝓤 H A W (m p) _ (p .is .0), (uint-makes 𝓤 H A W w64 (units p) _ (p .is .1 .0), tt)) ((refl, room0 p), ((refl, room1 p), ((refl, room2 p), ((refl, room3 p), ((refl, room4 p), ((refl, room5 p), ((refl, room6 p), ((refl, room7 p), ((refl, room8 p), ((refl, room9 p), ((refl, room10 p), ((refl, room11 p), tt))))))))))))
+    call-go can =
+        call-with 𝓤 H A W to-go Go ResultRow resultVal
+        (λ r zs. ((structs : List ℕ) → RunPost (m p) (stores p structs) (lent₀ p) (units p) r
+        (runLent (zs .1 .1 .1 .1 .1 .1 .1 .1 .1 .0) (zs .1 .1 .1 .1 .1 .1 .1 .1 .1 .1 .0) (zs .1 .1 .1 .1 .1 .1 .1 .1 .1 .1 .1 .0)
+        (zs .1 .1 .1 .1 .1 .1 .1 .1 .1 .1 .1 .1 .0) (zs .1 .1 .1 .1 .1 .1 .1 .1 .1 .1 .1 .1 .1 .0)))) result-tells
+        (λ ns. passing (lent to-go ns)) (λ ns. refl) (λ ns. asked W (lent to-go ns) can) (λ ns w. id⊢ 𝓤 _)
+        (vm-makes 𝓤 H A W (m p) _ (p .is .0), (uint-makes 𝓤 H A W w64 (units p) _ (p .is .1 .0), tt)) (
+          (refl, room0 p),
+          (
+            (refl, room1 p),
+            (
+              (refl, room2 p),
+              (
+                (refl, room3 p),
+                (
+                  (refl, room4 p),
+                  (
+                    (refl, room5 p),
+                    (
+                      (refl, room6 p),
+                      ((refl, room7 p), ((refl, room8 p), ((refl, room9 p), ((refl, room10 p), ((refl, room11 p), tt))))),
+                    ),
+                  ),
+                ),
+              ),
+            ),
+          ),
+        )
 
     abbrev to-not : ℕ → List Arg
     to-not n = val u8 n (vint w8 n) ∷ []
 
     call-not : (n : ℕ) → Is u8 n (vint w8 n ∷ []) → Rule 𝓤 H A W (to-not n) Not ResultRow resultVal (λ r zs. r ≡ v.Refused n)
-    call-not n isn = call-with 𝓤 H A W (to-not n) Not ResultRow resultVal (λ r zs. r ≡ v.Refused n) result-tells (λ ns. passing (lent (to-not n) ns)) (λ ns. refl)
-        (λ ns. unasked W (lent (to-not n) ns)) (λ ns w. id⊢ 𝓤 _) (uint-makes 𝓤 H A W w8 n _ isn, tt) tt
+    call-not n isn =
+        call-with 𝓤 H A W (to-not n) Not ResultRow resultVal (λ r zs. r ≡ v.Refused n) result-tells
+        (λ ns. passing (lent (to-not n) ns)) (λ ns. refl) (λ ns. unasked W (lent (to-not n) ns)) (λ ns w. id⊢ 𝓤 _)
+        (uint-makes 𝓤 H A W w8 n _ isn, tt) tt
 
     walk : ent 𝓤 (onEntry 𝓤 H A me.signature (lfts (xs₀ p)) (shares (xs₀ p)) (denots (xs₀ p)) (valss (xs₀ p))) (WpFn 𝓤 H (𝓣 .C) (𝓣 .Λ) code.function (values (xs₀ p)) Post)
     walk =
@@ -97,6 +163,9 @@ run-spec 𝓤 H 𝓜 𝓖 𝓡 =
     closed kinds ResultRow 𝓤 H 𝓜 𝓖 𝓡 code.env #me code.function (code.unfolded 𝓤 H 𝓜 𝓡) (me.clauses 𝓤 H (𝓖 .A) (𝓜 .mem) (𝓡 .run))
     (λ κs qs a g is. unneeded 𝓤 _
     (walk 𝓤 H (𝓖 .A) W (𝓜 .mem) (𝓡 .run) (tablesOf 𝓤 H 𝓜 (tables 𝓤 H 𝓜 𝓡 code.env))
-    (cited 𝓤 H (Why 𝓤 H (𝓖 .A) W (𝓜 .mem) (𝓡 .run)) 𝓜 𝓡 code.env #why why-def.routine code.calls-machine·running·run-refusal (why-thm.met 𝓤 H 𝓜 𝓖 𝓡))
-    (cited 𝓤 H (Go 𝓤 H (𝓖 .A) W (𝓜 .mem) (𝓡 .run)) 𝓜 𝓡 code.env #go go-def.routine code.calls-machine·running·go (go-thm.met 𝓤 H 𝓜 𝓖 𝓡))
-    (cited 𝓤 H (Not 𝓤 H (𝓖 .A) W (𝓜 .mem) (𝓡 .run)) 𝓜 𝓡 code.env #not not-def.routine code.calls-machine·running·not-run (not-thm.met 𝓤 H 𝓜 𝓖 𝓡)) (record { κs = κs; qs = qs; a = a; is = is })))
+    (cited 𝓤 H (Why 𝓤 H (𝓖 .A) W (𝓜 .mem) (𝓡 .run)) 𝓜 𝓡 code.env #why why-def.routine code.calls-machine·running·run-refusal
+    (why-thm.met 𝓤 H 𝓜 𝓖 𝓡))
+    (cited 𝓤 H (Go 𝓤 H (𝓖 .A) W (𝓜 .mem) (𝓡 .run)) 𝓜 𝓡 code.env #go go-def.routine code.calls-machine·running·go
+    (go-thm.met 𝓤 H 𝓜 𝓖 𝓡))
+    (cited 𝓤 H (Not 𝓤 H (𝓖 .A) W (𝓜 .mem) (𝓡 .run)) 𝓜 𝓡 code.env #not not-def.routine code.calls-machine·running·not-run
+    (not-thm.met 𝓤 H 𝓜 𝓖 𝓡)) (record { κs = κs; qs = qs; a = a; is = is })))

@@ -10,11 +10,11 @@ returns c = payload-word _ _ (c .if1 .taken)
 
 -- src/loading.rt:37:5
 pack-requires : tie.Need-pack-requires
-pack-requires c κs = search needs
+pack-requires c κs = search
 
 -- src/loading.rt:30:1
 returns-2 : tie.Need-returns-2
-returns-2 c = payload-text _ _ (c .before .if1 .left) _ (c .pack .ensures)
+returns-2 c = search payload-text
 
 pub payload-spec : {M : Type 1} → statement M
 payload-spec = tie.close (tie.spec returns pack-requires returns-2)

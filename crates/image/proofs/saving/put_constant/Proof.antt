@@ -15,47 +15,49 @@ put-number-requires c κs = kind-near _ _ _ _ (c .before .before .before .pre)
 
 -- src/saving.rt:101:9
 put-word-requires : tie.Need-put-word-requires
-put-word-requires c κs = scalar-near _ _ _ _ (c .before .before .before .before .before .before .before .before .pre) _ _ _ (c .before .before .before .before .put-number .ensures) (c .before .if1 .taken)
+put-word-requires c κs = search scalar-near
 
 -- src/saving.rt:101:9
 same-length : tie.Need-same-length
-same-length c = search needs
+same-length c = search
 
 -- src/saving.rt:101:9
 returns : tie.Need-returns
-returns c = scalar-put _ _ _ _ (c .before .before .before .before .before .before .before .before .before .before .before .pre) _ _ _ (c .before .before .before .before .before .before .before .put-number .ensures) (c .before .before .before .before .if1 .taken) _ _ (c .before .before .put-word .ensures)
+returns c = search scalar-put
 
 -- src/saving.rt:104:20
 cast-flag : tie.Need-cast-flag
-cast-flag c = let z = c .before .before .before .before .before .before .before .before .pre .known .flag (c .if2 .taken) in omega arith
+cast-flag c =
+    let z = c .before .before .before .before .before .before .before .before .pre .known .flag (c .if2 .taken) in
+    omega arith
 
 -- src/saving.rt:105:9
 put-number-requires-2 : tie.Need-put-number-requires-2
-put-number-requires-2 c κs = flag-near _ _ _ _ (c .before .before .before .before .before .before .before .before .before .pre) _ _ _ (c .before .before .before .before .before .put-number .ensures) (c .before .if2 .taken)
+put-number-requires-2 c κs = search flag-near
 
 -- src/saving.rt:105:9
 same-length-2 : tie.Need-same-length-2
-same-length-2 c = search needs
+same-length-2 c = search
 
 -- src/saving.rt:105:9
 returns-2 : tie.Need-returns-2
-returns-2 c = flag-put _ _ _ _ (c .before .before .before .before .before .before .before .before .before .before .before .before .pre) _ _ _ (c .before .before .before .before .before .before .before .before .put-number .ensures) (c .before .before .before .before .if2 .taken) _ _ (c .before .before .put-number2 .ensures)
+returns-2 c = search flag-put
 
 -- src/saving.rt:107:9
 part-requires : tie.Need-part-requires
-part-requires c κs = search needs
+part-requires c κs = search
 
 -- src/saving.rt:108:5
 put-text-requires : tie.Need-put-text-requires
-put-text-requires c κs = letters-near _ _ _ _ (c .before .before .before .before .before .before .before .before .before .before .pre) _ _ _ (c .before .before .before .before .before .before .put-number .ensures) (c .before .before .before .if1 .left) (c .before .before .if2 .left) _ (c .before .part .ensures)
+put-text-requires c κs = search letters-near
 
 -- src/saving.rt:94:1
 same-length-3 : tie.Need-same-length-3
-same-length-3 c = search needs
+same-length-3 c = search
 
 -- src/saving.rt:94:1
 returns-3 : tie.Need-returns-3
-returns-3 c = letters-put _ _ _ _ (c .before .before .before .before .before .before .before .before .before .before .before .before .before .pre) _ _ _ (c .before .before .before .before .before .before .before .before .before .put-number .ensures) (c .before .before .before .before .before .before .if1 .left) (c .before .before .before .before .before .if2 .left) _ (c .before .before .before .before .part .ensures) _ _ (c .before .before .put-text .ensures)
+returns-3 c = search letters-put
 
 pub put-constant-spec : {M : Type 1} → statement M
 put-constant-spec =

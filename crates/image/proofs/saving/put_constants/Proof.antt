@@ -18,23 +18,23 @@ cast-count c = let z = c .before .before .before .pre .count in omega arith
 
 -- src/saving.rt:116:9
 put-number-requires : tie.Need-put-number-requires Inv-loop μ-loop
-put-number-requires c κs = constants-near _ _ _ _ (c .before .before .before .before .pre)
+put-number-requires c κs = search constants-near
 
 -- src/saving.rt:118:5
 loop-holds : tie.Need-loop-holds Inv-loop μ-loop
-loop-holds c = constants-start _ _ _ _ (c .before .before .before .before .before .before .before .pre) _ _ _ (c .before .before .put-number .ensures)
+loop-holds c = search constants-start
 
 -- src/saving.rt:119:13
 first-requires : tie.Need-first-requires Inv-loop μ-loop
-first-requires c κs = search needs
+first-requires c κs = search
 
 -- src/saving.rt:120:13
 second-requires : tie.Need-second-requires Inv-loop μ-loop
-second-requires c κs = search needs
+second-requires c κs = search
 
 -- src/saving.rt:121:9
 put-constant-requires : tie.Need-put-constant-requires Inv-loop μ-loop
-put-constant-requires c κs = constants-each _ _ _ _ (c .before .before .before .before .before .before .before .before .before .before .before .before .pre) _ _ _ (c .before .before .before .before .before .before .before .put-number .ensures) _ _ _ (c .before .before .before .before .loop .inv) (c .before .before .before .loop-test .taken) _ _ (c .before .before .first .ensures) (c .before .second .ensures)
+put-constant-requires c κs = search constants-each
 
 -- src/saving.rt:122:13
 add-i : tie.Need-add-i Inv-loop μ-loop
@@ -46,15 +46,15 @@ loop-less c = let z = c .before .before .before .before .before .before .loop-te
 
 -- src/saving.rt:118:5
 loop-again : tie.Need-loop-again Inv-loop μ-loop
-loop-again c = constants-step _ _ _ _ (c .before .before .before .before .before .before .before .before .before .before .before .before .before .before .before .pre) _ _ _ (c .before .before .before .before .before .before .before .before .before .before .put-number .ensures) _ _ _ (c .before .before .before .before .before .before .before .loop .inv) (c .before .before .before .before .before .before .loop-test .taken) _ _ (c .before .before .before .before .before .first .ensures) (c .before .before .before .before .second .ensures) _ _ (c .before .before .put-constant .ensures)
+loop-again c = search constants-step
 
 -- src/saving.rt:111:1
 same-length : tie.Need-same-length Inv-loop μ-loop
-same-length c = constants-kept _ _ _ _ (c .before .before .before .before .before .before .before .before .before .pre) _ _ _ (c .before .before .before .before .put-number .ensures) _ _ _ (c .before .loop .inv)
+same-length c = search constants-kept
 
 -- src/saving.rt:111:1
 returns : tie.Need-returns Inv-loop μ-loop
-returns c = constants-end _ _ _ _ (c .before .before .before .before .before .before .before .before .before .pre) _ _ _ (c .before .before .before .before .put-number .ensures) _ _ _ (c .before .loop .inv) (c .loop-test .left)
+returns c = search constants-end
 
 pub put-constants-spec : {M : Type 1} → statement M
 put-constants-spec =

@@ -6,7 +6,8 @@ use Prim.Native.Nat.{_-_}
 use Rattle.image.proofs.Orderly.{PuttingFunctions, functions-near, main-puts, functions-start, functions-kept, function-puts, functions-step, functions-end}
 
 abbrev Inv-loop : tie.InvT-loop
-Inv-loop out₀ at n functions text main main-places other other-places count behind next₀ i₀ out next i = PuttingFunctions n functions text main main-places other other-places out₀ next₀ out next i
+Inv-loop out₀ at n functions text main main-places other other-places count behind next₀ i₀ out next i =
+    PuttingFunctions n functions text main main-places other other-places out₀ next₀ out next i
 
 abbrev μ-loop : tie.MeasureT-loop
 μ-loop out₀ at n functions text main main-places other other-places count behind next₀ i₀ out next i = n - i
@@ -17,19 +18,24 @@ cast-count c = let z = c .before .before .before .before .before .before .before
 
 -- src/saving.rt:219:9
 put-number-requires : tie.Need-put-number-requires Inv-loop μ-loop
-put-number-requires c κs = functions-near _ _ _ _ _ _ _ _ (c .before .before .before .before .before .before .before .before .pre)
+put-number-requires c κs = search functions-near
 
 -- src/saving.rt:220:9
 put-function-requires : tie.Need-put-function-requires Inv-loop μ-loop
-put-function-requires c κs = main-puts _ _ _ _ _ _ _ _ (c .before .before .before .before .before .before .before .before .before .before .before .before .pre) _ _ _ (c .before .before .before .put-number .ensures)
+put-function-requires c κs = search main-puts
 
 -- src/saving.rt:222:5
 loop-holds : tie.Need-loop-holds Inv-loop μ-loop
-loop-holds c = functions-start _ _ _ _ _ _ _ _ (c .before .before .before .before .before .before .before .before .before .before .before .before .before .before .before .pre) _ _ _ (c .before .before .before .before .before .before .put-number .ensures) _ _ (c .before .before .put-function .ensures)
+loop-holds c = search functions-start
 
 -- src/saving.rt:223:9
 put-function-requires-2 : tie.Need-put-function-requires-2 Inv-loop μ-loop
-put-function-requires-2 c κs = function-puts _ _ _ _ _ _ _ _ (c .before .before .before .before .before .before .before .before .before .before .before .before .before .before .before .before .before .before .pre) _ _ _ (c .before .before .before .before .before .before .before .before .before .put-number .ensures) _ _ (c .before .before .before .before .before .put-function .ensures) _ _ _ (c .before .before .loop .inv) (c .before .loop-test .taken)
+put-function-requires-2 c κs =
+    let at-put-function = c .before .before .before .before .before in
+    let at-put-number = at-put-function .before .before .before .before in
+    let at-start = at-put-number .before .before .before .before .before .before .before .before .before in
+    function-puts _ _ _ _ _ _ _ _ (at-start .pre) _ _ _ (at-put-number .put-number .ensures) _ _
+    (at-put-function .put-function .ensures) _ _ _ (c .before .before .loop .inv) (c .before .loop-test .taken)
 
 -- src/saving.rt:224:13
 add-i : tie.Need-add-i Inv-loop μ-loop
@@ -41,15 +47,15 @@ loop-less c = let z = c .before .before .before .before .loop-test .taken in ome
 
 -- src/saving.rt:222:5
 loop-again : tie.Need-loop-again Inv-loop μ-loop
-loop-again c = functions-step _ _ _ _ _ _ _ _ (c .before .before .before .before .before .before .before .before .before .before .before .before .before .before .before .before .before .before .before .before .before .pre) _ _ _ (c .before .before .before .before .before .before .before .before .before .before .before .before .put-number .ensures) _ _ (c .before .before .before .before .before .before .before .before .put-function .ensures) _ _ _ (c .before .before .before .before .before .loop .inv) (c .before .before .before .before .loop-test .taken) _ _ (c .before .before .put-function2 .ensures)
+loop-again c = search functions-step
 
 -- src/saving.rt:204:1
 same-length : tie.Need-same-length Inv-loop μ-loop
-same-length c = functions-kept _ _ _ _ _ _ _ _ (c .before .before .before .before .before .before .before .before .before .before .before .before .before .before .before .before .before .pre) _ _ _ (c .before .before .before .before .before .before .before .before .put-number .ensures) _ _ (c .before .before .before .before .put-function .ensures) _ _ _ (c .before .loop .inv)
+same-length c = search functions-kept
 
 -- src/saving.rt:204:1
 returns : tie.Need-returns Inv-loop μ-loop
-returns c = functions-end _ _ _ _ _ _ _ _ (c .before .before .before .before .before .before .before .before .before .before .before .before .before .before .before .before .before .pre) _ _ _ (c .before .before .before .before .before .before .before .before .put-number .ensures) _ _ (c .before .before .before .before .put-function .ensures) _ _ _ (c .before .loop .inv) (c .loop-test .left)
+returns c = search functions-end
 
 pub put-functions-spec : {M : Type 1} → statement M
 put-functions-spec =

@@ -6,15 +6,22 @@ use Rattle.image.proofs.Orderly.{constants-puts, structs-puts, function
 
 -- src/saving.rt:269:9
 put-constants-requires : tie.Need-put-constants-requires
-put-constants-requires c κs = constants-puts _ (c .before .before .before .before .before .before .before .before .before .before .args .constants .now) (c .before .before .before .before .before .before .before .before .before .before .args .structs .now) (c .before .before .before .before .before .before .before .before .before .before .args .functions .now) (c .before .before .before .before .before .before .before .before .before .before .args .text .now) (c .before .before .before .before .before .before .before .before .before .before .args .main .now) (c .before .before .before .before .before .before .before .before .before .before .args .main-places .now) (c .before .before .before .before .before .before .before .before .before .before .args .other .now) (c .before .before .before .before .before .before .before .before .before .before .args .other-places .now) (c .before .before .before .before .before .before .before .before .before .before .pre)
+put-constants-requires c κs = search constants-puts
 
 -- src/saving.rt:270:9
 put-structs-requires : tie.Need-put-structs-requires
-put-structs-requires c κs = structs-puts _ (c .before .before .before .before .before .before .before .before .before .before .before .before .before .before .args .constants .now) (c .before .before .before .before .before .before .before .before .before .before .before .before .before .before .args .structs .now) (c .before .before .before .before .before .before .before .before .before .before .before .before .before .before .args .functions .now) (c .before .before .before .before .before .before .before .before .before .before .before .before .before .before .args .text .now) (c .before .before .before .before .before .before .before .before .before .before .before .before .before .before .args .main .now) (c .before .before .before .before .before .before .before .before .before .before .before .before .before .before .args .main-places .now) (c .before .before .before .before .before .before .before .before .before .before .before .before .before .before .args .other .now) (c .before .before .before .before .before .before .before .before .before .before .before .before .before .before .args .other-places .now) (c .before .before .before .before .before .before .before .before .before .before .before .before .before .before .pre) _ _ _ (c .before .before .before .put-constants .ensures)
+put-structs-requires c κs = search structs-puts
 
 -- src/saving.rt:271:5
 put-functions-requires : tie.Need-put-functions-requires
-put-functions-requires c κs = functions-puts _ (c .before .before .before .before .before .before .before .before .before .before .before .before .before .before .before .before .before .before .args .constants .now) (c .before .before .before .before .before .before .before .before .before .before .before .before .before .before .before .before .before .before .args .structs .now) (c .before .before .before .before .before .before .before .before .before .before .before .before .before .before .before .before .before .before .args .functions .now) (c .before .before .before .before .before .before .before .before .before .before .before .before .before .before .before .before .before .before .args .text .now) (c .before .before .before .before .before .before .before .before .before .before .before .before .before .before .before .before .before .before .args .main .now) (c .before .before .before .before .before .before .before .before .before .before .before .before .before .before .before .before .before .before .args .main-places .now) (c .before .before .before .before .before .before .before .before .before .before .before .before .before .before .before .before .before .before .args .other .now) (c .before .before .before .before .before .before .before .before .before .before .before .before .before .before .before .before .before .before .args .other-places .now) (c .before .before .before .before .before .before .before .before .before .before .before .before .before .before .before .before .before .before .pre) _ _ _ (c .before .before .before .before .before .before .before .put-constants .ensures) _ _ (c .before .before .before .put-structs .ensures)
+put-functions-requires c κs =
+    let at-put-structs = c .before .before .before in
+    let at-put-constants = at-put-structs .before .before .before .before in
+    let at-start = at-put-constants .before .before .before .before .before .before .before .before .before .before .before in
+    functions-puts _ (at-start .args .constants .now) (at-start .args .structs .now) (at-start .args .functions .now)
+    (at-start .args .text .now) (at-start .args .main .now) (at-start .args .main-places .now) (at-start .args .other .now)
+    (at-start .args .other-places .now) (at-start .pre) _ _ _ (at-put-constants .put-constants .ensures) _ _
+    (at-put-structs .put-structs .ensures)
 
 -- src/saving.rt:254:1
 same-length : tie.Need-same-length
@@ -22,7 +29,7 @@ same-length c = search needs
 
 -- src/saving.rt:254:1
 returns : tie.Need-returns
-returns c = image-put _ (c .before .before .before .before .before .before .before .before .before .before .before .before .before .before .before .before .before .before .before .before .before .args .constants .now) (c .before .before .before .before .before .before .before .before .before .before .before .before .before .before .before .before .before .before .before .before .before .args .structs .now) (c .before .before .before .before .before .before .before .before .before .before .before .before .before .before .before .before .before .before .before .before .before .args .functions .now) (c .before .before .before .before .before .before .before .before .before .before .before .before .before .before .before .before .before .before .before .before .before .args .text .now) (c .before .before .before .before .before .before .before .before .before .before .before .before .before .before .before .before .before .before .before .before .before .args .main .now) (c .before .before .before .before .before .before .before .before .before .before .before .before .before .before .before .before .before .before .before .before .before .args .main-places .now) (c .before .before .before .before .before .before .before .before .before .before .before .before .before .before .before .before .before .before .before .before .before .args .other .now) (c .before .before .before .before .before .before .before .before .before .before .before .before .before .before .before .before .before .before .before .before .before .args .other-places .now) (c .before .before .before .before .before .before .before .before .before .before .before .before .before .before .before .before .before .before .before .before .before .pre) _ _ _ (c .before .before .before .before .before .before .before .before .before .before .put-constants .ensures) _ _ (c .before .before .before .before .before .before .put-structs .ensures) _ _ (c .before .before .put-functions .ensures)
+returns c = search image-put
 
 pub put-image-spec : {M : Type 1} → statement M
 put-image-spec =

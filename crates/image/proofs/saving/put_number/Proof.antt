@@ -7,7 +7,7 @@ use Rattle.image.proofs.Putting.{number-fits, number-put, number-not}
 
 -- src/saving.rt:24:21
 groups-requires : tie.Need-groups-requires
-groups-requires c κs = search needs
+groups-requires c κs = search
 
 -- src/saving.rt:24:16
 add-next : tie.Need-add-next
@@ -19,15 +19,15 @@ write-number-requires c κs = search needs
 
 -- src/saving.rt:26:9
 same-length : tie.Need-same-length
-same-length c = search needs
+same-length c = search
 
 -- src/saving.rt:26:9
 returns : tie.Need-returns
-returns c = number-put _ _ _ _ _ (c .before .before .write-number .ensures)
+returns c = search number-put
 
 -- src/saving.rt:20:1
 returns-2 : tie.Need-returns-2
-returns-2 c = number-not _ _ _ _ (c .before .groups .ensures) (c .if1 .left)
+returns-2 c = search number-not
 
 pub put-number-spec : {M : Type 1} → statement M
 put-number-spec =

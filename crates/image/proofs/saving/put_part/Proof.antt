@@ -7,15 +7,15 @@ use Rattle.image.proofs.Putting.{near-fits, part-put, part-not}
 
 -- src/saving.rt:47:16
 add-next : tie.Need-add-next
-add-next c = let z = near-fits _ _ (c .before .before .pre) in omega arith
+add-next c = search (near-fits, needs)
 
 -- src/saving.rt:49:9
 put-bytes-requires : tie.Need-put-bytes-requires
-put-bytes-requires c κs = search needs
+put-bytes-requires c κs = search
 
 -- src/saving.rt:50:9
 same-length : tie.Need-same-length
-same-length c = search needs
+same-length c = search
 
 -- src/saving.rt:50:9
 returns : tie.Need-returns

@@ -18,15 +18,15 @@ loop-holds c = runs-start _ _ _ _ (c .before .before .pre) _
 
 -- src/saving.rt:167:13
 run-length-requires : tie.Need-run-length-requires Inv-loop μ-loop
-run-length-requires c κs = runs-ask _ _ _ _ (c .before .before .before .before .pre) _ _ _ _ (c .before .loop .inv) (c .loop-test .taken)
+run-length-requires c κs = search runs-ask
 
 -- src/saving.rt:168:21
 cast-bytes : tie.Need-cast-bytes Inv-loop μ-loop
-cast-bytes c = let z = runs-small _ _ _ _ (c .before .before .before .before .before .pre) _ _ _ _ (c .before .before .loop .inv) (c .before .loop-test .taken) _ (c .run-length .ensures) in omega arith
+cast-bytes c = search (runs-small, needs)
 
 -- src/saving.rt:169:13
 put-number-requires : tie.Need-put-number-requires Inv-loop μ-loop
-put-number-requires c κs = run-near _ _ _ _ (c .before .before .before .before .before .before .pre) _ _ _ _ (c .before .before .before .loop .inv) (c .before .before .loop-test .taken) _ (c .before .run-length .ensures)
+put-number-requires c κs = search run-near
 
 -- src/saving.rt:170:21
 mul-place : tie.Need-mul-place Inv-loop μ-loop
@@ -34,31 +34,41 @@ mul-place c = search needs
 
 -- src/saving.rt:170:21
 shared-slice-read-place : tie.Need-shared-slice-read-place Inv-loop μ-loop
-shared-slice-read-place c = let z = c .before .before .before .before .before .before .before .before .before .before .pre .inside in let y = c .before .before .before .before .before .before .loop-test .taken in omega arith
+shared-slice-read-place c =
+    let z = c .before .before .before .before .before .before .before .before .before .before .pre .inside in
+    let y = c .before .before .before .before .before .before .loop-test .taken in
+    omega arith
 
 -- src/saving.rt:171:9
 put-number-requires-2 : tie.Need-put-number-requires-2 Inv-loop μ-loop
-put-number-requires-2 c κs = place-near _ _ _ _ (c .before .before .before .before .before .before .before .before .before .before .before .pre) _ _ _ _ (c .before .before .before .before .before .before .before .before .loop .inv) (c .before .before .before .before .before .before .before .loop-test .taken) _ (c .before .before .before .before .before .before .run-length .ensures) _ _ (c .before .before .before .before .put-number .ensures)
+put-number-requires-2 c κs = search place-near
 
 -- src/saving.rt:172:13
 add-i : tie.Need-add-i Inv-loop μ-loop
-add-i c = let z = runs-less _ _ _ _ (c .before .before .before .before .before .before .before .before .before .before .before .before .before .before .pre) _ _ _ _ (c .before .before .before .before .before .before .before .before .before .before .before .loop .inv) (c .before .before .before .before .before .before .before .before .before .before .loop-test .taken) _ (c .before .before .before .before .before .before .before .before .before .run-length .ensures) .0 in omega arith
+add-i c = search (runs-less, needs)
 
 -- src/saving.rt:166:5
 loop-less : tie.Need-loop-less Inv-loop μ-loop
-loop-less c = let z = runs-less _ _ _ _ (c .before .before .before .before .before .before .before .before .before .before .before .before .before .before .pre) _ _ _ _ (c .before .before .before .before .before .before .before .before .before .before .before .loop .inv) (c .before .before .before .before .before .before .before .before .before .before .loop-test .taken) _ (c .before .before .before .before .before .before .before .before .before .run-length .ensures) in let a = z .0 in let b = z .1 in omega arith
+loop-less c = search (runs-less, needs)
 
 -- src/saving.rt:166:5
 loop-again : tie.Need-loop-again Inv-loop μ-loop
-loop-again c = runs-next _ _ _ _ (c .before .before .before .before .before .before .before .before .before .before .before .before .before .before .pre) _ _ _ _ (c .before .before .before .before .before .before .before .before .before .before .before .loop .inv) (c .before .before .before .before .before .before .before .before .before .before .loop-test .taken) _ (c .before .before .before .before .before .before .before .before .before .run-length .ensures) _ _ (c .before .before .before .before .before .before .before .put-number .ensures) _ _ (c .before .before .put-number2 .ensures)
+loop-again c =
+    let at-put-number = c .before .before .before .before .before .before .before in
+    let at-run-length = at-put-number .before .before in
+    let at-loop-test = at-run-length .before in
+    let at-loop = at-loop-test .before in
+    let at-start = at-loop .before .before .before in
+    runs-next _ _ _ _ (at-start .pre) _ _ _ _ (at-loop .loop .inv) (at-loop-test .loop-test .taken) _
+    (at-run-length .run-length .ensures) _ _ (at-put-number .put-number .ensures) _ _ (c .before .before .put-number2 .ensures)
 
 -- src/saving.rt:160:1
 same-length : tie.Need-same-length Inv-loop μ-loop
-same-length c = runs-kept _ _ _ _ (c .before .before .before .before .pre) _ _ _ _ (c .before .loop .inv)
+same-length c = search runs-kept
 
 -- src/saving.rt:160:1
 returns : tie.Need-returns Inv-loop μ-loop
-returns c = runs-end _ _ _ _ (c .before .before .before .before .pre) _ _ _ _ (c .before .loop .inv) (c .loop-test .left)
+returns c = search runs-end
 
 pub put-runs-spec : {M : Type 1} → statement M
 put-runs-spec =

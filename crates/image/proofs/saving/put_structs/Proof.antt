@@ -18,23 +18,23 @@ cast-count c = let z = c .before .before .before .pre .count in omega arith
 
 -- src/saving.rt:121:9
 put-number-requires : tie.Need-put-number-requires Inv-loop μ-loop
-put-number-requires c κs = structs-near _ _ _ _ (c .before .before .before .before .pre)
+put-number-requires c κs = search structs-near
 
 -- src/saving.rt:123:5
 loop-holds : tie.Need-loop-holds Inv-loop μ-loop
-loop-holds c = structs-start _ _ _ _ (c .before .before .before .before .before .before .before .pre) _ _ _ (c .before .before .put-number .ensures)
+loop-holds c = search structs-start
 
 -- src/saving.rt:124:13
 word-requires : tie.Need-word-requires Inv-loop μ-loop
-word-requires c κs = search needs
+word-requires c κs = search
 
 -- src/saving.rt:125:13
 part-requires : tie.Need-part-requires Inv-loop μ-loop
-part-requires c κs = search needs
+part-requires c κs = search
 
 -- src/saving.rt:126:9
 put-text-requires : tie.Need-put-text-requires Inv-loop μ-loop
-put-text-requires c κs = structs-each _ _ _ _ (c .before .before .before .before .before .before .before .before .before .before .before .before .pre) _ _ _ (c .before .before .before .before .before .before .before .put-number .ensures) _ _ _ (c .before .before .before .before .loop .inv) (c .before .before .before .loop-test .taken) _ (c .before .before .word .ensures) _ (c .before .part .ensures)
+put-text-requires c κs = search structs-each
 
 -- src/saving.rt:127:13
 add-i : tie.Need-add-i Inv-loop μ-loop
@@ -46,15 +46,15 @@ loop-less c = let z = c .before .before .before .before .before .before .loop-te
 
 -- src/saving.rt:123:5
 loop-again : tie.Need-loop-again Inv-loop μ-loop
-loop-again c = structs-step _ _ _ _ (c .before .before .before .before .before .before .before .before .before .before .before .before .before .before .before .pre) _ _ _ (c .before .before .before .before .before .before .before .before .before .before .put-number .ensures) _ _ _ (c .before .before .before .before .before .before .before .loop .inv) (c .before .before .before .before .before .before .loop-test .taken) _ (c .before .before .before .before .before .word .ensures) _ (c .before .before .before .before .part .ensures) _ _ (c .before .before .put-text .ensures)
+loop-again c = search structs-step
 
 -- src/saving.rt:116:1
 same-length : tie.Need-same-length Inv-loop μ-loop
-same-length c = structs-kept _ _ _ _ (c .before .before .before .before .before .before .before .before .before .pre) _ _ _ (c .before .before .before .before .put-number .ensures) _ _ _ (c .before .loop .inv)
+same-length c = search structs-kept
 
 -- src/saving.rt:116:1
 returns : tie.Need-returns Inv-loop μ-loop
-returns c = structs-end _ _ _ _ (c .before .before .before .before .before .before .before .before .before .pre) _ _ _ (c .before .before .before .before .put-number .ensures) _ _ _ (c .before .loop .inv) (c .loop-test .left)
+returns c = search structs-end
 
 pub put-structs-spec : {M : Type 1} → statement M
 put-structs-spec =

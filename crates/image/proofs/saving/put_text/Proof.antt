@@ -6,7 +6,7 @@ use Rattle.image.proofs.Putting.{text-split, front, back, both}
 
 -- src/saving.rt:60:13
 cast-n : tie.Need-cast-n
-cast-n c = search needs
+cast-n c = search
 
 -- src/saving.rt:61:9
 put-number-requires : tie.Need-put-number-requires
@@ -14,15 +14,15 @@ put-number-requires c κs = front _ _ _ _ (text-split _) (c .before .before .bef
 
 -- src/saving.rt:62:5
 put-part-requires : tie.Need-put-part-requires
-put-part-requires c κs = back _ _ _ _ (text-split _) (c .before .before .before .before .before .before .before .pre .near) _ _ _ (c .before .before .before .put-number .ensures)
+put-part-requires c κs = search (back, text-split)
 
 -- src/saving.rt:56:1
 same-length : tie.Need-same-length
-same-length c = search needs
+same-length c = search
 
 -- src/saving.rt:56:1
 returns : tie.Need-returns
-returns c = both _ _ _ _ (text-split _) (c .before .before .before .before .before .before .before .before .before .before .pre .near) _ _ _ (c .before .before .before .before .before .before .put-number .ensures) _ _ (c .before .before .put-part .ensures)
+returns c = search (both, text-split)
 
 pub put-text-spec : {M : Type 1} → statement M
 put-text-spec =

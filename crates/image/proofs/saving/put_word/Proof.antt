@@ -22,7 +22,7 @@ cast-b c = omega arith
 
 -- src/saving.rt:75:9
 put-byte-requires : tie.Need-put-byte-requires Inv-loop μ-loop
-put-byte-requires c κs = word-near _ _ _ _ _ _ _ (c .before .before .loop .inv) (c .before .before .before .before .pre) (c .before .loop-test .taken)
+put-byte-requires c κs = search word-near
 
 -- src/saving.rt:77:13
 add-i : tie.Need-add-i Inv-loop μ-loop
@@ -34,7 +34,7 @@ loop-less c = let z = c .before .before .before .before .loop-test .taken in ome
 
 -- src/saving.rt:73:5
 loop-again : tie.Need-loop-again Inv-loop μ-loop
-loop-again c = word-step _ _ _ _ _ _ _ (c .before .before .before .before .before .loop .inv) (c .before .before .before .before .loop-test .taken) _ _ (c .before .before .put-byte .ensures)
+loop-again c = search word-step
 
 -- src/saving.rt:66:1
 same-length : tie.Need-same-length Inv-loop μ-loop
@@ -42,7 +42,7 @@ same-length c = c .before .loop .inv .put .kept
 
 -- src/saving.rt:66:1
 returns : tie.Need-returns Inv-loop μ-loop
-returns c = word-end _ _ _ _ _ _ _ (c .before .loop .inv) (c .loop-test .left)
+returns c = search word-end
 
 pub put-word-spec : {M : Type 1} → statement M
 put-word-spec =

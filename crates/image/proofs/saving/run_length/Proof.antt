@@ -42,11 +42,14 @@ sub-result c = let z = c .before .before .before .loop .inv .ahead in omega arit
 
 -- src/saving.rt:141:13
 returns : tie.Need-returns Inv-loop μ-loop
-returns c = same-last _ _ _ (c .before .before .before .before .before .pre) _ (c .before .before .before .loop .inv) (c .if1 .taken)
+returns c = search same-last
 
 -- src/saving.rt:143:13
 add-k-2 : tie.Need-add-k-2 Inv-loop μ-loop
-add-k-2 c = let z = c .before .before .before .before .before .pre .1 in let y = c .before .before .loop-test .taken in omega arith
+add-k-2 c =
+    let z = c .before .before .before .before .before .pre .1 in
+    let y = c .before .before .loop-test .taken in
+    omega arith
 
 -- src/saving.rt:139:5
 loop-less : tie.Need-loop-less Inv-loop μ-loop
@@ -54,7 +57,7 @@ loop-less c = let z = c .before .before .loop-test .taken in omega arith
 
 -- src/saving.rt:139:5
 loop-again : tie.Need-loop-again Inv-loop μ-loop
-loop-again c = same-step _ _ _ (c .before .before .before .before .before .pre) _ (c .before .before .before .loop .inv) (c .before .before .loop-test .taken) (c .if1 .left)
+loop-again c = search same-step
 
 -- src/saving.rt:145:5
 sub-result-2 : tie.Need-sub-result-2 Inv-loop μ-loop
@@ -62,7 +65,7 @@ sub-result-2 c = let z = c .before .loop .inv .ahead in omega arith
 
 -- src/saving.rt:133:1
 returns-2 : tie.Need-returns-2 Inv-loop μ-loop
-returns-2 c = same-end _ _ _ (c .before .before .before .pre) _ (c .before .loop .inv) (c .loop-test .left)
+returns-2 c = search same-end
 
 pub run-length-spec : {M : Type 1} → statement M
 run-length-spec =

@@ -30,7 +30,9 @@ use Rattle.machine.proofs.running.finish.Statement as stated
 use Rattle.machine.proofs.running.finish.Code as code
 
 abbrev kinds : List (Kind 1)
-kinds = own VmRow vmVal vm-tells (λ x f. refl) ∷ own u64 (vint w64) (uint-tells w64) (λ x f. refl) ∷ own GoingRow goingVal going-tells (λ x f. refl) ∷ unique 0 tt R ∷ []
+kinds =
+    own VmRow vmVal vm-tells (λ x f. refl) ∷ own u64 (vint w64) (uint-tells w64) (λ x f. refl) ∷ own GoingRow goingVal going-tells
+    (λ x f. refl) ∷ unique 0 tt R ∷ []
 
 module _ {M : Type 1} (𝓤 : URA M) (H : Heap 𝓤) (A : Atoms 𝓤) (W : Given 𝓤 H A) (mem : Memory → SProp 𝓤) (run : Routine → Fun 𝓤) where
   abbrev Current : Contract 𝓤
@@ -71,23 +73,30 @@ module _ {M : Type 1} (𝓤 : URA M) (H : Heap 𝓤) (A : Atoms 𝓤) (W : Given
 
     exits : (r : RunResult) (frames′ : List Frame) → Is ResultRow r (resultVal r ∷ []) → length frames′ ≡ s0 .count → ((r ≡ endedWith m units g) × (frames′ ≡ set frames (g .callers) (frameIn g))) → ent 𝓤 (⋆ 𝓤 H A (‵ (Holds (slices frames′)) ∷ [])) (Post (resultVal r))
     exits r frames′ isr len-frames said =
-        qed W (‵ (Holds (slices frames′)) ∷ []) ∵ suffices ! _ (ends-at 𝓤 H A me.ended (stays kinds) (me.clauses 𝓤 H A mem run) W (passing (xs frames)) (resultVal r) r (tt, (tt, (tt, (frames′, tt)))) (tt, (tt, (tt, (len-frames, tt))))) $ says ! said $
-        gives ! (xs frames′) (vm-makes 𝓤 H A W m _ (is .0), (uint-makes 𝓤 H A W w64 units _ (is .1 .0), (going-makes 𝓤 H A W g _ (is .1 .1 .0), tt))) (frame ! $ owned ! ResultRow (Is ResultRow) (result-makes 𝓤 H A W) r _ isr $ keep ! (1 ∷ 0 ∷ []) $ done !)
+        qed W (‵ (Holds (slices frames′)) ∷ []) ∵ suffices ! _
+        (ends-at 𝓤 H A me.ended (stays kinds) (me.clauses 𝓤 H A mem run) W (passing (xs frames)) (resultVal r) r
+        (tt, (tt, (tt, (frames′, tt)))) (tt, (tt, (tt, (len-frames, tt))))) $ says ! said $ gives ! (xs frames′)
+        (vm-makes 𝓤 H A W m _ (is .0), (uint-makes 𝓤 H A W w64 units _ (is .1 .0), (going-makes 𝓤 H A W g _ (is .1 .1 .0), tt)))
+        (frame ! $ owned ! ResultRow (Is ResultRow) (result-makes 𝓤 H A W) r _ isr $ keep ! (1 ∷ 0 ∷ []) $ done !)
 
     -- the calls
     abbrev to-current : List Arg
     to-current = val GoingRow g (goingVal g) ∷ []
 
     call-current : Rule 𝓤 H A W to-current Current R fval (λ f zs. f ≡ frameIn g)
-    call-current = call-with 𝓤 H A W to-current Current R fval (λ f zs. f ≡ frameIn g) tells (λ ns. passing (lent to-current ns)) (λ ns. refl)
-        (λ ns. unasked W (lent to-current ns)) (λ ns w. id⊢ 𝓤 _) (going-makes 𝓤 H A W g _ (is .1 .1 .0), tt) tt
+    call-current =
+        call-with 𝓤 H A W to-current Current R fval (λ f zs. f ≡ frameIn g) tells (λ ns. passing (lent to-current ns))
+        (λ ns. refl) (λ ns. unasked W (lent to-current ns)) (λ ns w. id⊢ 𝓤 _) (going-makes 𝓤 H A W g _ (is .1 .1 .0), tt) tt
 
     abbrev to-over : List Arg
     to-over = val VmRow m (vmVal m) ∷ val u64 units (vint w64 units) ∷ val GoingRow g (goingVal g) ∷ []
 
     call-over : (g .units ≤ units) × (g .callers < 2 ^ 32) → Rule 𝓤 H A W to-over Over ResultRow resultVal (λ r zs. r ≡ endedWith m units g)
-    call-over can = call-with 𝓤 H A W to-over Over ResultRow resultVal (λ r zs. r ≡ endedWith m units g) result-tells (λ ns. passing (lent to-over ns)) (λ ns. refl)
-        (λ ns. asked W (lent to-over ns) can) (λ ns w. id⊢ 𝓤 _) (vm-makes 𝓤 H A W m _ (is .0), (uint-makes 𝓤 H A W w64 units _ (is .1 .0), (going-makes 𝓤 H A W g _ (is .1 .1 .0), tt))) tt
+    call-over can =
+        call-with 𝓤 H A W to-over Over ResultRow resultVal (λ r zs. r ≡ endedWith m units g) result-tells
+        (λ ns. passing (lent to-over ns)) (λ ns. refl) (λ ns. asked W (lent to-over ns) can) (λ ns w. id⊢ 𝓤 _)
+        (vm-makes 𝓤 H A W m _ (is .0), (uint-makes 𝓤 H A W w64 units _ (is .1 .0), (going-makes 𝓤 H A W g _ (is .1 .1 .0), tt)))
+        tt
 
     walk : ((g .units ≤ units) × (g .callers < 2 ^ 32) × (g .callers < length frames)) → ent 𝓤 (onEntry 𝓤 H A me.signature (lfts (xs frames)) (shares (xs frames)) (denots (xs frames)) (valss (xs frames))) (WpFn 𝓤 H (𝓣 .C) (𝓣 .Λ) code.function (values (xs frames)) Post)
     walk can =
@@ -107,8 +116,12 @@ unfolding code.routine tablesOf
 finish-spec 𝓤 H 𝓜 𝓖 𝓡 =
     let W : Given 𝓤 H (𝓖 .A) = givenOf 𝓤 H 𝓜 𝓖 in
     closed kinds ResultRow 𝓤 H 𝓜 𝓖 𝓡 code.env #me code.function (code.unfolded 𝓤 H 𝓜 𝓡) (me.clauses 𝓤 H (𝓖 .A) (𝓜 .mem) (𝓡 .run))
-    (λ κs qs a g is. needs 𝓤 ((a .1 .1 .0 .units ≤ a .1 .0) × (a .1 .1 .0 .callers < 2 ^ 32) × (a .1 .1 .0 .callers < length (now (a .1 .1 .1 .0)))) _
+    (λ κs qs a g is. needs 𝓤
+    ((a .1 .1 .0 .units ≤ a .1 .0) × (a .1 .1 .0 .callers < 2 ^ 32) × (a .1 .1 .0 .callers < length (now (a .1 .1 .1 .0)))) _
     (walk 𝓤 H (𝓖 .A) W (𝓜 .mem) (𝓡 .run) (tablesOf 𝓤 H 𝓜 (tables 𝓤 H 𝓜 𝓡 code.env))
-    (cited 𝓤 H (Current 𝓤 H (𝓖 .A) W (𝓜 .mem) (𝓡 .run)) 𝓜 𝓡 code.env #current current-def.routine code.calls-turns·frame-of (current-thm.met 𝓤 H 𝓜 𝓖 𝓡))
-    (cited 𝓤 H (Write 𝓤 H (𝓖 .A) W (𝓜 .mem) (𝓡 .run)) 𝓜 𝓡 code.env #writef writef-def.routine code.calls-frames·write-frame (writef-thm.met 𝓤 H 𝓜 𝓖 𝓡))
-    (cited 𝓤 H (Over 𝓤 H (𝓖 .A) W (𝓜 .mem) (𝓡 .run)) 𝓜 𝓡 code.env #over over-def.routine code.calls-ends·ended (over-thm.met 𝓤 H 𝓜 𝓖 𝓡)) κs qs a is))
+    (cited 𝓤 H (Current 𝓤 H (𝓖 .A) W (𝓜 .mem) (𝓡 .run)) 𝓜 𝓡 code.env #current current-def.routine code.calls-turns·frame-of
+    (current-thm.met 𝓤 H 𝓜 𝓖 𝓡))
+    (cited 𝓤 H (Write 𝓤 H (𝓖 .A) W (𝓜 .mem) (𝓡 .run)) 𝓜 𝓡 code.env #writef writef-def.routine code.calls-frames·write-frame
+    (writef-thm.met 𝓤 H 𝓜 𝓖 𝓡))
+    (cited 𝓤 H (Over 𝓤 H (𝓖 .A) W (𝓜 .mem) (𝓡 .run)) 𝓜 𝓡 code.env #over over-def.routine code.calls-ends·ended
+    (over-thm.met 𝓤 H 𝓜 𝓖 𝓡)) κs qs a is))

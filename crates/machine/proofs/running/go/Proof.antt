@@ -85,51 +85,118 @@ module _ {M : Type 1} (𝓤 : URA M) (H : Heap 𝓤) (A : Atoms 𝓤) (W : Given
 
     exits : (r : RunResult) (stack′ : List ℕ) (cells′ : List ℕ) (frames′ : List Frame) (copy′ : List ℕ) (backtrace′ : List ℕ) → Is ResultRow r (resultVal r ∷ []) → length stack′ ≡ s7 p .count → length cells′ ≡ s8 p .count → length frames′ ≡ s9 p .count → length copy′ ≡ s10 p .count → length backtrace′ ≡ s11 p .count → ((structs : List ℕ) → RunPost (m p) (stores p structs) (lent₀ p) (units p) r (runLent stack′ cells′ frames′ copy′ backtrace′)) → ent 𝓤 (⋆ 𝓤 H A (‵ (Holds (slices p stack′ cells′ frames′ copy′ backtrace′)) ∷ [])) (Post (resultVal r))
     exits r stack′ cells′ frames′ copy′ backtrace′ isr len-stack len-cells len-frames len-copy len-backtrace said =
-        qed W (‵ (Holds (slices p stack′ cells′ frames′ copy′ backtrace′)) ∷ []) ∵ suffices ! _ (ends-at 𝓤 H A me.ended (stays kinds) (me.clauses 𝓤 H A mem run) W (passing (xs₀ p)) (resultVal r) r (tt, (tt, (tt, (tt, (tt, (tt, (tt, (tt, (tt, (stack′, (cells′, (frames′, (copy′, (backtrace′, tt)))))))))))))) (tt, (tt, (tt, (tt, (tt, (tt, (tt, (tt, (tt, (len-stack, (len-cells, (len-frames, (len-copy, (len-backtrace, tt))))))))))))))) $ says ! said $
-        gives ! (xs p stack′ cells′ frames′ copy′ backtrace′) (vm-makes 𝓤 H A W (m p) _ (p .is .0), (uint-makes 𝓤 H A W w64 (units p) _ (p .is .1 .0), tt)) (frame ! $ owned ! ResultRow (Is ResultRow) (result-makes 𝓤 H A W) r _ isr $ keep ! (1 ∷ 0 ∷ []) $ done !)
+        qed W (‵ (Holds (slices p stack′ cells′ frames′ copy′ backtrace′)) ∷ []) ∵ suffices ! _
+        (ends-at 𝓤 H A me.ended (stays kinds) (me.clauses 𝓤 H A mem run) W (passing (xs₀ p)) (resultVal r) r
+        (tt, (tt, (tt, (tt, (tt, (tt, (tt, (tt, (tt, (stack′, (cells′, (frames′, (copy′, (backtrace′, tt)))))))))))))) (
+          tt,
+          (tt, (tt, (tt, (tt, (tt, (tt, (tt, (tt, (len-stack, (len-cells, (len-frames, (len-copy, (len-backtrace, tt))))))))))))),
+        )) $ says ! said $ gives ! (xs p stack′ cells′ frames′ copy′ backtrace′)
+        (vm-makes 𝓤 H A W (m p) _ (p .is .0), (uint-makes 𝓤 H A W w64 (units p) _ (p .is .1 .0), tt))
+        (frame ! $ owned ! ResultRow (Is ResultRow) (result-makes 𝓤 H A W) r _ isr $ keep ! (1 ∷ 0 ∷ []) $ done !)
 
     -- the calls
     abbrev to-bounds : List Arg
-    to-bounds = val VmRow (m p) (vmVal (m p)) ∷ val usize (s7 p .count) (vint w64 (s7 p .count)) ∷ val usize (s9 p .count) (vint w64 (s9 p .count)) ∷ []
+    to-bounds =
+        val VmRow (m p) (vmVal (m p)) ∷ val usize (s7 p .count) (vint w64 (s7 p .count)) ∷ val usize (s9 p .count)
+        (vint w64 (s9 p .count)) ∷ []
 
     call-bounds : Rule 𝓤 H A W to-bounds Bounds FixedRow fixedVal (λ k zs. FixedPost (m p) (s7 p .count) (s9 p .count) k)
-    call-bounds = call-with 𝓤 H A W to-bounds Bounds FixedRow fixedVal (λ k zs. FixedPost (m p) (s7 p .count) (s9 p .count) k) fixed-tells (λ ns. passing (lent to-bounds ns)) (λ ns. refl)
-        (λ ns. unasked W (lent to-bounds ns)) (λ ns w. id⊢ 𝓤 _) (vm-makes 𝓤 H A W (m p) _ (p .is .0), (uint-makes 𝓤 H A W w64 (s7 p .count) _ (refl, room7 p .0), (uint-makes 𝓤 H A W w64 (s9 p .count) _ (refl, room9 p .0), tt))) tt
+    call-bounds =
+        call-with 𝓤 H A W to-bounds Bounds FixedRow fixedVal (λ k zs. FixedPost (m p) (s7 p .count) (s9 p .count) k) fixed-tells
+        (λ ns. passing (lent to-bounds ns)) (λ ns. refl) (λ ns. unasked W (lent to-bounds ns)) (λ ns w. id⊢ 𝓤 _) (
+          vm-makes 𝓤 H A W (m p) _ (p .is .0),
+          (
+            uint-makes 𝓤 H A W w64 (s7 p .count) _ (refl, room7 p .0),
+            (uint-makes 𝓤 H A W w64 (s9 p .count) _ (refl, room9 p .0), tt),
+          ),
+        ) tt
 
     abbrev to-start : List Arg
-    to-start = val VmRow (m p) (vmVal (m p)) ∷ val u64 (units p) (vint w64 (units p)) ∷ peek u64 (s7 p) (stack p) ∷ peek R (s9 p) (frames p) ∷ mut u64 (s10 p) (copy p) ∷ []
+    to-start =
+        val VmRow (m p) (vmVal (m p)) ∷ val u64 (units p) (vint w64 (units p)) ∷ peek u64 (s7 p) (stack p) ∷ peek R (s9 p)
+        (frames p) ∷ mut u64 (s10 p) (copy p) ∷ []
 
     call-start : (2 * m p .stack ≤ length (stack p)) × (2 * m p .stack ≤ length (copy p)) × (m p .frames - 1 < length (frames p)) → Rule 𝓤 H A W to-start Start GoingRow goingVal (λ g zs. Begun (m p) (getD (frames p) (m p .frames - 1) noFrame) (units p) g × (zs .1 .1 .1 .1 .0 ≡ written (copy p) 0 (take (2 * m p .stack) (stack p))))
-    call-start can = call-with 𝓤 H A W to-start Start GoingRow goingVal (λ g zs. Begun (m p) (getD (frames p) (m p .frames - 1) noFrame) (units p) g × (zs .1 .1 .1 .1 .0 ≡ written (copy p) 0 (take (2 * m p .stack) (stack p)))) going-tells (λ ns. passing (lent to-start ns)) (λ ns. refl)
-        (λ ns. asked W (lent to-start ns) can) (λ ns w. id⊢ 𝓤 _) (vm-makes 𝓤 H A W (m p) _ (p .is .0), (uint-makes 𝓤 H A W w64 (units p) _ (p .is .1 .0), tt)) ((refl, room7 p), ((refl, room9 p), ((refl, room10 p), tt)))
+    call-start can =
+        call-with 𝓤 H A W to-start Start GoingRow goingVal
+        (λ g zs. Begun (m p) (getD (frames p) (m p .frames - 1) noFrame) (units p) g ×
+        (zs .1 .1 .1 .1 .0 ≡ written (copy p) 0 (take (2 * m p .stack) (stack p)))) going-tells (λ ns. passing (lent to-start ns))
+        (λ ns. refl) (λ ns. asked W (lent to-start ns) can) (λ ns w. id⊢ 𝓤 _)
+        (vm-makes 𝓤 H A W (m p) _ (p .is .0), (uint-makes 𝓤 H A W w64 (units p) _ (p .is .1 .0), tt))
+        ((refl, room7 p), ((refl, room9 p), ((refl, room10 p), tt)))
 
     abbrev to-taken : List Arg
     to-taken = val VmRow (m p) (vmVal (m p)) ∷ []
 
     call-taken : Rule 𝓤 H A W to-taken Taken usize (vint w64) (λ n zs. n ≡ m p .program .text)
-    call-taken = call-with 𝓤 H A W to-taken Taken usize (vint w64) (λ n zs. n ≡ m p .program .text) (uint-tells w64) (λ ns. passing (lent to-taken ns)) (λ ns. refl)
-        (λ ns. unasked W (lent to-taken ns)) (λ ns w. id⊢ 𝓤 _) (vm-makes 𝓤 H A W (m p) _ (p .is .0), tt) tt
+    call-taken =
+        call-with 𝓤 H A W to-taken Taken usize (vint w64) (λ n zs. n ≡ m p .program .text) (uint-tells w64)
+        (λ ns. passing (lent to-taken ns)) (λ ns. refl) (λ ns. unasked W (lent to-taken ns)) (λ ns w. id⊢ 𝓤 _)
+        (vm-makes 𝓤 H A W (m p) _ (p .is .0), tt) tt
 
     abbrev to-turns : Fixed → Going → ℕ → List Arg
-    to-turns k g n = val FixedRow k (fixedVal k) ∷ val GoingRow g (goingVal g) ∷ val usize n (vint w64 n) ∷ shr u64 (s0 p) (constants p) ∷ shr u64 (s1 p) (functions p) ∷ shr u8 (s2 p) (text p) ∷ shr u8 (s3 p) (main p) ∷ shr u8 (s5 p) (other p) ∷ mut u64 (s7 p) (stack p) ∷ mut u64 (s8 p) (cells p) ∷ mut R (s9 p) (frames p) ∷ []
+    to-turns k g n =
+        val FixedRow k (fixedVal k) ∷ val GoingRow g (goingVal g) ∷ val usize n (vint w64 n) ∷ shr u64 (s0 p) (constants p) ∷ shr
+        u64 (s1 p) (functions p) ∷ shr u8 (s2 p) (text p) ∷ shr u8 (s3 p) (main p) ∷ shr u8 (s5 p) (other p) ∷ mut u64 (s7 p)
+        (stack p) ∷ mut u64 (s8 p) (cells p) ∷ mut R (s9 p) (frames p) ∷ []
 
     call-turns : (k : Fixed) (g : Going) (n : ℕ) → Is FixedRow k (fixedVal k ∷ []) → Is GoingRow g (goingVal g ∷ []) → n < 2 ^ 64 → ((w : World) × Under w k g n (constants p) (functions p) (text p) (main p) (other p) (stack p) (cells p) (frames p)) → Rule 𝓤 H A W (to-turns k g n) Turns CourseRow courseVal (λ c zs. ((w : World) → Under w k g n (constants p) (functions p) (text p) (main p) (other p) (stack p) (cells p) (frames p) → TurnsPost w k g (stack p) (cells p) (frames p) c (zs .1 .1 .1 .1 .1 .1 .1 .1 .0) (zs .1 .1 .1 .1 .1 .1 .1 .1 .1 .0) (zs .1 .1 .1 .1 .1 .1 .1 .1 .1 .1 .0)))
-    call-turns k g n isk isg fits can = call-with 𝓤 H A W (to-turns k g n) Turns CourseRow courseVal (λ c zs. ((w : World) → Under w k g n (constants p) (functions p) (text p) (main p) (other p) (stack p) (cells p) (frames p) → TurnsPost w k g (stack p) (cells p) (frames p) c (zs .1 .1 .1 .1 .1 .1 .1 .1 .0) (zs .1 .1 .1 .1 .1 .1 .1 .1 .1 .0) (zs .1 .1 .1 .1 .1 .1 .1 .1 .1 .1 .0))) course-tells (λ ns. passing (lent (to-turns k g n) ns)) (λ ns. refl)
-        (λ ns. asked W (lent (to-turns k g n) ns) can) (λ ns w. id⊢ 𝓤 _) (fixed-makes 𝓤 H A W k _ isk, (going-makes 𝓤 H A W g _ isg, (uint-makes 𝓤 H A W w64 n _ (refl, fits), tt))) ((refl, room0 p), ((refl, room1 p), ((refl, room2 p), ((refl, room3 p), ((refl, room5 p), ((refl, room7 p), ((refl, room8 p), ((refl, room9 p), tt))))))))
+    call-turns k g n isk isg fits can =
+        call-with 𝓤 H A W (to-turns k g n) Turns CourseRow courseVal
+        (λ c zs. ((w : World) → Under w k g n (constants p) (functions p) (text p) (main p) (other p) (stack p) (cells p)
+        (frames p) → TurnsPost w k g (stack p) (cells p) (frames p) c (zs .1 .1 .1 .1 .1 .1 .1 .1 .0)
+        (zs .1 .1 .1 .1 .1 .1 .1 .1 .1 .0) (zs .1 .1 .1 .1 .1 .1 .1 .1 .1 .1 .0))) course-tells
+        (λ ns. passing (lent (to-turns k g n) ns)) (λ ns. refl) (λ ns. asked W (lent (to-turns k g n) ns) can) (λ ns w. id⊢ 𝓤 _)
+        (fixed-makes 𝓤 H A W k _ isk, (going-makes 𝓤 H A W g _ isg, (uint-makes 𝓤 H A W w64 n _ (refl, fits), tt))) (
+          (refl, room0 p),
+          (
+            (refl, room1 p),
+            ((refl, room2 p), ((refl, room3 p), ((refl, room5 p), ((refl, room7 p), ((refl, room8 p), ((refl, room9 p), tt)))))),
+          ),
+        )
 
     abbrev to-finish : Going → List Frame → List Arg
-    to-finish h fs = val VmRow (m p) (vmVal (m p)) ∷ val u64 (units p) (vint w64 (units p)) ∷ val GoingRow h (goingVal h) ∷ mut R (s9 p) fs ∷ []
+    to-finish h fs =
+        val VmRow (m p) (vmVal (m p)) ∷ val u64 (units p) (vint w64 (units p)) ∷ val GoingRow h (goingVal h) ∷ mut R (s9 p) fs ∷
+        []
 
     call-finish : (h : Going) (fs : List Frame) → Is GoingRow h (goingVal h ∷ []) → length fs ≡ s9 p .count → (h .units ≤ units p) × (h .callers < 2 ^ 32) × (h .callers < length fs) → Rule 𝓤 H A W (to-finish h fs) Finish ResultRow resultVal (λ r zs. (r ≡ endedWith (m p) (units p) h) × (zs .1 .1 .1 .0 ≡ set fs (h .callers) (frameIn h)))
-    call-finish h fs ish len can = call-with 𝓤 H A W (to-finish h fs) Finish ResultRow resultVal (λ r zs. (r ≡ endedWith (m p) (units p) h) × (zs .1 .1 .1 .0 ≡ set fs (h .callers) (frameIn h))) result-tells (λ ns. passing (lent (to-finish h fs) ns)) (λ ns. refl)
-        (λ ns. asked W (lent (to-finish h fs) ns) can) (λ ns w. id⊢ 𝓤 _) (vm-makes 𝓤 H A W (m p) _ (p .is .0), (uint-makes 𝓤 H A W w64 (units p) _ (p .is .1 .0), (going-makes 𝓤 H A W h _ ish, tt))) ((len, room9 p), tt)
+    call-finish h fs ish len can =
+        call-with 𝓤 H A W (to-finish h fs) Finish ResultRow resultVal
+        (λ r zs. (r ≡ endedWith (m p) (units p) h) × (zs .1 .1 .1 .0 ≡ set fs (h .callers) (frameIn h))) result-tells
+        (λ ns. passing (lent (to-finish h fs) ns)) (λ ns. refl) (λ ns. asked W (lent (to-finish h fs) ns) can) (λ ns w. id⊢ 𝓤 _) (
+          vm-makes 𝓤 H A W (m p) _ (p .is .0),
+          (uint-makes 𝓤 H A W w64 (units p) _ (p .is .1 .0), (going-makes 𝓤 H A W h _ ish, tt)),
+        ) ((len, room9 p), tt)
 
     abbrev to-stop : Going → ℕ → List ℕ → List Frame → List ℕ → List Arg
-    to-stop h e st fs cs = val VmRow (m p) (vmVal (m p)) ∷ val u64 (units p) (vint w64 (units p)) ∷ val GoingRow h (goingVal h) ∷ val u8 e (vint w8 e) ∷ shr u64 (s1 p) (functions p) ∷ shr u32 (s4 p) (mainPlaces p) ∷ shr u32 (s6 p) (otherPlaces p) ∷ mut u64 (s7 p) st ∷ mut R (s9 p) fs ∷ peek u64 (s10 p) cs ∷ mut u32 (s11 p) (backtrace p) ∷ []
+    to-stop h e st fs cs =
+        val VmRow (m p) (vmVal (m p)) ∷ val u64 (units p) (vint w64 (units p)) ∷ val GoingRow h (goingVal h) ∷ val u8 e
+        (vint w8 e) ∷ shr u64 (s1 p) (functions p) ∷ shr u32 (s4 p) (mainPlaces p) ∷ shr u32 (s6 p) (otherPlaces p) ∷ mut u64
+        (s7 p) st ∷ mut R (s9 p) fs ∷ peek u64 (s10 p) cs ∷ mut u32 (s11 p) (backtrace p) ∷ []
 
     call-stop : (h : Going) (e : ℕ) (st : List ℕ) (fs : List Frame) (cs : List ℕ) → Is GoingRow h (goingVal h ∷ []) → e < 2 ^ 8 → length st ≡ s7 p .count → length fs ≡ s9 p .count → length cs ≡ s10 p .count → (h .units ≤ units p) × (h .callers < 2 ^ 32) × TraceFits (functions p) (mainPlaces p) (otherPlaces p) (frameIn h) (h .callers) fs (length (backtrace p)) × (2 * m p .stack ≤ length cs) × (2 * m p .stack ≤ length st) × (0 < length fs) → Rule 𝓤 H A W (to-stop h e st fs cs) Stop ResultRow resultVal (λ r zs. (r ≡ faultedWith (m p) (units p) h e) × (zs .1 .1 .1 .1 .1 .1 .1 .1 .1 .1 .0 ≡ written (backtrace p) 0 (traceWords (functions p) (mainPlaces p) (otherPlaces p) (frameIn h ∷ callersOf (h .callers) fs))) × (zs .1 .1 .1 .1 .1 .1 .1 .0 ≡ written st 0 (take (2 * m p .stack) cs)) × (zs .1 .1 .1 .1 .1 .1 .1 .1 .0 ≡ set fs 0 (root (size (codeWord (functions p) 0)))))
-    call-stop h e st fs cs ish fits len-st len-fs len-cs can = call-with 𝓤 H A W (to-stop h e st fs cs) Stop ResultRow resultVal (λ r zs. (r ≡ faultedWith (m p) (units p) h e) × (zs .1 .1 .1 .1 .1 .1 .1 .1 .1 .1 .0 ≡ written (backtrace p) 0 (traceWords (functions p) (mainPlaces p) (otherPlaces p) (frameIn h ∷ callersOf (h .callers) fs))) × (zs .1 .1 .1 .1 .1 .1 .1 .0 ≡ written st 0 (take (2 * m p .stack) cs)) × (zs .1 .1 .1 .1 .1 .1 .1 .1 .0 ≡ set fs 0 (root (size (codeWord (functions p) 0))))) result-tells (λ ns. passing (lent (to-stop h e st fs cs) ns)) (λ ns. refl)
-        (λ ns. asked W (lent (to-stop h e st fs cs) ns) can) (λ ns w. id⊢ 𝓤 _) (vm-makes 𝓤 H A W (m p) _ (p .is .0), (uint-makes 𝓤 H A W w64 (units p) _ (p .is .1 .0), (going-makes 𝓤 H A W h _ ish, (uint-makes 𝓤 H A W w8 e _ (refl, fits), tt)))) ((refl, room1 p), ((refl, room4 p), ((refl, room6 p), ((len-st, room7 p), ((len-fs, room9 p), ((len-cs, room10 p), ((refl, room11 p), tt)))))))
+    call-stop h e st fs cs ish fits len-st len-fs len-cs can =
+        call-with 𝓤 H A W (to-stop h e st fs cs) Stop ResultRow resultVal
+        (λ r zs. (r ≡ faultedWith (m p) (units p) h e) ×
+        (zs .1 .1 .1 .1 .1 .1 .1 .1 .1 .1 .0 ≡ written (backtrace p) 0
+        (traceWords (functions p) (mainPlaces p) (otherPlaces p) (frameIn h ∷ callersOf (h .callers) fs))) ×
+        (zs .1 .1 .1 .1 .1 .1 .1 .0 ≡ written st 0 (take (2 * m p .stack) cs)) ×
+        (zs .1 .1 .1 .1 .1 .1 .1 .1 .0 ≡ set fs 0 (root (size (codeWord (functions p) 0))))) result-tells
+        (λ ns. passing (lent (to-stop h e st fs cs) ns)) (λ ns. refl) (λ ns. asked W (lent (to-stop h e st fs cs) ns) can)
+        (λ ns w. id⊢ 𝓤 _) (
+          vm-makes 𝓤 H A W (m p) _ (p .is .0),
+          (
+            uint-makes 𝓤 H A W w64 (units p) _ (p .is .1 .0),
+            (going-makes 𝓤 H A W h _ ish, (uint-makes 𝓤 H A W w8 e _ (refl, fits), tt)),
+          ),
+        ) (
+          (refl, room1 p),
+          (
+            (refl, room4 p),
+            ((refl, room6 p), ((len-st, room7 p), ((len-fs, room9 p), ((len-cs, room10 p), ((refl, room11 p), tt))))),
+          ),
+        )
 
     walk : ((structs : List ℕ) → Granted (m p) (stores p structs) (lent₀ p)) → ent 𝓤 (onEntry 𝓤 H A me.signature (lfts (xs₀ p)) (shares (xs₀ p)) (denots (xs₀ p)) (valss (xs₀ p))) (WpFn 𝓤 H (𝓣 .C) (𝓣 .Λ) code.function (values (xs₀ p)) Post)
     walk can =
@@ -164,14 +231,21 @@ module _ {M : Type 1} (𝓤 : URA M) (H : Heap 𝓤) (A : Atoms 𝓤) (W : Given
         current = current-ready p [] (can [])
 
         begins-at : (k : Fixed) (g : Going) → ((j : ℕ) → j < length (main p) → getD (main p) j 0 < 256) → ((j : ℕ) → j < length (other p) → getD (other p) j 0 < 256) → FixedPost (m p) (s7 p .count) (s9 p .count) k → Begun (m p) (getD (frames p) (m p .frames - 1) noFrame) (units p) g → (structs : List ℕ) → Begins (m p) (stores p structs) (lent₀ p) (units p) k g
-        begins-at k g mb ob ek eg structs = begins p structs (can structs) k g mb ob (ek .constants) (ek .structs) (ek .functions) (ek .slots (stack p) refl) (ek .frames (frames p) refl) eg
+        begins-at k g mb ob ek eg structs =
+            begins p structs (can structs) k g mb ob (ek .constants) (ek .structs) (ek .functions) (ek .slots (stack p) refl)
+            (ek .frames (frames p) refl) eg
 
         under-at : (k : Fixed) (g : Going) (n : ℕ) → ((j : ℕ) → j < length (main p) → getD (main p) j 0 < 256) → ((j : ℕ) → j < length (other p) → getD (other p) j 0 < 256) → FixedPost (m p) (s7 p .count) (s9 p .count) k → Begun (m p) (getD (frames p) (m p .frames - 1) noFrame) (units p) g → n ≡ m p .program .text → (structs : List ℕ) → Under (worldOf (m p) (stores p structs) (lent₀ p)) k g n (constants p) (functions p) (text p) (main p) (other p) (stack p) (cells p) (frames p)
-        under-at k g n mb ob ek eg en structs = subst (λ (j : ℕ). Under (worldOf (m p) (stores p structs) (lent₀ p)) k g j (constants p) (functions p) (text p) (main p) (other p) (stack p) (cells p) (frames p)) (sym en) (under p structs (begins-at k g mb ob ek eg structs))
+        under-at k g n mb ob ek eg en structs =
+            subst
+            (λ (j : ℕ). Under (worldOf (m p) (stores p structs) (lent₀ p)) k g j (constants p) (functions p) (text p) (main p)
+            (other p) (stack p) (cells p) (frames p)) (sym en) (under p structs (begins-at k g mb ob ek eg structs))
 
         came-at : (k : Fixed) (g : Going) (n : ℕ) (c : Course) (st cs : List ℕ) (fs : List Frame) → ((j : ℕ) → j < length (main p) → getD (main p) j 0 < 256) → ((j : ℕ) → j < length (other p) → getD (other p) j 0 < 256) → FixedPost (m p) (s7 p .count) (s9 p .count) k → Begun (m p) (getD (frames p) (m p .frames - 1) noFrame) (units p) g → n ≡ m p .program .text
             → ((w : World) → Under w k g n (constants p) (functions p) (text p) (main p) (other p) (stack p) (cells p) (frames p) → TurnsPost w k g (stack p) (cells p) (frames p) c st cs fs) → length st ≡ s7 p .count → length cs ≡ s8 p .count → length fs ≡ s9 p .count → (structs : List ℕ) → Came (m p) (stores p structs) (lent₀ p) (units p) k g c st cs fs
-        came-at k g n c st cs fs mb ob ek eg en ec ls lc lf structs = came p structs (begins-at k g mb ob ek eg structs) (ec (worldOf (m p) (stores p structs) (lent₀ p)) (under-at k g n mb ob ek eg en structs)) ls lc lf
+        came-at k g n c st cs fs mb ob ek eg en ec ls lc lf structs =
+            came p structs (begins-at k g mb ob ek eg structs)
+            (ec (worldOf (m p) (stores p structs) (lent₀ p)) (under-at k g n mb ob ek eg en structs)) ls lc lf
 
         finishes : {k : Fixed} {g : Going} {c : Course} (st cs : List ℕ) (fs : List Frame) → ((structs : List ℕ) → Came (m p) (stores p structs) (lent₀ p) (units p) k g c st cs fs) → (c .going .units ≤ units p) × (c .going .callers < 2 ^ 32) × (c .going .callers < length fs)
         finishes st cs fs h = (units-ready p [] (h []), callers-ready p [] (h []), frame-ready p [] (h []))
@@ -179,19 +253,37 @@ module _ {M : Type 1} (𝓤 : URA M) (H : Heap 𝓤) (A : Atoms 𝓤) (W : Given
         stops : {k : Fixed} {g : Going} {c : Course} (st cs : List ℕ) (fs : List Frame) (copy′ : List ℕ) → ((structs : List ℕ) → Came (m p) (stores p structs) (lent₀ p) (units p) k g c st cs fs) → copy′ ≡ written (copy p) 0 (take (2 * m p .stack) (stack p)) → (c .fault ≡ 0 → ⊥)
             → (c .going .units ≤ units p) × (c .going .callers < 2 ^ 32) × TraceFits (functions p) (mainPlaces p) (otherPlaces p) (frameIn (c .going)) (c .going .callers) fs (length (backtrace p)) × (2 * m p .stack ≤ length copy′) × (2 * m p .stack ≤ length st) × (0 < length fs)
         stops st cs fs copy′ h copied bad =
-            let back = back-ready p [] (h []) copied in
-            (units-ready p [] (h []), callers-ready p [] (h []), trace-ready p [] (h []) bad, back .0, back .1, omega (arith, frame-ready p [] (h [])))
+            let back = back-ready p [] (h []) copied in (
+              units-ready p [] (h []),
+              callers-ready p [] (h []),
+              trace-ready p [] (h []) bad,
+              back .0,
+              back .1,
+              omega (arith, frame-ready p [] (h [])),
+            )
 
 pub go-spec : {M : Type 1} → stated.statement M
 unfolding code.routine tablesOf
 go-spec 𝓤 H 𝓜 𝓖 𝓡 =
     let W : Given 𝓤 H (𝓖 .A) = givenOf 𝓤 H 𝓜 𝓖 in
     closed kinds ResultRow 𝓤 H 𝓜 𝓖 𝓡 code.env #me code.function (code.unfolded 𝓤 H 𝓜 𝓡) (me.clauses 𝓤 H (𝓖 .A) (𝓜 .mem) (𝓡 .run))
-    (λ κs qs a g is. needs 𝓤 ((structs : List ℕ) → Granted (a .0) (programLent structs (now (a .1 .1 .0)) (now (a .1 .1 .1 .0)) (now (a .1 .1 .1 .1 .0)) (now (a .1 .1 .1 .1 .1 .0)) (now (a .1 .1 .1 .1 .1 .1 .0)) (now (a .1 .1 .1 .1 .1 .1 .1 .0)) (now (a .1 .1 .1 .1 .1 .1 .1 .1 .0))) (runLent (now (a .1 .1 .1 .1 .1 .1 .1 .1 .1 .0)) (now (a .1 .1 .1 .1 .1 .1 .1 .1 .1 .1 .0)) (now (a .1 .1 .1 .1 .1 .1 .1 .1 .1 .1 .1 .0)) (now (a .1 .1 .1 .1 .1 .1 .1 .1 .1 .1 .1 .1 .0)) (now (a .1 .1 .1 .1 .1 .1 .1 .1 .1 .1 .1 .1 .1 .0)))) _
+    (λ κs qs a g is. needs 𝓤
+    ((structs : List ℕ) → Granted (a .0)
+    (programLent structs (now (a .1 .1 .0)) (now (a .1 .1 .1 .0)) (now (a .1 .1 .1 .1 .0)) (now (a .1 .1 .1 .1 .1 .0))
+    (now (a .1 .1 .1 .1 .1 .1 .0)) (now (a .1 .1 .1 .1 .1 .1 .1 .0)) (now (a .1 .1 .1 .1 .1 .1 .1 .1 .0)))
+    (runLent (now (a .1 .1 .1 .1 .1 .1 .1 .1 .1 .0)) (now (a .1 .1 .1 .1 .1 .1 .1 .1 .1 .1 .0))
+    (now (a .1 .1 .1 .1 .1 .1 .1 .1 .1 .1 .1 .0)) (now (a .1 .1 .1 .1 .1 .1 .1 .1 .1 .1 .1 .1 .0))
+    (now (a .1 .1 .1 .1 .1 .1 .1 .1 .1 .1 .1 .1 .1 .0)))) _
     (walk 𝓤 H (𝓖 .A) W (𝓜 .mem) (𝓡 .run) (tablesOf 𝓤 H 𝓜 (tables 𝓤 H 𝓜 𝓡 code.env))
-    (cited 𝓤 H (Bounds 𝓤 H (𝓖 .A) W (𝓜 .mem) (𝓡 .run)) 𝓜 𝓡 code.env #bounds bounds-def.routine code.calls-ends·fixed (bounds-thm.met 𝓤 H 𝓜 𝓖 𝓡))
-    (cited 𝓤 H (Start 𝓤 H (𝓖 .A) W (𝓜 .mem) (𝓡 .run)) 𝓜 𝓡 code.env #start start-def.routine code.calls-machine·running·start (start-thm.met 𝓤 H 𝓜 𝓖 𝓡))
-    (cited 𝓤 H (Taken 𝓤 H (𝓖 .A) W (𝓜 .mem) (𝓡 .run)) 𝓜 𝓡 code.env #taken taken-def.routine code.calls-machine·running·text-of (taken-thm.met 𝓤 H 𝓜 𝓖 𝓡))
-    (cited 𝓤 H (Turns 𝓤 H (𝓖 .A) W (𝓜 .mem) (𝓡 .run)) 𝓜 𝓡 code.env #turns turns-def.routine code.calls-turns·turns (turns-thm.met 𝓤 H 𝓜 𝓖 𝓡))
-    (cited 𝓤 H (Finish 𝓤 H (𝓖 .A) W (𝓜 .mem) (𝓡 .run)) 𝓜 𝓡 code.env #finish finish-def.routine code.calls-machine·running·finish (finish-thm.met 𝓤 H 𝓜 𝓖 𝓡))
-    (cited 𝓤 H (Stop 𝓤 H (𝓖 .A) W (𝓜 .mem) (𝓡 .run)) 𝓜 𝓡 code.env #stop stop-def.routine code.calls-machine·running·stop (stop-thm.met 𝓤 H 𝓜 𝓖 𝓡)) (record { κs = κs; qs = qs; a = a; is = is })))
+    (cited 𝓤 H (Bounds 𝓤 H (𝓖 .A) W (𝓜 .mem) (𝓡 .run)) 𝓜 𝓡 code.env #bounds bounds-def.routine code.calls-ends·fixed
+    (bounds-thm.met 𝓤 H 𝓜 𝓖 𝓡))
+    (cited 𝓤 H (Start 𝓤 H (𝓖 .A) W (𝓜 .mem) (𝓡 .run)) 𝓜 𝓡 code.env #start start-def.routine code.calls-machine·running·start
+    (start-thm.met 𝓤 H 𝓜 𝓖 𝓡))
+    (cited 𝓤 H (Taken 𝓤 H (𝓖 .A) W (𝓜 .mem) (𝓡 .run)) 𝓜 𝓡 code.env #taken taken-def.routine code.calls-machine·running·text-of
+    (taken-thm.met 𝓤 H 𝓜 𝓖 𝓡))
+    (cited 𝓤 H (Turns 𝓤 H (𝓖 .A) W (𝓜 .mem) (𝓡 .run)) 𝓜 𝓡 code.env #turns turns-def.routine code.calls-turns·turns
+    (turns-thm.met 𝓤 H 𝓜 𝓖 𝓡))
+    (cited 𝓤 H (Finish 𝓤 H (𝓖 .A) W (𝓜 .mem) (𝓡 .run)) 𝓜 𝓡 code.env #finish finish-def.routine code.calls-machine·running·finish
+    (finish-thm.met 𝓤 H 𝓜 𝓖 𝓡))
+    (cited 𝓤 H (Stop 𝓤 H (𝓖 .A) W (𝓜 .mem) (𝓡 .run)) 𝓜 𝓡 code.env #stop stop-def.routine code.calls-machine·running·stop
+    (stop-thm.met 𝓤 H 𝓜 𝓖 𝓡)) (record { κs = κs; qs = qs; a = a; is = is })))

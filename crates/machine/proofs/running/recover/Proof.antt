@@ -91,23 +91,29 @@ module _ {M : Type 1} (𝓤 : URA M) (H : Heap 𝓤) (A : Atoms 𝓤) (W : Given
 
     exits : (r : Unit {0}) (stack′ : List ℕ) (frames′ : List Frame) → Is Nothing r (vunit ∷ []) → length stack′ ≡ s1 .count → length frames′ ≡ s2 .count → ((stack′ ≡ written stack 0 (take (2 * n) copy)) × (frames′ ≡ set frames 0 (root (size (codeWord functions 0))))) → ent 𝓤 (⋆ 𝓤 H A (‵ (Holds (slices stack′ frames′)) ∷ [])) (Post vunit)
     exits r stack′ frames′ isr len-stack len-frames said =
-        qed W (‵ (Holds (slices stack′ frames′)) ∷ []) ∵ suffices ! _ (ends-at 𝓤 H A me.ended (stays kinds) (me.clauses 𝓤 H A mem run) W (passing (xs stack frames)) vunit r (tt, (tt, (stack′, (frames′, (tt, tt))))) (tt, (tt, (len-stack, (len-frames, (tt, tt)))))) $ says ! said $
-        gives ! (xs stack′ frames′) (uint-makes 𝓤 H A W w64 n _ (is .0), tt) (frame ! $ owned ! Nothing (Is Nothing) (nothing-makes 𝓤 H A W) r _ isr $ keep ! (1 ∷ 0 ∷ []) $ done !)
+        qed W (‵ (Holds (slices stack′ frames′)) ∷ []) ∵ suffices ! _
+        (ends-at 𝓤 H A me.ended (stays kinds) (me.clauses 𝓤 H A mem run) W (passing (xs stack frames)) vunit r
+        (tt, (tt, (stack′, (frames′, (tt, tt))))) (tt, (tt, (len-stack, (len-frames, (tt, tt)))))) $ says ! said $ gives !
+        (xs stack′ frames′) (uint-makes 𝓤 H A W w64 n _ (is .0), tt)
+        (frame ! $ owned ! Nothing (Is Nothing) (nothing-makes 𝓤 H A W) r _ isr $ keep ! (1 ∷ 0 ∷ []) $ done !)
 
     -- the calls
     abbrev to-back : List Arg
     to-back = val usize n (vint w64 n) ∷ mut u64 s1 stack ∷ shr u64 s3 copy ∷ []
 
     call-back : (2 * n ≤ length copy) × (2 * n ≤ length stack) → Rule 𝓤 H A W to-back Back Nothing (λ _. vunit) (λ r zs. zs .1 .0 ≡ written stack 0 (take (2 * n) copy))
-    call-back can = call-with 𝓤 H A W to-back Back Nothing (λ _. vunit) (λ r zs. zs .1 .0 ≡ written stack 0 (take (2 * n) copy)) (λ r vs was. was) (λ ns. passing (lent to-back ns)) (λ ns. refl)
-        (λ ns. asked W (lent to-back ns) can) (λ ns w. id⊢ 𝓤 _) (uint-makes 𝓤 H A W w64 n _ (is .0), tt) ((refl, room1), ((refl, room3), tt))
+    call-back can =
+        call-with 𝓤 H A W to-back Back Nothing (λ _. vunit) (λ r zs. zs .1 .0 ≡ written stack 0 (take (2 * n) copy))
+        (λ r vs was. was) (λ ns. passing (lent to-back ns)) (λ ns. refl) (λ ns. asked W (lent to-back ns) can) (λ ns w. id⊢ 𝓤 _)
+        (uint-makes 𝓤 H A W w64 n _ (is .0), tt) ((refl, room1), ((refl, room3), tt))
 
     abbrev to-end : List Arg
     to-end = shr u64 s0 functions ∷ []
 
     call-end : Rule 𝓤 H A W to-end End R fval (λ f zs. f ≡ root (size (codeWord functions 0)))
-    call-end = call-with 𝓤 H A W to-end End R fval (λ f zs. f ≡ root (size (codeWord functions 0))) tells (λ ns. passing (lent to-end ns)) (λ ns. refl)
-        (λ ns. unasked W (lent to-end ns)) (λ ns w. id⊢ 𝓤 _) tt ((refl, room0), tt)
+    call-end =
+        call-with 𝓤 H A W to-end End R fval (λ f zs. f ≡ root (size (codeWord functions 0))) tells
+        (λ ns. passing (lent to-end ns)) (λ ns. refl) (λ ns. unasked W (lent to-end ns)) (λ ns w. id⊢ 𝓤 _) tt ((refl, room0), tt)
 
     walk : ((2 * n ≤ length copy) × (2 * n ≤ length stack) × (0 < length frames)) → ent 𝓤 (onEntry 𝓤 H A me.signature (lfts (xs stack frames)) (shares (xs stack frames)) (denots (xs stack frames)) (valss (xs stack frames))) (WpFn 𝓤 H (𝓣 .C) (𝓣 .Λ) code.function (values (xs stack frames)) Post)
     walk can =
@@ -128,8 +134,12 @@ unfolding code.routine tablesOf
 recover-spec 𝓤 H 𝓜 𝓖 𝓡 =
     let W : Given 𝓤 H (𝓖 .A) = givenOf 𝓤 H 𝓜 𝓖 in
     closed kinds Nothing 𝓤 H 𝓜 𝓖 𝓡 code.env #me code.function (code.unfolded 𝓤 H 𝓜 𝓡) (me.clauses 𝓤 H (𝓖 .A) (𝓜 .mem) (𝓡 .run))
-    (λ κs qs a g is. needs 𝓤 ((2 * a .0 ≤ length (now (a .1 .1 .1 .1 .0))) × (2 * a .0 ≤ length (now (a .1 .1 .0))) × (0 < length (now (a .1 .1 .1 .0)))) _
+    (λ κs qs a g is. needs 𝓤
+    ((2 * a .0 ≤ length (now (a .1 .1 .1 .1 .0))) × (2 * a .0 ≤ length (now (a .1 .1 .0))) × (0 < length (now (a .1 .1 .1 .0)))) _
     (walk 𝓤 H (𝓖 .A) W (𝓜 .mem) (𝓡 .run) (tablesOf 𝓤 H 𝓜 (tables 𝓤 H 𝓜 𝓡 code.env))
-    (cited 𝓤 H (Back 𝓤 H (𝓖 .A) W (𝓜 .mem) (𝓡 .run)) 𝓜 𝓡 code.env #back back-def.routine code.calls-machine·running·put-back (back-thm.met 𝓤 H 𝓜 𝓖 𝓡))
-    (cited 𝓤 H (End 𝓤 H (𝓖 .A) W (𝓜 .mem) (𝓡 .run)) 𝓜 𝓡 code.env #end end-def.routine code.calls-ends·root-at (end-thm.met 𝓤 H 𝓜 𝓖 𝓡))
-    (cited 𝓤 H (Write 𝓤 H (𝓖 .A) W (𝓜 .mem) (𝓡 .run)) 𝓜 𝓡 code.env #writef writef-def.routine code.calls-frames·write-frame (writef-thm.met 𝓤 H 𝓜 𝓖 𝓡)) κs qs a is))
+    (cited 𝓤 H (Back 𝓤 H (𝓖 .A) W (𝓜 .mem) (𝓡 .run)) 𝓜 𝓡 code.env #back back-def.routine code.calls-machine·running·put-back
+    (back-thm.met 𝓤 H 𝓜 𝓖 𝓡))
+    (cited 𝓤 H (End 𝓤 H (𝓖 .A) W (𝓜 .mem) (𝓡 .run)) 𝓜 𝓡 code.env #end end-def.routine code.calls-ends·root-at
+    (end-thm.met 𝓤 H 𝓜 𝓖 𝓡))
+    (cited 𝓤 H (Write 𝓤 H (𝓖 .A) W (𝓜 .mem) (𝓡 .run)) 𝓜 𝓡 code.env #writef writef-def.routine code.calls-frames·write-frame
+    (writef-thm.met 𝓤 H 𝓜 𝓖 𝓡)) κs qs a is))

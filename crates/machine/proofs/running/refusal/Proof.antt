@@ -4,10 +4,10 @@ use Rattle.machine.proofs.running.refusal.Statement.{statement}
 use Rattle.machine.proofs.running.refusal.Tie as tie
 
 returns : tie.Need-returns
-returns c = is-short _ _ _ (c .before .before .if1 .taken) (c .before .if2 .taken) (c .if3 .taken)
+returns c = search is-short
 
 returns-2 : tie.Need-returns-2
-returns-2 c = is-granted _ _ _ (c .before .before .if1 .taken) (c .before .if2 .taken) (c .if3 .left)
+returns-2 c = search is-granted
 
 returns-3 : tie.Need-returns-3
 returns-3 c = bad-frames _ _ _ (c .before .if1 .taken) (c .if2 .left)

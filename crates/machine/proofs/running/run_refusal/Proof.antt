@@ -46,7 +46,9 @@ use Rattle.machine.proofs.running.run_refusal.Statement as stated
 use Rattle.machine.proofs.running.run_refusal.Code as code
 
 abbrev kinds : List (Kind 10)
-kinds = own VmRow vmVal vm-tells (λ x f. refl) ∷ number ∷ number ∷ shared 0 tt u64 ∷ shared 1 tt u64 ∷ shared 2 tt u8 ∷ shared 3 tt u8 ∷ shared 4 tt u32 ∷ shared 5 tt u8 ∷ shared 6 tt u32 ∷ shared 7 tt u64 ∷ shared 8 tt u64 ∷ shared 9 tt R ∷ []
+kinds =
+    own VmRow vmVal vm-tells (λ x f. refl) ∷ number ∷ number ∷ shared 0 tt u64 ∷ shared 1 tt u64 ∷ shared 2 tt u8 ∷ shared 3 tt u8
+    ∷ shared 4 tt u32 ∷ shared 5 tt u8 ∷ shared 6 tt u32 ∷ shared 7 tt u64 ∷ shared 8 tt u64 ∷ shared 9 tt R ∷ []
 
 module _ {M : Type 1} (𝓤 : URA M) (H : Heap 𝓤) (A : Atoms 𝓤) (W : Given 𝓤 H A) (mem : Memory → SProp 𝓤) (run : Routine → Fun 𝓤) where
   abbrev Judge : Contract 𝓤
@@ -170,7 +172,9 @@ module _ {M : Type 1} (𝓤 : URA M) (H : Heap 𝓤) (A : Atoms 𝓤) (W : Given
     room9 = is .1 .1 .1 .1 .1 .1 .1 .1 .1 .1 .1 .1 .0 .0 .1
 
     abbrev slices : List Arg
-    slices = shr u64 s0 constants ∷ shr u64 s1 functions ∷ shr u8 s2 text ∷ shr u8 s3 main ∷ shr u32 s4 mainPlaces ∷ shr u8 s5 other ∷ shr u32 s6 otherPlaces ∷ shr u64 s7 stack ∷ shr u64 s8 cells ∷ shr R s9 frames ∷ []
+    slices =
+        shr u64 s0 constants ∷ shr u64 s1 functions ∷ shr u8 s2 text ∷ shr u8 s3 main ∷ shr u32 s4 mainPlaces ∷ shr u8 s5 other ∷
+        shr u32 s6 otherPlaces ∷ shr u64 s7 stack ∷ shr u64 s8 cells ∷ shr R s9 frames ∷ []
 
     abbrev xs : List Arg
     xs = val VmRow m (vmVal m) ∷ val usize copies (vint w64 copies) ∷ val usize entries (vint w64 entries) ∷ slices
@@ -180,51 +184,93 @@ module _ {M : Type 1} (𝓤 : URA M) (H : Heap 𝓤) (A : Atoms 𝓤) (W : Given
 
     exits : (r : ℕ) → Is u8 r (vint w8 r ∷ []) → ((structs copy backtrace : List ℕ) → length copy ≡ copies → length backtrace ≡ entries → RunJudged m (programLent structs constants functions text main mainPlaces other otherPlaces) (runLent stack cells frames copy backtrace) r) → ent 𝓤 (⋆ 𝓤 H A (‵ (Holds slices) ∷ [])) (Post (vint w8 r))
     exits r isr said =
-        qed W (‵ (Holds slices) ∷ []) ∵ suffices ! _ (ends-at 𝓤 H A me.ended (stays kinds) (me.clauses 𝓤 H A mem run) W (passing xs) (vint w8 r) r (tt, (tt, (tt, (tt, (tt, (tt, (tt, (tt, (tt, (tt, (tt, (tt, (tt, tt))))))))))))) (tt, (tt, (tt, (tt, (tt, (tt, (tt, (tt, (tt, (tt, (tt, (tt, (tt, tt)))))))))))))) $ says ! said $
-        gives ! xs (vm-makes 𝓤 H A W m _ (is .0), (uint-makes 𝓤 H A W w64 copies _ (is .1 .0), (uint-makes 𝓤 H A W w64 entries _ (is .1 .1 .0), tt))) (frame ! $ owned ! u8 (Is u8) (uint-makes 𝓤 H A W w8) r _ isr $ keep ! (1 ∷ 0 ∷ []) $ done !)
+        qed W (‵ (Holds slices) ∷ []) ∵ suffices ! _
+        (ends-at 𝓤 H A me.ended (stays kinds) (me.clauses 𝓤 H A mem run) W (passing xs) (vint w8 r) r
+        (tt, (tt, (tt, (tt, (tt, (tt, (tt, (tt, (tt, (tt, (tt, (tt, (tt, tt)))))))))))))
+        (tt, (tt, (tt, (tt, (tt, (tt, (tt, (tt, (tt, (tt, (tt, (tt, (tt, tt)))))))))))))) $ says ! said $ gives ! xs (
+          vm-makes 𝓤 H A W m _ (is .0),
+          (uint-makes 𝓤 H A W w64 copies _ (is .1 .0), (uint-makes 𝓤 H A W w64 entries _ (is .1 .1 .0), tt)),
+        ) (frame ! $ owned ! u8 (Is u8) (uint-makes 𝓤 H A W w8) r _ isr $ keep ! (1 ∷ 0 ∷ []) $ done !)
 
     -- the calls
     abbrev to-judge : List Arg
-    to-judge = val VmRow m (vmVal m) ∷ shr u64 s0 constants ∷ shr u64 s1 functions ∷ shr u8 s2 text ∷ shr u8 s3 main ∷ shr u32 s4 mainPlaces ∷ shr u8 s5 other ∷ shr u32 s6 otherPlaces ∷ shr u64 s7 stack ∷ shr u64 s8 cells ∷ []
+    to-judge =
+        val VmRow m (vmVal m) ∷ shr u64 s0 constants ∷ shr u64 s1 functions ∷ shr u8 s2 text ∷ shr u8 s3 main ∷ shr u32 s4
+        mainPlaces ∷ shr u8 s5 other ∷ shr u32 s6 otherPlaces ∷ shr u64 s7 stack ∷ shr u64 s8 cells ∷ []
 
     call-judge : Rule 𝓤 H A W to-judge Judge Boolean vbool (λ b zs. ((structs : List ℕ) → b ≡ restOrder m (programLent structs constants functions text main mainPlaces other otherPlaces) stack cells))
-    call-judge = call-with 𝓤 H A W to-judge Judge Boolean vbool (λ b zs. ((structs : List ℕ) → b ≡ restOrder m (programLent structs constants functions text main mainPlaces other otherPlaces) stack cells)) bool-tells (λ ns. passing (lent to-judge ns)) (λ ns. refl)
-        (λ ns. unasked W (lent to-judge ns)) (λ ns w. id⊢ 𝓤 _) (vm-makes 𝓤 H A W m _ (is .0), tt) ((refl, room0), ((refl, room1), ((refl, room2), ((refl, room3), ((refl, room4), ((refl, room5), ((refl, room6), ((refl, room7), ((refl, room8), tt)))))))))
+    call-judge =
+        call-with 𝓤 H A W to-judge Judge Boolean vbool
+        (λ b zs. ((structs : List ℕ) → b ≡ restOrder m
+        (programLent structs constants functions text main mainPlaces other otherPlaces) stack cells)) bool-tells
+        (λ ns. passing (lent to-judge ns)) (λ ns. refl) (λ ns. unasked W (lent to-judge ns)) (λ ns w. id⊢ 𝓤 _)
+        (vm-makes 𝓤 H A W m _ (is .0), tt) (
+          (refl, room0),
+          (
+            (refl, room1),
+            (
+              (refl, room2),
+              ((refl, room3), ((refl, room4), ((refl, room5), ((refl, room6), ((refl, room7), ((refl, room8), tt)))))),
+            ),
+          ),
+        )
 
     abbrev to-count : Bool → List Arg
     to-count b = val Boolean b (vbool b) ∷ val VmRow m (vmVal m) ∷ []
 
     call-count : (b : Bool) → Is Boolean b (vbool b ∷ []) → Rule 𝓤 H A W (to-count b) Count usize (vint w64) (λ k zs. k ≡ (if b then m .program .functions else 0))
-    call-count b isb = call-with 𝓤 H A W (to-count b) Count usize (vint w64) (λ k zs. k ≡ (if b then m .program .functions else 0)) (uint-tells w64) (λ ns. passing (lent (to-count b) ns)) (λ ns. refl)
-        (λ ns. unasked W (lent (to-count b) ns)) (λ ns w. id⊢ 𝓤 _) (bool-makes 𝓤 H A W b _ isb, (vm-makes 𝓤 H A W m _ (is .0), tt)) tt
+    call-count b isb =
+        call-with 𝓤 H A W (to-count b) Count usize (vint w64) (λ k zs. k ≡ (if b then m .program .functions else 0))
+        (uint-tells w64) (λ ns. passing (lent (to-count b) ns)) (λ ns. refl) (λ ns. unasked W (lent (to-count b) ns))
+        (λ ns w. id⊢ 𝓤 _) (bool-makes 𝓤 H A W b _ isb, (vm-makes 𝓤 H A W m _ (is .0), tt)) tt
 
     abbrev to-slots : List Arg
     to-slots = val usize (s7 .count) (vint w64 (s7 .count)) ∷ val usize 2 (vint w64 2) ∷ []
 
     call-slots : Rule 𝓤 H A W to-slots Slots usize (vint w64) (λ p zs. ((os : List ℕ) → length os ≡ s7 .count → p ≡ places 2 os))
-    call-slots = call-with 𝓤 H A W to-slots Slots usize (vint w64) (λ p zs. ((os : List ℕ) → length os ≡ s7 .count → p ≡ places 2 os)) (uint-tells w64) (λ ns. passing (lent to-slots ns)) (λ ns. refl)
-        (λ ns. asked W (lent to-slots ns) (omega arith)) (λ ns w. id⊢ 𝓤 _) (uint-makes 𝓤 H A W w64 (s7 .count) _ (refl, room7 .0), (uint-makes 𝓤 H A W w64 2 _ (refl, omega arith), tt)) tt
+    call-slots =
+        call-with 𝓤 H A W to-slots Slots usize (vint w64) (λ p zs. ((os : List ℕ) → length os ≡ s7 .count → p ≡ places 2 os))
+        (uint-tells w64) (λ ns. passing (lent to-slots ns)) (λ ns. refl) (λ ns. asked W (lent to-slots ns) (omega arith))
+        (λ ns w. id⊢ 𝓤 _)
+        (uint-makes 𝓤 H A W w64 (s7 .count) _ (refl, room7 .0), (uint-makes 𝓤 H A W w64 2 _ (refl, omega arith), tt)) tt
 
     abbrev to-good : ℕ → ℕ → List Arg
-    to-good k p = shr u64 s1 functions ∷ val usize k (vint w64 k) ∷ val usize p (vint w64 p) ∷ val usize (m .frames) (vint w64 (m .frames)) ∷ shr R s9 frames ∷ []
+    to-good k p =
+        shr u64 s1 functions ∷ val usize k (vint w64 k) ∷ val usize p (vint w64 p) ∷ val usize (m .frames) (vint w64 (m .frames))
+        ∷ shr R s9 frames ∷ []
 
     call-good : (k : ℕ) (p : ℕ) → k < 2 ^ 64 → p < 2 ^ 64 → 2 * k ≤ length functions → Rule 𝓤 H A W (to-good k p) Good Boolean vbool (λ f zs. f ≡ framesGood functions k p (m .frames) frames)
-    call-good k p fits fitp there = call-with 𝓤 H A W (to-good k p) Good Boolean vbool (λ f zs. f ≡ framesGood functions k p (m .frames) frames) bool-tells (λ ns. passing (lent (to-good k p) ns)) (λ ns. refl)
-        (λ ns. asked W (lent (to-good k p) ns) there) (λ ns w. id⊢ 𝓤 _) (uint-makes 𝓤 H A W w64 k _ (refl, fits), (uint-makes 𝓤 H A W w64 p _ (refl, fitp), (uint-makes 𝓤 H A W w64 (m .frames) _ (refl, frames-fit m (is .0)), tt))) ((refl, room1), ((refl, room9), tt))
+    call-good k p fits fitp there =
+        call-with 𝓤 H A W (to-good k p) Good Boolean vbool (λ f zs. f ≡ framesGood functions k p (m .frames) frames) bool-tells
+        (λ ns. passing (lent (to-good k p) ns)) (λ ns. refl) (λ ns. asked W (lent (to-good k p) ns) there) (λ ns w. id⊢ 𝓤 _) (
+          uint-makes 𝓤 H A W w64 k _ (refl, fits),
+          (uint-makes 𝓤 H A W w64 p _ (refl, fitp), (uint-makes 𝓤 H A W w64 (m .frames) _ (refl, frames-fit m (is .0)), tt)),
+        ) ((refl, room1), ((refl, room9), tt))
 
     abbrev to-short : List Arg
-    to-short = val usize (s7 .count) (vint w64 (s7 .count)) ∷ val usize (s9 .count) (vint w64 (s9 .count)) ∷ val usize copies (vint w64 copies) ∷ val usize entries (vint w64 entries) ∷ []
+    to-short =
+        val usize (s7 .count) (vint w64 (s7 .count)) ∷ val usize (s9 .count) (vint w64 (s9 .count)) ∷ val usize copies
+        (vint w64 copies) ∷ val usize entries (vint w64 entries) ∷ []
 
     call-short : Rule 𝓤 H A W to-short Short Boolean vbool (λ s zs. ShortPost (s7 .count) (s9 .count) copies entries s)
-    call-short = call-with 𝓤 H A W to-short Short Boolean vbool (λ s zs. ShortPost (s7 .count) (s9 .count) copies entries s) bool-tells (λ ns. passing (lent to-short ns)) (λ ns. refl)
-        (λ ns. unasked W (lent to-short ns)) (λ ns w. id⊢ 𝓤 _) (uint-makes 𝓤 H A W w64 (s7 .count) _ (refl, room7 .0), (uint-makes 𝓤 H A W w64 (s9 .count) _ (refl, room9 .0), (uint-makes 𝓤 H A W w64 copies _ (is .1 .0), (uint-makes 𝓤 H A W w64 entries _ (is .1 .1 .0), tt)))) tt
+    call-short =
+        call-with 𝓤 H A W to-short Short Boolean vbool (λ s zs. ShortPost (s7 .count) (s9 .count) copies entries s) bool-tells
+        (λ ns. passing (lent to-short ns)) (λ ns. refl) (λ ns. unasked W (lent to-short ns)) (λ ns w. id⊢ 𝓤 _) (
+          uint-makes 𝓤 H A W w64 (s7 .count) _ (refl, room7 .0),
+          (
+            uint-makes 𝓤 H A W w64 (s9 .count) _ (refl, room9 .0),
+            (uint-makes 𝓤 H A W w64 copies _ (is .1 .0), (uint-makes 𝓤 H A W w64 entries _ (is .1 .1 .0), tt)),
+          ),
+        ) tt
 
     abbrev to-why : Bool → Bool → Bool → List Arg
     to-why b f s = val Boolean b (vbool b) ∷ val Boolean f (vbool f) ∷ val Boolean s (vbool s) ∷ []
 
     call-why : (b : Bool) (f : Bool) (s : Bool) → Is Boolean b (vbool b ∷ []) → Is Boolean f (vbool f ∷ []) → Is Boolean s (vbool s ∷ []) → Rule 𝓤 H A W (to-why b f s) Why u8 (vint w8) (λ w zs. w ≡ refusalBy b f s)
-    call-why b f s isb isf iss = call-with 𝓤 H A W (to-why b f s) Why u8 (vint w8) (λ w zs. w ≡ refusalBy b f s) (uint-tells w8) (λ ns. passing (lent (to-why b f s) ns)) (λ ns. refl)
-        (λ ns. unasked W (lent (to-why b f s) ns)) (λ ns w. id⊢ 𝓤 _) (bool-makes 𝓤 H A W b _ isb, (bool-makes 𝓤 H A W f _ isf, (bool-makes 𝓤 H A W s _ iss, tt))) tt
+    call-why b f s isb isf iss =
+        call-with 𝓤 H A W (to-why b f s) Why u8 (vint w8) (λ w zs. w ≡ refusalBy b f s) (uint-tells w8)
+        (λ ns. passing (lent (to-why b f s) ns)) (λ ns. refl) (λ ns. unasked W (lent (to-why b f s) ns)) (λ ns w. id⊢ 𝓤 _)
+        (bool-makes 𝓤 H A W b _ isb, (bool-makes 𝓤 H A W f _ isf, (bool-makes 𝓤 H A W s _ iss, tt))) tt
 
     walk : ent 𝓤 (onEntry 𝓤 H A me.signature (lfts xs) (shares xs) (denots xs) (valss xs)) (WpFn 𝓤 H (𝓣 .C) (𝓣 .Λ) code.function (values xs) Post)
     walk =
@@ -245,12 +291,22 @@ module _ {M : Type 1} (𝓤 : URA M) (H : Heap 𝓤) (A : Atoms 𝓤) (W : Given
         fm = fmOf 𝓤 H (W .laws) 𝓣
 
         there : (b : Bool) (k : ℕ) → ((structs : List ℕ) → b ≡ restOrder m (programLent structs constants functions text main mainPlaces other otherPlaces) stack cells) → k ≡ (if b then m .program .functions else 0) → 2 * k ≤ length functions
-        there b k eb ek = subst (λ (j : ℕ). 2 * j ≤ length functions) (sym ek) (functions-counted m [] constants functions text main mainPlaces other otherPlaces stack cells frames [] [] b (eb []))
+        there b k eb ek =
+            subst (λ (j : ℕ). 2 * j ≤ length functions) (sym ek)
+            (functions-counted m [] constants functions text main mainPlaces other otherPlaces stack cells frames [] [] b (eb []))
 
         judged : (b : Bool) (k p : ℕ) (f s : Bool) (r : ℕ) → ((structs : List ℕ) → b ≡ restOrder m (programLent structs constants functions text main mainPlaces other otherPlaces) stack cells) → k ≡ (if b then m .program .functions else 0) → ((os : List ℕ) → length os ≡ s7 .count → p ≡ places 2 os) → f ≡ framesGood functions k p (m .frames) frames → ShortPost (s7 .count) (s9 .count) copies entries s → r ≡ refusalBy b f s
             → (structs copy backtrace : List ℕ) → length copy ≡ copies → length backtrace ≡ entries → RunJudged m (programLent structs constants functions text main mainPlaces other otherPlaces) (runLent stack cells frames copy backtrace) r
-        judged b k p f s r eb ek ep ef es er structs copy backtrace ec et = subst (RunJudged m (programLent structs constants functions text main mainPlaces other otherPlaces) (runLent stack cells frames copy backtrace)) (sym er)
-            (run-judged m structs constants functions text main mainPlaces other otherPlaces stack cells frames copy backtrace b f s (eb structs) (ef ∙ ap (λ (j : ℕ). framesGood functions j p (m .frames) frames) ek ∙ ap (λ (j : ℕ). framesGood functions (if b then m .program .functions else 0) j (m .frames) frames) (ep stack refl)) (too-short m structs constants functions text main mainPlaces other otherPlaces stack cells frames copy backtrace es ec et))
+        judged b k p f s r eb ek ep ef es er structs copy backtrace ec et =
+            subst
+            (RunJudged m (programLent structs constants functions text main mainPlaces other otherPlaces)
+            (runLent stack cells frames copy backtrace)) (sym er)
+            (run-judged m structs constants functions text main mainPlaces other otherPlaces stack cells frames copy backtrace b f
+            s (eb structs)
+            (ef ∙ ap (λ (j : ℕ). framesGood functions j p (m .frames) frames) ek ∙ ap
+            (λ (j : ℕ). framesGood functions (if b then m .program .functions else 0) j (m .frames) frames) (ep stack refl))
+            (too-short m structs constants functions text main mainPlaces other otherPlaces stack cells frames copy backtrace es
+            ec et))
 
 pub run-refusal-spec : {M : Type 1} → stated.statement M
 unfolding code.routine tablesOf
@@ -259,9 +315,15 @@ run-refusal-spec 𝓤 H 𝓜 𝓖 𝓡 =
     closed kinds u8 𝓤 H 𝓜 𝓖 𝓡 code.env #me code.function (code.unfolded 𝓤 H 𝓜 𝓡) (me.clauses 𝓤 H (𝓖 .A) (𝓜 .mem) (𝓡 .run))
     (λ κs qs a g is. unneeded 𝓤 _
     (walk 𝓤 H (𝓖 .A) W (𝓜 .mem) (𝓡 .run) (tablesOf 𝓤 H 𝓜 (tables 𝓤 H 𝓜 𝓡 code.env))
-    (cited 𝓤 H (Judge 𝓤 H (𝓖 .A) W (𝓜 .mem) (𝓡 .run)) 𝓜 𝓡 code.env #judge judge-def.routine code.calls-ends·judge (judge-thm.met 𝓤 H 𝓜 𝓖 𝓡))
-    (cited 𝓤 H (Count 𝓤 H (𝓖 .A) W (𝓜 .mem) (𝓡 .run)) 𝓜 𝓡 code.env #count count-def.routine code.calls-machine·tracing·counted (count-thm.met 𝓤 H 𝓜 𝓖 𝓡))
-    (cited 𝓤 H (Slots 𝓤 H (𝓖 .A) W (𝓜 .mem) (𝓡 .run)) 𝓜 𝓡 code.env #slots slots-def.routine code.calls-program·words·room (slots-thm.met 𝓤 H 𝓜 𝓖 𝓡))
-    (cited 𝓤 H (Good 𝓤 H (𝓖 .A) W (𝓜 .mem) (𝓡 .run)) 𝓜 𝓡 code.env #good good-def.routine code.calls-frames·order·frames-ok (good-thm.met 𝓤 H 𝓜 𝓖 𝓡))
-    (cited 𝓤 H (Short 𝓤 H (𝓖 .A) W (𝓜 .mem) (𝓡 .run)) 𝓜 𝓡 code.env #short short-def.routine code.calls-ends·too-short (short-thm.met 𝓤 H 𝓜 𝓖 𝓡))
-    (cited 𝓤 H (Why 𝓤 H (𝓖 .A) W (𝓜 .mem) (𝓡 .run)) 𝓜 𝓡 code.env #why why-def.routine code.calls-machine·running·refusal (why-thm.met 𝓤 H 𝓜 𝓖 𝓡)) κs qs a is))
+    (cited 𝓤 H (Judge 𝓤 H (𝓖 .A) W (𝓜 .mem) (𝓡 .run)) 𝓜 𝓡 code.env #judge judge-def.routine code.calls-ends·judge
+    (judge-thm.met 𝓤 H 𝓜 𝓖 𝓡))
+    (cited 𝓤 H (Count 𝓤 H (𝓖 .A) W (𝓜 .mem) (𝓡 .run)) 𝓜 𝓡 code.env #count count-def.routine code.calls-machine·tracing·counted
+    (count-thm.met 𝓤 H 𝓜 𝓖 𝓡))
+    (cited 𝓤 H (Slots 𝓤 H (𝓖 .A) W (𝓜 .mem) (𝓡 .run)) 𝓜 𝓡 code.env #slots slots-def.routine code.calls-program·words·room
+    (slots-thm.met 𝓤 H 𝓜 𝓖 𝓡))
+    (cited 𝓤 H (Good 𝓤 H (𝓖 .A) W (𝓜 .mem) (𝓡 .run)) 𝓜 𝓡 code.env #good good-def.routine code.calls-frames·order·frames-ok
+    (good-thm.met 𝓤 H 𝓜 𝓖 𝓡))
+    (cited 𝓤 H (Short 𝓤 H (𝓖 .A) W (𝓜 .mem) (𝓡 .run)) 𝓜 𝓡 code.env #short short-def.routine code.calls-ends·too-short
+    (short-thm.met 𝓤 H 𝓜 𝓖 𝓡))
+    (cited 𝓤 H (Why 𝓤 H (𝓖 .A) W (𝓜 .mem) (𝓡 .run)) 𝓜 𝓡 code.env #why why-def.routine code.calls-machine·running·refusal
+    (why-thm.met 𝓤 H 𝓜 𝓖 𝓡)) κs qs a is))

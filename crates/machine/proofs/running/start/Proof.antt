@@ -35,7 +35,9 @@ use Rattle.machine.proofs.running.start.Statement as stated
 use Rattle.machine.proofs.running.start.Code as code
 
 abbrev kinds : List (Kind 3)
-kinds = own VmRow vmVal vm-tells (λ x f. refl) ∷ own u64 (vint w64) (uint-tells w64) (λ x f. refl) ∷ shared 0 tt u64 ∷ shared 1 tt R ∷ unique 2 tt u64 ∷ []
+kinds =
+    own VmRow vmVal vm-tells (λ x f. refl) ∷ own u64 (vint w64) (uint-tells w64) (λ x f. refl) ∷ shared 0 tt u64 ∷ shared 1 tt R ∷
+    unique 2 tt u64 ∷ []
 
 module _ {M : Type 1} (𝓤 : URA M) (H : Heap 𝓤) (A : Atoms 𝓤) (W : Given 𝓤 H A) (mem : Memory → SProp 𝓤) (run : Routine → Fun 𝓤) where
   abbrev Fill : Contract 𝓤
@@ -94,30 +96,39 @@ module _ {M : Type 1} (𝓤 : URA M) (H : Heap 𝓤) (A : Atoms 𝓤) (W : Given
 
     exits : (r : Going) (copy′ : List ℕ) → Is GoingRow r (goingVal r ∷ []) → length copy′ ≡ s2 .count → (Begun m (getD frames (m .frames - 1) noFrame) units r × (copy′ ≡ written copy 0 (take (2 * m .stack) stack))) → ent 𝓤 (⋆ 𝓤 H A (‵ (Holds (slices copy′)) ∷ [])) (Post (goingVal r))
     exits r copy′ isr len-copy said =
-        qed W (‵ (Holds (slices copy′)) ∷ []) ∵ suffices ! _ (ends-at 𝓤 H A me.ended (stays kinds) (me.clauses 𝓤 H A mem run) W (passing (xs copy)) (goingVal r) r (tt, (tt, (tt, (tt, (copy′, tt))))) (tt, (tt, (tt, (tt, (len-copy, tt)))))) $ says ! said $
-        gives ! (xs copy′) (vm-makes 𝓤 H A W m _ (is .0), (uint-makes 𝓤 H A W w64 units _ (is .1 .0), tt)) (frame ! $ owned ! GoingRow (Is GoingRow) (going-makes 𝓤 H A W) r _ isr $ keep ! (1 ∷ 0 ∷ []) $ done !)
+        qed W (‵ (Holds (slices copy′)) ∷ []) ∵ suffices ! _
+        (ends-at 𝓤 H A me.ended (stays kinds) (me.clauses 𝓤 H A mem run) W (passing (xs copy)) (goingVal r) r
+        (tt, (tt, (tt, (tt, (copy′, tt))))) (tt, (tt, (tt, (tt, (len-copy, tt)))))) $ says ! said $ gives ! (xs copy′)
+        (vm-makes 𝓤 H A W m _ (is .0), (uint-makes 𝓤 H A W w64 units _ (is .1 .0), tt))
+        (frame ! $ owned ! GoingRow (Is GoingRow) (going-makes 𝓤 H A W) r _ isr $ keep ! (1 ∷ 0 ∷ []) $ done !)
 
     -- the calls
     abbrev to-fill : List Arg
     to-fill = val usize (m .stack) (vint w64 (m .stack)) ∷ shr u64 s0 stack ∷ mut u64 s2 copy ∷ []
 
     call-fill : (2 * m .stack ≤ length stack) × (2 * m .stack ≤ length copy) → Rule 𝓤 H A W to-fill Fill Nothing (λ _. vunit) (λ r zs. zs .1 .1 .0 ≡ written copy 0 (take (2 * m .stack) stack))
-    call-fill can = call-with 𝓤 H A W to-fill Fill Nothing (λ _. vunit) (λ r zs. zs .1 .1 .0 ≡ written copy 0 (take (2 * m .stack) stack)) (λ r vs was. was) (λ ns. passing (lent to-fill ns)) (λ ns. refl)
-        (λ ns. asked W (lent to-fill ns) can) (λ ns w. id⊢ 𝓤 _) (uint-makes 𝓤 H A W w64 (m .stack) _ (refl, stack-fits m (is .0)), tt) ((refl, room0), ((refl, room2), tt))
+    call-fill can =
+        call-with 𝓤 H A W to-fill Fill Nothing (λ _. vunit) (λ r zs. zs .1 .1 .0 ≡ written copy 0 (take (2 * m .stack) stack))
+        (λ r vs was. was) (λ ns. passing (lent to-fill ns)) (λ ns. refl) (λ ns. asked W (lent to-fill ns) can) (λ ns w. id⊢ 𝓤 _)
+        (uint-makes 𝓤 H A W w64 (m .stack) _ (refl, stack-fits m (is .0)), tt) ((refl, room0), ((refl, room2), tt))
 
     abbrev to-at : List Arg
     to-at = val usize (m .frames) (vint w64 (m .frames)) ∷ []
 
     call-at : Rule 𝓤 H A W to-at At usize (vint w64) (λ k zs. k ≡ m .frames - 1)
-    call-at = call-with 𝓤 H A W to-at At usize (vint w64) (λ k zs. k ≡ m .frames - 1) (uint-tells w64) (λ ns. passing (lent to-at ns)) (λ ns. refl)
-        (λ ns. unasked W (lent to-at ns)) (λ ns w. id⊢ 𝓤 _) (uint-makes 𝓤 H A W w64 (m .frames) _ (refl, frames-fit m (is .0)), tt) tt
+    call-at =
+        call-with 𝓤 H A W to-at At usize (vint w64) (λ k zs. k ≡ m .frames - 1) (uint-tells w64) (λ ns. passing (lent to-at ns))
+        (λ ns. refl) (λ ns. unasked W (lent to-at ns)) (λ ns w. id⊢ 𝓤 _)
+        (uint-makes 𝓤 H A W w64 (m .frames) _ (refl, frames-fit m (is .0)), tt) tt
 
     abbrev to-begin : Frame → List Arg
     to-begin f = val VmRow m (vmVal m) ∷ val R f (fval f) ∷ val u64 units (vint w64 units) ∷ []
 
     call-begin : (f : Frame) → Is R f (fval f ∷ []) → Rule 𝓤 H A W (to-begin f) Begin GoingRow goingVal (λ g zs. Begun m f units g)
-    call-begin f isf = call-with 𝓤 H A W (to-begin f) Begin GoingRow goingVal (λ g zs. Begun m f units g) going-tells (λ ns. passing (lent (to-begin f) ns)) (λ ns. refl)
-        (λ ns. unasked W (lent (to-begin f) ns)) (λ ns w. id⊢ 𝓤 _) (vm-makes 𝓤 H A W m _ (is .0), (frame-makes 𝓤 H A W f _ isf, (uint-makes 𝓤 H A W w64 units _ (is .1 .0), tt))) tt
+    call-begin f isf =
+        call-with 𝓤 H A W (to-begin f) Begin GoingRow goingVal (λ g zs. Begun m f units g) going-tells
+        (λ ns. passing (lent (to-begin f) ns)) (λ ns. refl) (λ ns. unasked W (lent (to-begin f) ns)) (λ ns w. id⊢ 𝓤 _)
+        (vm-makes 𝓤 H A W m _ (is .0), (frame-makes 𝓤 H A W f _ isf, (uint-makes 𝓤 H A W w64 units _ (is .1 .0), tt))) tt
 
     walk : ((2 * m .stack ≤ length stack) × (2 * m .stack ≤ length copy) × (m .frames - 1 < length frames)) → ent 𝓤 (onEntry 𝓤 H A me.signature (lfts (xs copy)) (shares (xs copy)) (denots (xs copy)) (valss (xs copy))) (WpFn 𝓤 H (𝓣 .C) (𝓣 .Λ) code.function (values (xs copy)) Post)
     walk can =
@@ -142,9 +153,15 @@ unfolding code.routine tablesOf
 start-spec 𝓤 H 𝓜 𝓖 𝓡 =
     let W : Given 𝓤 H (𝓖 .A) = givenOf 𝓤 H 𝓜 𝓖 in
     closed kinds GoingRow 𝓤 H 𝓜 𝓖 𝓡 code.env #me code.function (code.unfolded 𝓤 H 𝓜 𝓡) (me.clauses 𝓤 H (𝓖 .A) (𝓜 .mem) (𝓡 .run))
-    (λ κs qs a g is. needs 𝓤 ((2 * a .0 .stack ≤ length (now (a .1 .1 .0))) × (2 * a .0 .stack ≤ length (now (a .1 .1 .1 .1 .0))) × (a .0 .frames - 1 < length (now (a .1 .1 .1 .0)))) _
+    (λ κs qs a g is. needs 𝓤
+    ((2 * a .0 .stack ≤ length (now (a .1 .1 .0))) × (2 * a .0 .stack ≤ length (now (a .1 .1 .1 .1 .0))) ×
+    (a .0 .frames - 1 < length (now (a .1 .1 .1 .0)))) _
     (walk 𝓤 H (𝓖 .A) W (𝓜 .mem) (𝓡 .run) (tablesOf 𝓤 H 𝓜 (tables 𝓤 H 𝓜 𝓡 code.env))
-    (cited 𝓤 H (Fill 𝓤 H (𝓖 .A) W (𝓜 .mem) (𝓡 .run)) 𝓜 𝓡 code.env #fill fill-def.routine code.calls-ends·copy-front (fill-thm.met 𝓤 H 𝓜 𝓖 𝓡))
-    (cited 𝓤 H (At 𝓤 H (𝓖 .A) W (𝓜 .mem) (𝓡 .run)) 𝓜 𝓡 code.env #at at-def.routine code.calls-ends·innermost-at (at-thm.met 𝓤 H 𝓜 𝓖 𝓡))
-    (cited 𝓤 H (Read 𝓤 H (𝓖 .A) W (𝓜 .mem) (𝓡 .run)) 𝓜 𝓡 code.env #read read-def.routine code.calls-frames·read-frame (read-thm.met 𝓤 H 𝓜 𝓖 𝓡))
-    (cited 𝓤 H (Begin 𝓤 H (𝓖 .A) W (𝓜 .mem) (𝓡 .run)) 𝓜 𝓡 code.env #begin begin-def.routine code.calls-ends·begin (begin-thm.met 𝓤 H 𝓜 𝓖 𝓡)) κs qs a is))
+    (cited 𝓤 H (Fill 𝓤 H (𝓖 .A) W (𝓜 .mem) (𝓡 .run)) 𝓜 𝓡 code.env #fill fill-def.routine code.calls-ends·copy-front
+    (fill-thm.met 𝓤 H 𝓜 𝓖 𝓡))
+    (cited 𝓤 H (At 𝓤 H (𝓖 .A) W (𝓜 .mem) (𝓡 .run)) 𝓜 𝓡 code.env #at at-def.routine code.calls-ends·innermost-at
+    (at-thm.met 𝓤 H 𝓜 𝓖 𝓡))
+    (cited 𝓤 H (Read 𝓤 H (𝓖 .A) W (𝓜 .mem) (𝓡 .run)) 𝓜 𝓡 code.env #read read-def.routine code.calls-frames·read-frame
+    (read-thm.met 𝓤 H 𝓜 𝓖 𝓡))
+    (cited 𝓤 H (Begin 𝓤 H (𝓖 .A) W (𝓜 .mem) (𝓡 .run)) 𝓜 𝓡 code.env #begin begin-def.routine code.calls-ends·begin
+    (begin-thm.met 𝓤 H 𝓜 𝓖 𝓡)) κs qs a is))

@@ -40,7 +40,10 @@ use Rattle.machine.proofs.running.stop.Statement as stated
 use Rattle.machine.proofs.running.stop.Code as code
 
 abbrev kinds : List (Kind 7)
-kinds = own VmRow vmVal vm-tells (λ x f. refl) ∷ own u64 (vint w64) (uint-tells w64) (λ x f. refl) ∷ own GoingRow goingVal going-tells (λ x f. refl) ∷ own u8 (vint w8) (uint-tells w8) (λ x f. refl) ∷ shared 0 tt u64 ∷ shared 1 tt u32 ∷ shared 2 tt u32 ∷ unique 3 tt u64 ∷ unique 4 tt R ∷ shared 5 tt u64 ∷ unique 6 tt u32 ∷ []
+kinds =
+    own VmRow vmVal vm-tells (λ x f. refl) ∷ own u64 (vint w64) (uint-tells w64) (λ x f. refl) ∷ own GoingRow goingVal going-tells
+    (λ x f. refl) ∷ own u8 (vint w8) (uint-tells w8) (λ x f. refl) ∷ shared 0 tt u64 ∷ shared 1 tt u32 ∷ shared 2 tt u32 ∷ unique
+    3 tt u64 ∷ unique 4 tt R ∷ shared 5 tt u64 ∷ unique 6 tt u32 ∷ []
 
 module _ {M : Type 1} (𝓤 : URA M) (H : Heap 𝓤) (A : Atoms 𝓤) (W : Given 𝓤 H A) (mem : Memory → SProp 𝓤) (run : Routine → Fun 𝓤) where
   abbrev Current : Contract 𝓤
@@ -134,47 +137,83 @@ module _ {M : Type 1} (𝓤 : URA M) (H : Heap 𝓤) (A : Atoms 𝓤) (W : Given
     room6 = is .1 .1 .1 .1 .1 .1 .1 .1 .1 .1 .0 .0 .1
 
     abbrev slices : List ℕ → List Frame → List ℕ → List Arg
-    slices stack′ frames′ backtrace′ = shr u64 s0 functions ∷ shr u32 s1 mainPlaces ∷ shr u32 s2 otherPlaces ∷ mut u64 s3 stack′ ∷ mut R s4 frames′ ∷ shr u64 s5 copy ∷ mut u32 s6 backtrace′ ∷ []
+    slices stack′ frames′ backtrace′ =
+        shr u64 s0 functions ∷ shr u32 s1 mainPlaces ∷ shr u32 s2 otherPlaces ∷ mut u64 s3 stack′ ∷ mut R s4 frames′ ∷ shr u64 s5
+        copy ∷ mut u32 s6 backtrace′ ∷ []
 
     abbrev xs : List ℕ → List Frame → List ℕ → List Arg
-    xs stack′ frames′ backtrace′ = val VmRow m (vmVal m) ∷ val u64 units (vint w64 units) ∷ val GoingRow g (goingVal g) ∷ val u8 fault (vint w8 fault) ∷ slices stack′ frames′ backtrace′
+    xs stack′ frames′ backtrace′ =
+        val VmRow m (vmVal m) ∷ val u64 units (vint w64 units) ∷ val GoingRow g (goingVal g) ∷ val u8 fault (vint w8 fault) ∷
+        slices stack′ frames′ backtrace′
 
     abbrev Post : Val → SProp 𝓤
     Post = walkOf 𝓤 H A me.ended (stays kinds) (me.clauses 𝓤 H A mem run) .post (passing (xs stack frames backtrace))
 
     exits : (r : RunResult) (stack′ : List ℕ) (frames′ : List Frame) (backtrace′ : List ℕ) → Is ResultRow r (resultVal r ∷ []) → length stack′ ≡ s3 .count → length frames′ ≡ s4 .count → length backtrace′ ≡ s6 .count → ((r ≡ faultedWith m units g fault) × (backtrace′ ≡ written backtrace 0 (traceWords functions mainPlaces otherPlaces (frameIn g ∷ callersOf (g .callers) frames))) × (stack′ ≡ written stack 0 (take (2 * m .stack) copy)) × (frames′ ≡ set frames 0 (root (size (codeWord functions 0))))) → ent 𝓤 (⋆ 𝓤 H A (‵ (Holds (slices stack′ frames′ backtrace′)) ∷ [])) (Post (resultVal r))
     exits r stack′ frames′ backtrace′ isr len-stack len-frames len-backtrace said =
-        qed W (‵ (Holds (slices stack′ frames′ backtrace′)) ∷ []) ∵ suffices ! _ (ends-at 𝓤 H A me.ended (stays kinds) (me.clauses 𝓤 H A mem run) W (passing (xs stack frames backtrace)) (resultVal r) r (tt, (tt, (tt, (tt, (tt, (tt, (tt, (stack′, (frames′, (tt, (backtrace′, tt))))))))))) (tt, (tt, (tt, (tt, (tt, (tt, (tt, (len-stack, (len-frames, (tt, (len-backtrace, tt)))))))))))) $ says ! said $
-        gives ! (xs stack′ frames′ backtrace′) (vm-makes 𝓤 H A W m _ (is .0), (uint-makes 𝓤 H A W w64 units _ (is .1 .0), (going-makes 𝓤 H A W g _ (is .1 .1 .0), (uint-makes 𝓤 H A W w8 fault _ (is .1 .1 .1 .0), tt)))) (frame ! $ owned ! ResultRow (Is ResultRow) (result-makes 𝓤 H A W) r _ isr $ keep ! (1 ∷ 0 ∷ []) $ done !)
+        qed W (‵ (Holds (slices stack′ frames′ backtrace′)) ∷ []) ∵ suffices ! _
+        (ends-at 𝓤 H A me.ended (stays kinds) (me.clauses 𝓤 H A mem run) W (passing (xs stack frames backtrace)) (resultVal r) r
+        (tt, (tt, (tt, (tt, (tt, (tt, (tt, (stack′, (frames′, (tt, (backtrace′, tt)))))))))))
+        (tt, (tt, (tt, (tt, (tt, (tt, (tt, (len-stack, (len-frames, (tt, (len-backtrace, tt)))))))))))) $ says ! said $ gives !
+        (xs stack′ frames′ backtrace′) (
+          vm-makes 𝓤 H A W m _ (is .0),
+          (
+            uint-makes 𝓤 H A W w64 units _ (is .1 .0),
+            (going-makes 𝓤 H A W g _ (is .1 .1 .0), (uint-makes 𝓤 H A W w8 fault _ (is .1 .1 .1 .0), tt)),
+          ),
+        ) (frame ! $ owned ! ResultRow (Is ResultRow) (result-makes 𝓤 H A W) r _ isr $ keep ! (1 ∷ 0 ∷ []) $ done !)
 
     -- the calls
     abbrev to-current : List Arg
     to-current = val GoingRow g (goingVal g) ∷ []
 
     call-current : Rule 𝓤 H A W to-current Current R fval (λ f zs. f ≡ frameIn g)
-    call-current = call-with 𝓤 H A W to-current Current R fval (λ f zs. f ≡ frameIn g) tells (λ ns. passing (lent to-current ns)) (λ ns. refl)
-        (λ ns. unasked W (lent to-current ns)) (λ ns w. id⊢ 𝓤 _) (going-makes 𝓤 H A W g _ (is .1 .1 .0), tt) tt
+    call-current =
+        call-with 𝓤 H A W to-current Current R fval (λ f zs. f ≡ frameIn g) tells (λ ns. passing (lent to-current ns))
+        (λ ns. refl) (λ ns. unasked W (lent to-current ns)) (λ ns w. id⊢ 𝓤 _) (going-makes 𝓤 H A W g _ (is .1 .1 .0), tt) tt
 
     abbrev to-trace : Frame → List Arg
-    to-trace f = shr u64 s0 functions ∷ shr u32 s1 mainPlaces ∷ shr u32 s2 otherPlaces ∷ val R f (fval f) ∷ val usize (g .callers) (vint w64 (g .callers)) ∷ peek R s4 frames ∷ mut u32 s6 backtrace ∷ []
+    to-trace f =
+        shr u64 s0 functions ∷ shr u32 s1 mainPlaces ∷ shr u32 s2 otherPlaces ∷ val R f (fval f) ∷ val usize (g .callers)
+        (vint w64 (g .callers)) ∷ peek R s4 frames ∷ mut u32 s6 backtrace ∷ []
 
     call-trace : (f : Frame) → Is R f (fval f ∷ []) → TraceFits functions mainPlaces otherPlaces f (g .callers) frames (length backtrace) → Rule 𝓤 H A W (to-trace f) Trace Nothing (λ _. vunit) (λ r zs. zs .1 .1 .1 .1 .1 .1 .0 ≡ written backtrace 0 (traceWords functions mainPlaces otherPlaces (f ∷ callersOf (g .callers) frames)))
-    call-trace f isf can = call-with 𝓤 H A W (to-trace f) Trace Nothing (λ _. vunit) (λ r zs. zs .1 .1 .1 .1 .1 .1 .0 ≡ written backtrace 0 (traceWords functions mainPlaces otherPlaces (f ∷ callersOf (g .callers) frames))) (λ r vs was. was) (λ ns. passing (lent (to-trace f) ns)) (λ ns. refl)
-        (λ ns. asked W (lent (to-trace f) ns) can) (λ ns w. id⊢ 𝓤 _) (frame-makes 𝓤 H A W f _ isf, (uint-makes 𝓤 H A W w64 (g .callers) _ (refl, callers-fit g (is .1 .1 .0)), tt)) ((refl, room0), ((refl, room1), ((refl, room2), ((refl, room4), ((refl, room6), tt)))))
+    call-trace f isf can =
+        call-with 𝓤 H A W (to-trace f) Trace Nothing (λ _. vunit)
+        (λ r zs. zs .1 .1 .1 .1 .1 .1 .0 ≡ written backtrace 0
+        (traceWords functions mainPlaces otherPlaces (f ∷ callersOf (g .callers) frames))) (λ r vs was. was)
+        (λ ns. passing (lent (to-trace f) ns)) (λ ns. refl) (λ ns. asked W (lent (to-trace f) ns) can) (λ ns w. id⊢ 𝓤 _)
+        (frame-makes 𝓤 H A W f _ isf, (uint-makes 𝓤 H A W w64 (g .callers) _ (refl, callers-fit g (is .1 .1 .0)), tt))
+        ((refl, room0), ((refl, room1), ((refl, room2), ((refl, room4), ((refl, room6), tt)))))
 
     abbrev to-back : List Arg
-    to-back = val usize (m .stack) (vint w64 (m .stack)) ∷ shr u64 s0 functions ∷ mut u64 s3 stack ∷ mut R s4 frames ∷ shr u64 s5 copy ∷ []
+    to-back =
+        val usize (m .stack) (vint w64 (m .stack)) ∷ shr u64 s0 functions ∷ mut u64 s3 stack ∷ mut R s4 frames ∷ shr u64 s5 copy ∷
+        []
 
     call-back : (2 * m .stack ≤ length copy) × (2 * m .stack ≤ length stack) × (0 < length frames) → Rule 𝓤 H A W to-back Back Nothing (λ _. vunit) (λ r zs. (zs .1 .1 .0 ≡ written stack 0 (take (2 * m .stack) copy)) × (zs .1 .1 .1 .0 ≡ set frames 0 (root (size (codeWord functions 0)))))
-    call-back can = call-with 𝓤 H A W to-back Back Nothing (λ _. vunit) (λ r zs. (zs .1 .1 .0 ≡ written stack 0 (take (2 * m .stack) copy)) × (zs .1 .1 .1 .0 ≡ set frames 0 (root (size (codeWord functions 0))))) (λ r vs was. was) (λ ns. passing (lent to-back ns)) (λ ns. refl)
-        (λ ns. asked W (lent to-back ns) can) (λ ns w. id⊢ 𝓤 _) (uint-makes 𝓤 H A W w64 (m .stack) _ (refl, stack-fits m (is .0)), tt) ((refl, room0), ((refl, room3), ((refl, room4), ((refl, room5), tt))))
+    call-back can =
+        call-with 𝓤 H A W to-back Back Nothing (λ _. vunit)
+        (λ r zs. (zs .1 .1 .0 ≡ written stack 0 (take (2 * m .stack) copy)) ×
+        (zs .1 .1 .1 .0 ≡ set frames 0 (root (size (codeWord functions 0))))) (λ r vs was. was) (λ ns. passing (lent to-back ns))
+        (λ ns. refl) (λ ns. asked W (lent to-back ns) can) (λ ns w. id⊢ 𝓤 _)
+        (uint-makes 𝓤 H A W w64 (m .stack) _ (refl, stack-fits m (is .0)), tt)
+        ((refl, room0), ((refl, room3), ((refl, room4), ((refl, room5), tt))))
 
     abbrev to-answer : List Arg
-    to-answer = val VmRow m (vmVal m) ∷ val u64 units (vint w64 units) ∷ val GoingRow g (goingVal g) ∷ val u8 fault (vint w8 fault) ∷ []
+    to-answer =
+        val VmRow m (vmVal m) ∷ val u64 units (vint w64 units) ∷ val GoingRow g (goingVal g) ∷ val u8 fault (vint w8 fault) ∷ []
 
     call-answer : (g .units ≤ units) × (g .callers < 2 ^ 32) → Rule 𝓤 H A W to-answer Answer ResultRow resultVal (λ r zs. r ≡ faultedWith m units g fault)
-    call-answer can = call-with 𝓤 H A W to-answer Answer ResultRow resultVal (λ r zs. r ≡ faultedWith m units g fault) result-tells (λ ns. passing (lent to-answer ns)) (λ ns. refl)
-        (λ ns. asked W (lent to-answer ns) can) (λ ns w. id⊢ 𝓤 _) (vm-makes 𝓤 H A W m _ (is .0), (uint-makes 𝓤 H A W w64 units _ (is .1 .0), (going-makes 𝓤 H A W g _ (is .1 .1 .0), (uint-makes 𝓤 H A W w8 fault _ (is .1 .1 .1 .0), tt)))) tt
+    call-answer can =
+        call-with 𝓤 H A W to-answer Answer ResultRow resultVal (λ r zs. r ≡ faultedWith m units g fault) result-tells
+        (λ ns. passing (lent to-answer ns)) (λ ns. refl) (λ ns. asked W (lent to-answer ns) can) (λ ns w. id⊢ 𝓤 _) (
+          vm-makes 𝓤 H A W m _ (is .0),
+          (
+            uint-makes 𝓤 H A W w64 units _ (is .1 .0),
+            (going-makes 𝓤 H A W g _ (is .1 .1 .0), (uint-makes 𝓤 H A W w8 fault _ (is .1 .1 .1 .0), tt)),
+          ),
+        ) tt
 
     walk : ((g .units ≤ units) × (g .callers < 2 ^ 32) × TraceFits functions mainPlaces otherPlaces (frameIn g) (g .callers) frames (length backtrace) × (2 * m .stack ≤ length copy) × (2 * m .stack ≤ length stack) × (0 < length frames)) → ent 𝓤 (onEntry 𝓤 H A me.signature (lfts (xs stack frames backtrace)) (shares (xs stack frames backtrace)) (denots (xs stack frames backtrace)) (valss (xs stack frames backtrace))) (WpFn 𝓤 H (𝓣 .C) (𝓣 .Λ) code.function (values (xs stack frames backtrace)) Post)
     walk can =
@@ -196,9 +235,18 @@ unfolding code.routine tablesOf
 stop-spec 𝓤 H 𝓜 𝓖 𝓡 =
     let W : Given 𝓤 H (𝓖 .A) = givenOf 𝓤 H 𝓜 𝓖 in
     closed kinds ResultRow 𝓤 H 𝓜 𝓖 𝓡 code.env #me code.function (code.unfolded 𝓤 H 𝓜 𝓡) (me.clauses 𝓤 H (𝓖 .A) (𝓜 .mem) (𝓡 .run))
-    (λ κs qs a g is. needs 𝓤 ((a .1 .1 .0 .units ≤ a .1 .0) × (a .1 .1 .0 .callers < 2 ^ 32) × TraceFits (now (a .1 .1 .1 .1 .0)) (now (a .1 .1 .1 .1 .1 .0)) (now (a .1 .1 .1 .1 .1 .1 .0)) (frameIn (a .1 .1 .0)) (a .1 .1 .0 .callers) (now (a .1 .1 .1 .1 .1 .1 .1 .1 .0)) (length (now (a .1 .1 .1 .1 .1 .1 .1 .1 .1 .1 .0))) × (2 * a .0 .stack ≤ length (now (a .1 .1 .1 .1 .1 .1 .1 .1 .1 .0))) × (2 * a .0 .stack ≤ length (now (a .1 .1 .1 .1 .1 .1 .1 .0))) × (0 < length (now (a .1 .1 .1 .1 .1 .1 .1 .1 .0)))) _
+    (λ κs qs a g is. needs 𝓤
+    ((a .1 .1 .0 .units ≤ a .1 .0) × (a .1 .1 .0 .callers < 2 ^ 32) × TraceFits (now (a .1 .1 .1 .1 .0))
+    (now (a .1 .1 .1 .1 .1 .0)) (now (a .1 .1 .1 .1 .1 .1 .0)) (frameIn (a .1 .1 .0)) (a .1 .1 .0 .callers)
+    (now (a .1 .1 .1 .1 .1 .1 .1 .1 .0)) (length (now (a .1 .1 .1 .1 .1 .1 .1 .1 .1 .1 .0))) ×
+    (2 * a .0 .stack ≤ length (now (a .1 .1 .1 .1 .1 .1 .1 .1 .1 .0))) ×
+    (2 * a .0 .stack ≤ length (now (a .1 .1 .1 .1 .1 .1 .1 .0))) × (0 < length (now (a .1 .1 .1 .1 .1 .1 .1 .1 .0)))) _
     (walk 𝓤 H (𝓖 .A) W (𝓜 .mem) (𝓡 .run) (tablesOf 𝓤 H 𝓜 (tables 𝓤 H 𝓜 𝓡 code.env))
-    (cited 𝓤 H (Current 𝓤 H (𝓖 .A) W (𝓜 .mem) (𝓡 .run)) 𝓜 𝓡 code.env #current current-def.routine code.calls-turns·frame-of (current-thm.met 𝓤 H 𝓜 𝓖 𝓡))
-    (cited 𝓤 H (Trace 𝓤 H (𝓖 .A) W (𝓜 .mem) (𝓡 .run)) 𝓜 𝓡 code.env #trace trace-def.routine code.calls-frames·backtrace·trace (trace-thm.met 𝓤 H 𝓜 𝓖 𝓡))
-    (cited 𝓤 H (Back 𝓤 H (𝓖 .A) W (𝓜 .mem) (𝓡 .run)) 𝓜 𝓡 code.env #back back-def.routine code.calls-machine·running·recover (back-thm.met 𝓤 H 𝓜 𝓖 𝓡))
-    (cited 𝓤 H (Answer 𝓤 H (𝓖 .A) W (𝓜 .mem) (𝓡 .run)) 𝓜 𝓡 code.env #answer answer-def.routine code.calls-ends·faulted (answer-thm.met 𝓤 H 𝓜 𝓖 𝓡)) κs qs a is))
+    (cited 𝓤 H (Current 𝓤 H (𝓖 .A) W (𝓜 .mem) (𝓡 .run)) 𝓜 𝓡 code.env #current current-def.routine code.calls-turns·frame-of
+    (current-thm.met 𝓤 H 𝓜 𝓖 𝓡))
+    (cited 𝓤 H (Trace 𝓤 H (𝓖 .A) W (𝓜 .mem) (𝓡 .run)) 𝓜 𝓡 code.env #trace trace-def.routine code.calls-frames·backtrace·trace
+    (trace-thm.met 𝓤 H 𝓜 𝓖 𝓡))
+    (cited 𝓤 H (Back 𝓤 H (𝓖 .A) W (𝓜 .mem) (𝓡 .run)) 𝓜 𝓡 code.env #back back-def.routine code.calls-machine·running·recover
+    (back-thm.met 𝓤 H 𝓜 𝓖 𝓡))
+    (cited 𝓤 H (Answer 𝓤 H (𝓖 .A) W (𝓜 .mem) (𝓡 .run)) 𝓜 𝓡 code.env #answer answer-def.routine code.calls-ends·faulted
+    (answer-thm.met 𝓤 H 𝓜 𝓖 𝓡)) κs qs a is))

@@ -5,13 +5,13 @@ use Rattle.machine.proofs.starting.is_done.Statement.{statement}
 use Rattle.machine.proofs.starting.is_done.Tie as tie
 
 enum-known-r : tie.Need-enum-known-r
-enum-known-r c = search needs
+enum-known-r c = search
 
 enum-known-r-2 : tie.Need-enum-known-r-2
-enum-known-r-2 c = search needs
+enum-known-r-2 c = search
 
 enum-known-r-3 : tie.Need-enum-known-r-3
-enum-known-r-3 c = search needs
+enum-known-r-3 c = search
 
 returns : tie.Need-returns
 returns c = done-is _ (c .before .r .given .1)

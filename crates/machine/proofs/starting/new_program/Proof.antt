@@ -8,34 +8,40 @@ returns : tie.Need-returns
 returns c = λ rest. none-new _ (c .if1 .taken)
 
 new-requires : tie.Need-new-requires
-new-requires c κs = search needs
+new-requires c κs = search
 
 enum-known-emitted : tie.Need-enum-known-emitted
-enum-known-emitted c = search needs
+enum-known-emitted c = search
 
 fresh-vm-requires : tie.Need-fresh-vm-requires
-fresh-vm-requires c κs = search needs
+fresh-vm-requires c κs = search
 
 enum-known-emitted-2 : tie.Need-enum-known-emitted-2
-enum-known-emitted-2 c = search needs
+enum-known-emitted-2 c = search
 
 same-length : tie.Need-same-length
-same-length c = search needs
+same-length c = search
 
 same-length-2 : tie.Need-same-length-2
-same-length-2 c = search needs
+same-length-2 c = search
 
 returns-2 : tie.Need-returns-2
-returns-2 c = λ rest. made-new _ (c .before .before .before .before .before .before .before .before .new .ensures rest) _ _ (c .before .before .emitted .given .1) (c .before .before .before .before .before .before .before .before .before .before .before .if1 .left) (c .fresh-vm .ensures)
+returns-2 c =
+    let at-new = c .before .before .before .before .before .before .before .before in
+    let at-if1 = at-new .before .before .before in
+    λ rest. made-new _ (at-new .new .ensures rest) _ _ (c .before .before .emitted .given .1) (at-if1 .if1 .left)
+    (c .fresh-vm .ensures)
 
 same-length-3 : tie.Need-same-length-3
-same-length-3 c = search needs
+same-length-3 c = search
 
 same-length-4 : tie.Need-same-length-4
-same-length-4 c = search needs
+same-length-4 c = search
 
 returns-3 : tie.Need-returns-3
-returns-3 c = λ rest. not-new _ (c .before .before .before .before .before .before .before .new .ensures rest) _ (c .before .emitted2 .given .1)
+returns-3 c =
+    λ rest. not-new _ (c .before .before .before .before .before .before .before .new .ensures rest) _
+    (c .before .emitted2 .given .1)
 
 pub new-program-spec : {M : Type 1} → statement M
 new-program-spec =

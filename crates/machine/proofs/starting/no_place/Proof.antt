@@ -5,22 +5,22 @@ use Rattle.machine.proofs.starting.no_place.Statement.{statement}
 use Rattle.machine.proofs.starting.no_place.Tie as tie
 
 judge-requires : tie.Need-judge-requires
-judge-requires c κs = search needs
+judge-requires c κs = search
 
 enum-known-o : tie.Need-enum-known-o
-enum-known-o c = search needs
+enum-known-o c = search
 
 enum-known-z : tie.Need-enum-known-z
-enum-known-z c = search needs
+enum-known-z c = search
 
 returns : tie.Need-returns
-returns c = λ s. place-21 (c .before .before .before .before .before .before .before .before .before .before .args .image .now) s _ (c .before .before .before .before .before .before .before .before .judge .ensures) _ (c .before .before .before .before .before .before .z .given .1) (c .if1 .taken)
+returns c = search place-21
 
 returns-2 : tie.Need-returns-2
-returns-2 c = λ s. place-broken (c .before .before .before .before .before .args .image .now) s _ (c .before .before .before .judge .ensures) _ (c .before .o .given .1)
+returns-2 c = search place-broken
 
 returns-3 : tie.Need-returns-3
-returns-3 c = λ s. place-22 (c .before .before .before .before .before .before .before .before .before .before .args .image .now) s _ (c .before .before .before .before .before .before .before .before .judge .ensures) _ (c .before .before .before .before .before .before .z .given .1) (c .if1 .left)
+returns-3 c = search place-22
 
 pub no-place-spec : {M : Type 1} → statement M
 no-place-spec =

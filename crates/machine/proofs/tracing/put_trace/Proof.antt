@@ -126,39 +126,56 @@ module _ {M : Type 1} (𝓤 : URA M) (H : Heap 𝓤) (A : Atoms 𝓤) (W : Given
 
     exits : (r : Told) (zs : List ℕ) → IsTold r → length zs ≡ s4 .count → record { answer = r; out = zs } ≡ traceInto words main other n ys out → ent 𝓤 (⋆ 𝓤 H A (‵ (Holds (slices zs)) ∷ [])) (Post (toldVal r))
     exits r zs isr len said =
-        qed W (‵ (Holds (slices zs)) ∷ []) ∵ suffices ! _ (ends-at 𝓤 H A me.ended (stays kinds) (me.clauses 𝓤 H A mem run) W (passing (xs out)) (toldVal r) r (tt, (tt, (tt, (tt, (tt, (zs, tt)))))) (tt, (tt, (tt, (tt, (tt, (len, tt))))))) $ says ! said $
-        gives ! (xs zs) (uint-makes 𝓤 H A W w64 n _ (is .0), tt) (frame ! $ owned ! ToldRow (Is ToldRow) (told-makes 𝓤 H A W) r _ isr $ keep ! (1 ∷ 0 ∷ []) $ done !)
+        qed W (‵ (Holds (slices zs)) ∷ []) ∵ suffices ! _
+        (ends-at 𝓤 H A me.ended (stays kinds) (me.clauses 𝓤 H A mem run) W (passing (xs out)) (toldVal r) r
+        (tt, (tt, (tt, (tt, (tt, (zs, tt)))))) (tt, (tt, (tt, (tt, (tt, (len, tt))))))) $ says ! said $ gives ! (xs zs)
+        (uint-makes 𝓤 H A W w64 n _ (is .0), tt)
+        (frame ! $ owned ! ToldRow (Is ToldRow) (told-makes 𝓤 H A W) r _ isr $ keep ! (1 ∷ 0 ∷ []) $ done !)
 
     -- the calls
     abbrev to-at : List Arg
     to-at = val usize n (vint w64 n) ∷ []
 
     call-at : Rule 𝓤 H A W to-at At usize (vint w64) (λ r zs. r ≡ n - 1)
-    call-at = call-with 𝓤 H A W to-at At usize (vint w64) (λ r zs. r ≡ n - 1) (uint-tells w64) (λ ns. passing (lent to-at ns)) (λ ns. refl) (λ ns. unasked W (lent to-at ns)) (λ ns w. id⊢ 𝓤 _) (uint-makes 𝓤 H A W w64 n _ (is .0), tt) tt
+    call-at =
+        call-with 𝓤 H A W to-at At usize (vint w64) (λ r zs. r ≡ n - 1) (uint-tells w64) (λ ns. passing (lent to-at ns))
+        (λ ns. refl) (λ ns. unasked W (lent to-at ns)) (λ ns w. id⊢ 𝓤 _) (uint-makes 𝓤 H A W w64 n _ (is .0), tt) tt
 
     abbrev to-fine : ℕ → Frame → List Arg
     to-fine k f = shr u64 s0 words ∷ val R f (fval f) ∷ val usize k (vint w64 k) ∷ shr R s3 ys ∷ []
 
     call-fine : (k : ℕ) (f : Frame) → k < 2 ^ 64 → Is R f (fval f ∷ []) → k ≤ length ys → Rule 𝓤 H A W (to-fine k f) Fine Boolean vbool (λ b zs. b ≡ traceGood words (f ∷ callersOf k ys))
-    call-fine k f fits isf there = call-with 𝓤 H A W (to-fine k f) Fine Boolean vbool (λ b zs. b ≡ traceGood words (f ∷ callersOf k ys)) bool-tells (λ ns. passing (lent (to-fine k f) ns)) (λ ns. refl)
-        (λ ns. asked W (lent (to-fine k f) ns) there) (λ ns w. id⊢ 𝓤 _) (frame-makes 𝓤 H A W f _ isf, (uint-makes 𝓤 H A W w64 k _ (refl, fits), tt)) ((refl, room0), ((refl, room3), tt))
+    call-fine k f fits isf there =
+        call-with 𝓤 H A W (to-fine k f) Fine Boolean vbool (λ b zs. b ≡ traceGood words (f ∷ callersOf k ys)) bool-tells
+        (λ ns. passing (lent (to-fine k f) ns)) (λ ns. refl) (λ ns. asked W (lent (to-fine k f) ns) there) (λ ns w. id⊢ 𝓤 _)
+        (frame-makes 𝓤 H A W f _ isf, (uint-makes 𝓤 H A W w64 k _ (refl, fits), tt)) ((refl, room0), ((refl, room3), tt))
 
     abbrev to-write : ℕ → Frame → List Arg
-    to-write k f = shr u64 s0 words ∷ shr u32 s1 main ∷ shr u32 s2 other ∷ val R f (fval f) ∷ val usize k (vint w64 k) ∷ shr R s3 ys ∷ mut u32 s4 out ∷ []
+    to-write k f =
+        shr u64 s0 words ∷ shr u32 s1 main ∷ shr u32 s2 other ∷ val R f (fval f) ∷ val usize k (vint w64 k) ∷ shr R s3 ys ∷ mut
+        u32 s4 out ∷ []
 
     call-write : (k : ℕ) (f : Frame) → k < 2 ^ 64 → Is R f (fval f ∷ []) → TraceFits words main other f k ys (length out)
         → Rule 𝓤 H A W (to-write k f) Write Nothing (λ _. vunit) (λ r zs. zs .1 .1 .1 .1 .1 .1 .0 ≡ written out 0 (traceWords words main other (f ∷ callersOf k ys)))
-    call-write k f fits isf ask = call-with 𝓤 H A W (to-write k f) Write Nothing (λ _. vunit) (λ r zs. zs .1 .1 .1 .1 .1 .1 .0 ≡ written out 0 (traceWords words main other (f ∷ callersOf k ys))) (λ r vs was. was) (λ ns. passing (lent (to-write k f) ns)) (λ ns. refl)
-        (λ ns. asked W (lent (to-write k f) ns) ask) (λ ns w. id⊢ 𝓤 _) (frame-makes 𝓤 H A W f _ isf, (uint-makes 𝓤 H A W w64 k _ (refl, fits), tt)) ((refl, room0), ((refl, room1), ((refl, room2), ((refl, room3), ((refl, room4), tt)))))
+    call-write k f fits isf ask =
+        call-with 𝓤 H A W (to-write k f) Write Nothing (λ _. vunit)
+        (λ r zs. zs .1 .1 .1 .1 .1 .1 .0 ≡ written out 0 (traceWords words main other (f ∷ callersOf k ys))) (λ r vs was. was)
+        (λ ns. passing (lent (to-write k f) ns)) (λ ns. refl) (λ ns. asked W (lent (to-write k f) ns) ask) (λ ns w. id⊢ 𝓤 _)
+        (frame-makes 𝓤 H A W f _ isf, (uint-makes 𝓤 H A W w64 k _ (refl, fits), tt))
+        ((refl, room0), ((refl, room1), ((refl, room2), ((refl, room3), ((refl, room4), tt)))))
 
     call-told : Rule 𝓤 H A W to-at Counted ToldRow toldVal (λ r zs. r ≡ t.Number n)
-    call-told = call-with 𝓤 H A W to-at Counted ToldRow toldVal (λ r zs. r ≡ t.Number n) told-tells (λ ns. passing (lent to-at ns)) (λ ns. refl) (λ ns. unasked W (lent to-at ns)) (λ ns w. id⊢ 𝓤 _) (uint-makes 𝓤 H A W w64 n _ (is .0), tt) tt
+    call-told =
+        call-with 𝓤 H A W to-at Counted ToldRow toldVal (λ r zs. r ≡ t.Number n) told-tells (λ ns. passing (lent to-at ns))
+        (λ ns. refl) (λ ns. unasked W (lent to-at ns)) (λ ns w. id⊢ 𝓤 _) (uint-makes 𝓤 H A W w64 n _ (is .0), tt) tt
 
     abbrev to-not : List Arg
     to-not = val u8 16 (vint w8 16) ∷ []
 
     call-not : Rule 𝓤 H A W to-not Not ToldRow toldVal (λ r zs. r ≡ t.Refused 16)
-    call-not = call-with 𝓤 H A W to-not Not ToldRow toldVal (λ r zs. r ≡ t.Refused 16) told-tells (λ ns. passing (lent to-not ns)) (λ ns. refl) (λ ns. unasked W (lent to-not ns)) (λ ns w. id⊢ 𝓤 _) (uint-makes 𝓤 H A W w8 16 _ (refl, omega arith), tt) tt
+    call-not =
+        call-with 𝓤 H A W to-not Not ToldRow toldVal (λ r zs. r ≡ t.Refused 16) told-tells (λ ns. passing (lent to-not ns))
+        (λ ns. refl) (λ ns. unasked W (lent to-not ns)) (λ ns w. id⊢ 𝓤 _) (uint-makes 𝓤 H A W w8 16 _ (refl, omega arith), tt) tt
 
     walk : Traceable words main other n ys (length out) → ent 𝓤 (onEntry 𝓤 H A me.signature (lfts (xs out)) (shares (xs out)) (denots (xs out)) (valss (xs out))) (WpFn 𝓤 H (𝓣 .C) (𝓣 .Λ) code.function (values (xs out)) Post)
     walk can =
@@ -189,11 +206,19 @@ unfolding code.routine tablesOf
 put-trace-spec 𝓤 H 𝓜 𝓖 𝓡 =
     let W : Given 𝓤 H (𝓖 .A) = givenOf 𝓤 H 𝓜 𝓖 in
     closed kinds ToldRow 𝓤 H 𝓜 𝓖 𝓡 code.env #me code.function (code.unfolded 𝓤 H 𝓜 𝓡) (me.clauses 𝓤 H (𝓖 .A) (𝓜 .mem) (𝓡 .run))
-    (λ κs qs a g is. needs 𝓤 (Traceable (now (a .1 .0)) (now (a .1 .1 .0)) (now (a .1 .1 .1 .0)) (a .0) (now (a .1 .1 .1 .1 .0)) (length (now (a .1 .1 .1 .1 .1 .0)))) _
+    (λ κs qs a g is. needs 𝓤
+    (Traceable (now (a .1 .0)) (now (a .1 .1 .0)) (now (a .1 .1 .1 .0)) (a .0) (now (a .1 .1 .1 .1 .0))
+    (length (now (a .1 .1 .1 .1 .1 .0)))) _
     (walk 𝓤 H (𝓖 .A) W (𝓜 .mem) (𝓡 .run) (tablesOf 𝓤 H 𝓜 (tables 𝓤 H 𝓜 𝓡 code.env))
-    (cited 𝓤 H (At 𝓤 H (𝓖 .A) W (𝓜 .mem) (𝓡 .run)) 𝓜 𝓡 code.env #at at-def.routine code.calls-ends·innermost-at (at-thm.met 𝓤 H 𝓜 𝓖 𝓡))
-    (cited 𝓤 H (Read 𝓤 H (𝓖 .A) W (𝓜 .mem) (𝓡 .run)) 𝓜 𝓡 code.env #read read-def.routine code.calls-frames·read-frame (read-thm.met 𝓤 H 𝓜 𝓖 𝓡))
-    (cited 𝓤 H (Fine 𝓤 H (𝓖 .A) W (𝓜 .mem) (𝓡 .run)) 𝓜 𝓡 code.env #fine fine-def.routine code.calls-frames·backtrace·traceable (fine-thm.met 𝓤 H 𝓜 𝓖 𝓡))
-    (cited 𝓤 H (Write 𝓤 H (𝓖 .A) W (𝓜 .mem) (𝓡 .run)) 𝓜 𝓡 code.env #write write-def.routine code.calls-frames·backtrace·trace (write-thm.met 𝓤 H 𝓜 𝓖 𝓡))
-    (cited 𝓤 H (Counted 𝓤 H (𝓖 .A) W (𝓜 .mem) (𝓡 .run)) 𝓜 𝓡 code.env #told told-def.routine code.calls-machine·tracing·number (told-thm.met 𝓤 H 𝓜 𝓖 𝓡))
-    (cited 𝓤 H (Not 𝓤 H (𝓖 .A) W (𝓜 .mem) (𝓡 .run)) 𝓜 𝓡 code.env #not not-def.routine code.calls-machine·tracing·refused (not-thm.met 𝓤 H 𝓜 𝓖 𝓡)) κs qs a is))
+    (cited 𝓤 H (At 𝓤 H (𝓖 .A) W (𝓜 .mem) (𝓡 .run)) 𝓜 𝓡 code.env #at at-def.routine code.calls-ends·innermost-at
+    (at-thm.met 𝓤 H 𝓜 𝓖 𝓡))
+    (cited 𝓤 H (Read 𝓤 H (𝓖 .A) W (𝓜 .mem) (𝓡 .run)) 𝓜 𝓡 code.env #read read-def.routine code.calls-frames·read-frame
+    (read-thm.met 𝓤 H 𝓜 𝓖 𝓡))
+    (cited 𝓤 H (Fine 𝓤 H (𝓖 .A) W (𝓜 .mem) (𝓡 .run)) 𝓜 𝓡 code.env #fine fine-def.routine code.calls-frames·backtrace·traceable
+    (fine-thm.met 𝓤 H 𝓜 𝓖 𝓡))
+    (cited 𝓤 H (Write 𝓤 H (𝓖 .A) W (𝓜 .mem) (𝓡 .run)) 𝓜 𝓡 code.env #write write-def.routine code.calls-frames·backtrace·trace
+    (write-thm.met 𝓤 H 𝓜 𝓖 𝓡))
+    (cited 𝓤 H (Counted 𝓤 H (𝓖 .A) W (𝓜 .mem) (𝓡 .run)) 𝓜 𝓡 code.env #told told-def.routine code.calls-machine·tracing·number
+    (told-thm.met 𝓤 H 𝓜 𝓖 𝓡))
+    (cited 𝓤 H (Not 𝓤 H (𝓖 .A) W (𝓜 .mem) (𝓡 .run)) 𝓜 𝓡 code.env #not not-def.routine code.calls-machine·tracing·refused
+    (not-thm.met 𝓤 H 𝓜 𝓖 𝓡)) κs qs a is))

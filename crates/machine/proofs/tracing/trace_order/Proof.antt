@@ -42,7 +42,9 @@ use Rattle.machine.proofs.tracing.trace_order.Statement as stated
 use Rattle.machine.proofs.tracing.trace_order.Code as code
 
 abbrev kinds : List (Kind 7)
-kinds = own VmRow vmVal vm-tells (λ x f. refl) ∷ shared 0 tt u64 ∷ shared 1 tt u8 ∷ shared 2 tt u8 ∷ shared 3 tt u32 ∷ shared 4 tt u8 ∷ shared 5 tt u32 ∷ shared 6 tt R ∷ []
+kinds =
+    own VmRow vmVal vm-tells (λ x f. refl) ∷ shared 0 tt u64 ∷ shared 1 tt u8 ∷ shared 2 tt u8 ∷ shared 3 tt u32 ∷ shared 4 tt u8
+    ∷ shared 5 tt u32 ∷ shared 6 tt R ∷ []
 
 module _ {M : Type 1} (𝓤 : URA M) (H : Heap 𝓤) (A : Atoms 𝓤) (W : Given 𝓤 H A) (mem : Memory → SProp 𝓤) (run : Routine → Fun 𝓤) where
   abbrev Whole : Contract 𝓤
@@ -130,7 +132,9 @@ module _ {M : Type 1} (𝓤 : URA M) (H : Heap 𝓤) (A : Atoms 𝓤) (W : Given
     room6 = is .1 .1 .1 .1 .1 .1 .1 .0 .0 .1
 
     abbrev slices : List Arg
-    slices = shr u64 s0 functions ∷ shr u8 s1 text ∷ shr u8 s2 main ∷ shr u32 s3 mainPlaces ∷ shr u8 s4 other ∷ shr u32 s5 otherPlaces ∷ shr R s6 frames ∷ []
+    slices =
+        shr u64 s0 functions ∷ shr u8 s1 text ∷ shr u8 s2 main ∷ shr u32 s3 mainPlaces ∷ shr u8 s4 other ∷ shr u32 s5 otherPlaces
+        ∷ shr R s6 frames ∷ []
 
     abbrev xs : List Arg
     xs = val VmRow m (vmVal m) ∷ slices
@@ -140,44 +144,65 @@ module _ {M : Type 1} (𝓤 : URA M) (H : Heap 𝓤) (A : Atoms 𝓤) (W : Given
 
     exits : (r : Bool) → Is Boolean r (vbool r ∷ []) → ((structs constants : List ℕ) → r ≡ traceOrder m (programLent structs constants functions text main mainPlaces other otherPlaces) frames) → ent 𝓤 (⋆ 𝓤 H A (‵ (Holds slices) ∷ [])) (Post (vbool r))
     exits r isr said =
-        qed W (‵ (Holds slices) ∷ []) ∵ suffices ! _ (ends-at 𝓤 H A me.ended (stays kinds) (me.clauses 𝓤 H A mem run) W (passing xs) (vbool r) r (tt, (tt, (tt, (tt, (tt, (tt, (tt, (tt, tt)))))))) (tt, (tt, (tt, (tt, (tt, (tt, (tt, (tt, tt))))))))) $ says ! said $
-        gives ! xs (vm-makes 𝓤 H A W m _ (is .0), tt) (frame ! $ owned ! Boolean (Is Boolean) (bool-makes 𝓤 H A W) r _ isr $ keep ! (1 ∷ 0 ∷ []) $ done !)
+        qed W (‵ (Holds slices) ∷ []) ∵ suffices ! _
+        (ends-at 𝓤 H A me.ended (stays kinds) (me.clauses 𝓤 H A mem run) W (passing xs) (vbool r) r
+        (tt, (tt, (tt, (tt, (tt, (tt, (tt, (tt, tt)))))))) (tt, (tt, (tt, (tt, (tt, (tt, (tt, (tt, tt))))))))) $ says ! said $
+        gives ! xs (vm-makes 𝓤 H A W m _ (is .0), tt)
+        (frame ! $ owned ! Boolean (Is Boolean) (bool-makes 𝓤 H A W) r _ isr $ keep ! (1 ∷ 0 ∷ []) $ done !)
 
     -- the calls
     abbrev to-whole : List Arg
-    to-whole = val VmRow m (vmVal m) ∷ shr u64 s0 functions ∷ shr u8 s1 text ∷ shr u8 s2 main ∷ shr u32 s3 mainPlaces ∷ shr u8 s4 other ∷ shr u32 s5 otherPlaces ∷ []
+    to-whole =
+        val VmRow m (vmVal m) ∷ shr u64 s0 functions ∷ shr u8 s1 text ∷ shr u8 s2 main ∷ shr u32 s3 mainPlaces ∷ shr u8 s4 other ∷
+        shr u32 s5 otherPlaces ∷ []
 
     call-whole : Rule 𝓤 H A W to-whole Whole Boolean vbool (λ b zs. ((structs constants : List ℕ) → b ≡ traceProgram (m .program) (programLent structs constants functions text main mainPlaces other otherPlaces)))
-    call-whole = call-with 𝓤 H A W to-whole Whole Boolean vbool (λ b zs. ((structs constants : List ℕ) → b ≡ traceProgram (m .program) (programLent structs constants functions text main mainPlaces other otherPlaces))) bool-tells (λ ns. passing (lent to-whole ns)) (λ ns. refl)
-        (λ ns. unasked W (lent to-whole ns)) (λ ns w. id⊢ 𝓤 _) (vm-makes 𝓤 H A W m _ (is .0), tt) ((refl, room0), ((refl, room1), ((refl, room2), ((refl, room3), ((refl, room4), ((refl, room5), tt))))))
+    call-whole =
+        call-with 𝓤 H A W to-whole Whole Boolean vbool
+        (λ b zs. ((structs constants : List ℕ) → b ≡ traceProgram (m .program)
+        (programLent structs constants functions text main mainPlaces other otherPlaces))) bool-tells
+        (λ ns. passing (lent to-whole ns)) (λ ns. refl) (λ ns. unasked W (lent to-whole ns)) (λ ns w. id⊢ 𝓤 _)
+        (vm-makes 𝓤 H A W m _ (is .0), tt)
+        ((refl, room0), ((refl, room1), ((refl, room2), ((refl, room3), ((refl, room4), ((refl, room5), tt))))))
 
     abbrev to-count : Bool → List Arg
     to-count b = val Boolean b (vbool b) ∷ val VmRow m (vmVal m) ∷ []
 
     call-count : (b : Bool) → Is Boolean b (vbool b ∷ []) → Rule 𝓤 H A W (to-count b) Count usize (vint w64) (λ r zs. r ≡ (if b then m .program .functions else 0))
-    call-count b isb = call-with 𝓤 H A W (to-count b) Count usize (vint w64) (λ r zs. r ≡ (if b then m .program .functions else 0)) (uint-tells w64) (λ ns. passing (lent (to-count b) ns)) (λ ns. refl)
-        (λ ns. unasked W (lent (to-count b) ns)) (λ ns w. id⊢ 𝓤 _) (bool-makes 𝓤 H A W b _ isb, (vm-makes 𝓤 H A W m _ (is .0), tt)) tt
+    call-count b isb =
+        call-with 𝓤 H A W (to-count b) Count usize (vint w64) (λ r zs. r ≡ (if b then m .program .functions else 0))
+        (uint-tells w64) (λ ns. passing (lent (to-count b) ns)) (λ ns. refl) (λ ns. unasked W (lent (to-count b) ns))
+        (λ ns w. id⊢ 𝓤 _) (bool-makes 𝓤 H A W b _ isb, (vm-makes 𝓤 H A W m _ (is .0), tt)) tt
 
     abbrev to-most : List Arg
     to-most = []
 
     call-most : Rule 𝓤 H A W to-most Most usize (vint w64) (λ r zs. r ≡ mostPlaces)
-    call-most = call-with 𝓤 H A W to-most Most usize (vint w64) (λ r zs. r ≡ mostPlaces) (uint-tells w64) (λ ns. passing (lent to-most ns)) (λ ns. refl)
-        (λ ns. unasked W (lent to-most ns)) (λ ns w. id⊢ 𝓤 _) tt tt
+    call-most =
+        call-with 𝓤 H A W to-most Most usize (vint w64) (λ r zs. r ≡ mostPlaces) (uint-tells w64)
+        (λ ns. passing (lent to-most ns)) (λ ns. refl) (λ ns. unasked W (lent to-most ns)) (λ ns w. id⊢ 𝓤 _) tt tt
 
     abbrev to-good : ℕ → ℕ → List Arg
-    to-good k p = shr u64 s0 functions ∷ val usize k (vint w64 k) ∷ val usize p (vint w64 p) ∷ val usize (m .frames) (vint w64 (m .frames)) ∷ shr R s6 frames ∷ []
+    to-good k p =
+        shr u64 s0 functions ∷ val usize k (vint w64 k) ∷ val usize p (vint w64 p) ∷ val usize (m .frames) (vint w64 (m .frames))
+        ∷ shr R s6 frames ∷ []
 
     call-good : (k : ℕ) (p : ℕ) → k < 2 ^ 64 → p < 2 ^ 64 → 2 * k ≤ length functions → Rule 𝓤 H A W (to-good k p) Good Boolean vbool (λ b zs. b ≡ framesGood functions k p (m .frames) frames)
-    call-good k p fits fitp there = call-with 𝓤 H A W (to-good k p) Good Boolean vbool (λ b zs. b ≡ framesGood functions k p (m .frames) frames) bool-tells (λ ns. passing (lent (to-good k p) ns)) (λ ns. refl)
-        (λ ns. asked W (lent (to-good k p) ns) there) (λ ns w. id⊢ 𝓤 _) (uint-makes 𝓤 H A W w64 k _ (refl, fits), (uint-makes 𝓤 H A W w64 p _ (refl, fitp), (uint-makes 𝓤 H A W w64 (m .frames) _ (refl, frames-fit m (is .0)), tt))) ((refl, room0), ((refl, room6), tt))
+    call-good k p fits fitp there =
+        call-with 𝓤 H A W (to-good k p) Good Boolean vbool (λ b zs. b ≡ framesGood functions k p (m .frames) frames) bool-tells
+        (λ ns. passing (lent (to-good k p) ns)) (λ ns. refl) (λ ns. asked W (lent (to-good k p) ns) there) (λ ns w. id⊢ 𝓤 _) (
+          uint-makes 𝓤 H A W w64 k _ (refl, fits),
+          (uint-makes 𝓤 H A W w64 p _ (refl, fitp), (uint-makes 𝓤 H A W w64 (m .frames) _ (refl, frames-fit m (is .0)), tt)),
+        ) ((refl, room0), ((refl, room6), tt))
 
     abbrev to-both : Bool → Bool → List Arg
     to-both b f = val Boolean b (vbool b) ∷ val Boolean f (vbool f) ∷ []
 
     call-both : (b : Bool) (f : Bool) → Is Boolean b (vbool b ∷ []) → Is Boolean f (vbool f ∷ []) → Rule 𝓤 H A W (to-both b f) Both Boolean vbool (λ r zs. r ≡ (b && f))
-    call-both b f isb isf = call-with 𝓤 H A W (to-both b f) Both Boolean vbool (λ r zs. r ≡ (b && f)) bool-tells (λ ns. passing (lent (to-both b f) ns)) (λ ns. refl)
-        (λ ns. unasked W (lent (to-both b f) ns)) (λ ns w. id⊢ 𝓤 _) (bool-makes 𝓤 H A W b _ isb, (bool-makes 𝓤 H A W f _ isf, tt)) tt
+    call-both b f isb isf =
+        call-with 𝓤 H A W (to-both b f) Both Boolean vbool (λ r zs. r ≡ (b && f)) bool-tells
+        (λ ns. passing (lent (to-both b f) ns)) (λ ns. refl) (λ ns. unasked W (lent (to-both b f) ns)) (λ ns w. id⊢ 𝓤 _)
+        (bool-makes 𝓤 H A W b _ isb, (bool-makes 𝓤 H A W f _ isf, tt)) tt
 
     walk : ent 𝓤 (onEntry 𝓤 H A me.signature (lfts xs) (shares xs) (denots xs) (valss xs)) (WpFn 𝓤 H (𝓣 .C) (𝓣 .Λ) code.function (values xs) Post)
     walk =
@@ -195,11 +220,17 @@ module _ {M : Type 1} (𝓤 : URA M) (H : Heap 𝓤) (A : Atoms 𝓤) (W : Given
         fm = fmOf 𝓤 H (W .laws) 𝓣
 
         there : (b : Bool) (k : ℕ) → ((structs constants : List ℕ) → b ≡ traceProgram (m .program) (programLent structs constants functions text main mainPlaces other otherPlaces)) → k ≡ (if b then m .program .functions else 0) → 2 * k ≤ length functions
-        there b k eb ek = subst (λ (j : ℕ). 2 * j ≤ length functions) (sym ek) (functions-counted m [] [] functions text main mainPlaces other otherPlaces b (eb [] []))
+        there b k eb ek =
+            subst (λ (j : ℕ). 2 * j ≤ length functions) (sym ek)
+            (functions-counted m [] [] functions text main mainPlaces other otherPlaces b (eb [] []))
 
         judged : (b : Bool) (k p : ℕ) (f r : Bool) → ((structs constants : List ℕ) → b ≡ traceProgram (m .program) (programLent structs constants functions text main mainPlaces other otherPlaces)) → k ≡ (if b then m .program .functions else 0) → p ≡ mostPlaces → f ≡ framesGood functions k p (m .frames) frames → r ≡ (b && f)
             → (structs constants : List ℕ) → r ≡ traceOrder m (programLent structs constants functions text main mainPlaces other otherPlaces) frames
-        judged b k p f r eb ek ep ef er structs constants = er ∙ frames-judged m structs constants functions text main mainPlaces other otherPlaces frames b f (eb structs constants) (ef ∙ ap (λ (j : ℕ). framesGood functions j p (m .frames) frames) ek ∙ ap (λ (j : ℕ). framesGood functions (if b then m .program .functions else 0) j (m .frames) frames) ep)
+        judged b k p f r eb ek ep ef er structs constants =
+            er ∙ frames-judged m structs constants functions text main mainPlaces other otherPlaces frames b f
+            (eb structs constants)
+            (ef ∙ ap (λ (j : ℕ). framesGood functions j p (m .frames) frames) ek ∙ ap
+            (λ (j : ℕ). framesGood functions (if b then m .program .functions else 0) j (m .frames) frames) ep)
 
 pub trace-order-spec : {M : Type 1} → stated.statement M
 unfolding code.routine tablesOf
@@ -208,8 +239,13 @@ trace-order-spec 𝓤 H 𝓜 𝓖 𝓡 =
     closed kinds Boolean 𝓤 H 𝓜 𝓖 𝓡 code.env #me code.function (code.unfolded 𝓤 H 𝓜 𝓡) (me.clauses 𝓤 H (𝓖 .A) (𝓜 .mem) (𝓡 .run))
     (λ κs qs a g is. unneeded 𝓤 _
     (walk 𝓤 H (𝓖 .A) W (𝓜 .mem) (𝓡 .run) (tablesOf 𝓤 H 𝓜 (tables 𝓤 H 𝓜 𝓡 code.env))
-    (cited 𝓤 H (Whole 𝓤 H (𝓖 .A) W (𝓜 .mem) (𝓡 .run)) 𝓜 𝓡 code.env #whole whole-def.routine code.calls-machine·tracing·trace-program (whole-thm.met 𝓤 H 𝓜 𝓖 𝓡))
-    (cited 𝓤 H (Count 𝓤 H (𝓖 .A) W (𝓜 .mem) (𝓡 .run)) 𝓜 𝓡 code.env #count count-def.routine code.calls-machine·tracing·counted (count-thm.met 𝓤 H 𝓜 𝓖 𝓡))
-    (cited 𝓤 H (Most 𝓤 H (𝓖 .A) W (𝓜 .mem) (𝓡 .run)) 𝓜 𝓡 code.env #most most-def.routine code.calls-machine·tracing·most (most-thm.met 𝓤 H 𝓜 𝓖 𝓡))
-    (cited 𝓤 H (Good 𝓤 H (𝓖 .A) W (𝓜 .mem) (𝓡 .run)) 𝓜 𝓡 code.env #good good-def.routine code.calls-frames·order·frames-ok (good-thm.met 𝓤 H 𝓜 𝓖 𝓡))
-    (cited 𝓤 H (Both 𝓤 H (𝓖 .A) W (𝓜 .mem) (𝓡 .run)) 𝓜 𝓡 code.env #both both-def.routine code.calls-machine·tracing·both (both-thm.met 𝓤 H 𝓜 𝓖 𝓡)) κs qs a is))
+    (cited 𝓤 H (Whole 𝓤 H (𝓖 .A) W (𝓜 .mem) (𝓡 .run)) 𝓜 𝓡 code.env #whole whole-def.routine
+    code.calls-machine·tracing·trace-program (whole-thm.met 𝓤 H 𝓜 𝓖 𝓡))
+    (cited 𝓤 H (Count 𝓤 H (𝓖 .A) W (𝓜 .mem) (𝓡 .run)) 𝓜 𝓡 code.env #count count-def.routine code.calls-machine·tracing·counted
+    (count-thm.met 𝓤 H 𝓜 𝓖 𝓡))
+    (cited 𝓤 H (Most 𝓤 H (𝓖 .A) W (𝓜 .mem) (𝓡 .run)) 𝓜 𝓡 code.env #most most-def.routine code.calls-machine·tracing·most
+    (most-thm.met 𝓤 H 𝓜 𝓖 𝓡))
+    (cited 𝓤 H (Good 𝓤 H (𝓖 .A) W (𝓜 .mem) (𝓡 .run)) 𝓜 𝓡 code.env #good good-def.routine code.calls-frames·order·frames-ok
+    (good-thm.met 𝓤 H 𝓜 𝓖 𝓡))
+    (cited 𝓤 H (Both 𝓤 H (𝓖 .A) W (𝓜 .mem) (𝓡 .run)) 𝓜 𝓡 code.env #both both-def.routine code.calls-machine·tracing·both
+    (both-thm.met 𝓤 H 𝓜 𝓖 𝓡)) κs qs a is))
