@@ -8,3 +8,5 @@ pub mod Pigeons
 pub mod Putting
 -- names that stand in order: all different, found by halves, and one more put in
 pub mod Standing
+-- a list of numbers in the order of names, and the stores that loading lays
+pub mod Laying

@@ -185,3 +185,8 @@ module _ (n at w : ℕ) (ss : List ℕ) (most : at ≤ n) (fits : 2 * n + 2 ≤ 
   order-moved k h l =
       let z : at + suc (k - at) ≡ suc k = omega arith in let y : at + (k - at) ≡ k = omega arith in
       rw z at (behind (suc (k - at)) (omega arith)) ∙ order-at (n - at) at (set ss (2 * n) w) (k - at) (omega arith) ∙ rw y (order-kept ss n w k)
+
+-- a store in which a struct was put is as long as it was
+pub put-keeps-length : (n at w : ℕ) (ss ds : List ℕ) → ds ≡ structPut n at w ss → length ds ≡ length ss
+unfolding structPut movedUp
+put-keeps-length n at w ss ds e = rw e (length-put at _ (set ss (2 * n) w) ∙ length-set ss (2 * n) w)

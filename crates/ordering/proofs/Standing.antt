@@ -63,6 +63,23 @@ among-no (suc n) i name ss t h =
     let z : i + 0 ≡ i = omega arith in
     rw (rw z at (h 0 (omega arith))) (among-no n (suc i) name ss t (λ k l. let y : i + suc k ≡ suc i + k = omega arith in rw y at (h (suc k) (omega arith))))
 
+-- a name that is none of them differs from each
+pub none-among : (n i : ℕ) (name ss t : List ℕ) → among name (structsFrom n i ss t) ≡ false → (k : ℕ) → k < n → sameBytes name (part t (structWord ss (i + k))) ≡ false
+unfolding among structsFrom
+none-among zero i name ss t e k h = absurd (let y : ⊥ = omega arith in y)
+none-among (suc n) i name ss t e zero h = let z : i + 0 ≡ i = omega arith in rw z (first-not (sameBytes name (part t (structWord ss i))) (among name (structsFrom n (suc i) ss t)) e)
+  where
+    first-not : (a b : Bool) → (if a then true else b) ≡ false → a ≡ false
+    first-not true b q = q
+    first-not false b q = refl
+none-among (suc n) i name ss t e (suc k) h =
+    let z : i + suc k ≡ suc i + k = omega arith in
+    rw z (none-among n (suc i) name ss t (then-not (sameBytes name (part t (structWord ss i))) (among name (structsFrom n (suc i) ss t)) e) k (omega arith))
+  where
+    then-not : (a b : Bool) → (if a then true else b) ≡ false → b ≡ false
+    then-not true b q = apart true refl q
+    then-not false b q = q
+
 pub pairs-differ : (n i : ℕ) (ss t : List ℕ) → ((j k : ℕ) → j < k → k < i + n → sameBytes (part t (structWord ss j)) (part t (structWord ss k)) ≡ false)
     → allDifferent (structsFrom n i ss t) ≡ true
 unfolding allDifferent structsFrom
@@ -123,6 +140,62 @@ module _ (n : ℕ) (ss t : List ℕ) (o : InOrder n ss t) where
     halves-miss f = first-none n 0 name ss t (λ k h. let z : 0 + k ≡ k = omega arith in rw z (none-of-them f k h))
 
 -- ---- one more put in
+
+-- numbers with one more among them: those below stay, those behind move up
+pub insert-below : (n at : ℕ) (g h : ℕ → ℕ) → at ≤ n → ((k : ℕ) → k < n → g k < n) → ((k : ℕ) → k < at → h k ≡ g k) → h at ≡ n
+    → ((k : ℕ) → at ≤ k → k < n → h (suc k) ≡ g k) → (k : ℕ) → k < suc n → h k < suc n
+insert-below n at g h most b low here moved k l = either-way (ltb k at)
+    (λ x. let m : k < at = ltb-true k at x in let y = b k (omega arith) in rw (low k m) (omega arith))
+    (λ x.
+    let m : at ≤ k = ltb-false k at x in
+    either-way (eqb k at)
+    (λ y. let z : k ≡ at = eqb-true k at y in rw (z, here) (omega arith))
+    (λ y.
+    let q : at < k = lt-of-le-of-ne m (λ (r : at ≡ k). eqb-false k at y (sym r)) in
+    let z : suc (k - 1) ≡ k = omega arith in
+    let v : h k ≡ g (k - 1) = rw z at (moved (k - 1) (omega arith) (omega arith)) in
+    let w = b (k - 1) (omega arith) in
+    rw v (omega arith)))
+
+-- names in order with one more among them, at its place, that is none of them
+module _ (n at : ℕ) (f g : ℕ → List ℕ) (name : List ℕ) (a : Ascending n f) (spot : Spot n f name at) (new : (i : ℕ) → i < n → sameBytes name (f i) ≡ false)
+    (low : (k : ℕ) → k < at → g k ≡ f k) (here : g at ≡ name) (moved : (k : ℕ) → at ≤ k → k < n → g (suc k) ≡ f k) where
+  new-back : (j : ℕ) → j < n → sameBytes (f j) name ≡ false
+  new-back j l = either-way (sameBytes (f j) name)
+      (λ s. let z : f j ≡ name = same-means (f j) name s in apart _ (same-itself name) (rw z at (new j l)))
+      (λ d. d)
+
+  -- in front of the new one, at it, and behind it
+  in-front : (i : ℕ) → suc i < at → before (g i) (g (suc i)) ≡ true
+  in-front i l = let m = spot .most in rw (low i (omega arith), low (suc i) l) (a .next i (omega arith))
+
+  to-it : (i : ℕ) → suc i ≡ at → before (g i) (g (suc i)) ≡ true
+  to-it i e = rw (low i (omega arith), e, here) (spot .below i (omega arith))
+
+  from-it : at < n → before (g at) (g (suc at)) ≡ true
+  from-it l =
+      let k : at ≤ at = omega arith in
+      rw (moved at k l, here) (one-before (f at) name (spot .above at k l) (new-back at l))
+
+  behind-it : (i : ℕ) → at < i → i < n → before (g i) (g (suc i)) ≡ true
+  behind-it i l h =
+      let z : suc (i - 1) ≡ i = omega arith in
+      let k : at ≤ i = omega arith in
+      let p : g i ≡ f (i - 1) = rw z at (moved (i - 1) (omega arith) (omega arith)) in
+      rw (p, moved i k h) (rw z at (a .next (i - 1) (omega arith)))
+
+  pub insert-ascends : Ascending (suc n) g
+  insert-ascends = record {
+    next = λ i h.
+        either-way (ltb (suc i) at) (λ x. in-front i (ltb-true (suc i) at x))
+        (λ x.
+        either-way (eqb (suc i) at) (λ y. to-it i (eqb-true (suc i) at y))
+        (λ y.
+        let l : at < suc i = lt-of-le-of-ne (ltb-false (suc i) at x) (λ (r : at ≡ suc i). eqb-false (suc i) at y (sym r)) in
+        either-way (eqb at i)
+        (λ v. let z : at ≡ i = eqb-true at i v in rw z at (from-it (omega arith)))
+        (λ v. behind-it i (lt-of-le-of-ne (omega arith) (eqb-false at i v)) (omega arith))));
+  }
 
 -- some place is a name's
 pub record Somewhere (n : ℕ) (f : ℕ → List ℕ) (t : List ℕ) : Type 0 where
@@ -191,50 +264,11 @@ module _ (n : ℕ) (ss t : List ℕ) (o : InOrder n ss t) (name : List ℕ) (at 
     unfolding nameInOrder ds
     is-new = rw (order-new n at w ss most fits, new-word n at w ss most fits) here
 
-    next : (i : ℕ) → suc i < suc n → before (nameInOrder ds u i) (nameInOrder ds u (suc i)) ≡ true
-    next i h = either-way (ltb (suc i) at)
-        (λ x.
-        let l : suc i < at = ltb-true (suc i) at x in let m = most in
-        rw (is-below i (omega arith), is-below (suc i) l) (o .ascending .next i (omega arith)))
-        (λ x.
-        let l : at ≤ suc i = ltb-false (suc i) at x in
-        either-way (eqb (suc i) at)
-        (λ y.
-        let z : suc i ≡ at = eqb-true (suc i) at y in
-        rw (is-below i (omega arith), z, is-new) (spot .below i (omega arith)))
-        (λ y.
-        let k : at ≤ i = behind (eqb-false (suc i) at y) l in
-        either-way (eqb i at)
-        (λ v.
-        let z : i ≡ at = eqb-true i at v in
-        rw (is-moved i k (omega arith), z, is-new) (one-before (nameInOrder ss t at) name (spot .above at (omega arith) (omega arith)) (flip at (omega arith))))
-        (λ v.
-        let q : at < i = lt-of-le-of-ne k (λ (r : at ≡ i). eqb-false i at v (sym r)) in
-        let z : suc (i - 1) ≡ i = omega arith in
-        rw (is-moved i k (omega arith)) (rw z at (rw (← (is-moved (i - 1) (omega arith) (omega arith))) at (rw z at (o .ascending .next (i - 1) (omega arith))))))))
-      where
-        behind : (suc i ≡ at → ⊥) → at ≤ suc i → at ≤ i
-        behind d l = let r : at < suc i = lt-of-le-of-ne l (λ (e : at ≡ suc i). d (sym e)) in omega arith
-
-        flip : (j : ℕ) → j < n → sameBytes (nameInOrder ss t j) name ≡ false
-        flip j l = either-way (sameBytes (nameInOrder ss t j) name)
-            (λ s. let z : nameInOrder ss t j ≡ name = same-means _ name s in apart _ (same-itself name) (rw z at (new j l)))
-            (λ f. f)
-
     pub stays-in-order : InOrder (suc n) (structPut n at w ss) u
     unfolding ds
-    stays-in-order = record { below = each; ascending = record { next = next } }
-      where
-        each : (k : ℕ) → k < suc n → orderWord (structPut n at w ss) k < suc n
-        each k h = either-way (ltb k at)
-            (λ x. let l : k < at = ltb-true k at x in let m = most in let b = o .below k (omega arith) in rw (order-below n at w ss most fits k l) (omega arith))
-            (λ x.
-            let l : at ≤ k = ltb-false k at x in
-            either-way (eqb k at)
-            (λ y. let z : k ≡ at = eqb-true k at y in rw (z, order-new n at w ss most fits) (omega arith))
-            (λ y.
-            let q : at < k = lt-of-le-of-ne l (λ (r : at ≡ k). eqb-false k at y (sym r)) in
-            let z : suc (k - 1) ≡ k = omega arith in
-            let b = o .below (k - 1) (omega arith) in
-            let v : orderWord (structPut n at w ss) k ≡ orderWord ss (k - 1) = rw z at (order-moved n at w ss most fits (k - 1) (omega arith) (omega arith)) in
-            rw v (omega arith)))
+    stays-in-order =
+        let f = nameInOrder ss t in
+        record {
+          below = insert-below n at (orderWord ss) (orderWord (structPut n at w ss)) most (o .below) (order-below n at w ss most fits) (order-new n at w ss most fits) (order-moved n at w ss most fits);
+          ascending = insert-ascends n at f (nameInOrder (structPut n at w ss) u) name (o .ascending) spot new is-below is-new is-moved;
+        }
