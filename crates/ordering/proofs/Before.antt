@@ -95,6 +95,10 @@ before-differs a b e = either-way (sameBytes a b) (λ s. let z : a ≡ b = same-
 pub behind-differs : (a b : List ℕ) → before b a ≡ true → sameBytes a b ≡ false
 behind-differs a b e = either-way (sameBytes a b) (λ s. let z : a ≡ b = same-means a b s in apart _ e (rw z (never-itself b))) (λ f. f)
 
+-- whichever way they are compared
+pub flip-differs : (a b : List ℕ) → sameBytes a b ≡ false → sameBytes b a ≡ false
+flip-differs a b e = either-way (sameBytes b a) (λ s. let z : b ≡ a = same-means b a s in apart _ (same-itself a) (rw z at e)) (λ f. f)
+
 -- of two different names one is before the other
 pub one-before : (a b : List ℕ) → before a b ≡ false → sameBytes a b ≡ false → before b a ≡ true
 unfolding before sameBytes
