@@ -27,10 +27,19 @@ put-bytes-requires : tie.Need-put-bytes-requires
 put-bytes-requires c κs = lent-fits _ _ _ _ (c .before .before .text-room .ensures) (c .before .if3 .taken) .0
 
 pack-requires : tie.Need-pack-requires
-pack-requires c κs = let h = lent-fits _ _ _ _ (c .before .before .before .before .before .text-room .ensures) (c .before .before .before .before .if3 .taken) in (omega arith, omega arith)
+pack-requires c κs =
+    let h =
+    let at-if3 = c .before .before .before .before in
+    let at-text-room = at-if3 .before in
+    lent-fits _ _ _ _ (at-text-room .text-room .ensures) (at-if3 .if3 .taken) in
+    (omega arith, omega arith)
 
 put-struct-requires : tie.Need-put-struct-requires
-put-struct-requires c κs = (c .before .before .before .before .before .before .before .before .before .before .before .before .before .before .before .pre .spot .most, pair-fits _ _ (c .before .before .before .before .before .before .before .before .before .before .before .before .before .before .before .args .structs .now) (c .before .before .before .before .before .before .before .before .before .before .room .ensures _ refl) (c .before .before .before .before .before .before .before .before .before .if2 .left))
+put-struct-requires c κs =
+    let at-if2 = c .before .before .before .before .before .before .before .before .before in
+    let at-room = at-if2 .before in
+    let at-start = at-room .before .before .before .before .before in
+    (at-start .pre .spot .most, pair-fits _ _ (at-start .args .structs .now) (at-room .room .ensures _ refl) (at-if2 .if2 .left))
 
 add-t22 : tie.Need-add-t22
 add-t22 c = search needs
@@ -43,14 +52,30 @@ same-length-2 c = search needs
 
 returns-3 : tie.Need-returns-3
 unfolding structsLent
-returns-3 c = λ rest. struct-added _ _ _ (c .before .before .before .before .before .before .before .before .before .before .before .before .before .before .if1 .left) _ (c .before .before .before .before .before .before .before .before .before .before .before .before .before .room .ensures _ refl) (c .before .before .before .before .before .before .before .before .before .before .before .before .if2 .left) _ (c .before .before .before .before .before .before .before .before .before .before .text-room .ensures _ refl) (c .before .before .before .before .before .before .before .before .before .if3 .taken) _ _ _ _ (c .before .before .before .before .before .before .before .before .before .before .before .before .before .before .before .before .before .before .pre) (c .before .before .before .before .before .before .before .put-bytes .ensures) (c .before .before .before .before .pack .ensures) (c .before .before .put-struct .ensures)
+returns-3 c =
+    let at-pack = c .before .before .before .before in
+    let at-put-bytes = at-pack .before .before .before in
+    let at-if3 = at-put-bytes .before .before in
+    let at-text-room = at-if3 .before in
+    let at-if2 = at-text-room .before .before in
+    let at-room = at-if2 .before in
+    let at-if1 = at-room .before in
+    let at-start = at-if1 .before .before .before .before in
+    λ rest. struct-added _ _ _ (at-if1 .if1 .left) _ (at-room .room .ensures _ refl) (at-if2 .if2 .left) _
+    (at-text-room .text-room .ensures _ refl) (at-if3 .if3 .taken) _ _ _ _ (at-start .pre) (at-put-bytes .put-bytes .ensures)
+    (at-pack .pack .ensures) (c .before .before .put-struct .ensures)
 
 same-length-3 : tie.Need-same-length-3
 same-length-3 c = search needs
 
 returns-4 : tie.Need-returns-4
 unfolding structsLent
-returns-4 c = λ rest. struct-text-21 _ _ _ (c .before .before .before .before .before .if1 .left) _ (c .before .before .before .before .room .ensures _ refl) (c .before .before .before .if2 .left) _ (c .before .text-room .ensures _ refl) (c .if3 .left)
+returns-4 c =
+    let at-if2 = c .before .before .before in
+    let at-room = at-if2 .before in
+    let at-if1 = at-room .before in
+    λ rest. struct-text-21 _ _ _ (at-if1 .if1 .left) _ (at-room .room .ensures _ refl) (at-if2 .if2 .left) _
+    (c .before .text-room .ensures _ refl) (c .if3 .left)
 
 pub add-struct-spec : {M : Type 1} → statement M
 add-struct-spec =

@@ -37,10 +37,23 @@ same-length-4 c = search needs
 
 returns-2 : tie.Need-returns-2
 unfolding structsLent
-returns-2 c = λ rest. struct-known _ _ _ _ (c .before .before .before .before .before .before .before .before .before .before .before .struct-order .ensures rest) (c .before .before .before .before .before .before .before .before .before .before .if1 .left) (structs-ordered _ _ _ _ (c .before .before .before .before .before .before .before .before .before .before .before .struct-order .ensures) (c .before .before .before .before .before .before .before .before .before .before .if1 .left)) _ (c .before .before .before .before .before .before .before .spot .ensures) _ (c .before .before .before .before .stands .ensures) (c .before .before .before .if2 .taken) _ _ (c .before .second .ensures) (c .index .ensures)
+returns-2 c =
+    let at-if2 = c .before .before .before in
+    let at-stands = at-if2 .before in
+    let at-spot = at-stands .before .before .before in
+    let at-if1 = at-spot .before .before .before in
+    let at-struct-order = at-if1 .before in
+    λ rest. struct-known _ _ _ _ (at-struct-order .struct-order .ensures rest) (at-if1 .if1 .left)
+    (structs-ordered _ _ _ _ (at-struct-order .struct-order .ensures) (at-if1 .if1 .left)) _ (at-spot .spot .ensures) _
+    (at-stands .stands .ensures) (at-if2 .if2 .taken) _ _ (c .before .second .ensures) (c .index .ensures)
 
 add-struct-requires : tie.Need-add-struct-requires
-add-struct-requires c κs = new-placed _ _ _ _ _ (structs-ordered _ _ _ _ (c .before .before .before .before .before .before .before .before .before .before .struct-order .ensures) (c .before .before .before .before .before .before .before .before .before .if1 .left)) (c .before .before .before .before .before .before .spot .ensures)
+add-struct-requires c κs =
+    let at-spot = c .before .before .before .before .before .before in
+    let at-if1 = at-spot .before .before .before in
+    let at-struct-order = at-if1 .before in
+    new-placed _ _ _ _ _ (structs-ordered _ _ _ _ (at-struct-order .struct-order .ensures) (at-if1 .if1 .left))
+    (at-spot .spot .ensures)
 
 same-length-5 : tie.Need-same-length-5
 same-length-5 c = search needs
@@ -50,7 +63,16 @@ same-length-6 c = search needs
 
 returns-3 : tie.Need-returns-3
 unfolding structsLent
-returns-3 c = λ rest. struct-new _ _ _ _ (c .before .before .before .before .before .before .before .before .before .before .before .before .before .before .before .struct-order .ensures rest) (c .before .before .before .before .before .before .before .before .before .before .before .before .before .before .if1 .left) (structs-ordered _ _ _ _ (c .before .before .before .before .before .before .before .before .before .before .before .before .before .before .before .struct-order .ensures) (c .before .before .before .before .before .before .before .before .before .before .before .before .before .before .if1 .left)) _ (c .before .before .before .before .before .before .before .before .before .before .before .spot .ensures) _ (c .before .before .before .before .before .before .before .before .stands .ensures) (c .before .before .before .before .before .before .before .if2 .left) _ _ (c .before .before .before .before .add-struct .ensures rest)
+returns-3 c =
+    let at-add-struct = c .before .before .before .before in
+    let at-if2 = at-add-struct .before .before .before in
+    let at-stands = at-if2 .before in
+    let at-spot = at-stands .before .before .before in
+    let at-if1 = at-spot .before .before .before in
+    let at-struct-order = at-if1 .before in
+    λ rest. struct-new _ _ _ _ (at-struct-order .struct-order .ensures rest) (at-if1 .if1 .left)
+    (structs-ordered _ _ _ _ (at-struct-order .struct-order .ensures) (at-if1 .if1 .left)) _ (at-spot .spot .ensures) _
+    (at-stands .stands .ensures) (at-if2 .if2 .left) _ _ (at-add-struct .add-struct .ensures rest)
 
 pub add-struct-info-spec : {M : Type 1} → statement M
 add-struct-info-spec =
