@@ -1,16 +1,17 @@
 -- The writing pass: constants, struct names, and the places of code.
 use mathlib.Core.Path.{_≡_, refl, sym, ap, subst, _∙_}
-use mathlib.Core.Bool.{not}
+use mathlib.Core.Bool.{true, not}
 use mathlib.Core.List.{List, [], _∷_, _++_, append-assoc, append-nil}
 use Prim.Native.Nat.{ℕ, suc, _+_, _-_, _*_, _<_, _≤_, _^_}
 use native.Mathlib.Omega.{arith}
 use lib.ListN.{length, take, drop, replicate, set, length-append}
-use borrow.Author.Tests.{lt-ltb, le-ltb}
+use borrow.Author.Tests.{lt-ltb, le-ltb, not-true}
 use Rattle.model.specs.Numbers.{Step, got, bad, andThen, number}
 use Rattle.model.specs.Values.{putWords}
-use Rattle.model.specs.Programs.{Constant, scalar, boolean, string, reference, among}
+use Rattle.model.specs.Programs.{Constant, scalar, boolean, string, reference, among, orderOf}
 use Rattle.model.specs.Images.{joined, series, readConstant, always, readConstants, readName, snoc, readStructs}
-use Rattle.model.specs.Stores.{pack}
+use Rattle.model.specs.Stores.{pack, structsFrom, ordersFrom}
+use Rattle.model.specs.Orders.{nameInOrder}
 use Rattle.model.specs.Emission.{written}
 use Rattle.model.specs.Loading.{constantText, constantWords, constantsLaid, structsLaid}
 use Rattle.number.specs.Links.{NumPost}
@@ -26,11 +27,15 @@ use Rattle.image.specs.declared.Item.the-variants as e
 use Rattle.image.specs.declared.Run.{Run}
 use Rattle.image.specs.declared.NextRun.{NextRun}
 use Rattle.image.specs.declared.NextRun.the-variants as r
+use Rattle.ordering.specs.Sorted.{Edge, structPut}
+use Rattle.ordering.proofs.Laying.{Unlike, unlike-more, length-order, laid-length as structs-length, laid-more as structs-more}
 use Rattle.program.proofs.Bools.{either-way}
+use Rattle.program.proofs.Growing.{split, below}
 use Rattle.number.proofs.Codes.{never}
 use Rattle.image.proofs.Codecs.{got-value, then-only, made-only}
 use Rattle.image.proofs.Reading.{Along, along-start, along-end, along-within, along-bad, along-step, joined-length, joined-append, bad-first, bad-test, bad-tested, good-test, good-both, no-number, onto}
 use Rattle.image.proofs.Items.{part-length, part-slice, text-is, text-not, entry-is, entry-not}
+use Rattle.image.proofs.Held.{written-front, Pieces, pieces-here, StructsAt, structs-here, structs-held}
 use Rattle.image.proofs.Runs.{Running, runs-start, runs-good, runs-bad, runs-fits, runs-less, runs-step}
 use Rattle.image.proofs.Functions.{series-count}
 use Rattle.image.proofs.Written.{written-none, written-one, written-two, kept-length, more-written, more-joined}
@@ -202,24 +207,13 @@ module _ (s : List ℕ) (at : ℕ) (cs₀ tx₀ : List ℕ) (fit : ConstantsFit 
 
 -- ---- struct names
 
-structs-more : (o : ℕ) (l : List (List ℕ)) (x : List ℕ) → structsLaid o (l ++ (x ∷ [])) ≡ structsLaid o l ++ (pack (o + length (joined (λ n. n) l)) (length x) ∷ [])
-unfolding structsLaid joined
-structs-more o [] x = ap (λ (k : ℕ). pack k (length x) ∷ []) (let z : o ≡ o + 0 = omega arith in z)
-structs-more o (y ∷ l) x =
-    let z : o + length y + length (joined (λ n. n) l) ≡ o + length (y ++ joined (λ n. n) l) = (let a = length-append y (joined (λ n. n) l) in omega arith) in
-    ap (λ (w : List ℕ). pack o (length y) ∷ w) (structs-more (o + length y) l x ∙ ap (λ (k : ℕ). structsLaid (o + length y) l ++ (pack k (length x) ∷ [])) z)
-
-pub structs-length : (o : ℕ) (l : List (List ℕ)) → length (structsLaid o l) ≡ length l
-unfolding structsLaid
-structs-length o [] = refl
-structs-length o (x ∷ l) = ap suc (structs-length (o + length x) l)
-
 pub record FillingStructs (s : List ℕ) (first k t₀ : ℕ) (ss₀ tx₀ ss tx : List ℕ) (next t i : ℕ) : Type 0 where
   pub done : List (List ℕ)
   pub along : Along readName snoc k [] s first i done next done
   pub sized : t ≡ t₀ + length (joined (λ n. n) done)
-  pub words : ss ≡ written ss₀ 0 (structsLaid t₀ done)
+  pub words : ss ≡ written ss₀ 0 (structsLaid t₀ done (orderOf (length done) done))
   pub texts : tx ≡ written tx₀ t₀ (joined (λ n. n) done)
+  pub unlike : Unlike (length done) done
 
 module _ (s : List ℕ) (at t₀ : ℕ) (ss₀ tx₀ : List ℕ) (fit : StructsFit s at t₀ ss₀ tx₀) where
   pub structs-no-count : (x : Num) → NumPost s at x → x ≡ n.Broken → ⊥
@@ -235,8 +229,15 @@ module _ (s : List ℕ) (at t₀ : ℕ) (ss₀ tx₀ : List ℕ) (fit : StructsF
     names-count = series-count readName snoc k [] (drop first s) (fit .held) (names-inner .rest) (names-inner .means)
 
     pub structs-begin : FillingStructs s first k t₀ ss₀ tx₀ ss₀ tx₀ first t₀ 0
-    unfolding joined structsLaid
-    structs-begin = record { done = []; along = along-start readName snoc k [] s first (count .within); sized = omega arith; words = written-none ss₀ 0; texts = written-none tx₀ t₀ }
+    unfolding joined structsLaid orderOf
+    structs-begin = record {
+      done = [];
+      along = along-start readName snoc k [] s first (count .within);
+      sized = omega arith;
+      words = written-none ss₀ 0;
+      texts = written-none tx₀ t₀;
+      unlike = record { unlike = λ i j a b. absurd (let y : ⊥ = omega arith in y) };
+    }
 
     module _ (ss tx : List ℕ) (next t i : ℕ) (h : FillingStructs s first k t₀ ss₀ tx₀ ss tx next t i) where
       pub structs-same : (length ss ≡ length ss₀) × (length tx ≡ length tx₀)
@@ -262,11 +263,14 @@ module _ (s : List ℕ) (at t₀ : ℕ) (ss₀ tx₀ : List ℕ) (fit : StructsF
 
         module _ (y m : ℕ) (q : x ≡ text.At y m) where
           -- it is a name that is none of those before it: it was judged
+          new-name : not (among (partOf s y m) (h .done)) ≡ true
+          unfolding readName
+          new-name = either-way (not (among (partOf s y m) (h .done))) (λ f. f)
+              (λ f. absurd (no next (bad-test (λ t. not (among t (h .done))) (text-is s next x p y m q .good) f)))
+
           named : Good (readName (h .done)) s next (y + m) (partOf s y m)
           unfolding readName
-          named = either-way (not (among (partOf s y m) (h .done)))
-              (λ f. good-test (λ t. not (among t (h .done))) (text-is s next x p y m q .good) f)
-              (λ f. absurd (no next (bad-test (λ t. not (among t (h .done))) (text-is s next x p y m q .good) f)))
+          named = good-test (λ t. not (among t (h .done))) (text-is s next x p y m q .good) new-name
 
           pub name-inside : y + m ≤ length s
           name-inside = named .within
@@ -277,25 +281,45 @@ module _ (s : List ℕ) (at t₀ : ℕ) (ss₀ tx₀ : List ℕ) (fit : StructsF
           pub name-length : length (take (y + m - y) (drop y s)) ≡ m
           name-length = ap length (part-slice s y m) ∙ part-length s y m name-inside
 
-          pub structs-room : (t + m ≤ length tx₀) × ((t + m < 2 ^ 32) × (i < length ss₀))
+          pub structs-room : (t + m ≤ length tx₀) × ((t + m < 2 ^ 32) × (2 * i + 2 ≤ length ss₀))
           structs-room =
               let f = series-fits readName snoc k [] s first (fit .held) names-inner i (h .done) next (h .done) (h .along) (λ n. n) l (y + m) (partOf s y m) named in
               let a = fit .text in let b = fit .small in let d = h .sized in let z = part-length s y m name-inside in let w = fit .words in let v = names-count in
               (omega arith, (omega arith, omega arith))
 
-          pub structs-next : (w : ℕ) → w ≡ pack t m → (ss′ tx′ : List ℕ) → ss′ ≡ set ss i w → tx′ ≡ written tx t (take (y + m - y) (drop y s))
+          -- what was written reads back
+          words-there : StructsAt ss 0 t₀ (h .done) × (ordersFrom (length (h .done)) 0 ss ≡ orderOf (length (h .done)) (h .done))
+          words-there =
+              let n = length-order (length (h .done)) (h .done) in let e = structs-length t₀ (h .done) (orderOf (length (h .done)) (h .done)) n in
+              let ac = h .along .count in let r = structs-room .1 .1 in
+              structs-here (h .done) (orderOf (length (h .done)) (h .done)) ss [] _ 0 t₀ n (h .words ∙ written-front ss₀ _ (omega arith)) refl
+
+          texts-there : Pieces (λ n. n) tx t₀ (h .done)
+          texts-there =
+              let sz = h .sized in let r = structs-room .0 in
+              let f : t₀ + length (joined (λ n. n) (h .done)) ≤ length tx₀ = omega arith in
+              pieces-here (λ n. n) (h .done) tx (take t₀ tx₀) _ t₀ (h .texts ∙ split tx₀ t₀ (joined (λ n. n) (h .done)) f) (below tx₀ t₀ (joined (λ n. n) (h .done)) f)
+
+          names-there : structsFrom (length (h .done)) 0 ss tx ≡ h .done
+          names-there = let sz = h .sized in let r = structs-room .1 .0 in structs-held (h .done) ss tx 0 t₀ (words-there .0) texts-there (omega arith)
+
+          pub structs-next : (place : ℕ) → Edge i (nameInOrder ss tx) (take (y + m - y) (drop y s)) place → (w : ℕ) → w ≡ pack t m → (ss′ tx′ : List ℕ)
+              → ss′ ≡ structPut i place w ss → tx′ ≡ written tx t (take (y + m - y) (drop y s))
               → FillingStructs s first k t₀ ss₀ tx₀ ss′ tx′ (y + m) (t + m) (i + 1)
-          structs-next w ew ss′ tx′ es et =
+          structs-next place ed w ew ss′ tx′ es et =
               let sz = h .sized in let z = part-length s y m name-inside in let jl = joined-length (λ n. n) (h .done) (partOf s y m) in
-              let ll = structs-length t₀ (h .done) in let ac = h .along .count in
+              let ac : i ≡ length (h .done) = (let c = h .along .count in omega arith) in
+              let la = length-append (h .done) (partOf s y m ∷ []) in
+              let le : suc (length (h .done)) ≡ length (h .done ++ (partOf s y m ∷ [])) = omega arith in
+              let u : Unlike (suc (length (h .done))) (h .done ++ (partOf s y m ∷ [])) = unlike-more (h .done) (partOf s y m) (h .unlike) (not-true _ new-name) in
               record {
                 done = h .done ++ (partOf s y m ∷ []);
                 along = along-step readName snoc k [] s first i (h .done) next (h .done) (h .along) l (partOf s y m) (y + m) named;
                 sized = omega arith;
-                words = more-written ss₀ ss ss′ 0 i (structsLaid t₀ (h .done)) (w ∷ []) (h .words) (omega arith) (es ∙ written-one ss i w)
-                    ∙ ap (λ (v : ℕ). written ss₀ 0 (structsLaid t₀ (h .done) ++ (v ∷ []))) (ew ∙ ap (λ (v : ℕ). pack v m) sz ∙ ap (pack (t₀ + length (joined (λ n. n) (h .done)))) (sym z))
-                    ∙ ap (written ss₀ 0) (sym (structs-more t₀ (h .done) (partOf s y m)));
+                words = rw le at (structs-more ss₀ t₀ (h .done) (partOf s y m) ss tx place w ss′ (h .words) names-there (words-there .1) u
+                    (rw ac at (rw (part-slice s y m) at ed)) (ew ∙ rw (sz, z)) (rw ac at es));
                 texts = more-joined (λ n. n) (h .done) (partOf s y m) tx₀ tx tx′ t₀ t (h .texts) sz (et ∙ ap (written tx t) (part-slice s y m));
+                unlike = rw le at u;
               }
 
 -- ---- the places of code

@@ -12,7 +12,7 @@ use Rattle.model.specs.Basics.{if_then_else_}
 use Rattle.model.specs.Values.{bit, kindAt, payloadAt, textAt}
 use Rattle.model.specs.Programs.{Constant, scalar, boolean, string, reference, Function}
 use Rattle.model.specs.Images.{joined}
-use Rattle.model.specs.Stores.{Stores, pack, part, structWord, nameWord, codeWord, constantIn, constantsFrom, structsFrom, functionIn, functionsFrom}
+use Rattle.model.specs.Stores.{Stores, pack, part, structWord, orderWord, nameWord, codeWord, constantIn, constantsFrom, structsFrom, ordersFrom, functionIn, functionsFrom}
 use Rattle.model.specs.Emission.{written}
 use Rattle.model.specs.Loading.{constantText, constantWords, constantsLaid, structsLaid, othersLaid}
 use Rattle.program.proofs.Parts.{start-pack, size-pack}
@@ -116,13 +116,19 @@ unfoldable pub StructsAt : List ℕ → ℕ → ℕ → List (List ℕ) → Type
 StructsAt ss i o [] = Unit
 StructsAt ss i o (x ∷ l) = (structWord ss i ≡ pack o (length x)) × StructsAt ss (suc i) (o + length x) l
 
-pub structs-here : (l : List (List ℕ)) (ss pre post : List ℕ) (i o : ℕ) → ss ≡ pre ++ (structsLaid o l ++ post) → length pre ≡ i → StructsAt ss i o l
-unfolding StructsAt structsLaid structWord
-structs-here [] ss pre post i o e h = tt
-structs-here (x ∷ l) ss pre post i o e h =
-    let a = length-append pre (pack o (length x) ∷ []) in (
-      ap (λ (z : List ℕ). getD z i 0) e ∙ getD-at pre (pack o (length x)) (structsLaid (o + length x) l ++ post) 0 i h,
-      structs-here l ss (pre ++ (pack o (length x) ∷ [])) post (suc i) (o + length x) (e ∙ sym (append-assoc pre (pack o (length x) ∷ []) (structsLaid (o + length x) l ++ post))) (omega arith),
+-- the words of the names, and the numbers of their order
+pub structs-here : (l : List (List ℕ)) (js ss pre post : List ℕ) (i o : ℕ) → length js ≡ length l → ss ≡ pre ++ (structsLaid o l js ++ post) → length pre ≡ 2 * i
+    → StructsAt ss i o l × (ordersFrom (length l) i ss ≡ js)
+unfolding StructsAt structsLaid structWord orderWord ordersFrom
+structs-here [] [] ss pre post i o ej e h = (tt, refl)
+structs-here [] (j ∷ js) ss pre post i o ej e h = absurd (let y : ⊥ = omega arith in y)
+structs-here (x ∷ l) [] ss pre post i o ej e h = absurd (let y : ⊥ = omega arith in y)
+structs-here (x ∷ l) (j ∷ js) ss pre post i o ej e h =
+    let w = pack o (length x) in let rest = structsLaid (o + length x) l js ++ post in
+    let a = length-append pre (w ∷ j ∷ []) in
+    let r = structs-here l js ss (pre ++ (w ∷ j ∷ [])) post (suc i) (o + length x) (omega arith) (e ∙ sym (append-assoc pre (w ∷ j ∷ []) rest)) (omega arith) in (
+      (ap (λ (z : List ℕ). kindAt z i) e ∙ first-here pre w j rest i h, r .0),
+      same-cons (ap (λ (z : List ℕ). payloadAt z i) e ∙ second-here pre w j rest i h) (r .1),
     )
 
 pub structs-held : (l : List (List ℕ)) (ss t : List ℕ) (i o : ℕ) → StructsAt ss i o l → Pieces (λ n. n) t o l → o + length (joined (λ n. n) l) < 2 ^ 32 → structsFrom (length l) i ss t ≡ l

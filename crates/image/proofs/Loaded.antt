@@ -2,7 +2,7 @@
 use mathlib.Core.Path.{_≡_, refl, sym, ap, subst, _∙_}
 use mathlib.Core.Bool.{Bool, true, false, not}
 use mathlib.Core.List.{List, [], _∷_, _++_, append-assoc}
-use Prim.Native.Nat.{ℕ, suc, _+_, _<_, _≤_, _^_}
+use Prim.Native.Nat.{ℕ, zero, suc, _+_, _<_, _≤_, _^_}
 use native.Mathlib.Omega.{arith}
 use lib.Dec.{leb}
 use lib.ListN.{length, take, length-append}
@@ -10,16 +10,19 @@ use borrow.Author.Tests.{leb-true, le-leb, eq-eqb, not-true}
 use Rattle.model.specs.Basics.{everyFrom}
 use Rattle.model.specs.Values.{places, kindAt, payloadAt, textAt}
 use Rattle.model.specs.Equality.{sameBytes}
-use Rattle.model.specs.Programs.{Constant, scalar, boolean, string, reference, Function, Program, functionAt, among, codesWithin, withinLimits}
+use Rattle.model.specs.Programs.{Constant, scalar, boolean, string, reference, Function, Program, functionAt, among, orderOf, codesWithin, withinLimits}
 use Rattle.model.specs.Images.{joined, SoundName, SoundFunction, Each, snoc, mainFirst, Sound}
-use Rattle.model.specs.Stores.{Stores, start, size, pack, structWord, nameWord, codeWord, codeEnd, structsFrom, functionsFrom, programIn}
-use Rattle.model.specs.Orders.{countsOk, textOk, insideText, constantOk, constantsOk, allDifferent, structsOk, codeStart, functionOk, functionsOk, mainOk, mainTaken, otherTaken, insideCodes, programOk}
+use Rattle.model.specs.Stores.{Stores, start, size, pack, structWord, nameWord, codeWord, codeEnd, structsFrom, ordersFrom, functionsFrom, programIn}
+use Rattle.model.specs.Orders.{countsOk, textOk, insideText, constantOk, constantsOk, structsOk, codeStart, functionOk, functionsOk, mainOk, mainTaken, otherTaken, insideCodes, programOk}
 use Rattle.model.specs.Loading.{constantText, constantWords, constantsLaid, structsLaid, othersLaid, functionsLaid, constantTexts, structTexts, textsOf, mainOf, othersOf, laid, countsFor, roomFor}
 use Rattle.model.specs.declared.Counts.{Counts}
+use Rattle.ordering.specs.Sorted.{allDifferent}
+use Rattle.ordering.proofs.Laying.{length-order, laid-length as structs-length, different-unlike, standing-of}
+use Rattle.program.proofs.Known.{structs-good}
 use Rattle.program.proofs.Parts.{one-word, two-words, places-same, start-pack, size-pack}
 use Rattle.program.proofs.Bools.{either-way, both-true, and-both}
 use Rattle.program.proofs.Searching.{same-sym}
-use Rattle.image.proofs.Filling.{laid-length, structs-length}
+use Rattle.image.proofs.Filling.{laid-length}
 use Rattle.image.proofs.Placing.{others-length}
 use Rattle.image.proofs.Loads.{Room, room-of}
 use Rattle.program.proofs.Writing.{length-written}
@@ -48,12 +51,15 @@ constants-fine c (x ∷ l) cs i o w h s =
     and-both _ _ (constant-fine c x (kindAt cs i) (payloadAt cs i) o (w .0) (omega arith) (omega arith)) (constants-fine c l cs (suc i) (o + length (constantText x)) (w .1) (omega arith) s)
 
 structs-fine : (c : Counts) (l : List (List ℕ)) (ss : List ℕ) (i o : ℕ) → StructsAt ss i o l → o + length (joined (λ n. n) l) ≤ c .text → c .text < 2 ^ 32
-    → everyFrom (length l) i (λ j. insideText c (structWord ss j)) ≡ true
-unfolding everyFrom StructsAt joined
-structs-fine c [] ss i o w h s = refl
-structs-fine c (x ∷ l) ss i o w h s =
-    let a = length-append x (joined (λ n. n) l) in
-    and-both _ _ (inside-pack c (structWord ss i) o (length x) (w .0) (omega arith) (omega arith)) (structs-fine c l ss (suc i) (o + length x) (w .1) (omega arith) s)
+    → (k : ℕ) → k < length l → insideText c (structWord ss (i + k)) ≡ true
+unfolding StructsAt joined
+structs-fine c [] ss i o w h s k g = absurd (let y : ⊥ = omega arith in y)
+structs-fine c (x ∷ l) ss i o w h s zero g =
+    let a = length-append x (joined (λ n. n) l) in let z : i + 0 ≡ i = omega arith in
+    rw z (inside-pack c (structWord ss i) o (length x) (w .0) (omega arith) (omega arith))
+structs-fine c (x ∷ l) ss i o w h s (suc k) g =
+    let a = length-append x (joined (λ n. n) l) in let z : i + suc k ≡ suc i + k = omega arith in
+    rw z (structs-fine c l ss (suc i) (o + length x) (w .1) (omega arith) s k (omega arith))
 
 function-fine : (c : Counts) (f : Function) (fs : List ℕ) (i o j : ℕ) → (nameWord fs i ≡ pack o (length (f .name))) × (codeWord fs i ≡ pack j (length (f .code)))
     → codeStart fs i ≡ j → o + length (f .name) ≤ c .text → c .text < 2 ^ 32 → length (f .code) ≤ 65535 → j + length (f .code) < 2 ^ 32
@@ -196,11 +202,11 @@ module _ (cs : List Constant) (ss : List (List ℕ)) (f : Function) (l : List Fu
       let n = laid-length 0 cs in let r = two-words _ (x .constants) (room .constants) in
       constants-here cs (y .constants) [] _ 0 0 (written-front (x .constants) (constantsLaid 0 cs) (omega arith)) refl
 
-  structs-at : StructsAt (y .structs) 0 (length C) ss
+  structs-at : StructsAt (y .structs) 0 (length C) ss × (ordersFrom (length ss) 0 (y .structs) ≡ orderOf (length ss) ss)
   unfolding y laid program constantTexts C
   structs-at =
-      let n = structs-length (length C) ss in let r = one-word _ (x .structs) (room .structs) .0 in
-      structs-here ss (y .structs) [] _ 0 (length C) (written-front (x .structs) (structsLaid (length C) ss) (omega arith)) refl
+      let n = length-order (length ss) ss in let e = structs-length (length C) ss (orderOf (length ss) ss) n in let r = two-words _ (x .structs) (room .structs) in
+      structs-here ss (orderOf (length ss) ss) (y .structs) [] _ 0 (length C) n (written-front (x .structs) (structsLaid (length C) ss (orderOf (length ss) ss)) (omega arith)) refl
 
   functions-are : (R : List ℕ) × (y .functions ≡ pack (length C + length S) (length (f .name)) ∷ pack 0 (length (f .code)) ∷ (othersLaid (length C + length S + length (f .name)) 0 l ++ R))
   unfolding y laid program constantTexts structTexts functionsLaid C S
@@ -257,7 +263,7 @@ module _ (cs : List Constant) (ss : List (List ℕ)) (f : Function) (l : List Fu
   stands =
       let t = text-small in let u = sums in let v = text-sum in
       same-program (constants-held cs (y .constants) (y .text) 0 0 constants-at constant-pieces (let z : 0 + length C < 2 ^ 32 = omega arith in z))
-      (structs-held ss (y .structs) (y .text) 0 (length C) structs-at struct-pieces (let z : length C + length S < 2 ^ 32 = omega arith in z))
+      (structs-held ss (y .structs) (y .text) 0 (length C) (structs-at .0) struct-pieces (let z : length C + length S < 2 ^ 32 = omega arith in z))
       (function-held f y 0 (length C + length S) 0 (y .main) (y .mainPlaces) refl refl main-at (name-pieces .0) main-code main-places (placed .0) (omega arith) (omega arith))
       (others-held l y 0 (length C + length S + length (f .name)) 0 others-at (name-pieces .1) other-codes other-places (placed .1) (omega arith) (let z = code-small .1 in omega arith))
     where
@@ -279,14 +285,14 @@ module _ (cs : List Constant) (ss : List (List ℕ)) (f : Function) (l : List Fu
       (le-leb _ _ (limits-are .1 .1 .0))) (le-leb _ 0xFFFF_FFFF (let z : length (textsOf (program cs ss f l)) ≤ 0xFFFF_FFFF = omega arith in z))) refl
 
   -- the stores are as long as they were
-  same-places : (places 2 (y .constants) ≡ places 2 (x .constants)) × ((places 1 (y .structs) ≡ places 1 (x .structs)) × ((places 2 (y .functions) ≡ places 2 (x .functions))
+  same-places : (places 2 (y .constants) ≡ places 2 (x .constants)) × ((places 2 (y .structs) ≡ places 2 (x .structs)) × ((places 2 (y .functions) ≡ places 2 (x .functions))
       × ((places 1 (y .text) ≡ places 1 (x .text)) × ((places 1 (y .main) ≡ places 1 (x .main)) × ((places 1 (y .mainPlaces) ≡ places 1 (x .mainPlaces))
       × ((places 1 (y .other) ≡ places 1 (x .other)) × (places 1 (y .otherPlaces) ≡ places 1 (x .otherPlaces))))))))
   unfolding y laid
   same-places = (
     places-same 2 _ (x .constants) (length-written (x .constants) 0 _),
     (
-      places-same 1 _ (x .structs) (length-written (x .structs) 0 _),
+      places-same 2 _ (x .structs) (length-written (x .structs) 0 _),
       (
         places-same 2 _ (x .functions) (length-written (x .functions) 0 _),
         (
@@ -315,13 +321,17 @@ module _ (cs : List Constant) (ss : List (List ℕ)) (f : Function) (l : List Fu
       and-both _ _ a (constants-fine c cs (y .constants) 0 0 constants-at (let z : 0 + length C ≤ c .text = omega arith in z) text-small)
 
   structs-ok : structsOk c (y .structs) (y .text) ≡ true
-  unfolding structsOk c countsFor program S
+  unfolding c countsFor program S
   structs-ok =
       let t = text-sum in let u = text-small in
-      let e : structsFrom (length ss) 0 (y .structs) (y .text) ≡ ss = structs-held ss (y .structs) (y .text) 0 (length C) structs-at struct-pieces (let z : length C + length S < 2 ^ 32 = omega arith in z) in
-      let a : leb (length ss) (places 1 (y .structs)) ≡ true = rw (same-places .1 .0) (le-leb _ _ (room .structs)) in
-      let b : allDifferent (structsFrom (length ss) 0 (y .structs) (y .text)) ≡ true = rw e (different ss [] (sound .structs .1) .0) in
-      and-both _ _ (and-both _ _ a (structs-fine c ss (y .structs) 0 (length C) structs-at (let z : length C + length S ≤ c .text = omega arith in z) text-small)) b
+      let e : structsFrom (length ss) 0 (y .structs) (y .text) ≡ ss = structs-held ss (y .structs) (y .text) 0 (length C) (structs-at .0) struct-pieces (let z : length C + length S < 2 ^ 32 = omega arith in z) in
+      structs-good c (y .structs) (y .text) (record {
+        within = rw (same-places .1 .0) (room .structs);
+        inside = λ k g.
+        let z : 0 + k ≡ k = omega arith in
+        rw z at (structs-fine c ss (y .structs) 0 (length C) (structs-at .0) (let z : length C + length S ≤ c .text = omega arith in z) text-small k g);
+        order = standing-of (length ss) (y .structs) (y .text) ss e (structs-at .1) (different-unlike ss (different ss [] (sound .structs .1) .0));
+      })
 
   main-fine : (functionOk c (y .functions) 0 ≡ true) × (codeEnd (y .functions) 0 ≡ 0 + length (f .code))
   unfolding codeStart codesWithin

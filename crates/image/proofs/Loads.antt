@@ -9,7 +9,7 @@ use lib.ListN.{length, drop, length-append}
 use borrow.Author.Tests.{leb-true, not-true, not-false}
 use Rattle.model.specs.Numbers.{Step, got}
 use Rattle.model.specs.Values.{places}
-use Rattle.model.specs.Programs.{Constant, Function, Program, functionAt, withinLimits}
+use Rattle.model.specs.Programs.{Constant, Function, Program, functionAt, orderOf, withinLimits}
 use Rattle.model.specs.Images.{joined, readConstants, readStructs, readFunctions, readEnd, parse, Judged, fine, broken, judge}
 use Rattle.model.specs.Stores.{Stores}
 use Rattle.model.specs.Emission.{written, counts}
@@ -71,7 +71,7 @@ stores-same a b c d e f g h = rw (a, b, c, d, e, f, g, h)
 -- every store has room for its part
 pub record Room (p : Program) (x : Stores) : Type 0 where
   pub constants : length (p .constants) ≤ places 2 (x .constants)
-  pub structs : length (p .structs) ≤ places 1 (x .structs)
+  pub structs : length (p .structs) ≤ places 2 (x .structs)
   pub functions : length (p .functions) ≤ places 2 (x .functions)
   pub text : length (textsOf p) ≤ places 1 (x .text)
   pub main : length (mainOf p .code) ≤ places 1 (x .main)
@@ -139,7 +139,7 @@ module _ (s : List ℕ) (cs ss fs tx mn mp ot op : List ℕ) (fit : Fits s (lent
         record {
           held = p .structs;
           has = record { within = c .good .within; rest = q .rest₂; means = ap readStructs (got-end (c .good .means) (q .constants)) ∙ q .structs };
-          words = one-word _ ss (room .structs) .0;
+          words = two-words _ ss (room .structs);
           text = omega arith;
           small = omega arith;
         }
@@ -191,7 +191,7 @@ module _ (s : List ℕ) (cs ss fs tx mn mp ot op : List ℕ) (fit : Fits s (lent
         unfolding laid constantTexts structTexts mainOf othersOf
         here = stores-same
             (c .words ∙ ap (λ (v : List Constant). written cs 0 (constantsLaid 0 v)) same-constants)
-            (d .words ∙ ap (λ (v : List (List ℕ)). written ss 0 (structsLaid (z .text) v)) same-structs ∙ ap (λ (v : ℕ). written ss 0 (structsLaid v (p .structs))) c-text)
+            (d .words ∙ ap (λ (v : List (List ℕ)). written ss 0 (structsLaid (z .text) v (orderOf (length v) v))) same-structs ∙ ap (λ (v : ℕ). written ss 0 (structsLaid v (p .structs) (orderOf (length (p .structs)) (p .structs)))) c-text)
             (f .words ∙ ap (λ (v : List Function). written fs 0 (functionsLaid (y .text) v)) same-functions ∙ ap (λ (v : ℕ). written fs 0 (functionsLaid v (p .functions))) s-text)
             texts-laid
             (f .main ∙ ap (λ (v : List Function). written mn 0 (functionAt v 0 .code)) same-functions)
@@ -212,7 +212,7 @@ pub limits-by : (p : Program) (z : Sizes) → SizesOf p z → (leb (z .constants
 unfolding withinLimits
 limits-by p z h = rw (h .constants, h .structs, h .functions, h .within)
 
-room-by : (p : Program) (z : Sizes) (x : Stores) (r1 r2 r3 r4 r5 r6 r7 r8 : ℕ) → SizesOf p z → r1 ≡ places 2 (x .constants) → r2 ≡ places 1 (x .structs) → r3 ≡ places 2 (x .functions)
+room-by : (p : Program) (z : Sizes) (x : Stores) (r1 r2 r3 r4 r5 r6 r7 r8 : ℕ) → SizesOf p z → r1 ≡ places 2 (x .constants) → r2 ≡ places 2 (x .structs) → r3 ≡ places 2 (x .functions)
     → r4 ≡ places 1 (x .text) → r5 ≡ places 1 (x .main) → r6 ≡ places 1 (x .mainPlaces) → r7 ≡ places 1 (x .other) → r8 ≡ places 1 (x .otherPlaces)
     → (leb (z .constants) r1 && leb (z .structs) r2 && leb (z .functions) r3 && leb (z .text) r4 && leb (z .main) r5 && leb (z .main) r6 && leb (z .other) r7 && leb (z .other) r8) ≡ roomFor p x
 unfolding roomFor
@@ -243,7 +243,7 @@ module _ (s : List ℕ) (x : Stores) (r : Judgement) (h : JudgePost s r) where
     load-22 a = rw (g .judged, sym limits ∙ not-true _ a)
 
     module _ (a : not (leb (z .constants) 65535 && leb (z .structs) 65536 && leb (z .functions) 65536 && z .within) ≡ false)
-        (r1 r2 r3 r4 r5 r6 r7 r8 : ℕ) (e1 : r1 ≡ places 2 (x .constants)) (e2 : r2 ≡ places 1 (x .structs)) (e3 : r3 ≡ places 2 (x .functions)) (e4 : r4 ≡ places 1 (x .text))
+        (r1 r2 r3 r4 r5 r6 r7 r8 : ℕ) (e1 : r1 ≡ places 2 (x .constants)) (e2 : r2 ≡ places 2 (x .structs)) (e3 : r3 ≡ places 2 (x .functions)) (e4 : r4 ≡ places 1 (x .text))
         (e5 : r5 ≡ places 1 (x .main)) (e6 : r6 ≡ places 1 (x .mainPlaces)) (e7 : r7 ≡ places 1 (x .other)) (e8 : r8 ≡ places 1 (x .otherPlaces)) where
       within : withinLimits (g .program) ≡ true
       within = sym limits ∙ not-false _ a

@@ -19,9 +19,8 @@ use Rattle.model.specs.Loading.{OutRes, putOut, saveOf}
 use Rattle.model.specs.declared.Counts.{Counts}
 use Rattle.model.specs.declared.Told.{Told}
 use Rattle.model.specs.declared.Told.the-variants as t
-use Rattle.program.proofs.Every.{passed}
 use Rattle.program.proofs.Parts.{one-word}
-use Rattle.program.proofs.Known.{Limited, limited, text-inside, constants-known, structs-inside, Known as KnownFunction, function-known, ascending}
+use Rattle.program.proofs.Known.{Limited, limited, text-inside, constants-known, structs-known, Known as KnownFunction, function-known, ascending}
 use Rattle.program.proofs.Keeping.{Good, good-of}
 use Rattle.image.specs.Fills.{lent}
 use Rattle.image.specs.Puts.{Put, Near, Known, ConstantsPut, StructsPut, functionHere, Lies, FunctionPuts, functionsHere, FunctionsPut}
@@ -171,7 +170,7 @@ module _ (c : Counts) (cs ss fs tx mn mp ot op : List ℕ) (ok : programOk c (le
 
   pub struct-at : (i : ℕ) → i < c .structs → length (part tx (structWord ss i)) < 2 ^ 32
   struct-at i l =
-      let h = passed (c .structs) (λ j. insideText c (structWord ss j)) (structs-inside c ss tx (good .structs)) i l in
+      let h = structs-known c ss tx (good .structs) .inside i l in
       let a = text-inside c (structWord ss i) h in let b = part-most tx (structWord ss i) in let d = text-small in omega arith
 
   pub function-at : (i : ℕ) → i < c .functions → KnownFunction c fs i
@@ -321,14 +320,6 @@ module _ (at₀ n : ℕ) (fs t mn mp ot op : List ℕ) (h : FunctionsPut at₀ n
         pub functions-end : n ≤ j → Put (counted functionImage (functionsHere n 0 fs t mn mp ot op)) out₀ at₀ out at
         functions-end l = both _ _ _ at₀ count (h .near) out₀ out₁ at₁ p out at (both _ _ _ at₁ main near-1 out₁ out₂ at₂ q out at
             (each-end functionImage all one (here-open fs t mn mp ot op) (here-shut fs t mn mp ot op) n 1 out₂ at₂ rest out at j (r .putting) l))
-
--- ---- good order, as it is computed
-
-pub order-is : (c : Counts) (cs ss fs tx mn mp ot op : List ℕ) (b1 b2 b3 b4 b5 b6 b7 b8 : Bool) → b1 ≡ countsOk c → b2 ≡ textOk c tx → b3 ≡ constantsOk c cs → b4 ≡ structsOk c ss tx
-    → b5 ≡ functionsOk c fs → b6 ≡ mainOk fs tx → b7 ≡ insideCodes c fs mn ot → b8 ≡ insideCodes c fs mp op
-    → (b1 && b2 && b3 && b4 && b5 && b6 && b7 && b8) ≡ programOk c (lent cs ss fs tx mn mp ot op)
-unfolding programOk
-order-is c cs ss fs tx mn mp ot op b1 b2 b3 b4 b5 b6 b7 b8 e1 e2 e3 e4 e5 e6 e7 e8 = rw (e1, e2, e3, e4, e5, e6, e7, e8)
 
 -- ---- saving
 

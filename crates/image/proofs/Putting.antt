@@ -334,12 +334,14 @@ module _ (at₀ k : ℕ) (ss t : List ℕ) (c : StructsPut at₀ k ss t) where
       pub structs-kept : length out ≡ length out₀
       structs-kept = p .put .kept ∙ q .kept
 
-      pub structs-each : j < k → (w : ℕ) → w ≡ structWord ss j → (x : List ℕ) → x ≡ part t w → TextPuts at x
+      pub structs-each : j < k → (w : ℕ) → w ≡ kindAt ss j → (x : List ℕ) → x ≡ part t w → TextPuts at x
+      unfolding structWord
       structs-each l w ew x ex = subst (TextPuts at) (sym (ex ∙ ap (part t) ew))
           (record { small = c .each j l; near = each-near textImage structs-all structs-one (structs-open ss t) (structs-shut ss t) k 0 out₁ at₁ structs-rest out at j p l })
 
-      pub structs-step : j < k → (w : ℕ) → w ≡ structWord ss j → (x : List ℕ) → x ≡ part t w → (out′ : List ℕ) (at′ : ℕ) → Put (textImage x) out at out′ at′
+      pub structs-step : j < k → (w : ℕ) → w ≡ kindAt ss j → (x : List ℕ) → x ≡ part t w → (out′ : List ℕ) (at′ : ℕ) → Put (textImage x) out at out′ at′
           → PuttingStructs k ss t out₁ at₁ out′ at′ (j + 1)
+      unfolding structWord
       structs-step l w ew x ex out′ at′ r = each-step textImage structs-all structs-one (structs-open ss t) (structs-shut ss t) k 0 out₁ at₁ structs-rest out at j p l out′ at′
           (put-as _ _ out out′ at at′ (ap textImage (ex ∙ ap (part t) ew)) r)
 

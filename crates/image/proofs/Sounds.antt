@@ -14,13 +14,15 @@ use Rattle.model.specs.Equality.{sameBytes}
 use Rattle.model.specs.Programs.{among}
 use Rattle.model.specs.Images.{Small, SoundConstant, SoundName, SoundFunction, AllSmall, Each, always, snoc, mainFirst, Sound}
 use Rattle.model.specs.Stores.{Stores, start, size, part, structWord, nameWord, codeWord, codeEnd, constantIn, constantsFrom, structsFrom, functionIn, functionsFrom, programIn}
-use Rattle.model.specs.Orders.{insideText, allDifferent, structsOk, mainOk, programOk}
+use Rattle.model.specs.Orders.{mainOk, programOk}
 use Rattle.model.specs.declared.Counts.{Counts}
+use Rattle.ordering.specs.Sorted.{allDifferent}
+use Rattle.ordering.proofs.Standing.{all-different}
 use Rattle.image.specs.Fills.{lent}
 use Rattle.image.specs.Puts.{Known}
 use Rattle.program.proofs.Bools.{either-way, both-true}
 use Rattle.program.proofs.Searching.{same-sym}
-use Rattle.program.proofs.Known.{Known as KnownFunction}
+use Rattle.program.proofs.Known.{structs-known, Known as KnownFunction}
 use Rattle.image.proofs.Loaded.{Clear}
 use Rattle.image.proofs.Orderly.{part-most, good, limits, text-small, constant-at, struct-at, function-at, ends-in}
 
@@ -161,7 +163,7 @@ module _ (c : Counts) (cs ss fs tx mn mp ot op : List ℕ) (ok : programOk c (le
   all-sound (suc n) e l = (main-sound (omega arith), functions-sound n 1 (lent cs ss fs tx mn mp ot op) (λ i a b. other-sound i (omega arith) (omega arith)))
 
   pub order-sound : Sound (programIn c (lent cs ss fs tx mn mp ot op))
-  unfolding programIn structsOk payloadAt Clear
+  unfolding programIn payloadAt Clear
   order-sound =
       let n = limits c cs ss fs tx mn mp ot op ok in let n0 = n .constants in let n1 = n .structs in let n2 = n .some in let n3 = n .functions in
       let l1 = constants-length (c .constants) 0 cs tx in let l2 = structs-length (c .structs) 0 ss tx in let l3 = functions-length (c .functions) 0 (lent cs ss fs tx mn mp ot op) in
@@ -169,7 +171,7 @@ module _ (c : Counts) (cs ss fs tx mn mp ot op : List ℕ) (ok : programOk c (le
         constants = (omega arith, constants-sound (c .constants) 0 cs tx (λ i a b. constant-sound tx _ _ (constant-at c cs ss fs tx mn mp ot op ok i (omega arith)) (words (2 * i + 1))));
         structs = (
           omega arith,
-          names-sound (structsFrom (c .structs) 0 ss tx) [] (both-true (leb (c .structs) (places 1 ss) && everyFrom (c .structs) 0 (λ i. insideText c (structWord ss i))) _ (good c cs ss fs tx mn mp ot op ok .structs) .1) tt
+          names-sound (structsFrom (c .structs) 0 ss tx) [] (all-different (c .structs) ss tx (structs-known c ss tx (good c cs ss fs tx mn mp ot op ok .structs) .order)) tt
               (structs-short (c .structs) 0 ss tx (λ i a b. struct-at c cs ss fs tx mn mp ot op ok i (omega arith))),
         );
         functions = ((omega arith, omega arith), all-sound (c .functions) refl (omega arith));

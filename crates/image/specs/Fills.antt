@@ -5,7 +5,7 @@ use mathlib.Core.List.{List, [], _∷_}
 use Prim.Native.Nat.{ℕ, _+_, _*_, _≤_, _<_, _^_}
 use lib.ListN.{length, drop}
 use Rattle.model.specs.Numbers.{Step, got}
-use Rattle.model.specs.Programs.{Constant, Function, Program, functionAt}
+use Rattle.model.specs.Programs.{Constant, Function, Program, functionAt, orderOf}
 use Rattle.model.specs.Images.{joined, readConstants, readStructs, readFunction, readFunctions, fine, judge}
 use Rattle.model.specs.Stores.{Stores, pack}
 use Rattle.model.specs.Emission.{written}
@@ -48,7 +48,7 @@ pub record ConstantsFilled (s : List ℕ) (at : ℕ) (cs tx : List ℕ) (z : Fil
 pub record StructsFit (s : List ℕ) (at t : ℕ) (ss tx : List ℕ) : Type 0 where
   pub held : List (List ℕ)
   pub has : Has readStructs s at held
-  pub words : length held ≤ length ss
+  pub words : 2 * length held ≤ length ss
   pub text : t + length (joined (λ n. n) held) ≤ length tx
   pub small : t + length (joined (λ n. n) held) < 2 ^ 32
 
@@ -56,7 +56,7 @@ pub record StructsFilled (s : List ℕ) (at t : ℕ) (ss tx : List ℕ) (z : Fil
   pub held : List (List ℕ)
   pub good : Good readStructs s at (z .next) held
   pub text : z .text ≡ t + length (joined (λ n. n) held)
-  pub words : ss′ ≡ written ss 0 (structsLaid t held)
+  pub words : ss′ ≡ written ss 0 (structsLaid t held (orderOf (length held) held))
   pub texts : tx′ ≡ written tx t (joined (λ n. n) held)
 
 -- ---- the places of code, from c on

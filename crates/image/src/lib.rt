@@ -6,6 +6,7 @@ use model::Counts;
 use model::Loaded;
 use model::Told;
 use number::Num;
+use program::order::program_ok;
 use program::words::room;
 use program::words::same_bytes;
 ghost use mathlib.Core.Path.{_≡_};
@@ -575,7 +576,7 @@ pub fn load(
                 return Loaded::Refused(22);
             }
             let fits = (z.constants <= room(constants.len(), 2))
-                & (z.structs <= room(structs.len(), 1))
+                & (z.structs <= room(structs.len(), 2))
                 & (z.functions <= room(functions.len(), 2))
                 & (z.text <= room(text.len(), 1))
                 & (z.main <= room(main.len(), 1))
@@ -625,16 +626,16 @@ pub fn save(
 ) -> Told
     ensures { λ r. ⌜ record { answer = r; out = now (out .exit) } ≡ saveOf c (lent (now (constants .entry)) (now (structs .entry)) (now (functions .entry)) (now (text .entry)) (now (main .entry)) (now («main_places» .entry)) (now (other .entry)) (now («other_places» .entry))) (now (out .entry)) ⌝ }
 {
-    let ok = saving::in_order(
+    let ok = program_ok(
         c,
         constants,
         structs,
         functions,
         text,
-        main,
-        main_places,
-        other,
-        other_places,
+        main.len(),
+        main_places.len(),
+        other.len(),
+        other_places.len(),
     );
     if !ok {
         return Told::Refused(19);

@@ -11,6 +11,8 @@ use crate::read_run;
 use crate::read_text;
 use crate::wide;
 use number::Num;
+use program::ordered::put_struct;
+use program::ordered::spot;
 use program::words::pack;
 use program::writes::put_bytes;
 use program::writes::put_places;
@@ -65,7 +67,7 @@ fn load_constants(image: &[u8], at: usize, constants: &mut [u64], text: &mut [u8
     Filled { next, text: t }
 }
 
-// The struct names, their texts from t0 on.
+// The struct names, their texts from t0 on, and the number of each at its place in the order of names.
 fn load_structs(image: &[u8], at: usize, structs: &mut [u64], text: &mut [u8], t0: usize) -> Filled
     requires { ⌜ StructsFit (now image) at t0 (now structs) (now text) ⌝ }
     ensures { λ r. ⌜ StructsFilled (now (image .entry)) at t0 (now (structs .entry)) (now (text .entry)) r (now (structs .exit)) (now (text .exit)) ⌝ }
@@ -81,9 +83,11 @@ fn load_structs(image: &[u8], at: usize, structs: &mut [u64], text: &mut [u8], t
         let Text::At(here, len) = read_text(image, next) else {
             return Filled { next, text: t };
         };
-        structs[i] = pack(t, len);
         let behind = here + len;
+        let place = spot(&image[here..behind], i, structs, text);
         put_bytes(text, t, &image[here..behind]);
+        let word = pack(t, len);
+        put_struct(structs, place, i, word);
         t = t + len;
         next = behind;
         i = i + 1;

@@ -1,18 +1,10 @@
 // Saving: the image of a program, written into a lent slice as far as it fits. With an empty slice it is only counted.
 use model::Counts;
-use program::order::constants_ok;
-use program::order::counts_ok;
-use program::order::functions_ok;
-use program::order::inside_codes;
-use program::order::main_ok;
-use program::order::structs_ok;
-use program::order::text_ok;
 use program::words::first;
 use program::words::part;
 use program::words::second;
 use program::words::size_of;
 use program::words::start_of;
-use program::words::word;
 use program::writes::put_bytes;
 ghost use mathlib.Core.Path.{_≡_};
 ghost use mathlib.Core.Bool.{true};
@@ -136,7 +128,7 @@ fn put_structs(out: &mut [u8], at: usize, n: usize, structs: &[u64], text: &[u8]
     let mut next = put_number(out, at, count);
     let mut i: usize = 0;
     while i < n {
-        let w = word(structs, i);
+        let w = first(structs, i);
         let name = part(text, w);
         next = put_text(out, next, name);
         i = i + 1;
@@ -228,30 +220,6 @@ fn put_functions(
         i = i + 1;
     }
     next
-}
-
-// Whether a program is in good order.
-pub fn in_order(
-    c: Counts,
-    constants: &[u64],
-    structs: &[u64],
-    functions: &[u64],
-    text: &[u8],
-    main: &[u8],
-    main_places: &[u32],
-    other: &[u8],
-    other_places: &[u32],
-) -> bool
-    ensures { λ r. ⌜ r ≡ programOk c (lent (now (constants .entry)) (now (structs .entry)) (now (functions .entry)) (now (text .entry)) (now (main .entry)) (now («main_places» .entry)) (now (other .entry)) (now («other_places» .entry))) ⌝ }
-{
-    counts_ok(c)
-        & text_ok(c, text)
-        & constants_ok(c, constants)
-        & structs_ok(c, structs, text)
-        & functions_ok(c, functions)
-        & main_ok(functions, text)
-        & inside_codes(c, functions, main.len(), other.len())
-        & inside_codes(c, functions, main_places.len(), other_places.len())
 }
 
 // The image of a program that is in good order.

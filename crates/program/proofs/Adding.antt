@@ -5,27 +5,30 @@ use mathlib.Core.List.{List, []}
 use Prim.Native.Nat.{ℕ, zero, suc, _+_, _-_, _*_, _≤_, _<_, _^_}
 use native.Mathlib.Omega.{arith}
 use native.Mathlib.Numerals.{add-one}
-use lib.Dec.{leb}
-use lib.ListN.{length, set}
+use lib.Dec.{leb, ltb}
+use lib.ListN.{length}
 use borrow.Author.Tests.{le-leb, lt-leb, leb-true, leb-false, not-true, not-false}
 use Rattle.model.specs.declared.Constant.{Constant}
 use Rattle.model.specs.declared.Constant.the-variants as k
 use Rattle.model.specs.declared.Counts.{Counts}
 use Rattle.model.specs.declared.Emitted.{Emitted}
 use Rattle.model.specs.declared.Emitted.the-variants.{Done, Refused}
-use Rattle.model.specs.Values.{places, putWords, bit}
+use Rattle.model.specs.Values.{places, payloadAt, putWords, bit}
+use Rattle.model.specs.Equality.{sameBytes}
 use mathlib.Core.Option.{Option}
 use Rattle.model.specs.declared.Told.{Told}
 use Rattle.model.specs.declared.Told.the-variants as tl
 use Rattle.model.specs.Programs.{newestFrom, firstFrom}
-use Rattle.model.specs.Stores.{Stores, pack, structsFrom, withConstants, withStructs, withFunctions, withText}
-use Rattle.model.specs.Orders.{countsOk, textOk, constantsOk, structsOk, codeStart, otherTaken, functionsOk, mainOk}
-use Rattle.model.specs.Emission.{counts, written, textRoom, withConstant, withTextConstant, constantAdded, constantOrder, addConstantOf, structAdded, structFound, structOrder, addStructOf, functionOrder, begun, beginFunctionOf, namesFrom, toldName, functionIdxOf}
+use Rattle.model.specs.Stores.{Stores, pack, orderWord, structsFrom, withConstants, withStructs, withFunctions, withText}
+use Rattle.model.specs.Orders.{countsOk, textOk, constantsOk, nameInOrder, structsOk, codeStart, otherTaken, functionsOk, mainOk}
+use Rattle.model.specs.Emission.{counts, written, textRoom, withConstant, withTextConstant, constantAdded, constantOrder, addConstantOf, structNames, withStructName, structAdded, structFound, structOrder, addStructOf, functionOrder, begun, beginFunctionOf, namesFrom, toldName, functionIdxOf}
+use Rattle.ordering.specs.Sorted.{Edge, InOrder, Placed, structPut}
+use Rattle.ordering.proofs.Halves.{edge-spot, stands-yes, stands-no}
+use Rattle.ordering.proofs.Standing.{halves-find, halves-miss, put-named}
 use Rattle.program.specs.Links.{Is, constantsLent, structsLent, namesLent}
 use Rattle.program.proofs.Bools.{either-way, and-left, and-right}
 use Rattle.program.proofs.Parts.{room-1, room-2}
-use Rattle.program.proofs.Known.{function-known}
-use Rattle.program.proofs.Searching.{told-some, told-none}
+use Rattle.program.proofs.Known.{structs-known, function-known}
 
 -- ---- room for text
 
@@ -135,7 +138,7 @@ module _ (c : Counts) (name : List ℕ) (s : Stores) where
   unfolding structAdded
   struct-22 l = record { means = rw (le-leb _ _ l) }
 
-  module _ (l : c .structs < 65536) (r : ℕ) (er : r ≡ places 1 (s .structs)) where
+  module _ (l : c .structs < 65536) (r : ℕ) (er : r ≡ places 2 (s .structs)) where
     pub struct-21 : r ≤ c .structs → Is (structAdded c name s) (Refused 21) s
     unfolding structAdded
     struct-21 g = record { means = rw (lt-leb _ _ l, ← er, le-leb _ _ g) }
@@ -145,28 +148,46 @@ module _ (c : Counts) (name : List ℕ) (s : Stores) where
       unfolding structAdded
       struct-text-21 h = record { means = rw (lt-leb _ _ l, ← er, lt-leb _ _ g, ← e, h) }
 
-      pub struct-added : b ≡ true → (w : ℕ) (ss t : List ℕ) → t ≡ written (s .text) (c .text) name → w ≡ pack (c .text) (length name) → ss ≡ set (s .structs) (c .structs) w
+      pub struct-added : b ≡ true → (at w : ℕ) (ss t : List ℕ) → Placed (c .structs) at name (s .structs) (s .text)
+          → t ≡ written (s .text) (c .text) name → w ≡ pack (c .text) (length name) → ss ≡ structPut (c .structs) at w (s .structs)
           → Is (structAdded c name s) (Done (counts (c .constants) (c .structs + 1) (c .functions) (c .text + length name) (c .current)) (c .structs)) (withStructs ss (withText t s))
-      unfolding structAdded
-      struct-added h w ss t et ew es = record { means = rw (lt-leb _ _ l, ← er, lt-leb _ _ g, ← e, h, et, es, ew, add-one) }
+      unfolding structAdded withStructName structNames
+      struct-added h at w ss t p et ew es =
+          let n = put-named (c .structs) (s .structs) (s .text) (p .order) name at (p .spot) w in
+          record { means = rw (lt-leb _ _ l, ← er, lt-leb _ _ g, ← e, h, et, es, n, ew, add-one) }
+
+-- the struct names that add_struct_info is lent stand in order
+pub structs-ordered : (c : Counts) (ss t : List ℕ) (b : Bool) → ((rest : Stores) → b ≡ structOrder c (structsLent rest ss t)) → not b ≡ false → InOrder (c .structs) ss t
+unfolding structOrder structsLent
+structs-ordered c ss t b e h =
+    let s : Stores = record { constants = []; structs = []; functions = []; text = []; main = []; mainPlaces = []; other = []; otherPlaces = [] } in
+    structs-known c ss t (and-right (countsOk c && textOk c t) (structsOk c ss t) (sym (e s) ∙ not-false b h)) .order
+
+-- where the search by halves ended, a new name has its place
+pub new-placed : (n : ℕ) (name ss t : List ℕ) (at : ℕ) → InOrder n ss t → Edge n (nameInOrder ss t) name at → Placed n at name ss t
+new-placed n name ss t at o e = record { order = o; spot = edge-spot n (nameInOrder ss t) (o .ascending) name at e }
 
 module _ (c : Counts) (name : List ℕ) (s : Stores) (b : Bool) (e : b ≡ structOrder c s) where
   pub struct-19 : not b ≡ true → Is (addStructOf c name s) (Refused 19) s
   unfolding addStructOf
   struct-19 h = record { means = rw (← e, not-true b h) }
 
-  module _ (h : not b ≡ false) (r : Told) (er : r ≡ toldName (firstFrom 0 name (structsFrom (c .structs - 0) 0 (s .structs) (s .text)))) where
-    search-is : {o : Option ℕ} → firstFrom 0 name (structsFrom (c .structs - 0) 0 (s .structs) (s .text)) ≡ o → addStructOf c name s ≡ structFound c name s o
-    unfolding addStructOf
-    search-is {o} e' = let z : c .structs - 0 ≡ c .structs = omega arith in rw (← e, not-false b h, ← (rw z at e'))
+  module _ (h : not b ≡ false) (o : InOrder (c .structs) (s .structs) (s .text)) (at : ℕ) (edge : Edge (c .structs) (nameInOrder (s .structs) (s .text)) name at)
+      (r : Bool) (er : r ≡ (ltb at (c .structs) && sameBytes name (nameInOrder (s .structs) (s .text) at))) where
+    search-is : {x : Option ℕ} → firstFrom 0 name (structsFrom (c .structs) 0 (s .structs) (s .text)) ≡ x → addStructOf c name s ≡ structFound c name s x
+    unfolding addStructOf structNames
+    search-is {x} f = rw (← e, not-false b h, ← f)
 
-    pub struct-known : (i : ℕ) → r ≡ tl.Number i → Is (addStructOf c name s) (Done c i) s
-    unfolding structFound
-    struct-known i f = record { means = sym (search-is (told-some _ r i er f)) }
+    pub struct-known : r ≡ true → (v i : ℕ) → v ≡ payloadAt (s .structs) at → i ≡ v → Is (addStructOf c name s) (Done c i) s
+    unfolding structFound orderWord
+    struct-known t v i ev ei =
+        let y = stands-yes at (c .structs) _ (sym er ∙ t) in
+        record { means = sym (search-is (halves-find (c .structs) (s .structs) (s .text) o name at edge (y .0) (y .1)) ∙ rw (ei, ev)) }
 
-    pub struct-new : (i : ℕ) → r ≡ tl.Refused i → (a : Emitted) (s' : Stores) → Is (structAdded c name s) a s' → Is (addStructOf c name s) a s'
+    pub struct-new : r ≡ false → (a : Emitted) (s' : Stores) → Is (structAdded c name s) a s' → Is (addStructOf c name s) a s'
     unfolding structFound
-    struct-new i f a s' q = record { means = q .means ∙ sym (search-is (told-none _ r i er f)) }
+    struct-new f a s' q =
+        record { means = q .means ∙ sym (search-is (halves-miss (c .structs) (s .structs) (s .text) o name at edge (stands-no at (c .structs) _ (sym er ∙ f)))) }
 
 -- ---- functions
 

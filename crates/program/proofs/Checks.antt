@@ -2,17 +2,20 @@
 use mathlib.Core.Path.{_≡_, refl, _∙_}
 use mathlib.Core.Bool.{Bool, true, false, _&&_, _||_}
 use mathlib.Core.List.{List, [], _∷_}
-use Prim.Native.Nat.{ℕ, suc, _+_, _≤_, _<_}
+use Prim.Native.Nat.{ℕ, suc, _+_, _-_, _≤_, _<_}
+use native.Mathlib.Omega.{arith}
 use lib.Dec.{eqb, leb, ltb}
-use borrow.Author.Tests.{eq-eqb, ne-eqb, le-leb, lt-leb}
+use lib.ListN.{length}
+use borrow.Author.Tests.{eq-eqb, ne-eqb, le-leb, lt-leb, lt-ltb, le-ltb}
 use Rattle.model.specs.declared.Counts.{Counts}
 use Rattle.model.specs.Values.{places, kindAt, payloadAt}
 use Rattle.model.specs.Equality.{sameBytes}
-use Rattle.model.specs.Stores.{start, size, part, structWord, structsFrom, nameWord, codeWord, codeEnd}
-use Rattle.model.specs.Programs.{mainName}
+use Rattle.model.specs.Stores.{start, size, part, structWord, orderWord, nameWord, codeWord, codeEnd}
+use Rattle.model.specs.Programs.{before, mainName}
 use Rattle.model.specs.Basics.{ascii, everyFrom}
-use Rattle.program.proofs.Every.{Judged}
-use Rattle.model.specs.Orders.{countsOk, textOk, insideText, constantOk, constantsOk, allDifferent, structsOk, codeStart, functionOk, functionsOk, mainOk, mainTaken, otherTaken, insideCodes}
+use Rattle.program.proofs.Every.{Judged, Passed}
+use Rattle.model.specs.Orders.{countsOk, textOk, insideText, constantOk, constantsOk, nameInOrder, structsOk, codeStart, functionOk, functionsOk, mainOk, mainTaken, otherTaken, insideCodes, programOk}
+use Rattle.program.specs.Links.{WholeIs}
 
 pub counts-is : (c : Counts) (last : Bool) → last ≡ eqb (suc (c .current)) (c .functions)
     → (leb (c .constants) 65535 && leb (c .structs) 65536 && leb 1 (c .functions) && leb (c .functions) 65536 && leb (c .text) 0xFFFF_FFFF && (eqb (c .current) 0 || last)) ≡ countsOk c
@@ -53,14 +56,56 @@ constants-judged c cs = record { says = refl }
 pub constant-here : (c : Counts) (cs : List ℕ) (i k a : ℕ) (b : Bool) → k ≡ kindAt cs i → a ≡ payloadAt cs i → b ≡ constantOk c k a → b ≡ constantOk c (kindAt cs i) (payloadAt cs i)
 constant-here c cs i k a b e f g = g ∙ rw (e, f)
 
-pub structs-judged : (c : Counts) (ss : List ℕ) → Judged (leb (c .structs) (places 1 ss) && everyFrom (c .structs) 0 (λ i. insideText c (structWord ss i))) (c .structs) (places 1 ss) (λ i. insideText c (structWord ss i))
+-- a struct name inside the text, and a number of a struct
+pub structs-judged : (c : Counts) (ss : List ℕ) → Judged (leb (c .structs) (places 2 ss) && everyFrom (c .structs) 0 (λ i. insideText c (structWord ss i) && ltb (orderWord ss i) (c .structs)))
+    (c .structs) (places 2 ss) (λ i. insideText c (structWord ss i) && ltb (orderWord ss i) (c .structs))
 structs-judged c ss = record { says = refl }
 
-pub struct-here : (c : Counts) (ss : List ℕ) (i w : ℕ) (b : Bool) → w ≡ structWord ss i → b ≡ insideText c w → b ≡ insideText c (structWord ss i)
-struct-here c ss i w b e f = f ∙ rw e
+pub struct-here : (c : Counts) (ss : List ℕ) (i v k w : ℕ) (b : Bool) → v ≡ payloadAt ss i → k ≡ v → w ≡ kindAt ss i → b ≡ insideText c w
+    → (b && ltb k (c .structs)) ≡ (insideText c (structWord ss i) && ltb (orderWord ss i) (c .structs))
+unfolding structWord orderWord
+struct-here c ss i v k w b ev ek ew eb = rw (eb, ew, ek, ev)
 
-module _ (c : Counts) (ss t : List ℕ) (a : Bool) (e : a ≡ (leb (c .structs) (places 1 ss) && everyFrom (c .structs) 0 (λ i. insideText c (structWord ss i)))) where
-  pub structs-is : a ≡ true → (b : Bool) → b ≡ allDifferent (structsFrom (c .structs) 0 ss t) → b ≡ structsOk c ss t
+-- a place of the order, read in two steps
+pub in-order-is : (ss : List ℕ) (i v k w : ℕ) → v ≡ payloadAt ss i → k ≡ v → w ≡ kindAt ss k → w ≡ structWord ss (orderWord ss i)
+unfolding structWord orderWord
+in-order-is ss i v k w ev ek ew = ew ∙ rw (ek, ev)
+
+-- each name before the next
+pub name-here : (ss t : List ℕ) (i w : ℕ) (p : List ℕ) → w ≡ structWord ss (orderWord ss i) → p ≡ part t w → p ≡ nameInOrder ss t i
+unfolding nameInOrder
+name-here ss t i w p ew ep = ep ∙ rw ew
+
+-- the name in the middle, compared
+pub middle-is : (ss t : List ℕ) (i w : ℕ) (p name : List ℕ) (b : Bool) → w ≡ structWord ss (orderWord ss i) → p ≡ part t w → b ≡ before p name → b ≡ before (nameInOrder ss t i) name
+middle-is ss t i w p name b ew ep eb = eb ∙ rw (name-here ss t i w p ew ep)
+
+pub stands-is : (ss t : List ℕ) (at n w : ℕ) (p name : List ℕ) (b : Bool) → at < n → w ≡ structWord ss (orderWord ss at) → p ≡ part t w → b ≡ sameBytes name p
+    → b ≡ (ltb at n && sameBytes name (nameInOrder ss t at))
+stands-is ss t at n w p name b h ew ep eb = rw (lt-ltb at n h) (eb ∙ rw (name-here ss t at w p ew ep))
+
+pub stands-not : (ss t : List ℕ) (at n : ℕ) (name : List ℕ) → n ≤ at → false ≡ (ltb at n && sameBytes name (nameInOrder ss t at))
+stands-not ss t at n name h = rw (le-ltb at n h)
+
+module _ (n : ℕ) (ss t : List ℕ) where
+  abbrev pub ascending : ℕ → Bool
+  ascending i = before (nameInOrder ss t i) (nameInOrder ss t (suc i))
+
+  pub none-ascend : n ≡ 0 → true ≡ everyFrom (n - 1) 0 ascending
+  unfolding everyFrom
+  none-ascend e = let z : n - 1 ≡ 0 = omega arith in rw z
+
+  pub ascend-start : (last : ℕ) → last ≡ n - 1 → Passed (everyFrom (n - 1) 0 ascending) last ascending 0
+  ascend-start last e = record { within = omega arith; means = let z : last - 0 ≡ last = omega arith in rw (z, e) }
+
+  pub ascends-here : (i w v : ℕ) (p q : List ℕ) (b : Bool) → w ≡ structWord ss (orderWord ss i) → p ≡ part t w → v ≡ structWord ss (orderWord ss (i + 1)) → q ≡ part t v
+      → b ≡ before p q → b ≡ ascending i
+  ascends-here i w v p q b ew ep ev eq eb =
+      let z : i + 1 ≡ suc i = omega arith in
+      eb ∙ rw (name-here ss t i w p ew ep, name-here ss t (suc i) v q (rw z at ev) eq)
+
+module _ (c : Counts) (ss t : List ℕ) (a : Bool) (e : a ≡ (leb (c .structs) (places 2 ss) && everyFrom (c .structs) 0 (λ i. insideText c (structWord ss i) && ltb (orderWord ss i) (c .structs)))) where
+  pub structs-is : a ≡ true → (b : Bool) → b ≡ everyFrom (c .structs - 1) 0 (λ i. before (nameInOrder ss t i) (nameInOrder ss t (suc i))) → b ≡ structsOk c ss t
   unfolding structsOk
   structs-is h b f = rw (← e, h) f
 
@@ -86,3 +131,15 @@ pub codes-is : (c : Counts) (fs : List ℕ) (a b m o : ℕ) → a ≡ codeEnd fs
     → (main other : List ℕ) → m ≡ places 1 main → o ≡ places 1 other → (leb a m && leb b o) ≡ insideCodes c fs main other
 unfolding insideCodes mainTaken otherTaken
 codes-is c fs a b m o ea eb main other em eo = rw (ea, eb, em, eo)
+
+-- the whole, clause by clause
+pub whole-is : (c : Counts) (cs ss fs t : List ℕ) (m mp o op : ℕ) (b1 b2 b3 b4 b5 b6 b7 b8 : Bool)
+    → b1 ≡ countsOk c → b2 ≡ textOk c t → b3 ≡ constantsOk c cs → b4 ≡ structsOk c ss t → b5 ≡ functionsOk c fs → b6 ≡ mainOk fs t
+    → ((x y : List ℕ) → length x ≡ m → length y ≡ o → b7 ≡ insideCodes c fs x y)
+    → ((x y : List ℕ) → length x ≡ mp → length y ≡ op → b8 ≡ insideCodes c fs x y)
+    → WholeIs c cs ss fs t m mp o op (b1 && b2 && b3 && b4 && b5 && b6 && b7 && b8)
+unfolding programOk
+whole-is c cs ss fs t m mp o op b1 b2 b3 b4 b5 b6 b7 b8 e1 e2 e3 e4 e5 e6 e7 e8 = record {
+  is = λ s q1 q2 q3 q4 q5 q6 q7 q8.
+      rw (e1, e2, e3, e4, e5, e6, ← q1, ← q2, ← q3, ← q4) (rw (rw (← q3) at (e7 (s .main) (s .other) q5 q7), rw (← q3) at (e8 (s .mainPlaces) (s .otherPlaces) q6 q8)));
+}

@@ -17,13 +17,13 @@ use Rattle.model.specs.declared.Emitted.the-variants.{Done}
 use Rattle.model.specs.Basics.{if_then_else_, everyFrom}
 use Rattle.model.specs.Values.{places, textAt, kindAt, payloadAt, putWords}
 use Rattle.model.specs.Programs.{constantLimit}
-use Rattle.model.specs.Stores.{Stores, start, size, pack, part, structWord, nameWord, codeWord, codeEnd, structsFrom, codeHere, placesHere, withCode, withConstants, withFunctions, withText}
-use Rattle.model.specs.Orders.{countsOk, textOk, insideText, constantOk, constantsOk, allDifferent, structsOk, codeStart, functionOk, functionsOk, mainOk, mainTaken, otherTaken, insideCodes, programOk}
+use Rattle.model.specs.Stores.{Stores, start, size, pack, part, structWord, orderWord, nameWord, codeWord, codeEnd, structsFrom, codeHere, placesHere, withCode, withConstants, withFunctions, withText}
+use Rattle.model.specs.Orders.{countsOk, textOk, insideText, constantOk, constantsOk, nameInOrder, structsOk, codeStart, functionOk, functionsOk, mainOk, mainTaken, otherTaken, insideCodes, programOk}
 use Rattle.model.specs.Emission.{counts, oneConstant, written, textRoom, withConstant, withTextConstant, constantAdded, constantOrder, addConstantOf, u16, sizeHere, patchOrder, patched, patchOf, endFunctionOf, oneFunction}
 use Rattle.program.proofs.Bools.{either-way, and-left, and-right, and-both}
 use Rattle.program.proofs.Parts.{room-1, room-2, places-same, start-pack, size-pack}
-use Rattle.program.proofs.Every.{pass-all, passed-at}
-use Rattle.program.proofs.Known.{Limited, limited, text-inside, constants-known, function-known, codes-behind}
+use Rattle.program.proofs.Every.{pass-all}
+use Rattle.program.proofs.Known.{Limited, limited, Structs, structs-known, structs-good, text-inside, constants-known, function-known, codes-behind}
 use Rattle.program.proofs.Writing.{length-written, length-words}
 use Rattle.program.proofs.Adding.{start-below}
 use Rattle.program.proofs.Keeping.{Good, good-of, of-good, inside-back, function-good, Kept, kept-if, kept-refused}
@@ -93,21 +93,26 @@ module _ (c d : Counts) (more : c .text ≤ d .text) where
 
   -- struct names, where the text changes no part below
   module _ (ss t u : List ℕ) (same : (w : ℕ) → start w + size w ≤ c .text → part u w ≡ part t w) where
-    pub names-same : (n i : ℕ) → everyFrom n i (λ j. insideText c (structWord ss j)) ≡ true → structsFrom n i ss u ≡ structsFrom n i ss t
-    unfolding structsFrom everyFrom
-    names-same zero i e = refl
-    names-same (suc n) i e =
-        let a = insideText c (structWord ss i) in let b = everyFrom n (suc i) (λ j. insideText c (structWord ss j)) in
-        rw (same (structWord ss i) (text-inside c (structWord ss i) (and-left a b e)), names-same n (suc i) (and-right a b e))
+    pub names-same : (n i : ℕ) → ((j : ℕ) → j < i + n → insideText c (structWord ss j) ≡ true) → structsFrom n i ss u ≡ structsFrom n i ss t
+    unfolding structsFrom
+    names-same zero i h = refl
+    names-same (suc n) i h = rw (same (structWord ss i) (text-inside c (structWord ss i) (h i (omega arith))), names-same n (suc i) (λ j l. h j (omega arith)))
+
+    order-same : Structs c ss t → (i : ℕ) → i < c .structs → nameInOrder ss u i ≡ nameInOrder ss t i
+    unfolding nameInOrder
+    order-same k i h = same (structWord ss (orderWord ss i)) (text-inside c (structWord ss (orderWord ss i)) (k .inside (orderWord ss i) (k .order .below i h)))
 
     pub structs-more : d .structs ≡ c .structs → structsOk c ss t ≡ true → structsOk d ss u ≡ true
-    unfolding structsOk everyFrom insideText allDifferent
     structs-more e g =
-        let a = leb (c .structs) (places 1 ss) in let b = everyFrom (c .structs) 0 (λ j. insideText c (structWord ss j)) in let f = allDifferent (structsFrom (c .structs) 0 ss t) in
-        let x = and-left (a && b) f g in let y = and-right a b x in
-        let v : everyFrom (c .structs) 0 (λ j. insideText d (structWord ss j)) ≡ true =
-        pass-all (c .structs) 0 (λ j. insideText d (structWord ss j)) (λ i h. inside-more (structWord ss (0 + i)) (passed-at (c .structs) 0 (λ j. insideText c (structWord ss j)) y i h)) in
-        rw (e, names-same (c .structs) 0 y, and-left a b x, v) (and-right (a && b) f g)
+        let k = structs-known c ss t g in
+        structs-good d ss u (record {
+          within = rw e (k .within);
+          inside = λ i h. inside-more (structWord ss i) (k .inside i (rw e at h));
+          order = rw e (record {
+            below = k .order .below;
+            ascending = record { next = λ i h. rw (order-same k i (omega arith), order-same k (suc i) h) (k .order .ascending .next i h) };
+          });
+        })
 
 pub main-kept : (c : Counts) (fs t u : List ℕ) → functionsOk c fs ≡ true → 1 ≤ c .functions → ((w : ℕ) → start w + size w ≤ c .text → part u w ≡ part t w) → mainOk fs t ≡ true → mainOk fs u ≡ true
 unfolding mainOk

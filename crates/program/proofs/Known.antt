@@ -2,21 +2,22 @@
 use mathlib.Core.Path.{_≡_, refl}
 use mathlib.Core.Bool.{Bool, true, false, _&&_, _||_}
 use mathlib.Core.List.{List}
-use Prim.Native.Nat.{ℕ, zero, suc, _+_, _*_, _≤_, _<_}
+use Prim.Native.Nat.{ℕ, zero, suc, _+_, _-_, _*_, _≤_, _<_}
 use native.Mathlib.Omega.{arith}
 use native.Mathlib.Numerals.{lt-of-le-of-ne}
-use lib.Dec.{eqb, leb}
+use lib.Dec.{eqb, leb, ltb}
 use lib.ListN.{length}
-use borrow.Author.Tests.{leb-true, eqb-true, eqb-false}
+use borrow.Author.Tests.{leb-true, ltb-true, le-leb, lt-ltb, eqb-true, eqb-false}
 use Rattle.model.specs.declared.Counts.{Counts}
 use Rattle.model.specs.Basics.{everyFrom}
 use Rattle.model.specs.Values.{places, kindAt, payloadAt}
-use Rattle.model.specs.Programs.{codeLimit}
-use Rattle.model.specs.Stores.{start, size, structWord, structsFrom, nameWord, codeWord, codeEnd}
-use Rattle.model.specs.Orders.{countsOk, textOk, insideText, constantOk, constantsOk, allDifferent, structsOk, codeStart, functionOk, functionsOk, mainTaken, otherTaken, insideCodes}
-use Rattle.program.proofs.Bools.{either-way, and-left, and-right}
+use Rattle.model.specs.Programs.{before, codeLimit}
+use Rattle.model.specs.Stores.{start, size, structWord, orderWord, nameWord, codeWord, codeEnd}
+use Rattle.model.specs.Orders.{countsOk, textOk, insideText, constantOk, constantsOk, nameInOrder, structsOk, codeStart, functionOk, functionsOk, mainTaken, otherTaken, insideCodes}
+use Rattle.ordering.specs.Sorted.{InOrder}
+use Rattle.program.proofs.Bools.{either-way, and-left, and-right, and-both}
 use Rattle.program.proofs.Parts.{room-1, room-2}
-use Rattle.program.proofs.Every.{passed}
+use Rattle.program.proofs.Every.{passed, pass-all}
 
 -- the counts are within their limits, and the current function is one of them
 pub record Limited (c : Counts) : Type 0 where
@@ -82,12 +83,44 @@ constants-known c cs e =
       each = passed (c .constants) (λ j. constantOk c (kindAt cs j) (payloadAt cs j)) (and-right a b e);
     }
 
--- the struct names lie in the text
-pub structs-inside : (c : Counts) (ss t : List ℕ) → structsOk c ss t ≡ true → everyFrom (c .structs) 0 (λ j. insideText c (structWord ss j)) ≡ true
-unfolding structsOk
-structs-inside c ss t e =
-    let a = leb (c .structs) (places 1 ss) in let b = everyFrom (c .structs) 0 (λ j. insideText c (structWord ss j)) in
-    and-right a b (and-left (a && b) (allDifferent (structsFrom (c .structs) 0 ss t)) e)
+-- the struct names lie in their store and in the text, and stand in order
+pub record Structs (c : Counts) (ss t : List ℕ) : Type 0 where
+  pub within : c .structs ≤ places 2 ss
+  pub inside : (i : ℕ) → i < c .structs → insideText c (structWord ss i) ≡ true
+  pub order : InOrder (c .structs) ss t
+
+module _ (c : Counts) (ss t : List ℕ) where
+  placed : ℕ → Bool
+  placed i = insideText c (structWord ss i) && ltb (orderWord ss i) (c .structs)
+
+  next : ℕ → Bool
+  next i = before (nameInOrder ss t i) (nameInOrder ss t (suc i))
+
+  pub structs-known : structsOk c ss t ≡ true → Structs c ss t
+  unfolding structsOk placed next
+  structs-known e =
+      let a = leb (c .structs) (places 2 ss) in let b = everyFrom (c .structs) 0 placed in let d = everyFrom (c .structs - 1) 0 next in
+      let f : (a && b) ≡ true = and-left (a && b) d e in
+      let each : (i : ℕ) → i < c .structs → placed i ≡ true = passed (c .structs) placed (and-right a b f) in
+      record {
+        within = leb-true (c .structs) (places 2 ss) (and-left a b f);
+        inside = λ i h. and-left (insideText c (structWord ss i)) (ltb (orderWord ss i) (c .structs)) (each i h);
+        order = record {
+          below = λ i h. ltb-true (orderWord ss i) (c .structs) (and-right (insideText c (structWord ss i)) (ltb (orderWord ss i) (c .structs)) (each i h));
+          ascending = record { next = λ i h. passed (c .structs - 1) next (and-right (a && b) d e) i (omega arith) };
+        };
+      }
+
+  pub structs-good : Structs c ss t → structsOk c ss t ≡ true
+  unfolding structsOk placed next
+  structs-good g =
+      let a = leb (c .structs) (places 2 ss) in let b = everyFrom (c .structs) 0 placed in let d = everyFrom (c .structs - 1) 0 next in
+      and-both (a && b) d
+      (and-both a b (le-leb (c .structs) (places 2 ss) (g .within))
+      (pass-all (c .structs) 0 placed (λ i h.
+      let z : 0 + i ≡ i = omega arith in
+      rw z (and-both (insideText c (structWord ss i)) (ltb (orderWord ss i) (c .structs)) (g .inside i h) (lt-ltb (orderWord ss i) (c .structs) (g .order .below i h))))))
+      (pass-all (c .structs - 1) 0 next (λ i h. let z : 0 + i ≡ i = omega arith in rw z (g .order .ascending .next i (omega arith))))
 
 -- function i: its words lie in the store, its name in the text, its code behind the others
 pub record Known (c : Counts) (fs : List ℕ) (i : ℕ) : Type 0 where

@@ -16,15 +16,19 @@ use Rattle.model.specs.Basics.{if_then_else_, ascii, everyFrom}
 use Rattle.model.specs.Values.{places, textAt, kindAt, payloadAt, putWords}
 use Rattle.model.specs.Equality.{sameBytes}
 use Rattle.model.specs.Programs.{Function, Program, mainName, firstFrom, among, nameLimit}
-use Rattle.model.specs.Stores.{Stores, start, size, pack, part, structWord, nameWord, codeWord, codeEnd, constantsFrom, structsFrom, functionIn, functionsFrom, programIn, withStructs, withFunctions, withText}
-use Rattle.model.specs.Orders.{countsOk, textOk, insideText, constantsOk, allDifferent, structsOk, codeStart, functionsOk, mainOk, mainTaken, otherTaken, insideCodes, programOk}
-use Rattle.model.specs.Emission.{Res, refuse, counts, oneStruct, oneFunction, written, textRoom, newOf, structAdded, structFound, structOrder, addStructOf, functionOrder, begun, beginFunctionOf, endFunctionOf}
+use Rattle.model.specs.Stores.{Stores, start, size, pack, part, structWord, orderWord, nameWord, codeWord, codeEnd, constantsFrom, structsFrom, functionIn, functionsFrom, programIn, withStructs, withFunctions, withText}
+use Rattle.model.specs.Orders.{countsOk, textOk, insideText, constantsOk, nameInOrder, structsOk, codeStart, functionsOk, mainOk, mainTaken, otherTaken, insideCodes, programOk}
+use Rattle.model.specs.Emission.{Res, refuse, counts, oneStruct, oneFunction, written, textRoom, newOf, structNames, withStructName, structAdded, structFound, structOrder, addStructOf, functionOrder, begun, beginFunctionOf, endFunctionOf}
+use Rattle.ordering.specs.Sorted.{Spot, structPut}
+use Rattle.ordering.proofs.Halves.{edge-spot}
+use Rattle.ordering.proofs.Putting.{length-struct-put, new-word, old-word}
+use Rattle.ordering.proofs.Standing.{Somewhere, somewhere, none-among, put-named, stays-in-order}
 use Rattle.program.proofs.Bools.{either-way, and-left, and-right, and-both}
 use Rattle.program.proofs.Parts.{room-1, room-2, places-same, start-pack, size-pack}
-use Rattle.program.proofs.Every.{pass-all, passed}
-use Rattle.program.proofs.Known.{Limited, limited, structs-inside, text-inside, constants-known, function-known}
+use Rattle.program.proofs.Every.{pass-all}
+use Rattle.program.proofs.Known.{Limited, limited, Structs, structs-known, structs-good, text-inside, constants-known, function-known}
 use Rattle.program.proofs.Writing.{length-written}
-use Rattle.program.proofs.Searching.{among-none, among-some, different-more}
+use Rattle.program.proofs.Searching.{among-none, among-some}
 use Rattle.program.proofs.Adding.{start-below}
 use Rattle.program.proofs.Keeping.{Good, good-of, of-good, inside-back, function-good, Kept}
 use Rattle.program.proofs.Growing.{part-kept, part-new, inside-more, constants-more, functions-more, names-same, main-kept, words-here, words-other, counts-good, function-begun}
@@ -93,7 +97,7 @@ structs-alike (suc n) i ss ds t u h = rw (h i (omega arith), structs-alike n (su
 unfoldable pub withName : Program → List ℕ → Program
 withName q x = record { constants = q .constants; structs = if among x (q .structs) then q .structs else q .structs ++ (x ∷ []); functions = q .functions }
 
-module _ (c : Counts) (s : Stores) (g : Good c s) (lent : List ℕ) (room : c .text + length lent ≤ places 1 (s .text)) (few : c .structs < 65536) (fits : c .structs < places 1 (s .structs))
+module _ (c : Counts) (s : Stores) (g : Good c s) (lent : List ℕ) (room : c .text + length lent ≤ places 1 (s .text)) (few : c .structs < 65536) (fits : c .structs < places 2 (s .structs))
     (fresh : among lent (structsFrom (c .structs) 0 (s .structs) (s .text)) ≡ false) where
   abbrev t : List ℕ
   t = written (s .text) (c .text) lent
@@ -102,7 +106,7 @@ module _ (c : Counts) (s : Stores) (g : Good c s) (lent : List ℕ) (room : c .t
   w = pack (c .text) (length lent)
 
   abbrev ss : List ℕ
-  ss = set (s .structs) (c .structs) w
+  ss = withStructName c lent s
 
   abbrev d : Counts
   d = oneStruct (length lent) c
@@ -110,50 +114,69 @@ module _ (c : Counts) (s : Stores) (g : Good c s) (lent : List ℕ) (room : c .t
   lim : Limited c
   lim = limited c (g .counts)
 
+  known : Structs c (s .structs) (s .text)
+  known = structs-known c (s .structs) (s .text) (g .structs)
+
+  -- the place of the name in the order
+  place : Somewhere (c .structs) (nameInOrder (s .structs) (s .text)) lent
+  place = somewhere (c .structs) (nameInOrder (s .structs) (s .text)) lent
+
+  spot : Spot (c .structs) (nameInOrder (s .structs) (s .text)) lent (place .at)
+  spot = edge-spot (c .structs) (nameInOrder (s .structs) (s .text)) (known .order .ascending) lent (place .at) (place .edge)
+
+  put : structPut (c .structs) (place .at) w (s .structs) ≡ ss
+  unfolding withStructName structNames
+  put = put-named (c .structs) (s .structs) (s .text) (known .order) lent (place .at) spot w
+
+  two : 2 * c .structs + 2 ≤ length (s .structs)
+  two = let x = room-2 (s .structs) in omega arith
+
   word-new : structWord ss (c .structs) ≡ w
-  unfolding structWord
-  word-new = getD-set-same (s .structs) (c .structs) w 0 (let x = room-1 (s .structs) in omega arith)
+  word-new = rw (← put) (new-word (c .structs) (place .at) w (s .structs) (spot .most) two)
 
   word-old : (j : ℕ) → (j ≡ c .structs → ⊥) → structWord ss j ≡ structWord (s .structs) j
-  unfolding structWord
-  word-old j e = getD-set-other (s .structs) (c .structs) j w 0 e
+  word-old j e = rw (← put) (old-word (c .structs) (place .at) w (s .structs) (spot .most) two j e)
+
+  same-size : length ss ≡ length (s .structs)
+  same-size = rw (← put) (length-struct-put (c .structs) (place .at) w (s .structs) (spot .most) two)
 
   old-inside : (j : ℕ) → j < c .structs → insideText c (structWord (s .structs) j) ≡ true
-  old-inside j h = passed (c .structs) (λ i. insideText c (structWord (s .structs) i)) (structs-inside c (s .structs) (s .text) (g .structs)) j h
+  old-inside = known .inside
+
+  old-same : (j : ℕ) → j < c .structs → part t (structWord (s .structs) j) ≡ part (s .text) (structWord (s .structs) j)
+  old-same j h = same c s g lent room (structWord (s .structs) j) (text-inside c (structWord (s .structs) j) (old-inside j h))
 
   names-now : structsFrom (suc (c .structs)) 0 ss t ≡ structsFrom (c .structs) 0 (s .structs) (s .text) ++ (lent ∷ [])
   names-now =
       let z : 0 + c .structs ≡ c .structs = omega arith in
       let old : structsFrom (c .structs) 0 ss t ≡ structsFrom (c .structs) 0 (s .structs) (s .text) =
-      structs-alike (c .structs) 0 (s .structs) ss (s .text) t (λ j h.
-      rw (word-old j (λ (q : j ≡ c .structs). omega arith)) (same c s g lent room (structWord (s .structs) j) (text-inside c (structWord (s .structs) j) (old-inside j (omega arith))))) in
+      structs-alike (c .structs) 0 (s .structs) ss (s .text) t (λ j h. rw (word-old j (λ (q : j ≡ c .structs). omega arith)) (old-same j (omega arith))) in
       structs-snoc (c .structs) 0 ss t ∙ rw (z, word-new, new-part c s g lent room, old)
 
   new-inside : insideText d w ≡ true
   new-inside = let x = inside c s g lent room in inside-back d w (rw (start-pack (c .text) (length lent) (x .1), size-pack (c .text) (length lent) (x .1)) (omega arith))
 
-  each-inside : (j : ℕ) → j < suc (c .structs) → insideText d (structWord ss (0 + j)) ≡ true
+  each-inside : (j : ℕ) → j < suc (c .structs) → insideText d (structWord ss j) ≡ true
   each-inside j h =
-      let z : 0 + j ≡ j = omega arith in
-      rw z (either-way (eqb j (c .structs))
+      either-way (eqb j (c .structs))
       (λ e. let q : j ≡ c .structs = eqb-true j (c .structs) e in rw (q, word-new) new-inside)
       (λ e.
       let q : j ≡ c .structs → ⊥ = eqb-false j (c .structs) e in
-      rw (word-old j q) (inside-more c d (omega arith) (structWord (s .structs) j) (old-inside j (lt-of-le-of-ne (omega arith) q)))))
+      rw (word-old j q) (inside-more c d (omega arith) (structWord (s .structs) j) (old-inside j (lt-of-le-of-ne (omega arith) q))))
 
-  old-different : allDifferent (structsFrom (c .structs) 0 (s .structs) (s .text)) ≡ true
-  unfolding structsOk
-  old-different =
-      let a = leb (c .structs) (places 1 (s .structs)) in let b = everyFrom (c .structs) 0 (λ j. insideText c (structWord (s .structs) j)) in
-      and-right (a && b) (allDifferent (structsFrom (c .structs) 0 (s .structs) (s .text))) (g .structs)
+  -- the name is none of those that stand in order
+  new : (i : ℕ) → i < c .structs → sameBytes lent (nameInOrder (s .structs) (s .text) i) ≡ false
+  unfolding nameInOrder
+  new i h =
+      let k = orderWord (s .structs) i in let z : 0 + k ≡ k = omega arith in
+      rw z at (none-among (c .structs) 0 lent (s .structs) (s .text) fresh k (known .order .below i h))
 
   structs-now : structsOk d ss t ≡ true
-  unfolding structsOk
-  structs-now =
-      let a = leb (suc (c .structs)) (places 1 ss) in let b = everyFrom (suc (c .structs)) 0 (λ j. insideText d (structWord ss j)) in
-      and-both (a && b) (allDifferent (structsFrom (suc (c .structs)) 0 ss t))
-      (and-both a b (rw (places-same 1 ss (s .structs) (length-set (s .structs) (c .structs) w)) (le-leb _ _ fits)) (pass-all (suc (c .structs)) 0 (λ j. insideText d (structWord ss j)) each-inside))
-      (rw names-now (different-more _ lent old-different fresh))
+  structs-now = structs-good d ss t (record {
+    within = rw (places-same 2 ss (s .structs) same-size) fits;
+    inside = each-inside;
+    order = rw put at (stays-in-order (c .structs) (s .structs) (s .text) (known .order) lent (place .at) spot new w t two old-same (new-part c s g lent room));
+  })
 
   named-good : Good d (withStructs ss (withText t s))
   unfolding textOk insideCodes otherTaken
@@ -186,7 +209,7 @@ module _ (c : Counts) (lent : List ℕ) (s : Stores) (e : programOk c s ≡ true
   added-made fresh =
       let want = withName (programIn c s) lent in
       made-if want (leb nameLimit (c .structs)) _ _ (λ _. made-refused want 22 s) (λ few.
-      made-if want (leb (places 1 (s .structs)) (c .structs)) _ _ (λ _. made-refused want 21 s) (λ fits.
+      made-if want (leb (places 2 (s .structs)) (c .structs)) _ _ (λ _. made-refused want 21 s) (λ fits.
       made-if want (leb (c .text + length lent) (places 1 (s .text))) _ _ (λ r.
       made-done _ (c .structs) _ (named-good c s good lent (leb-true _ _ r) (leb-false _ _ few) (leb-false _ _ fits) fresh) (named-reads c s good lent (leb-true _ _ r) (leb-false _ _ few) (leb-false _ _ fits) fresh))
       (λ _. made-refused want 21 s)))
@@ -197,7 +220,7 @@ module _ (c : Counts) (lent : List ℕ) (s : Stores) (e : programOk c s ≡ true
   found-made none q = added-made (among-none 0 lent _ q)
 
   struct-made : Made (withName (programIn c s) lent) (addStructOf c lent s)
-  unfolding addStructOf
+  unfolding addStructOf structNames
   struct-made = made-if (withName (programIn c s) lent) (structOrder c s) _ _ (λ _. found-made _ refl) (λ _. made-refused _ 19 s)
 
   -- add_struct_info
@@ -238,12 +261,12 @@ module _ (s : Stores) (text : 6 ≤ places 1 (s .text)) (room : 1 ≤ places 2 (
   no-code = rw (two-words .1)
 
   new-good : Good one (withFunctions fs (withText named s))
-  unfolding countsOk textOk constantsOk structsOk allDifferent structsFrom everyFrom functionsOk mainOk sameBytes mainName ascii insideCodes mainTaken otherTaken codeStart start size pack
+  unfolding countsOk textOk constantsOk structsOk everyFrom functionsOk mainOk sameBytes mainName ascii insideCodes mainTaken otherTaken codeStart start size pack
   new-good = record {
     counts = refl;
     text = le-leb 6 (places 1 named) (rw (places-same 1 named (s .text) (length-written (s .text) 0 mainName)) text);
     constants = rw (le-leb 0 (places 2 (s .constants)) (omega arith));
-    structs = rw (le-leb 0 (places 1 (s .structs)) (omega arith));
+    structs = rw (le-leb 0 (places 2 (s .structs)) (omega arith));
     functions = rw (
       le-leb 1 (places 2 fs) (rw (places-same 2 fs (s .functions) (length-written (s .functions) 0 (pack 0 6 ∷ 0 ∷ []))) room),
       function-good one fs 0
@@ -319,7 +342,7 @@ module _ (c : Counts) (s : Stores) (g : Good c s) (lent : List ℕ) (room : c .t
       let z : 0 + c .functions ≡ c .functions = omega arith in
       let e : functionsFrom (suc (c .functions)) 0 s' ≡ functionsFrom (c .functions) 0 s ++ (empty lent ∷ []) = functions-snoc (c .functions) 0 s' ∙ rw (z, old-functions, new-function) in
       let n : structsFrom (c .structs) 0 (s .structs) (written (s .text) (c .text) lent) ≡ structsFrom (c .structs) 0 (s .structs) (s .text) =
-      names-same c c (omega arith) (s .structs) (s .text) _ (same c s g lent room) (c .structs) 0 (structs-inside c (s .structs) (s .text) (g .structs)) in
+      names-same c c (omega arith) (s .structs) (s .text) _ (same c s g lent room) (c .structs) 0 (λ j l. structs-known c (s .structs) (s .text) (g .structs) .inside j (omega arith)) in
       rw (constants-kept c s g lent room, n, e)
 
 begin-made : (c : Counts) (name : List ℕ) (s : Stores) → programOk c s ≡ true → Made (withFunction (programIn c s) name) (beginFunctionOf c name s)

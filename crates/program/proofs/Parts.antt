@@ -12,7 +12,7 @@ use lib.Seq.{take-all, drop-cons, take-nil}
 use borrow.Author.Tests.{ne-eqb, eq-eqb, leb-true, leb-false}
 use Rattle.model.specs.Values.{places, mostPlaces, kindAt, payloadAt, textAt}
 use Rattle.model.specs.Equality.{sameBytes}
-use Rattle.model.specs.Stores.{start, size, pack, part, structWord, codeWord, codeEnd}
+use Rattle.model.specs.Stores.{start, size, pack, part, codeWord, codeEnd}
 use Rattle.model.specs.Orders.{codeStart}
 use Rattle.program.proofs.Bools.{apart, either-way, and-right, and-not}
 
@@ -61,8 +61,7 @@ pub size-pack : (o n : ℕ) → o < 2 ^ 32 → size (pack o n) ≡ n
 unfolding size pack
 size-pack o n h = omega arith
 
-pub past : (s : List ℕ) (i : ℕ) → length s ≤ i → 0 ≡ structWord s i
-unfolding structWord
+pub past : (s : List ℕ) (i : ℕ) → length s ≤ i → 0 ≡ getD s i 0
 past s i h = sym (List·getD-eq-default s 0 h)
 
 pub past-0 : (s : List ℕ) (i : ℕ) → length s / 2 < i → 0 ≡ kindAt s i

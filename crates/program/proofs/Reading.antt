@@ -22,7 +22,7 @@ use Rattle.model.specs.declared.Emitted.the-variants.{Done}
 use Rattle.model.specs.Emission.{Res, refuse, oneConstant, textRoom, withConstant, withTextConstant, constantAdded, constantOrder, addConstantOf, codeOrder, emitIn, emitOf, written, sizeHere, endHere, codeRoom, longer, appended, u16, patchOrder, patched, patchOf}
 use Rattle.program.proofs.Bools.{apart, either-way}
 use Rattle.program.proofs.Parts.{room-1, room-2, start-pack, size-pack}
-use Rattle.program.proofs.Known.{Limited, limited, function-known, ascending, constants-known, structs-inside, text-inside, code-in-other}
+use Rattle.program.proofs.Known.{Limited, limited, function-known, ascending, constants-known, structs-known, text-inside, code-in-other}
 use Rattle.program.proofs.Keeping.{Good, good-of, Longer, in-code, in-places, now-longer}
 use Rattle.program.proofs.Growing.{split, part-kept, part-new, words-here, words-other, names-same}
 
@@ -276,7 +276,7 @@ module _ (c : Counts) (s : Stores) (g : Good c s) (fits : c .constants < places 
       let x = words-other cs k kind w two j (λ (q : j ≡ k). omega arith) in
       rw (x .0, x .1) (constant-alike c (s .text) u same (kindAt cs j) (payloadAt cs j) (constants-known c cs (g .constants) .each j (omega arith)))) in
       let e1 : constantsFrom (suc k) 0 (putWords cs k kind w) u ≡ constantsFrom k 0 cs (s .text) ++ (constantIn u kind w ∷ []) = constants-snoc k 0 (putWords cs k kind w) u ∙ rw (z, h .0, h .1, old) in
-      let e2 : structsFrom (c .structs) 0 (s .structs) u ≡ structsFrom (c .structs) 0 (s .structs) (s .text) = names-same c c (omega arith) (s .structs) (s .text) u same (c .structs) 0 (structs-inside c (s .structs) (s .text) (g .structs)) in
+      let e2 : structsFrom (c .structs) 0 (s .structs) u ≡ structsFrom (c .structs) 0 (s .structs) (s .text) = names-same c c (omega arith) (s .structs) (s .text) u same (c .structs) 0 (λ j l. structs-known c (s .structs) (s .text) (g .structs) .inside j (omega arith)) in
       let e3 : functionsFrom (c .functions) 0 (withConstants (putWords cs k kind w) (withText u s)) ≡ functionsFrom (c .functions) 0 s =
       all-same s (withConstants (putWords cs k kind w) (withText u s)) (c .functions) 0 (λ j a b. rw (same (nameWord (s .functions) j) (function-known c (s .functions) (g .functions) j (omega arith) .name))) in
       rw (e1, e2, e3)

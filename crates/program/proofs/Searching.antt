@@ -1,25 +1,23 @@
 -- Searches by name.
 use mathlib.Core.Path.{_≡_, refl, sym, ap, _∙_}
-use mathlib.Core.Bool.{Bool, true, false, not, _&&_}
+use mathlib.Core.Bool.{Bool, true, false, _&&_}
 use mathlib.Core.List.{List, [], _∷_, _++_}
 use mathlib.Core.Option.{Option, none, some}
 use Prim.Native.Nat.{ℕ, zero, suc, _+_, _-_, _≤_, _<_}
 use native.Mathlib.Omega.{arith}
-use native.Mathlib.Numerals.{add-one}
 use lib.Dec.{eqb}
 use lib.ListN.{length}
-use borrow.Author.Tests.{eq-eqb, ne-eqb, eqb-true, eqb-false, not-true}
+use borrow.Author.Tests.{eq-eqb, ne-eqb, eqb-true, eqb-false}
 use Rattle.model.specs.declared.Told.{Told}
 use Rattle.model.specs.declared.Told.the-variants as tl
 use Rattle.model.specs.Basics.{if_then_else_}
 use Rattle.model.specs.Values.{kindAt}
 use Rattle.model.specs.Equality.{sameBytes}
 use Rattle.model.specs.Programs.{orElse, newestFrom, firstFrom, among}
-use Rattle.model.specs.Stores.{Stores, part, structWord, nameWord, structsFrom}
-use Rattle.model.specs.Orders.{allDifferent}
+use Rattle.model.specs.Stores.{Stores, part, nameWord}
 use Rattle.model.specs.Emission.{namesFrom, toldName}
 use Rattle.program.specs.Links.{namesLent}
-use Rattle.program.proofs.Bools.{apart, either-way, and-left, and-right, and-both}
+use Rattle.program.proofs.Bools.{either-way}
 
 -- ---- the newest first
 
@@ -76,31 +74,6 @@ module _ (n : ℕ) (name fs t : List ℕ) (left : ℕ) (h : Newest n name fs t l
     pub newest-below : b ≡ false → Newest n name fs t (left - 1)
     newest-below e = record { within = let x = h .within in omega arith; means = λ rest. here rest ∙ rw e }
 
--- ---- the first
-
-pub record First (i n : ℕ) (name ss t : List ℕ) (at : ℕ) : Type 0 where
-  pub means : firstFrom i name (structsFrom (n - i) i ss t) ≡ firstFrom at name (structsFrom (n - at) at ss t)
-
-pub first-start : (i n : ℕ) (name ss t : List ℕ) → First i n name ss t i
-first-start i n name ss t = record { means = refl }
-
-module _ (i n : ℕ) (name ss t : List ℕ) (at : ℕ) (h : First i n name ss t at) where
-  pub first-none : n ≤ at → tl.Refused 14 ≡ toldName (firstFrom i name (structsFrom (n - i) i ss t))
-  unfolding firstFrom structsFrom toldName
-  first-none l = let z : n - at ≡ 0 = omega arith in rw (h .means, z)
-
-  module _ (l : at < n) (w : ℕ) (p : List ℕ) (b : Bool) (ew : w ≡ structWord ss at) (ep : p ≡ part t w) (eb : b ≡ sameBytes name p) where
-    first-now : firstFrom i name (structsFrom (n - i) i ss t) ≡ (if b then some at else firstFrom (suc at) name (structsFrom (n - suc at) (suc at) ss t))
-    unfolding firstFrom structsFrom
-    first-now = let z : n - at ≡ suc (n - suc at) = omega arith in h .means ∙ rw (z, eb, ep, ew)
-
-    pub first-here : b ≡ true → tl.Number at ≡ toldName (firstFrom i name (structsFrom (n - i) i ss t))
-    unfolding toldName
-    first-here e = rw (first-now, e)
-
-    pub first-next : b ≡ false → First i n name ss t (at + 1)
-    first-next e = record { means = first-now ∙ rw (e, add-one) }
-
 -- ---- among the names
 
 if-none : (b : Bool) (i : ℕ) (o : Option ℕ) (a : Bool) → (if b then some i else o) ≡ none → (o ≡ none → a ≡ false) → (if b then true else a) ≡ false
@@ -121,25 +94,6 @@ unfolding firstFrom among
 among-some i n [] k e = absurd (let z : _≡_ {A = ℕ} 0 1 = cc in let y : ⊥ = omega arith in y)
 among-some i n (x ∷ ns) k e = if-some (sameBytes n x) i k (firstFrom (suc i) n ns) (among n ns) e (λ f. among-some (suc i) n ns k f)
 
--- what an answer says of the search
-pub told-some : (o : Option ℕ) (r : Told) (k : ℕ) → r ≡ toldName o → r ≡ tl.Number k → o ≡ some k
-unfolding toldName
-told-some none r k e f = absurd (let z : _≡_ {A = ℕ} 0 1 = cc in let y : ⊥ = omega arith in y)
-told-some (some i) r k e f = let z : i ≡ k = cc in ap some z
-
-pub told-none : (o : Option ℕ) (r : Told) (k : ℕ) → r ≡ toldName o → r ≡ tl.Refused k → o ≡ none
-unfolding toldName
-told-none none r k e f = refl
-told-none (some i) r k e f = absurd (let z : _≡_ {A = ℕ} 0 1 = cc in let y : ⊥ = omega arith in y)
-
-pub is-among : (i : ℕ) (n : List ℕ) (ns : List (List ℕ)) (r : Told) (k : ℕ) → r ≡ toldName (firstFrom i n ns) → r ≡ tl.Number k → true ≡ among n ns
-is-among i n ns r k e f = sym (among-some i n ns k (told-some (firstFrom i n ns) r k e f))
-
-pub not-among : (i : ℕ) (n : List ℕ) (ns : List (List ℕ)) (r : Told) (k : ℕ) → r ≡ toldName (firstFrom i n ns) → r ≡ tl.Refused k → false ≡ among n ns
-not-among i n ns r k e f = sym (among-none i n ns (told-none (firstFrom i n ns) r k e f))
-
--- ---- all different
-
 -- whichever way names are compared
 pub same-sym : (a b : List ℕ) → sameBytes a b ≡ sameBytes b a
 unfolding sameBytes
@@ -159,35 +113,3 @@ among-false t (y ∷ l) x a b = or-both (sameBytes t y) (among t l) a (λ q. amo
     or-both : (c d : Bool) → (if c then true else d) ≡ false → {e : Bool} → (d ≡ false → e ≡ false) → (if c then true else e) ≡ false
     or-both true d h f = h
     or-both false d h f = f h
-
--- one name more, that is none of them
-pub different-more : (ns : List (List ℕ)) (x : List ℕ) → allDifferent ns ≡ true → among x ns ≡ false → allDifferent (ns ++ (x ∷ [])) ≡ true
-unfolding allDifferent among
-different-more [] x d a = refl
-different-more (n ∷ ns) x d a = either-way (sameBytes x n) (λ t. apart true refl (rw t at a))
-    (λ f.
-    let q : among n ns ≡ false = not-true (among n ns) (and-left (not (among n ns)) (allDifferent ns) d) in
-    and-both (not (among n (ns ++ (x ∷ [])))) (allDifferent (ns ++ (x ∷ []))) (ap not (among-false n ns x q (same-sym n x ∙ f)))
-    (different-more ns x (and-right (not (among n ns)) (allDifferent ns) d) (rw f at a)))
-
-pub record Different (n : ℕ) (ss t : List ℕ) (i : ℕ) : Type 0 where
-  pub means : allDifferent (structsFrom n 0 ss t) ≡ allDifferent (structsFrom (n - i) i ss t)
-
-pub different-start : (n : ℕ) (ss t : List ℕ) → Different n ss t 0
-different-start n ss t = record { means = let z : n - 0 ≡ n = omega arith in rw z }
-
-module _ (n : ℕ) (ss t : List ℕ) (i : ℕ) (h : Different n ss t i) where
-  pub different-all : n ≤ i → true ≡ allDifferent (structsFrom n 0 ss t)
-  unfolding structsFrom allDifferent
-  different-all l = let z : n - i ≡ 0 = omega arith in sym (h .means ∙ rw z)
-
-  module _ (l : i < n) (w : ℕ) (p : List ℕ) (b : Bool) (ew : w ≡ structWord ss i) (ep : p ≡ part t w) (eb : b ≡ among p (structsFrom (n - (i + 1)) (i + 1) ss t)) where
-    different-now : allDifferent (structsFrom n 0 ss t) ≡ (not b && allDifferent (structsFrom (n - (i + 1)) (i + 1) ss t))
-    unfolding structsFrom allDifferent
-    different-now = let z : n - i ≡ suc (n - (i + 1)) = omega arith in let y : suc i ≡ i + 1 = omega arith in h .means ∙ rw (z, y, eb, ep, ew)
-
-    pub different-not : b ≡ true → false ≡ allDifferent (structsFrom n 0 ss t)
-    different-not e = sym (different-now ∙ rw e)
-
-    pub different-next : b ≡ false → Different n ss t (i + 1)
-    different-next e = record { means = different-now ∙ rw e }

@@ -1,9 +1,13 @@
 -- The stores that an entry is lent, over any rest; and the one fact of an entry.
 use mathlib.Core.Path.{_≡_}
+use mathlib.Core.Bool.{Bool}
 use mathlib.Core.List.{List}
 use Prim.Native.Nat.{ℕ}
+use lib.ListN.{length}
+use Rattle.model.specs.declared.Counts.{Counts}
 use Rattle.model.specs.declared.Emitted.{Emitted}
 use Rattle.model.specs.Stores.{Stores}
+use Rattle.model.specs.Orders.{programOk}
 use Rattle.model.specs.Emission.{Res}
 
 -- the answer and the stores are those of the definition
@@ -65,3 +69,9 @@ structsLent rest ss t = record {
   other = rest .other;
   otherPlaces = rest .otherPlaces;
 }
+
+-- the good order of a whole program: whatever the code and place stores hold, which are of these lengths
+pub record WholeIs (c : Counts) (cs ss fs t : List ℕ) (main mainPlaces other otherPlaces : ℕ) (r : Bool) : Type 0 where
+  pub is : (s : Stores) → s .constants ≡ cs → s .structs ≡ ss → s .functions ≡ fs → s .text ≡ t
+      → length (s .main) ≡ main → length (s .mainPlaces) ≡ mainPlaces → length (s .other) ≡ other → length (s .otherPlaces) ≡ otherPlaces
+      → r ≡ programOk c s

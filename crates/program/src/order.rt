@@ -1,26 +1,29 @@
 // Good order of a program's counts and stores: each check answers exactly what the model's definition says.
-use crate::names::all_different;
+use crate::ordered::before;
+use crate::ordered::in_order;
 use crate::words::code_end;
 use crate::words::code_start;
 use crate::words::first;
+use crate::words::index;
 use crate::words::part;
 use crate::words::room;
 use crate::words::same_bytes;
 use crate::words::second;
 use crate::words::size_of;
 use crate::words::start_of;
-use crate::words::word;
 use model::Counts;
 ghost use mathlib.Core.Path.{_≡_};
 ghost use mathlib.Core.Bool.{_&&_};
 ghost use mathlib.Core.List.{List};
-ghost use Prim.Native.Nat.{ℕ, suc};
-ghost use lib.Dec.{eqb, leb};
+ghost use Prim.Native.Nat.{ℕ, suc, _-_};
+ghost use lib.Dec.{eqb, leb, ltb};
 ghost use lib.ListN.{length};
 ghost use Rattle.model.specs.Basics.{everyFrom};
 ghost use Rattle.model.specs.Values.{places};
-ghost use Rattle.model.specs.Stores.{structWord};
-ghost use Rattle.model.specs.Orders.{countsOk, textOk, insideText, constantOk, constantsOk, structsOk, functionOk, functionsOk, mainOk, insideCodes};
+ghost use Rattle.model.specs.Stores.{structWord, orderWord};
+ghost use Rattle.model.specs.Programs.{before};
+ghost use Rattle.model.specs.Orders.{countsOk, textOk, insideText, constantOk, constantsOk, nameInOrder, structsOk, functionOk, functionsOk, mainOk, insideCodes};
+ghost use Rattle.program.specs.Links.{WholeIs};
 
 // Whether i is the last of n.
 fn last_of(i: usize, n: usize) -> bool
@@ -95,17 +98,18 @@ pub fn constants_ok(c: Counts, constants: &[u64]) -> bool
     true
 }
 
-// The struct names lie in their store and inside the text.
+// The struct names lie in their store and inside the text, and the numbers of their order are numbers of structs.
 fn structs_inside(c: Counts, structs: &[u64]) -> bool
-    ensures { λ r. ⌜ r ≡ (leb (c .structs) (places 1 (now (structs .entry))) && everyFrom (c .structs) 0 (λ i. insideText c (structWord (now (structs .entry)) i))) ⌝ }
+    ensures { λ r. ⌜ r ≡ (leb (c .structs) (places 2 (now (structs .entry))) && everyFrom (c .structs) 0 (λ i. insideText c (structWord (now (structs .entry)) i) && ltb (orderWord (now (structs .entry)) i) (c .structs))) ⌝ }
 {
     let n = c.structs;
-    if room(structs.len(), 1) < n {
+    if room(structs.len(), 2) < n {
         return false;
     }
     let mut i = 0;
     while i < n {
-        let ok = inside_text(c, word(structs, i));
+        let number = index(second(structs, i));
+        let ok = inside_text(c, first(structs, i)) & (number < n);
         if !ok {
             return false;
         }
@@ -114,12 +118,33 @@ fn structs_inside(c: Counts, structs: &[u64]) -> bool
     true
 }
 
-// Struct names inside the text, all different.
+// Whether each of n names in order is before the next.
+fn ascend(n: usize, structs: &[u64], text: &[u8]) -> bool
+    ensures { λ r. ⌜ r ≡ everyFrom (n - 1) 0 (λ i. before (nameInOrder (now (structs .entry)) (now (text .entry)) i) (nameInOrder (now (structs .entry)) (now (text .entry)) (suc i))) ⌝ }
+{
+    if n == 0 {
+        return true;
+    }
+    let last = n - 1;
+    let mut i = 0;
+    while i < last {
+        let here = part(text, in_order(structs, i));
+        let next = part(text, in_order(structs, i + 1));
+        let ok = before(here, next);
+        if !ok {
+            return false;
+        }
+        i += 1;
+    }
+    true
+}
+
+// Struct names inside the text, all different: each is before the next in the order that the store tells.
 pub fn structs_ok(c: Counts, structs: &[u64], text: &[u8]) -> bool
     ensures { λ r. ⌜ r ≡ structsOk c (now (structs .entry)) (now (text .entry)) ⌝ }
 {
     if structs_inside(c, structs) {
-        return all_different(c.structs, structs, text);
+        return ascend(c.structs, structs, text);
     }
     false
 }
@@ -167,4 +192,28 @@ pub fn inside_codes(c: Counts, functions: &[u64], main: usize, other: usize) -> 
 {
     (code_end(functions, 0) <= room(main, 1))
         & (code_start(functions, c.functions) <= room(other, 1))
+}
+
+// A whole program, over code and place stores of these lengths.
+pub fn program_ok(
+    c: Counts,
+    constants: &[u64],
+    structs: &[u64],
+    functions: &[u64],
+    text: &[u8],
+    main: usize,
+    main_places: usize,
+    other: usize,
+    other_places: usize,
+) -> bool
+    ensures { λ r. ⌜ WholeIs c (now (constants .entry)) (now (structs .entry)) (now (functions .entry)) (now (text .entry)) main «main_places» other «other_places» r ⌝ }
+{
+    counts_ok(c)
+        & text_ok(c, text)
+        & constants_ok(c, constants)
+        & structs_ok(c, structs, text)
+        & functions_ok(c, functions)
+        & main_ok(functions, text)
+        & inside_codes(c, functions, main, other)
+        & inside_codes(c, functions, main_places, other_places)
 }

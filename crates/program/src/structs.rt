@@ -1,18 +1,22 @@
 // Struct names, all different.
-use crate::names::first_struct;
 use crate::order::counts_ok;
 use crate::order::structs_ok;
 use crate::order::text_ok;
+use crate::ordered::put_struct;
+use crate::ordered::spot;
+use crate::ordered::stands;
+use crate::words::index;
 use crate::words::pack;
 use crate::words::room;
+use crate::words::second;
 use crate::words::text_room;
 use crate::writes::put_bytes;
 use model::Counts;
 use model::Emitted;
-use model::Told;
 ghost use mathlib.Core.Path.{_≡_};
 ghost use Rattle.model.specs.Stores.{Stores};
 ghost use Rattle.model.specs.Emission.{structOrder, structAdded, addStructOf};
+ghost use Rattle.ordering.specs.Sorted.{Placed};
 ghost use Rattle.program.specs.Links.{Is, structsLent};
 
 // Good order of what add_struct_info is lent.
@@ -25,23 +29,25 @@ fn struct_order(c: Counts, structs: &[u64], text: &[u8]) -> bool
     false
 }
 
-// One struct name more.
-fn add_struct(c: Counts, name: &[u8], structs: &mut [u64], text: &mut [u8]) -> Emitted
+// One struct name more, at its place in the order.
+fn add_struct(c: Counts, at: usize, name: &[u8], structs: &mut [u64], text: &mut [u8]) -> Emitted
+    requires { ⌜ Placed (c .structs) at (now name) (now structs) (now text) ⌝ }
     ensures { λ r. ⌜ ((rest : Stores) → Is (structAdded c (now (name .entry)) (structsLent rest (now (structs .entry)) (now (text .entry)))) r (structsLent rest (now (structs .exit)) (now (text .exit)))) ⌝ }
 {
     let n = c.structs;
     if 65536 <= n {
         return Emitted::Refused(22);
     }
-    if room(structs.len(), 1) <= n {
+    if room(structs.len(), 2) <= n {
         return Emitted::Refused(21);
     }
     let size = name.len();
     if text_room(c, text, size) {
-        let at = c.text;
-        let end = at + size;
-        put_bytes(text, at, name);
-        structs[n] = pack(at, size);
+        let start = c.text;
+        let end = start + size;
+        put_bytes(text, start, name);
+        let word = pack(start, size);
+        put_struct(structs, at, n, word);
         return Emitted::Done(
             Counts {
                 structs: n + 1,
@@ -62,9 +68,11 @@ pub fn add_struct_info(c: Counts, name: &[u8], structs: &mut [u64], text: &mut [
     if !ok {
         return Emitted::Refused(19);
     }
-    let found = first_struct(name, 0, c.structs, structs, text);
-    match found {
-        Told::Number(i) => Emitted::Done(c, i),
-        Told::Refused(_) => add_struct(c, name, structs, text),
+    let n = c.structs;
+    let at = spot(name, n, structs, text);
+    if stands(name, at, n, structs, text) {
+        let known = index(second(structs, at));
+        return Emitted::Done(c, known);
     }
+    add_struct(c, at, name, structs, text)
 }

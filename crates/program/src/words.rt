@@ -3,10 +3,10 @@ use model::Counts;
 ghost use mathlib.Core.Path.{_≡_};
 ghost use mathlib.Core.List.{List};
 ghost use Prim.Native.Nat.{ℕ, _≤_, _<_, _^_, min};
-ghost use lib.ListN.{length};
+ghost use lib.ListN.{length, getD};
 ghost use Rattle.model.specs.Values.{places, kindAt, payloadAt};
 ghost use Rattle.model.specs.Equality.{sameBytes};
-ghost use Rattle.model.specs.Stores.{Stores, start, size, pack, part, structWord, codeEnd};
+ghost use Rattle.model.specs.Stores.{Stores, start, size, pack, part, codeEnd};
 ghost use Rattle.model.specs.Orders.{codeStart};
 ghost use Rattle.model.specs.Emission.{textRoom};
 
@@ -62,6 +62,13 @@ pub fn pack(o: usize, n: usize) -> u64
     o as u64 + 0x1_0000_0000 * (n as u64)
 }
 
+// A word as a number of a place.
+pub fn index(w: u64) -> usize
+    ensures { λ r. ⌜ r ≡ w ⌝ }
+{
+    w as usize
+}
+
 // The bytes that a word names.
 pub fn part(text: &[u8], w: u64) -> &[u8]
     ensures { λ r. ⌜ now r ≡ part (now (text .entry)) w ⌝ }
@@ -90,7 +97,7 @@ pub fn same_bytes(a: &[u8], b: &[u8]) -> bool
 
 // The word at i.
 pub fn word(s: &[u64], i: usize) -> u64
-    ensures { λ r. ⌜ r ≡ structWord (now (s .entry)) i ⌝ }
+    ensures { λ r. ⌜ r ≡ getD (now (s .entry)) i 0 ⌝ }
 {
     if i < s.len() {
         return s[i];
@@ -98,7 +105,7 @@ pub fn word(s: &[u64], i: usize) -> u64
     0
 }
 
-// The first of the two words of place i: a constant's kind, a function's name.
+// The first of the two words of place i: a constant's kind, a name.
 pub fn first(s: &[u64], i: usize) -> u64
     ensures { λ r. ⌜ r ≡ kindAt (now (s .entry)) i ⌝ }
 {
@@ -108,7 +115,7 @@ pub fn first(s: &[u64], i: usize) -> u64
     word(s, 2 * i)
 }
 
-// The second: a constant's payload, a function's code.
+// The second: a constant's payload, a struct's number in order, a function's code.
 pub fn second(s: &[u64], i: usize) -> u64
     ensures { λ r. ⌜ r ≡ payloadAt (now (s .entry)) i ⌝ }
 {

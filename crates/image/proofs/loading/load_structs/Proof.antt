@@ -1,57 +1,46 @@
 -- `image::loading::load_structs` meets its contract.
-use Rattle.image.proofs.loading.load_structs.Statement.{statement}
-use Rattle.image.proofs.loading.load_structs.Tie as tie
 use borrow.Author.Needs.{needs}
 use native.Mathlib.Omega.{arith}
 use Prim.Native.Nat.{_-_}
 use Rattle.image.proofs.Passes.{counted-at}
-use mathlib.Core.Path.{refl}
 use Rattle.image.proofs.Filling.{structs-no-count, FillingStructs, structs-begin, structs-same, structs-filled, structs-never, name-inside, name-small, name-length, structs-room, structs-next}
+use Rattle.image.proofs.loading.load_structs.Statement.{statement}
+use Rattle.image.proofs.loading.load_structs.Tie as tie
 
 abbrev Inv-loop : tie.InvT-loop
-Inv-loop image at structs₀ text₀ t0 n first count next₀ t₀ i₀ structs text next t i =
+Inv-loop image at structs₀ text₀ t0 n first count next₀ t₀ i₀ structs text next t i = 
     FillingStructs image first count t0 structs₀ text₀ structs text next t i
 
 abbrev μ-loop : tie.MeasureT-loop
 μ-loop image at structs₀ text₀ t0 n first count next₀ t₀ i₀ structs text next t i = count - i
 
--- src/loading.rt:73:33
 read-number-requires : tie.Need-read-number-requires Inv-loop μ-loop
 read-number-requires c κs = search
 
--- src/loading.rt:73:21
 enum-known-n : tie.Need-enum-known-n Inv-loop μ-loop
 enum-known-n c = search
 
--- src/loading.rt:74:9
 enum-told : tie.Need-enum-told Inv-loop μ-loop
 enum-told c = search
 
--- src/loading.rt:74:9
 returns : tie.Need-returns Inv-loop μ-loop
 returns c = search structs-no-count
 
--- src/loading.rt:76:9
 wide-requires : tie.Need-wide-requires Inv-loop μ-loop
 wide-requires c κs = search
 
--- src/loading.rt:80:5
 loop-holds : tie.Need-loop-holds Inv-loop μ-loop
 loop-holds c = search (structs-begin, counted-at)
 
--- src/loading.rt:81:35
 read-text-requires : tie.Need-read-text-requires Inv-loop μ-loop
 read-text-requires c κs = c .before .loop .inv .along .within
 
--- src/loading.rt:81:22
 enum-known-here : tie.Need-enum-known-here Inv-loop μ-loop
 enum-known-here c = search
 
--- src/loading.rt:82:13
 enum-told-2 : tie.Need-enum-told-2 Inv-loop μ-loop
 enum-told-2 c = search
 
--- src/loading.rt:82:13
 same-length : tie.Need-same-length Inv-loop μ-loop
 same-length c =
     let at-loop = c .before .before .before .before in
@@ -63,7 +52,6 @@ same-length c =
     (counted-at _ _ _ (at-read-number .read-number .ensures) _ _ _ (at-n .n .given .1) (at-wide .wide .ensures)) _ _ _ _ _
     (at-loop .loop .inv) .0
 
--- src/loading.rt:82:13
 same-length-2 : tie.Need-same-length-2 Inv-loop μ-loop
 same-length-2 c =
     let at-loop = c .before .before .before .before in
@@ -75,15 +63,112 @@ same-length-2 c =
     (counted-at _ _ _ (at-read-number .read-number .ensures) _ _ _ (at-n .n .given .1) (at-wide .wide .ensures)) _ _ _ _ _
     (at-loop .loop .inv) .1
 
--- src/loading.rt:82:13
 returns-2 : tie.Need-returns-2 Inv-loop μ-loop
 returns-2 c = search (structs-never, counted-at)
 
--- src/loading.rt:84:22
+add-behind : tie.Need-add-behind Inv-loop μ-loop
+add-behind c =
+    let z =
+    let at-read-text = c .before .before .before in
+    let at-loop-test = at-read-text .before in
+    let at-loop = at-loop-test .before in
+    let at-wide = at-loop .before in
+    let at-n = at-wide .before .before in
+    let at-read-number = at-n .before .before in
+    let at-start = at-read-number .before .before .before .before in
+    name-inside _ _ _ _ _ (at-start .pre) _ _
+    (counted-at _ _ _ (at-read-number .read-number .ensures) _ _ _ (at-n .n .given .1) (at-wide .wide .ensures)) _ _ _ _ _
+    (at-loop .loop .inv) (at-loop-test .loop-test .taken) _ (at-read-text .read-text .ensures) _ _ (c .before .here .given .1) in
+    omega arith
+
+sub-spot : tie.Need-sub-spot Inv-loop μ-loop
+sub-spot c = omega arith
+
+part-spot-start : tie.Need-part-spot-start Inv-loop μ-loop
+part-spot-start c = search (name-inside, counted-at, needs)
+
+part-spot-end : tie.Need-part-spot-end Inv-loop μ-loop
+part-spot-end c =
+    let z =
+    let at-read-text = c .before .before .before in
+    let at-loop-test = at-read-text .before in
+    let at-loop = at-loop-test .before in
+    let at-wide = at-loop .before in
+    let at-n = at-wide .before .before in
+    let at-read-number = at-n .before .before in
+    let at-start = at-read-number .before .before .before .before in
+    name-inside _ _ _ _ _ (at-start .pre) _ _
+    (counted-at _ _ _ (at-read-number .read-number .ensures) _ _ _ (at-n .n .given .1) (at-wide .wide .ensures)) _ _ _ _ _
+    (at-loop .loop .inv) (at-loop-test .loop-test .taken) _ (at-read-text .read-text .ensures) _ _ (c .before .here .given .1) in
+    omega arith
+
+spot-requires : tie.Need-spot-requires Inv-loop μ-loop
+spot-requires c κs = search
+
+sub-put-bytes : tie.Need-sub-put-bytes Inv-loop μ-loop
+sub-put-bytes c = omega arith
+
+part-put-bytes-start : tie.Need-part-put-bytes-start Inv-loop μ-loop
+part-put-bytes-start c = search (name-inside, counted-at, needs)
+
+part-put-bytes-end : tie.Need-part-put-bytes-end Inv-loop μ-loop
+part-put-bytes-end c =
+    let z =
+    let at-here = c .before .before .before .before .before .before in
+    let at-read-text = at-here .before .before in
+    let at-loop-test = at-read-text .before in
+    let at-loop = at-loop-test .before in
+    let at-wide = at-loop .before in
+    let at-n = at-wide .before .before in
+    let at-read-number = at-n .before .before in
+    let at-start = at-read-number .before .before .before .before in
+    name-inside _ _ _ _ _ (at-start .pre) _ _
+    (counted-at _ _ _ (at-read-number .read-number .ensures) _ _ _ (at-n .n .given .1) (at-wide .wide .ensures)) _ _ _ _ _
+    (at-loop .loop .inv) (at-loop-test .loop-test .taken) _ (at-read-text .read-text .ensures) _ _ (at-here .here .given .1) in
+    omega arith
+
+put-bytes-requires : tie.Need-put-bytes-requires Inv-loop μ-loop
+put-bytes-requires c κs =
+    let z =
+    let at-here = c .before .before .before .before .before .before .before in
+    let at-read-text = at-here .before .before in
+    let at-loop-test = at-read-text .before in
+    let at-loop = at-loop-test .before in
+    let at-wide = at-loop .before in
+    let at-n = at-wide .before .before in
+    let at-read-number = at-n .before .before in
+    let at-start = at-read-number .before .before .before .before in
+    structs-room _ _ _ _ _ (at-start .pre) _ _
+    (counted-at _ _ _ (at-read-number .read-number .ensures) _ _ _ (at-n .n .given .1) (at-wide .wide .ensures)) _ _ _ _ _
+    (at-loop .loop .inv) (at-loop-test .loop-test .taken) _ (at-read-text .read-text .ensures) _ _ (at-here .here .given .1) .0 in
+    let y =
+    let at-loop = c .before .before .before .before .before .before .before .before .before .before .before in
+    let at-wide = at-loop .before in
+    let at-n = at-wide .before .before in
+    let at-read-number = at-n .before .before in
+    let at-start = at-read-number .before .before .before .before in
+    structs-same _ _ _ _ _ (at-start .pre) _ _
+    (counted-at _ _ _ (at-read-number .read-number .ensures) _ _ _ (at-n .n .given .1) (at-wide .wide .ensures)) _ _ _ _ _
+    (at-loop .loop .inv) .1 in
+    let w =
+    let at-here = c .before .before .before .before .before .before .before in
+    let at-read-text = at-here .before .before in
+    let at-loop-test = at-read-text .before in
+    let at-loop = at-loop-test .before in
+    let at-wide = at-loop .before in
+    let at-n = at-wide .before .before in
+    let at-read-number = at-n .before .before in
+    let at-start = at-read-number .before .before .before .before in
+    name-length _ _ _ _ _ (at-start .pre) _ _
+    (counted-at _ _ _ (at-read-number .read-number .ensures) _ _ _ (at-n .n .given .1) (at-wide .wide .ensures)) _ _ _ _ _
+    (at-loop .loop .inv) (at-loop-test .loop-test .taken) _ (at-read-text .read-text .ensures) _ _ (at-here .here .given .1) in
+    omega arith
+
 pack-requires : tie.Need-pack-requires Inv-loop μ-loop
 pack-requires c κs = (
   let z =
-      let at-read-text = c .before .before .before in
+      let at-here = c .before .before .before .before .before .before .before .before .before .before in
+      let at-read-text = at-here .before .before in
       let at-loop-test = at-read-text .before in
       let at-loop = at-loop-test .before in
       let at-wide = at-loop .before in
@@ -93,9 +178,10 @@ pack-requires c κs = (
       structs-room _ _ _ _ _ (at-start .pre) _ _
       (counted-at _ _ _ (at-read-number .read-number .ensures) _ _ _ (at-n .n .given .1) (at-wide .wide .ensures)) _ _ _ _ _
       (at-loop .loop .inv) (at-loop-test .loop-test .taken) _ (at-read-text .read-text .ensures) _ _
-      (c .before .here .given .1) .1 .0 in
+      (at-here .here .given .1) .1 .0 in
       omega arith,
-  let at-read-text = c .before .before .before in
+  let at-here = c .before .before .before .before .before .before .before .before .before .before in
+      let at-read-text = at-here .before .before in
       let at-loop-test = at-read-text .before in
       let at-loop = at-loop-test .before in
       let at-wide = at-loop .before in
@@ -104,109 +190,74 @@ pack-requires c κs = (
       let at-start = at-read-number .before .before .before .before in
       name-small _ _ _ _ _ (at-start .pre) _ _
       (counted-at _ _ _ (at-read-number .read-number .ensures) _ _ _ (at-n .n .given .1) (at-wide .wide .ensures)) _ _ _ _ _
-      (at-loop .loop .inv) (at-loop-test .loop-test .taken) _ (at-read-text .read-text .ensures) _ _ (c .before .here .given .1),
+      (at-loop .loop .inv) (at-loop-test .loop-test .taken) _ (at-read-text .read-text .ensures) _ _ (at-here .here .given .1),
 )
 
--- src/loading.rt:84:9
-mul-structs : tie.Need-mul-structs Inv-loop μ-loop
-mul-structs c =
-    let z = c .before .before .before .before .before .before .before .wide .ensures .1 in
-    let y = c .before .before .before .before .before .loop-test .taken in
-    omega arith
+put-struct-requires : tie.Need-put-struct-requires Inv-loop μ-loop
+put-struct-requires c κs = (
+  c .before .before .before .before .before .before .before .spot .ensures .most,
+  let z =
+      let at-here = c .before .before .before .before .before .before .before .before .before .before .before .before in
+      let at-read-text = at-here .before .before in
+      let at-loop-test = at-read-text .before in
+      let at-loop = at-loop-test .before in
+      let at-wide = at-loop .before in
+      let at-n = at-wide .before .before in
+      let at-read-number = at-n .before .before in
+      let at-start = at-read-number .before .before .before .before in
+      structs-room _ _ _ _ _ (at-start .pre) _ _
+      (counted-at _ _ _ (at-read-number .read-number .ensures) _ _ _ (at-n .n .given .1) (at-wide .wide .ensures)) _ _ _ _ _
+      (at-loop .loop .inv) (at-loop-test .loop-test .taken) _ (at-read-text .read-text .ensures) _ _
+      (at-here .here .given .1) .1 .1 in
+      let y =
+      let at-loop = c .before .before .before .before .before .before .before .before .before .before .before .before .before
+      .before .before .before in
+      let at-wide = at-loop .before in
+      let at-n = at-wide .before .before in
+      let at-read-number = at-n .before .before in
+      let at-start = at-read-number .before .before .before .before in
+      structs-same _ _ _ _ _ (at-start .pre) _ _
+      (counted-at _ _ _ (at-read-number .read-number .ensures) _ _ _ (at-n .n .given .1) (at-wide .wide .ensures)) _ _ _ _ _
+      (at-loop .loop .inv) .0 in
+      omega arith,
+)
 
--- src/loading.rt:84:9
-slice-write-structs : tie.Need-slice-write-structs Inv-loop μ-loop
-slice-write-structs c =
-    let z = structs-room _ _ _ _ _
-    (c .before .before .before .before .before .before .before .before .before .before .before .before .before .before .before
-    .pre) _ _ (search counted-at) _ _ _ _ _ (c .before .before .before .before .before .before .loop .inv)
-    (c .before .before .before .before .before .loop-test .taken) _ (c .before .before .before .before .read-text .ensures) _ _
-    (c .before .before .here .given .1) .1 .1 in
-    let y = structs-same _ _ _ _ _
-    (c .before .before .before .before .before .before .before .before .before .before .before .before .before .before .before
-    .pre) _ _ (search counted-at) _ _ _ _ _ (c .before .before .before .before .before .before .loop .inv) .0 in
-    omega arith
-
--- src/loading.rt:85:22
-add-behind : tie.Need-add-behind Inv-loop μ-loop
-add-behind c =
-    let z = name-inside _ _ _ _ _
-    (c .before .before .before .before .before .before .before .before .before .before .before .before .before .before .before
-    .pre) _ _ (search counted-at) _ _ _ _ _ (c .before .before .before .before .before .before .loop .inv)
-    (c .before .before .before .before .before .loop-test .taken) _ (c .before .before .before .before .read-text .ensures) _ _
-    (c .before .before .here .given .1) in
-    omega arith
-
--- src/loading.rt:86:28
-sub-put-bytes : tie.Need-sub-put-bytes Inv-loop μ-loop
-sub-put-bytes c = omega arith
-
--- src/loading.rt:86:28
-part-put-bytes-start : tie.Need-part-put-bytes-start Inv-loop μ-loop
-part-put-bytes-start c = search (name-inside, counted-at, needs)
-
--- src/loading.rt:86:28
-part-put-bytes-end : tie.Need-part-put-bytes-end Inv-loop μ-loop
-part-put-bytes-end c =
-    let z = name-inside _ _ _ _ _
-    (c .before .before .before .before .before .before .before .before .before .before .before .before .before .before .before
-    .before .pre) _ _ (search counted-at) _ _ _ _ _ (c .before .before .before .before .before .before .before .loop .inv)
-    (c .before .before .before .before .before .before .loop-test .taken) _
-    (c .before .before .before .before .before .read-text .ensures) _ _ (c .before .before .before .here .given .1) in
-    omega arith
-
--- src/loading.rt:86:9
-put-bytes-requires : tie.Need-put-bytes-requires Inv-loop μ-loop
-put-bytes-requires c κs =
-    let z = structs-room _ _ _ _ _
-    (c .before .before .before .before .before .before .before .before .before .before .before .before .before .before .before
-    .before .before .pre) _ _ (search counted-at) _ _ _ _ _
-    (c .before .before .before .before .before .before .before .before .loop .inv)
-    (c .before .before .before .before .before .before .before .loop-test .taken) _
-    (c .before .before .before .before .before .before .read-text .ensures) _ _
-    (c .before .before .before .before .here .given .1) .0 in
-    let y = structs-same _ _ _ _ _
-    (c .before .before .before .before .before .before .before .before .before .before .before .before .before .before .before
-    .before .before .pre) _ _ (search counted-at) _ _ _ _ _
-    (c .before .before .before .before .before .before .before .before .loop .inv) .1 in
-    let w = name-length _ _ _ _ _
-    (c .before .before .before .before .before .before .before .before .before .before .before .before .before .before .before
-    .before .before .pre) _ _ (search counted-at) _ _ _ _ _
-    (c .before .before .before .before .before .before .before .before .loop .inv)
-    (c .before .before .before .before .before .before .before .loop-test .taken) _
-    (c .before .before .before .before .before .before .read-text .ensures) _ _
-    (c .before .before .before .before .here .given .1) in
-    omega arith
-
--- src/loading.rt:87:13
 add-t : tie.Need-add-t Inv-loop μ-loop
 add-t c =
-    let z = structs-room _ _ _ _ _
-    (c .before .before .before .before .before .before .before .before .before .before .before .before .before .before .before
-    .before .before .before .before .before .pre) _ _ (search counted-at) _ _ _ _ _
-    (c .before .before .before .before .before .before .before .before .before .before .before .loop .inv)
-    (c .before .before .before .before .before .before .before .before .before .before .loop-test .taken) _
-    (c .before .before .before .before .before .before .before .before .before .read-text .ensures) _ _
-    (c .before .before .before .before .before .before .before .here .given .1) .1 .0 in
+    let z =
+    let at-here = c .before .before .before .before .before .before .before .before .before .before .before .before .before
+    .before .before in
+    let at-read-text = at-here .before .before in
+    let at-loop-test = at-read-text .before in
+    let at-loop = at-loop-test .before in
+    let at-wide = at-loop .before in
+    let at-n = at-wide .before .before in
+    let at-read-number = at-n .before .before in
+    let at-start = at-read-number .before .before .before .before in
+    structs-room _ _ _ _ _ (at-start .pre) _ _
+    (counted-at _ _ _ (at-read-number .read-number .ensures) _ _ _ (at-n .n .given .1) (at-wide .wide .ensures)) _ _ _ _ _
+    (at-loop .loop .inv) (at-loop-test .loop-test .taken) _ (at-read-text .read-text .ensures) _ _
+    (at-here .here .given .1) .1 .0 in
     omega arith
 
--- src/loading.rt:89:13
 add-i : tie.Need-add-i Inv-loop μ-loop
 add-i c =
-    let z = c .before .before .before .before .before .before .before .before .before .before .loop-test .taken in
+    let z = c .before .before .before .before .before .before .before .before .before .before .before .before .before .before
+    .before .before .before .before .loop-test .taken in
     omega arith
 
--- src/loading.rt:80:5
 loop-less : tie.Need-loop-less Inv-loop μ-loop
 loop-less c =
-    let z = c .before .before .before .before .before .before .before .before .before .before .loop-test .taken in
+    let z = c .before .before .before .before .before .before .before .before .before .before .before .before .before .before
+    .before .before .before .before .loop-test .taken in
     omega arith
 
--- src/loading.rt:80:5
 loop-again : tie.Need-loop-again Inv-loop μ-loop
 loop-again c =
-    let at-pack = c .before .before .before .before .before in
-    let at-here = at-pack .before .before in
+    let at-pack = c .before .before .before .before in
+    let at-put-bytes = at-pack .before .before .before in
+    let at-spot = at-put-bytes .before .before .before in
+    let at-here = at-spot .before .before .before .before .before in
     let at-read-text = at-here .before .before in
     let at-loop-test = at-read-text .before in
     let at-loop = at-loop-test .before in
@@ -217,9 +268,9 @@ loop-again c =
     structs-next _ _ _ _ _ (at-start .pre) _ _
     (counted-at _ _ _ (at-read-number .read-number .ensures) _ _ _ (at-n .n .given .1) (at-wide .wide .ensures)) _ _ _ _ _
     (at-loop .loop .inv) (at-loop-test .loop-test .taken) _ (at-read-text .read-text .ensures) _ _ (at-here .here .given .1) _
-    (at-pack .pack .ensures) _ _ refl (c .before .before .put-bytes .ensures)
+    (at-spot .spot .ensures) _ (at-pack .pack .ensures) _ _ (c .before .before .put-struct .ensures)
+    (at-put-bytes .put-bytes .ensures)
 
--- src/loading.rt:69:1
 same-length-3 : tie.Need-same-length-3 Inv-loop μ-loop
 same-length-3 c =
     let at-n = c .before .before .before .before in
@@ -229,7 +280,6 @@ same-length-3 c =
     (counted-at _ _ _ (at-read-number .read-number .ensures) _ _ _ (at-n .n .given .1) (c .before .before .wide .ensures)) _ _ _ _
     _ (c .before .loop .inv) .0
 
--- src/loading.rt:69:1
 same-length-4 : tie.Need-same-length-4 Inv-loop μ-loop
 same-length-4 c =
     let at-n = c .before .before .before .before in
@@ -239,7 +289,6 @@ same-length-4 c =
     (counted-at _ _ _ (at-read-number .read-number .ensures) _ _ _ (at-n .n .given .1) (c .before .before .wide .ensures)) _ _ _ _
     _ (c .before .loop .inv) .1
 
--- src/loading.rt:69:1
 returns-3 : tie.Need-returns-3 Inv-loop μ-loop
 returns-3 c = search (structs-filled, counted-at)
 
@@ -261,14 +310,17 @@ load-structs-spec =
     same-length
     same-length-2
     returns-2
-    pack-requires
-    mul-structs
-    slice-write-structs
     add-behind
+    sub-spot
+    part-spot-start
+    part-spot-end
+    spot-requires
     sub-put-bytes
     part-put-bytes-start
     part-put-bytes-end
     put-bytes-requires
+    pack-requires
+    put-struct-requires
     add-t
     add-i
     loop-less

@@ -25,8 +25,8 @@ loop-holds : tie.Need-loop-holds Inv-loop μ-loop
 loop-holds c = search structs-start
 
 -- src/saving.rt:124:13
-word-requires : tie.Need-word-requires Inv-loop μ-loop
-word-requires c κs = search
+first-requires : tie.Need-first-requires Inv-loop μ-loop
+first-requires c κs = search
 
 -- src/saving.rt:125:13
 part-requires : tie.Need-part-requires Inv-loop μ-loop
@@ -65,7 +65,7 @@ put-structs-spec =
     cast-count
     put-number-requires
     loop-holds
-    word-requires
+    first-requires
     part-requires
     put-text-requires
     add-i

@@ -7,8 +7,8 @@ use Rattle.program.proofs.order.structs_ok.Tie as tie
 structs-inside-requires : tie.Need-structs-inside-requires
 structs-inside-requires c κs = search
 
-all-different-requires : tie.Need-all-different-requires
-all-different-requires c κs = search
+ascend-requires : tie.Need-ascend-requires
+ascend-requires c κs = search
 
 returns : tie.Need-returns
 returns c = search structs-is
@@ -18,4 +18,4 @@ returns-2 c = search structs-not
 
 pub structs-ok-spec : {M : Type 1} → statement M
 structs-ok-spec =
-    tie.close (tie.spec structs-inside-requires all-different-requires returns returns-2)
+    tie.close (tie.spec structs-inside-requires ascend-requires returns returns-2)

@@ -1,65 +1,78 @@
 -- `program::structs::add_struct_info` meets its contract.
 use Rattle.program.specs.Links.{structsLent}
-use Rattle.program.proofs.Adding.{struct-19, struct-known, struct-new}
+use Rattle.program.proofs.Adding.{structs-ordered, new-placed, struct-19, struct-known, struct-new}
 use borrow.Author.Needs.{needs}
 use Rattle.program.proofs.structs.add_struct_info.Statement.{statement}
 use Rattle.program.proofs.structs.add_struct_info.Tie as tie
 
 struct-order-requires : tie.Need-struct-order-requires
-struct-order-requires c κs = search
+struct-order-requires c κs = search needs
 
 same-length : tie.Need-same-length
-same-length c = search
+same-length c = search needs
 
 same-length-2 : tie.Need-same-length-2
-same-length-2 c = search
+same-length-2 c = search needs
 
 returns : tie.Need-returns
 returns c = λ rest. struct-19 _ _ _ _ (c .before .struct-order .ensures rest) (c .if1 .taken)
 
-first-struct-requires : tie.Need-first-struct-requires
-first-struct-requires c κs = search
+spot-requires : tie.Need-spot-requires
+spot-requires c κs = search needs
 
-enum-known-found : tie.Need-enum-known-found
-enum-known-found c = search
+stands-requires : tie.Need-stands-requires
+stands-requires c κs = search needs
 
-enum-told : tie.Need-enum-told
-enum-told c = search
+second-requires : tie.Need-second-requires
+second-requires c κs = search needs
 
-add-struct-requires : tie.Need-add-struct-requires
-add-struct-requires c κs = search
+index-requires : tie.Need-index-requires
+index-requires c κs = search needs
 
 same-length-3 : tie.Need-same-length-3
-same-length-3 c = search
+same-length-3 c = search needs
 
 same-length-4 : tie.Need-same-length-4
-same-length-4 c = search
+same-length-4 c = search needs
 
 returns-2 : tie.Need-returns-2
 unfolding structsLent
 returns-2 c =
-    let at-first-struct = c .before .before .before in
-    let at-if1 = at-first-struct .before .before .before in
+    let at-if2 = c .before .before .before in
+    let at-stands = at-if2 .before in
+    let at-spot = at-stands .before .before .before in
+    let at-if1 = at-spot .before .before .before in
     let at-struct-order = at-if1 .before in
-    λ rest. struct-known _ _ _ _ (at-struct-order .struct-order .ensures rest) (at-if1 .if1 .left) _
-    (at-first-struct .first-struct .ensures) _ (c .before .found .given .1)
+    λ rest. struct-known _ _ _ _ (at-struct-order .struct-order .ensures rest) (at-if1 .if1 .left)
+    (structs-ordered _ _ _ _ (at-struct-order .struct-order .ensures) (at-if1 .if1 .left)) _ (at-spot .spot .ensures) _
+    (at-stands .stands .ensures) (at-if2 .if2 .taken) _ _ (c .before .second .ensures) (c .index .ensures)
+
+add-struct-requires : tie.Need-add-struct-requires
+add-struct-requires c κs =
+    let at-spot = c .before .before .before .before .before .before in
+    let at-if1 = at-spot .before .before .before in
+    let at-struct-order = at-if1 .before in
+    new-placed _ _ _ _ _ (structs-ordered _ _ _ _ (at-struct-order .struct-order .ensures) (at-if1 .if1 .left))
+    (at-spot .spot .ensures)
 
 same-length-5 : tie.Need-same-length-5
-same-length-5 c = search
+same-length-5 c = search needs
 
 same-length-6 : tie.Need-same-length-6
-same-length-6 c = search
+same-length-6 c = search needs
 
 returns-3 : tie.Need-returns-3
 unfolding structsLent
 returns-3 c =
     let at-add-struct = c .before .before .before .before in
-    let at-enum-told = at-add-struct .before .before .before in
-    let at-first-struct = at-enum-told .before .before in
-    let at-if1 = at-first-struct .before .before .before in
+    let at-if2 = at-add-struct .before .before .before in
+    let at-stands = at-if2 .before in
+    let at-spot = at-stands .before .before .before in
+    let at-if1 = at-spot .before .before .before in
     let at-struct-order = at-if1 .before in
-    λ rest. struct-new _ _ _ _ (at-struct-order .struct-order .ensures rest) (at-if1 .if1 .left) _
-    (at-first-struct .first-struct .ensures) _ (at-enum-told .enum-told .given .1) _ _ (at-add-struct .add-struct .ensures rest)
+    λ rest. struct-new _ _ _ _ (at-struct-order .struct-order .ensures rest) (at-if1 .if1 .left)
+    (structs-ordered _ _ _ _ (at-struct-order .struct-order .ensures) (at-if1 .if1 .left)) _ (at-spot .spot .ensures) _
+    (at-stands .stands .ensures) (at-if2 .if2 .left) _ _ (at-add-struct .add-struct .ensures rest)
 
 pub add-struct-info-spec : {M : Type 1} → statement M
 add-struct-info-spec =
@@ -69,13 +82,14 @@ add-struct-info-spec =
     same-length
     same-length-2
     returns
-    first-struct-requires
-    enum-known-found
-    enum-told
-    add-struct-requires
+    spot-requires
+    stands-requires
+    second-requires
+    index-requires
     same-length-3
     same-length-4
     returns-2
+    add-struct-requires
     same-length-5
     same-length-6
     returns-3)

@@ -1,5 +1,4 @@
 -- `program::words::first` meets its contract.
-use Rattle.model.specs.Stores.{structWord}
 use Rattle.model.specs.Values.{kindAt}
 use Rattle.program.proofs.Parts.{past-0}
 use borrow.Author.Needs.{needs}
@@ -16,7 +15,7 @@ word-requires : tie.Need-word-requires
 word-requires c κs = search
 
 returns-2 : tie.Need-returns-2
-unfolding kindAt structWord
+unfolding kindAt
 returns-2 c = c .word .ensures
 
 pub first-spec : {M : Type 1} → statement M

@@ -1,5 +1,4 @@
 -- `program::words::second` meets its contract.
-use Rattle.model.specs.Stores.{structWord}
 use Rattle.model.specs.Values.{payloadAt}
 use Rattle.program.proofs.Parts.{past-1}
 use borrow.Author.Needs.{needs}
@@ -19,7 +18,7 @@ word-requires : tie.Need-word-requires
 word-requires c κs = search
 
 returns-2 : tie.Need-returns-2
-unfolding payloadAt structWord
+unfolding payloadAt
 returns-2 c = c .word .ensures
 
 pub second-spec : {M : Type 1} → statement M

@@ -1,6 +1,5 @@
 -- `program::words::word` meets its contract.
 use mathlib.Core.Path.{refl}
-use Rattle.model.specs.Stores.{structWord}
 use Rattle.program.proofs.Parts.{past}
 use borrow.Author.Needs.{needs}
 use Rattle.program.proofs.words.word.Statement.{statement}
@@ -13,11 +12,10 @@ shared-slice-read-result : tie.Need-shared-slice-read-result
 shared-slice-read-result c = search
 
 returns : tie.Need-returns
-unfolding structWord
 returns c = refl
 
 returns-2 : tie.Need-returns-2
-returns-2 c = past _ _ (c .if1 .left)
+returns-2 c = past (c .before .args .s .now) _ (c .if1 .left)
 
 pub word-spec : {M : Type 1} → statement M
 word-spec = tie.close (tie.spec mul-result shared-slice-read-result returns returns-2)
