@@ -170,6 +170,7 @@ pub fn act(
                 m,
                 units,
                 constants,
+                structs,
                 functions,
                 text,
                 main,
@@ -195,6 +196,7 @@ pub fn act(
                 main_places,
                 other,
                 other_places,
+                stack,
                 frames,
                 trace,
             );

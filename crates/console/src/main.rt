@@ -185,7 +185,7 @@ fn main() {
     let n = io::read_full(0, &mut input);
     let mut space = [0u8; 16384];
     let mut constants = [0u64; 512];
-    let mut structs = [0u64; 256];
+    let mut structs = [0u64; 512];
     let mut functions = [0u64; 512];
     let mut text = [0u8; 16384];
     let mut main = [0u8; 8192];

@@ -8,6 +8,7 @@ use model::Header;
 use model::RunResult;
 use model::Shown;
 use model::Started;
+use model::Tally;
 use model::Told;
 use model::Value;
 use model::Vm;
@@ -125,9 +126,11 @@ pub fn say_value(v: Value, cells: &[u64]) {
 }
 
 // What a run leaves besides its answer.
-fn say_left(m: Vm, spent: u64) {
+fn say_left(m: Vm, did: Tally) {
     say(b", spent ");
-    say_number(spent);
+    say_number(did.spent);
+    say(b", returns ");
+    say_number(did.returns);
     say_count(b", stack ", m.stack);
     say_count(b", frames ", m.frames);
     say(b"\n");
@@ -161,21 +164,21 @@ fn say_run(m: Vm, r: RunResult, cells: &[u64], trace: &[u32], number: u64) -> Vm
     ensures { λ left. ⌜ left ≡ afterRun m r ⌝ }
 {
     match r {
-        RunResult::Value(left, v, spent) => {
+        RunResult::Value(left, v, did) => {
             say(b"value ");
             say_value(v, cells);
-            say_left(left, spent);
+            say_left(left, did);
             left
         }
-        RunResult::Continue(left, spent) => {
+        RunResult::Continue(left, did) => {
             say(b"continue");
-            say_left(left, spent);
+            say_left(left, did);
             left
         }
-        RunResult::Fault(left, n, spent, entries) => {
+        RunResult::Fault(left, n, did, entries) => {
             say(b"fault ");
             say_number(n as u64);
-            say_left(left, spent);
+            say_left(left, did);
             say_entries(entries, trace);
             left
         }

@@ -3,7 +3,7 @@ pub type Space = [u8; 16384];
 
 pub type Constants = [u64; 512];
 
-pub type Structs = [u64; 256];
+pub type Structs = [u64; 512];
 
 pub type Functions = [u64; 512];
 

@@ -15,21 +15,21 @@ use Rattle.model.specs.declared.Last.the-variants.{Nothing, Is}
 use Rattle.model.specs.Values.{places, kindAt, payloadAt, valueOf, valueAt, exactValue}
 use Rattle.model.specs.Heap.{Cell, heapOf, heapOk, exactCells, placedBelow}
 use Rattle.model.specs.Stores.{Stores}
-use Rattle.model.specs.Orders.{countsOk, textOk, constantsOk, structsOk, functionsOk, mainOk, insideCodes, programOk, cellsOk, stackOk, lastOk}
+use Rattle.model.specs.Orders.{programOk, cellsOk, stackOk, lastOk}
 use Rattle.model.specs.Machines.{frameRoom, tooShort}
 use Rattle.cells.proofs.Stands.{length-heap}
+use Rattle.program.specs.Links.{WholeIs}
 use Rattle.program.proofs.Bools.{and-left}
 use Rattle.program.proofs.Every.{Judged}
 use Rattle.ends.specs.Links.{programLent, restOrder, ShortPost}
 
 -- ---- the program
 
-module _ (c : Counts) (structs constants functions text main mainPlaces other otherPlaces : List ℕ) {b₁ b₂ b₃ b₄ b₅ b₆ b₇ b₈ : Bool} where
-  pub program-is : b₁ ≡ countsOk c → b₂ ≡ textOk c text → b₃ ≡ constantsOk c constants → b₄ ≡ structsOk c structs text → b₅ ≡ functionsOk c functions → b₆ ≡ mainOk functions text
-      → b₇ ≡ insideCodes c functions main other → b₈ ≡ insideCodes c functions mainPlaces otherPlaces
-      → (b₁ && b₂ && b₃ && b₄ && b₅ && b₆ && b₇ && b₈) ≡ programOk c (programLent structs constants functions text main mainPlaces other otherPlaces)
-  unfolding programOk programLent
-  program-is e₁ e₂ e₃ e₄ e₅ e₆ e₇ e₈ = rw (e₁, e₂, e₃, e₄, e₅, e₆, e₇, e₈)
+module _ (c : Counts) (structs constants functions text main mainPlaces other otherPlaces : List ℕ) {r : Bool} where
+  pub program-is : WholeIs c constants structs functions text (length main) (length mainPlaces) (length other) (length otherPlaces) r
+      → r ≡ programOk c (programLent structs constants functions text main mainPlaces other otherPlaces)
+  unfolding programLent
+  program-is h = h .is _ refl refl refl refl refl refl refl refl
 
 -- ---- the cells
 

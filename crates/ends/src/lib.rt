@@ -9,13 +9,7 @@ use model::Last;
 use model::RunResult;
 use model::Tally;
 use model::Vm;
-use program::order::constants_ok;
-use program::order::counts_ok;
-use program::order::functions_ok;
-use program::order::inside_codes;
-use program::order::main_ok;
-use program::order::structs_ok;
-use program::order::text_ok;
+use program::order::program_ok;
 use program::words::first;
 use program::words::lesser;
 use program::words::room;
@@ -34,7 +28,7 @@ ghost use Rattle.model.specs.Values.{kindAt, payloadAt, valueAt, exactValue};
 ghost use Rattle.model.specs.Heap.{heapOf, placedBelow};
 ghost use Rattle.model.specs.Emission.{written};
 ghost use Rattle.model.specs.Stores.{size, codeWord};
-ghost use Rattle.model.specs.Orders.{programOk, cellsOk, stackOk, lastOk};
+ghost use Rattle.model.specs.Orders.{cellsOk, stackOk, lastOk};
 ghost use Rattle.model.specs.Runs.{root};
 ghost use Rattle.model.specs.Machines.{fresh};
 ghost use Rattle.ends.specs.Links.{programLent, restOrder, ShortPost, FixedPost, Begun, vmWith, tallyOf, endedWith, faultedWith};
@@ -52,30 +46,6 @@ pub fn fresh_vm(c: Counts) -> Vm
         cells: 0,
         last: Last::Nothing,
     }
-}
-
-// What a run judges of the program.
-fn program_ok(
-    c: Counts,
-    constants: &[u64],
-    structs: &[u64],
-    functions: &[u64],
-    text: &[u8],
-    main: &[u8],
-    main_places: &[u32],
-    other: &[u8],
-    other_places: &[u32],
-) -> bool
-    ensures { λ r. ⌜ r ≡ programOk c (programLent (now (structs .entry)) (now (constants .entry)) (now (functions .entry)) (now (text .entry)) (now (main .entry)) (now («main_places» .entry)) (now (other .entry)) (now («other_places» .entry))) ⌝ }
-{
-    counts_ok(c)
-        & text_ok(c, text)
-        & constants_ok(c, constants)
-        & structs_ok(c, structs, text)
-        & functions_ok(c, functions)
-        & main_ok(functions, text)
-        & inside_codes(c, functions, main.len(), other.len())
-        & inside_codes(c, functions, main_places.len(), other_places.len())
 }
 
 // The taken cells: within their store, in exact words, blocks one behind the other.
@@ -152,10 +122,10 @@ pub fn judge(
         structs,
         functions,
         text,
-        main,
-        main_places,
-        other,
-        other_places,
+        main.len(),
+        main_places.len(),
+        other.len(),
+        other_places.len(),
     );
     if !whole {
         return false;

@@ -311,18 +311,18 @@ module _ {M : Type 1} (𝓤 : URA M) (H : Heap 𝓤) (A : Atoms 𝓤) (W : Given
         (λ ns. unasked W (lent (to-load frames′) ns)) (λ ns w. id⊢ 𝓤 _) tt ((refl, room0), ((refl, room1), ((refl, room2), ((refl, room3), ((refl, room4), ((refl, room5), ((refl, room6), ((refl, room7), ((refl, room8), ((len-frames, room11), tt))))))))))
 
     abbrev to-go : ℕ → List Frame → List Arg
-    to-go units frames′ = val VmRow m (vmVal m) ∷ val u64 units (vint w64 units) ∷ peek u64 s1 constants ∷ peek u64 s3 functions ∷ peek u8 s4 text ∷ peek u8 s5 main ∷ peek u32 s6 mainPlaces ∷ peek u8 s7 other ∷ peek u32 s8 otherPlaces ∷ mut u64 s9 stack ∷ mut u64 s10 cells ∷ mut R s11 frames′ ∷ mut u64 s12 copy ∷ mut u32 s13 trace ∷ []
+    to-go units frames′ = val VmRow m (vmVal m) ∷ val u64 units (vint w64 units) ∷ peek u64 s1 constants ∷ peek u64 s2 structs ∷ peek u64 s3 functions ∷ peek u8 s4 text ∷ peek u8 s5 main ∷ peek u32 s6 mainPlaces ∷ peek u8 s7 other ∷ peek u32 s8 otherPlaces ∷ mut u64 s9 stack ∷ mut u64 s10 cells ∷ mut R s11 frames′ ∷ mut u64 s12 copy ∷ mut u32 s13 trace ∷ []
 
-    call-go : (units : ℕ) → Is u64 units (vint w64 units ∷ []) → (frames′ : List Frame) → length frames′ ≡ s11 .count → Rule 𝓤 H A W (to-go units frames′) ToGo ResultRow resultVal (λ r zs. ((structs′ : List ℕ) → RunPost m (programLent structs′ constants functions text main mainPlaces other otherPlaces) (runLent stack cells frames′ copy trace) units r (runLent (zs .1 .1 .1 .1 .1 .1 .1 .1 .1 .0) (zs .1 .1 .1 .1 .1 .1 .1 .1 .1 .1 .0) (zs .1 .1 .1 .1 .1 .1 .1 .1 .1 .1 .1 .0) (zs .1 .1 .1 .1 .1 .1 .1 .1 .1 .1 .1 .1 .0) (zs .1 .1 .1 .1 .1 .1 .1 .1 .1 .1 .1 .1 .1 .0))))
-    call-go units is-units frames′ len-frames = call-with 𝓤 H A W (to-go units frames′) ToGo ResultRow resultVal (λ r zs. ((structs′ : List ℕ) → RunPost m (programLent structs′ constants functions text main mainPlaces other otherPlaces) (runLent stack cells frames′ copy trace) units r (runLent (zs .1 .1 .1 .1 .1 .1 .1 .1 .1 .0) (zs .1 .1 .1 .1 .1 .1 .1 .1 .1 .1 .0) (zs .1 .1 .1 .1 .1 .1 .1 .1 .1 .1 .1 .0) (zs .1 .1 .1 .1 .1 .1 .1 .1 .1 .1 .1 .1 .0) (zs .1 .1 .1 .1 .1 .1 .1 .1 .1 .1 .1 .1 .1 .0)))) result-tells (λ ns. passing (lent (to-go units frames′) ns)) (λ ns. refl)
-        (λ ns. unasked W (lent (to-go units frames′) ns)) (λ ns w. id⊢ 𝓤 _) (vm-makes 𝓤 H A W m _ is-m, (uint-makes 𝓤 H A W w64 units _ is-units, tt)) ((refl, room1), ((refl, room3), ((refl, room4), ((refl, room5), ((refl, room6), ((refl, room7), ((refl, room8), ((refl, room9), ((refl, room10), ((len-frames, room11), ((refl, room12), ((refl, room13), tt))))))))))))
+    call-go : (units : ℕ) → Is u64 units (vint w64 units ∷ []) → (frames′ : List Frame) → length frames′ ≡ s11 .count → Rule 𝓤 H A W (to-go units frames′) ToGo ResultRow resultVal (λ r zs. (RunPost m (programLent structs constants functions text main mainPlaces other otherPlaces) (runLent stack cells frames′ copy trace) units r (runLent (zs .1 .1 .1 .1 .1 .1 .1 .1 .1 .1 .0) (zs .1 .1 .1 .1 .1 .1 .1 .1 .1 .1 .1 .0) (zs .1 .1 .1 .1 .1 .1 .1 .1 .1 .1 .1 .1 .0) (zs .1 .1 .1 .1 .1 .1 .1 .1 .1 .1 .1 .1 .1 .0) (zs .1 .1 .1 .1 .1 .1 .1 .1 .1 .1 .1 .1 .1 .1 .0))))
+    call-go units is-units frames′ len-frames = call-with 𝓤 H A W (to-go units frames′) ToGo ResultRow resultVal (λ r zs. (RunPost m (programLent structs constants functions text main mainPlaces other otherPlaces) (runLent stack cells frames′ copy trace) units r (runLent (zs .1 .1 .1 .1 .1 .1 .1 .1 .1 .1 .0) (zs .1 .1 .1 .1 .1 .1 .1 .1 .1 .1 .1 .0) (zs .1 .1 .1 .1 .1 .1 .1 .1 .1 .1 .1 .1 .0) (zs .1 .1 .1 .1 .1 .1 .1 .1 .1 .1 .1 .1 .1 .0) (zs .1 .1 .1 .1 .1 .1 .1 .1 .1 .1 .1 .1 .1 .1 .0)))) result-tells (λ ns. passing (lent (to-go units frames′) ns)) (λ ns. refl)
+        (λ ns. unasked W (lent (to-go units frames′) ns)) (λ ns w. id⊢ 𝓤 _) (vm-makes 𝓤 H A W m _ is-m, (uint-makes 𝓤 H A W w64 units _ is-units, tt)) ((refl, room1), ((refl, room2), ((refl, room3), ((refl, room4), ((refl, room5), ((refl, room6), ((refl, room7), ((refl, room8), ((refl, room9), ((refl, room10), ((len-frames, room11), ((refl, room12), ((refl, room13), tt)))))))))))))
 
     abbrev to-back : List Frame → List Arg
-    to-back frames′ = val VmRow m (vmVal m) ∷ peek u64 s3 functions ∷ peek u8 s4 text ∷ peek u8 s5 main ∷ peek u32 s6 mainPlaces ∷ peek u8 s7 other ∷ peek u32 s8 otherPlaces ∷ peek R s11 frames′ ∷ mut u32 s13 trace ∷ []
+    to-back frames′ = val VmRow m (vmVal m) ∷ peek u64 s3 functions ∷ peek u8 s4 text ∷ peek u8 s5 main ∷ peek u32 s6 mainPlaces ∷ peek u8 s7 other ∷ peek u32 s8 otherPlaces ∷ peek u64 s9 stack ∷ peek R s11 frames′ ∷ mut u32 s13 trace ∷ []
 
-    call-back : (frames′ : List Frame) → length frames′ ≡ s11 .count → Rule 𝓤 H A W (to-back frames′) ToBack ToldRow toldVal (λ r zs. ((structs′ constants′ : List ℕ) → record { answer = r; out = (zs .1 .1 .1 .1 .1 .1 .1 .1 .0) } ≡ backtraceIn m (programLent structs′ constants′ functions text main mainPlaces other otherPlaces) frames′ trace))
-    call-back frames′ len-frames = call-with 𝓤 H A W (to-back frames′) ToBack ToldRow toldVal (λ r zs. ((structs′ constants′ : List ℕ) → record { answer = r; out = (zs .1 .1 .1 .1 .1 .1 .1 .1 .0) } ≡ backtraceIn m (programLent structs′ constants′ functions text main mainPlaces other otherPlaces) frames′ trace)) told-tells (λ ns. passing (lent (to-back frames′) ns)) (λ ns. refl)
-        (λ ns. unasked W (lent (to-back frames′) ns)) (λ ns w. id⊢ 𝓤 _) (vm-makes 𝓤 H A W m _ is-m, tt) ((refl, room3), ((refl, room4), ((refl, room5), ((refl, room6), ((refl, room7), ((refl, room8), ((len-frames, room11), ((refl, room13), tt))))))))
+    call-back : (frames′ : List Frame) → length frames′ ≡ s11 .count → Rule 𝓤 H A W (to-back frames′) ToBack ToldRow toldVal (λ r zs. ((structs′ constants′ : List ℕ) → record { answer = r; out = (zs .1 .1 .1 .1 .1 .1 .1 .1 .1 .0) } ≡ backtraceIn m (programLent structs′ constants′ functions text main mainPlaces other otherPlaces) stack frames′ trace))
+    call-back frames′ len-frames = call-with 𝓤 H A W (to-back frames′) ToBack ToldRow toldVal (λ r zs. ((structs′ constants′ : List ℕ) → record { answer = r; out = (zs .1 .1 .1 .1 .1 .1 .1 .1 .1 .0) } ≡ backtraceIn m (programLent structs′ constants′ functions text main mainPlaces other otherPlaces) stack frames′ trace)) told-tells (λ ns. passing (lent (to-back frames′) ns)) (λ ns. refl)
+        (λ ns. unasked W (lent (to-back frames′) ns)) (λ ns w. id⊢ 𝓤 _) (vm-makes 𝓤 H A W m _ is-m, tt) ((refl, room3), ((refl, room4), ((refl, room5), ((refl, room6), ((refl, room7), ((refl, room8), ((refl, room9), ((len-frames, room11), ((refl, room13), tt)))))))))
 
     module _ (ls : Blocks (code.function .locals)) where
       fm : FmC 𝓤 H (W .laws) (𝓣 .C)
@@ -342,12 +342,12 @@ module _ {M : Type 1} (𝓤 : URA M) (H : Heap 𝓤) (A : Atoms 𝓤) (W : Given
           sets ! (addr ! (behind ! refl refl)) (tt, tt) $ sets ! (agg ! (ofs ! refl)) (tt, (tt, (record { fits = room11 .0 }, tt))) $ sets ! (addr ! (behind ! refl refl)) (tt, tt) $ sets ! (agg ! (ofs ! refl)) (tt, (tt, (record { fits = room14 .0 }, tt))) $ calls-on ! (false ∷ false ∷ false ∷ false ∷ false ∷ false ∷ false ∷ false ∷ false ∷ false ∷ false ∷ true ∷ false ∷ false ∷ true ∷ []) (slices (zs₁ .1 .0) (zs₁ .1 .1 .0) (zs₁ .1 .1 .1 .0) (zs₁ .1 .1 .1 .1 .0) (zs₁ .1 .1 .1 .1 .1 .0) (zs₁ .1 .1 .1 .1 .1 .1 .0) (zs₁ .1 .1 .1 .1 .1 .1 .1 .0) (zs₁ .1 .1 .1 .1 .1 .1 .1 .1 .0) stack cells (zs₁ .1 .1 .1 .1 .1 .1 .1 .1 .1 .0) copy trace words) (call-keep (zs₁ .1 .1 .1 .1 .1 .1 .1 .1 .1 .0) words (lens₁ .1 .1 .1 .1 .1 .1 .1 .1 .0) refl) (λ zs. (slices (zs₁ .1 .0) (zs₁ .1 .1 .0) (zs₁ .1 .1 .1 .0) (zs₁ .1 .1 .1 .1 .0) (zs₁ .1 .1 .1 .1 .1 .0) (zs₁ .1 .1 .1 .1 .1 .1 .0) (zs₁ .1 .1 .1 .1 .1 .1 .1 .0) (zs₁ .1 .1 .1 .1 .1 .1 .1 .1 .0) stack cells (zs₁ .1 .1 .1 .1 .1 .1 .1 .1 .1 .0) copy trace (zs .1 .0))) refl (λ zs. refl) (λ zs. refl) fm known-keep refl (λ u zs₂ said₂ lens₂ isu. lands-in ! (tt, tt) $
           calls-on ! [] (slices (zs₁ .1 .0) (zs₁ .1 .1 .0) (zs₁ .1 .1 .1 .0) (zs₁ .1 .1 .1 .1 .0) (zs₁ .1 .1 .1 .1 .1 .0) (zs₁ .1 .1 .1 .1 .1 .1 .0) (zs₁ .1 .1 .1 .1 .1 .1 .1 .0) (zs₁ .1 .1 .1 .1 .1 .1 .1 .1 .0) stack cells (zs₁ .1 .1 .1 .1 .1 .1 .1 .1 .1 .0) copy trace (zs₂ .1 .0)) (call-made x isx) (λ zs. (slices (zs₁ .1 .0) (zs₁ .1 .1 .0) (zs₁ .1 .1 .1 .0) (zs₁ .1 .1 .1 .1 .0) (zs₁ .1 .1 .1 .1 .1 .0) (zs₁ .1 .1 .1 .1 .1 .1 .0) (zs₁ .1 .1 .1 .1 .1 .1 .1 .0) (zs₁ .1 .1 .1 .1 .1 .1 .1 .1 .0) stack cells (zs₁ .1 .1 .1 .1 .1 .1 .1 .1 .1 .0) copy trace (zs₂ .1 .0))) refl (λ zs. refl) (λ zs. refl) fm known-made refl (λ r zs₉ er lens₉ isr. lands-in ! (answer-typed 𝓤 H A W r isr) $ sets ! (of-opd ! (of ! refl)) (answer-typed 𝓤 H A W r isr) $ leaves ! refl $ by ! (exits r (zs₁ .1 .0) (zs₁ .1 .1 .0) (zs₁ .1 .1 .1 .0) (zs₁ .1 .1 .1 .1 .0) (zs₁ .1 .1 .1 .1 .1 .0) (zs₁ .1 .1 .1 .1 .1 .1 .0) (zs₁ .1 .1 .1 .1 .1 .1 .1 .0) (zs₁ .1 .1 .1 .1 .1 .1 .1 .1 .0) stack cells (zs₁ .1 .1 .1 .1 .1 .1 .1 .1 .1 .0) copy trace (zs₂ .1 .0) isr (lens₁ .0) (lens₁ .1 .0) (lens₁ .1 .1 .0) (lens₁ .1 .1 .1 .0) (lens₁ .1 .1 .1 .1 .0) (lens₁ .1 .1 .1 .1 .1 .0) (lens₁ .1 .1 .1 .1 .1 .1 .0) (lens₁ .1 .1 .1 .1 .1 .1 .1 .0) refl refl (lens₁ .1 .1 .1 .1 .1 .1 .1 .1 .0) refl refl (lens₂ .0))))))
       answers (Run units) e isc fs len =
-          returns-match ! 𝓣 (tag-of ! refl refl refl refl) refl (sets ! (of-opd ! (payload-of ! refl refl refl refl refl refl)) (tt, record { fits = run-fits units isc .1 }) $ sets ! (addr ! (behind ! refl refl)) (tt, tt) $ sets ! (agg ! (ofs ! refl)) (tt, (tt, (record { fits = room1 .0 }, tt))) $ sets ! (addr ! (behind ! refl refl)) (tt, tt) $ sets ! (agg ! (ofs ! refl)) (tt, (tt, (record { fits = room3 .0 }, tt))) $ sets ! (addr ! (behind ! refl refl)) (tt, tt) $ sets ! (agg ! (ofs ! refl)) (tt, (tt, (record { fits = room4 .0 }, tt))) $ sets ! (addr ! (behind ! refl refl)) (tt, tt) $ sets ! (agg ! (ofs ! refl)) (tt, (tt, (record { fits = room5 .0 }, tt))) $ sets ! (addr ! (behind ! refl refl)) (tt, tt) $ sets ! (agg ! (ofs ! refl)) (tt, (tt, (record { fits = room6 .0 }, tt))) $ sets ! (addr ! (behind ! refl refl)) (tt, tt) $ sets ! (agg ! (ofs ! refl)) (tt, (tt, (record { fits = room7 .0 }, tt))) $ sets ! (addr ! (behind ! refl refl)) (tt, tt) $ sets ! (agg ! (ofs ! refl)) (tt, (tt, (record { fits = room8 .0 }, tt))) $ sets ! (addr ! (behind ! refl refl)) (tt, tt) $ sets ! (agg ! (ofs ! refl)) (tt, (tt, (record { fits = room9 .0 }, tt))) $ sets ! (addr ! (behind ! refl refl)) (tt, tt) $ sets ! (agg ! (ofs ! refl)) (tt, (tt, (record { fits = room10 .0 }, tt))) $ sets ! (addr ! (behind ! refl refl)) (tt, tt) $ sets ! (agg ! (ofs ! refl)) (tt, (tt, (record { fits = room11 .0 }, tt))) $ sets ! (addr ! (behind ! refl refl)) (tt, tt) $ sets ! (agg ! (ofs ! refl)) (tt, (tt, (record { fits = room12 .0 }, tt))) $ sets ! (addr ! (behind ! refl refl)) (tt, tt) $ sets ! (agg ! (ofs ! refl)) (tt, (tt, (record { fits = room13 .0 }, tt))) $ calls-on ! (false ∷ true ∷ false ∷ true ∷ true ∷ true ∷ true ∷ true ∷ true ∷ true ∷ true ∷ true ∷ true ∷ true ∷ []) (slices constants structs functions text main mainPlaces other otherPlaces stack cells fs copy trace words) (call-go units (run-fits units isc) fs len) (λ zs. (slices constants structs functions text main mainPlaces other otherPlaces (zs .1 .1 .1 .1 .1 .1 .1 .1 .1 .0) (zs .1 .1 .1 .1 .1 .1 .1 .1 .1 .1 .0) (zs .1 .1 .1 .1 .1 .1 .1 .1 .1 .1 .1 .0) (zs .1 .1 .1 .1 .1 .1 .1 .1 .1 .1 .1 .1 .0) (zs .1 .1 .1 .1 .1 .1 .1 .1 .1 .1 .1 .1 .1 .0) words)) refl (λ zs. refl) (λ zs. refl) fm known-go refl (λ x zs₁ said₁ lens₁ isx. lands-in ! (result-typed 𝓤 H A W x isx) $
-          sets ! (addr ! (behind ! refl refl)) (tt, tt) $ sets ! (agg ! (ofs ! refl)) (tt, (tt, (record { fits = room11 .0 }, tt))) $ sets ! (addr ! (behind ! refl refl)) (tt, tt) $ sets ! (agg ! (ofs ! refl)) (tt, (tt, (record { fits = room14 .0 }, tt))) $ calls-on ! (false ∷ false ∷ false ∷ false ∷ false ∷ false ∷ false ∷ false ∷ false ∷ false ∷ false ∷ true ∷ false ∷ false ∷ true ∷ []) (slices constants structs functions text main mainPlaces other otherPlaces (zs₁ .1 .1 .1 .1 .1 .1 .1 .1 .1 .0) (zs₁ .1 .1 .1 .1 .1 .1 .1 .1 .1 .1 .0) (zs₁ .1 .1 .1 .1 .1 .1 .1 .1 .1 .1 .1 .0) (zs₁ .1 .1 .1 .1 .1 .1 .1 .1 .1 .1 .1 .1 .0) (zs₁ .1 .1 .1 .1 .1 .1 .1 .1 .1 .1 .1 .1 .1 .0) words) (call-keep (zs₁ .1 .1 .1 .1 .1 .1 .1 .1 .1 .1 .1 .0) words (lens₁ .1 .1 .0) refl) (λ zs. (slices constants structs functions text main mainPlaces other otherPlaces (zs₁ .1 .1 .1 .1 .1 .1 .1 .1 .1 .0) (zs₁ .1 .1 .1 .1 .1 .1 .1 .1 .1 .1 .0) (zs₁ .1 .1 .1 .1 .1 .1 .1 .1 .1 .1 .1 .0) (zs₁ .1 .1 .1 .1 .1 .1 .1 .1 .1 .1 .1 .1 .0) (zs₁ .1 .1 .1 .1 .1 .1 .1 .1 .1 .1 .1 .1 .1 .0) (zs .1 .0))) refl (λ zs. refl) (λ zs. refl) fm known-keep refl (λ u zs₂ said₂ lens₂ isu. lands-in ! (tt, tt) $
-          calls-on ! [] (slices constants structs functions text main mainPlaces other otherPlaces (zs₁ .1 .1 .1 .1 .1 .1 .1 .1 .1 .0) (zs₁ .1 .1 .1 .1 .1 .1 .1 .1 .1 .1 .0) (zs₁ .1 .1 .1 .1 .1 .1 .1 .1 .1 .1 .1 .0) (zs₁ .1 .1 .1 .1 .1 .1 .1 .1 .1 .1 .1 .1 .0) (zs₁ .1 .1 .1 .1 .1 .1 .1 .1 .1 .1 .1 .1 .1 .0) (zs₂ .1 .0)) (call-ran x isx) (λ zs. (slices constants structs functions text main mainPlaces other otherPlaces (zs₁ .1 .1 .1 .1 .1 .1 .1 .1 .1 .0) (zs₁ .1 .1 .1 .1 .1 .1 .1 .1 .1 .1 .0) (zs₁ .1 .1 .1 .1 .1 .1 .1 .1 .1 .1 .1 .0) (zs₁ .1 .1 .1 .1 .1 .1 .1 .1 .1 .1 .1 .1 .0) (zs₁ .1 .1 .1 .1 .1 .1 .1 .1 .1 .1 .1 .1 .1 .0) (zs₂ .1 .0))) refl (λ zs. refl) (λ zs. refl) fm known-ran refl (λ r zs₉ er lens₉ isr. lands-in ! (answer-typed 𝓤 H A W r isr) $ sets ! (of-opd ! (of ! refl)) (answer-typed 𝓤 H A W r isr) $ leaves ! refl $ by ! (exits r constants structs functions text main mainPlaces other otherPlaces (zs₁ .1 .1 .1 .1 .1 .1 .1 .1 .1 .0) (zs₁ .1 .1 .1 .1 .1 .1 .1 .1 .1 .1 .0) (zs₁ .1 .1 .1 .1 .1 .1 .1 .1 .1 .1 .1 .0) (zs₁ .1 .1 .1 .1 .1 .1 .1 .1 .1 .1 .1 .1 .0) (zs₁ .1 .1 .1 .1 .1 .1 .1 .1 .1 .1 .1 .1 .1 .0) (zs₂ .1 .0) isr refl refl refl refl refl refl refl refl (lens₁ .0) (lens₁ .1 .0) (lens₁ .1 .1 .0) (lens₁ .1 .1 .1 .0) (lens₁ .1 .1 .1 .1 .0) (lens₂ .0))))))
+          returns-match ! 𝓣 (tag-of ! refl refl refl refl) refl (sets ! (of-opd ! (payload-of ! refl refl refl refl refl refl)) (tt, record { fits = run-fits units isc .1 }) $ sets ! (addr ! (behind ! refl refl)) (tt, tt) $ sets ! (agg ! (ofs ! refl)) (tt, (tt, (record { fits = room1 .0 }, tt))) $ sets ! (addr ! (behind ! refl refl)) (tt, tt) $ sets ! (agg ! (ofs ! refl)) (tt, (tt, (record { fits = room2 .0 }, tt))) $ sets ! (addr ! (behind ! refl refl)) (tt, tt) $ sets ! (agg ! (ofs ! refl)) (tt, (tt, (record { fits = room3 .0 }, tt))) $ sets ! (addr ! (behind ! refl refl)) (tt, tt) $ sets ! (agg ! (ofs ! refl)) (tt, (tt, (record { fits = room4 .0 }, tt))) $ sets ! (addr ! (behind ! refl refl)) (tt, tt) $ sets ! (agg ! (ofs ! refl)) (tt, (tt, (record { fits = room5 .0 }, tt))) $ sets ! (addr ! (behind ! refl refl)) (tt, tt) $ sets ! (agg ! (ofs ! refl)) (tt, (tt, (record { fits = room6 .0 }, tt))) $ sets ! (addr ! (behind ! refl refl)) (tt, tt) $ sets ! (agg ! (ofs ! refl)) (tt, (tt, (record { fits = room7 .0 }, tt))) $ sets ! (addr ! (behind ! refl refl)) (tt, tt) $ sets ! (agg ! (ofs ! refl)) (tt, (tt, (record { fits = room8 .0 }, tt))) $ sets ! (addr ! (behind ! refl refl)) (tt, tt) $ sets ! (agg ! (ofs ! refl)) (tt, (tt, (record { fits = room9 .0 }, tt))) $ sets ! (addr ! (behind ! refl refl)) (tt, tt) $ sets ! (agg ! (ofs ! refl)) (tt, (tt, (record { fits = room10 .0 }, tt))) $ sets ! (addr ! (behind ! refl refl)) (tt, tt) $ sets ! (agg ! (ofs ! refl)) (tt, (tt, (record { fits = room11 .0 }, tt))) $ sets ! (addr ! (behind ! refl refl)) (tt, tt) $ sets ! (agg ! (ofs ! refl)) (tt, (tt, (record { fits = room12 .0 }, tt))) $ sets ! (addr ! (behind ! refl refl)) (tt, tt) $ sets ! (agg ! (ofs ! refl)) (tt, (tt, (record { fits = room13 .0 }, tt))) $ calls-on ! (false ∷ true ∷ true ∷ true ∷ true ∷ true ∷ true ∷ true ∷ true ∷ true ∷ true ∷ true ∷ true ∷ true ∷ []) (slices constants structs functions text main mainPlaces other otherPlaces stack cells fs copy trace words) (call-go units (run-fits units isc) fs len) (λ zs. (slices constants structs functions text main mainPlaces other otherPlaces (zs .1 .1 .1 .1 .1 .1 .1 .1 .1 .1 .0) (zs .1 .1 .1 .1 .1 .1 .1 .1 .1 .1 .1 .0) (zs .1 .1 .1 .1 .1 .1 .1 .1 .1 .1 .1 .1 .0) (zs .1 .1 .1 .1 .1 .1 .1 .1 .1 .1 .1 .1 .1 .0) (zs .1 .1 .1 .1 .1 .1 .1 .1 .1 .1 .1 .1 .1 .1 .0) words)) refl (λ zs. refl) (λ zs. refl) fm known-go refl (λ x zs₁ said₁ lens₁ isx. lands-in ! (result-typed 𝓤 H A W x isx) $
+          sets ! (addr ! (behind ! refl refl)) (tt, tt) $ sets ! (agg ! (ofs ! refl)) (tt, (tt, (record { fits = room11 .0 }, tt))) $ sets ! (addr ! (behind ! refl refl)) (tt, tt) $ sets ! (agg ! (ofs ! refl)) (tt, (tt, (record { fits = room14 .0 }, tt))) $ calls-on ! (false ∷ false ∷ false ∷ false ∷ false ∷ false ∷ false ∷ false ∷ false ∷ false ∷ false ∷ true ∷ false ∷ false ∷ true ∷ []) (slices constants structs functions text main mainPlaces other otherPlaces (zs₁ .1 .1 .1 .1 .1 .1 .1 .1 .1 .1 .0) (zs₁ .1 .1 .1 .1 .1 .1 .1 .1 .1 .1 .1 .0) (zs₁ .1 .1 .1 .1 .1 .1 .1 .1 .1 .1 .1 .1 .0) (zs₁ .1 .1 .1 .1 .1 .1 .1 .1 .1 .1 .1 .1 .1 .0) (zs₁ .1 .1 .1 .1 .1 .1 .1 .1 .1 .1 .1 .1 .1 .1 .0) words) (call-keep (zs₁ .1 .1 .1 .1 .1 .1 .1 .1 .1 .1 .1 .1 .0) words (lens₁ .1 .1 .0) refl) (λ zs. (slices constants structs functions text main mainPlaces other otherPlaces (zs₁ .1 .1 .1 .1 .1 .1 .1 .1 .1 .1 .0) (zs₁ .1 .1 .1 .1 .1 .1 .1 .1 .1 .1 .1 .0) (zs₁ .1 .1 .1 .1 .1 .1 .1 .1 .1 .1 .1 .1 .0) (zs₁ .1 .1 .1 .1 .1 .1 .1 .1 .1 .1 .1 .1 .1 .0) (zs₁ .1 .1 .1 .1 .1 .1 .1 .1 .1 .1 .1 .1 .1 .1 .0) (zs .1 .0))) refl (λ zs. refl) (λ zs. refl) fm known-keep refl (λ u zs₂ said₂ lens₂ isu. lands-in ! (tt, tt) $
+          calls-on ! [] (slices constants structs functions text main mainPlaces other otherPlaces (zs₁ .1 .1 .1 .1 .1 .1 .1 .1 .1 .1 .0) (zs₁ .1 .1 .1 .1 .1 .1 .1 .1 .1 .1 .1 .0) (zs₁ .1 .1 .1 .1 .1 .1 .1 .1 .1 .1 .1 .1 .0) (zs₁ .1 .1 .1 .1 .1 .1 .1 .1 .1 .1 .1 .1 .1 .0) (zs₁ .1 .1 .1 .1 .1 .1 .1 .1 .1 .1 .1 .1 .1 .1 .0) (zs₂ .1 .0)) (call-ran x isx) (λ zs. (slices constants structs functions text main mainPlaces other otherPlaces (zs₁ .1 .1 .1 .1 .1 .1 .1 .1 .1 .1 .0) (zs₁ .1 .1 .1 .1 .1 .1 .1 .1 .1 .1 .1 .0) (zs₁ .1 .1 .1 .1 .1 .1 .1 .1 .1 .1 .1 .1 .0) (zs₁ .1 .1 .1 .1 .1 .1 .1 .1 .1 .1 .1 .1 .1 .0) (zs₁ .1 .1 .1 .1 .1 .1 .1 .1 .1 .1 .1 .1 .1 .1 .0) (zs₂ .1 .0))) refl (λ zs. refl) (λ zs. refl) fm known-ran refl (λ r zs₉ er lens₉ isr. lands-in ! (answer-typed 𝓤 H A W r isr) $ sets ! (of-opd ! (of ! refl)) (answer-typed 𝓤 H A W r isr) $ leaves ! refl $ by ! (exits r constants structs functions text main mainPlaces other otherPlaces (zs₁ .1 .1 .1 .1 .1 .1 .1 .1 .1 .1 .0) (zs₁ .1 .1 .1 .1 .1 .1 .1 .1 .1 .1 .1 .0) (zs₁ .1 .1 .1 .1 .1 .1 .1 .1 .1 .1 .1 .1 .0) (zs₁ .1 .1 .1 .1 .1 .1 .1 .1 .1 .1 .1 .1 .1 .0) (zs₁ .1 .1 .1 .1 .1 .1 .1 .1 .1 .1 .1 .1 .1 .1 .0) (zs₂ .1 .0) isr refl refl refl refl refl refl refl refl (lens₁ .0) (lens₁ .1 .0) (lens₁ .1 .1 .0) (lens₁ .1 .1 .1 .0) (lens₁ .1 .1 .1 .1 .0) (lens₂ .0))))))
       answers Trace e isc fs len =
-          returns-match ! 𝓣 (tag-of ! refl refl refl refl) refl (sets ! (addr ! (behind ! refl refl)) (tt, tt) $ sets ! (agg ! (ofs ! refl)) (tt, (tt, (record { fits = room3 .0 }, tt))) $ sets ! (addr ! (behind ! refl refl)) (tt, tt) $ sets ! (agg ! (ofs ! refl)) (tt, (tt, (record { fits = room4 .0 }, tt))) $ sets ! (addr ! (behind ! refl refl)) (tt, tt) $ sets ! (agg ! (ofs ! refl)) (tt, (tt, (record { fits = room5 .0 }, tt))) $ sets ! (addr ! (behind ! refl refl)) (tt, tt) $ sets ! (agg ! (ofs ! refl)) (tt, (tt, (record { fits = room6 .0 }, tt))) $ sets ! (addr ! (behind ! refl refl)) (tt, tt) $ sets ! (agg ! (ofs ! refl)) (tt, (tt, (record { fits = room7 .0 }, tt))) $ sets ! (addr ! (behind ! refl refl)) (tt, tt) $ sets ! (agg ! (ofs ! refl)) (tt, (tt, (record { fits = room8 .0 }, tt))) $ sets ! (addr ! (behind ! refl refl)) (tt, tt) $ sets ! (agg ! (ofs ! refl)) (tt, (tt, (record { fits = room11 .0 }, tt))) $ sets ! (addr ! (behind ! refl refl)) (tt, tt) $ sets ! (agg ! (ofs ! refl)) (tt, (tt, (record { fits = room13 .0 }, tt))) $ calls-on ! (false ∷ false ∷ false ∷ true ∷ true ∷ true ∷ true ∷ true ∷ true ∷ false ∷ false ∷ true ∷ false ∷ true ∷ []) (slices constants structs functions text main mainPlaces other otherPlaces stack cells fs copy trace words) (call-back fs len) (λ zs. (slices constants structs functions text main mainPlaces other otherPlaces stack cells fs copy (zs .1 .1 .1 .1 .1 .1 .1 .1 .0) words)) refl (λ zs. refl) (λ zs. refl) fm known-back refl (λ x zs₁ said₁ lens₁ isx. lands-in ! (told-typed 𝓤 H A W x isx) $
-          calls-on ! [] (slices constants structs functions text main mainPlaces other otherPlaces stack cells fs copy (zs₁ .1 .1 .1 .1 .1 .1 .1 .1 .0) words) (call-traced x isx) (λ zs. (slices constants structs functions text main mainPlaces other otherPlaces stack cells fs copy (zs₁ .1 .1 .1 .1 .1 .1 .1 .1 .0) words)) refl (λ zs. refl) (λ zs. refl) fm known-traced refl (λ r zs₉ er lens₉ isr. lands-in ! (answer-typed 𝓤 H A W r isr) $ sets ! (of-opd ! (of ! refl)) (answer-typed 𝓤 H A W r isr) $ leaves ! refl $ by ! (exits r constants structs functions text main mainPlaces other otherPlaces stack cells fs copy (zs₁ .1 .1 .1 .1 .1 .1 .1 .1 .0) words isr refl refl refl refl refl refl refl refl refl refl len refl (lens₁ .0) refl))))
+          returns-match ! 𝓣 (tag-of ! refl refl refl refl) refl (sets ! (addr ! (behind ! refl refl)) (tt, tt) $ sets ! (agg ! (ofs ! refl)) (tt, (tt, (record { fits = room3 .0 }, tt))) $ sets ! (addr ! (behind ! refl refl)) (tt, tt) $ sets ! (agg ! (ofs ! refl)) (tt, (tt, (record { fits = room4 .0 }, tt))) $ sets ! (addr ! (behind ! refl refl)) (tt, tt) $ sets ! (agg ! (ofs ! refl)) (tt, (tt, (record { fits = room5 .0 }, tt))) $ sets ! (addr ! (behind ! refl refl)) (tt, tt) $ sets ! (agg ! (ofs ! refl)) (tt, (tt, (record { fits = room6 .0 }, tt))) $ sets ! (addr ! (behind ! refl refl)) (tt, tt) $ sets ! (agg ! (ofs ! refl)) (tt, (tt, (record { fits = room7 .0 }, tt))) $ sets ! (addr ! (behind ! refl refl)) (tt, tt) $ sets ! (agg ! (ofs ! refl)) (tt, (tt, (record { fits = room8 .0 }, tt))) $ sets ! (addr ! (behind ! refl refl)) (tt, tt) $ sets ! (agg ! (ofs ! refl)) (tt, (tt, (record { fits = room9 .0 }, tt))) $ sets ! (addr ! (behind ! refl refl)) (tt, tt) $ sets ! (agg ! (ofs ! refl)) (tt, (tt, (record { fits = room11 .0 }, tt))) $ sets ! (addr ! (behind ! refl refl)) (tt, tt) $ sets ! (agg ! (ofs ! refl)) (tt, (tt, (record { fits = room13 .0 }, tt))) $ calls-on ! (false ∷ false ∷ false ∷ true ∷ true ∷ true ∷ true ∷ true ∷ true ∷ true ∷ false ∷ true ∷ false ∷ true ∷ []) (slices constants structs functions text main mainPlaces other otherPlaces stack cells fs copy trace words) (call-back fs len) (λ zs. (slices constants structs functions text main mainPlaces other otherPlaces stack cells fs copy (zs .1 .1 .1 .1 .1 .1 .1 .1 .1 .0) words)) refl (λ zs. refl) (λ zs. refl) fm known-back refl (λ x zs₁ said₁ lens₁ isx. lands-in ! (told-typed 𝓤 H A W x isx) $
+          calls-on ! [] (slices constants structs functions text main mainPlaces other otherPlaces stack cells fs copy (zs₁ .1 .1 .1 .1 .1 .1 .1 .1 .1 .0) words) (call-traced x isx) (λ zs. (slices constants structs functions text main mainPlaces other otherPlaces stack cells fs copy (zs₁ .1 .1 .1 .1 .1 .1 .1 .1 .1 .0) words)) refl (λ zs. refl) (λ zs. refl) fm known-traced refl (λ r zs₉ er lens₉ isr. lands-in ! (answer-typed 𝓤 H A W r isr) $ sets ! (of-opd ! (of ! refl)) (answer-typed 𝓤 H A W r isr) $ leaves ! refl $ by ! (exits r constants structs functions text main mainPlaces other otherPlaces stack cells fs copy (zs₁ .1 .1 .1 .1 .1 .1 .1 .1 .1 .0) words isr refl refl refl refl refl refl refl refl refl refl len refl (lens₁ .0) refl))))
 
     walk : ent 𝓤 (onEntry 𝓤 H A me.signature (lfts xs₀) (shares xs₀) (denots xs₀) (valss xs₀)) (WpFn 𝓤 H (𝓣 .C) (𝓣 .Λ) code.function (values xs₀) Post)
     walk =
