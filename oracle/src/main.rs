@@ -7,19 +7,29 @@ use std::process::ExitCode;
 use oracle::limits::Answer;
 use oracle::plain::{self, Ending};
 use oracle::print::{self, value_text};
+use oracle::published::{self, Count};
 use oracle::vm::Vm;
 use oracle::{asm, calls, console, damage, edges, generate, image};
 
 const HELP: &str = "\
-oracle: source document 000 over f64, and document 01's machine on top of it
+oracle: source document 000 (numbat's vm.rs) as published; the same written again
+over f64, the plain machine; and document 01's machine, written for itself
 
   oracle run FILE               what the runner prints
   oracle list FILE              what the lister prints
   oracle judge FILE             `ok`, or `refused 20 OFFSET`; also checks that
                                 the image of what was read is FILE again
   oracle asm FILE               the image of a rule source (examples/README.md)
-  oracle rust FILE              what the plain Rust does: its answer, error or
+  oracle rust FILE              what the plain machine does: its answer, error or
                                 panic, and stack, frames and last result after
+  oracle published SEED COUNT   runs and lists generated images on the published
+                                Rust and compares with the plain machine
+                                (answer, error or panic, and what is left) and,
+                                where no limit comes in, with document 01's
+                                machine: each difference, and a count
+  oracle published-calls SEED COUNT
+                                the same for the scripts of `calls` of COUNT
+                                seeds: what is emitted, and each run
   oracle generate SEED COUNT DIR
                                 writes images DIR/000000.img and so on
   oracle sample SEED COUNT      runs generated images, counts their endings
@@ -55,8 +65,13 @@ any, emitted programs too. From 40,000 bytes on it begins with a long one: the
 text store is filled for seeds 0, 4, 8 .., main's code for 1, 5 .., the others'
 code for 2, 6 .., constants, structs and functions for 3, 7 ..
 
-FILE may be - for standard input. The plain Rust is stopped after 2,000,000
-steps or at a nesting of 1,000, which it would not be by itself.
+FILE may be - for standard input. The plain machine and the published Rust are
+stopped after 2,000,000 steps, at a nesting of 1,000 (plain) or at a struct of more
+than 10,000 values (published), which the Rust would not be by itself.
+
+The published Rust is numbat's vm.rs, list.rs and value.rs, unchanged, over
+stand-ins for what they name (oracle/numbat). It casts any byte to an opcode; it
+is stopped before a byte that is none, and before an opcode that is not carried.
 ";
 
 /// The bytes of a script, if nobody says how many.
@@ -87,6 +102,12 @@ fn main() -> ExitCode {
         ["calls", seed] => number(seed).and_then(|s| put(calls::script(s, CALLS).as_bytes())),
         ["calls", seed, bytes] => numbers(seed, bytes)
             .and_then(|(s, bytes)| put(calls::script(s, bytes as usize).as_bytes())),
+        ["published", seed, count] => {
+            numbers(seed, count).and_then(|(s, c)| judged("images", c, published::images(s, c)))
+        }
+        ["published-calls", seed, count] => {
+            numbers(seed, count).and_then(|(s, c)| judged("scripts", c, published::calls(s, c)))
+        }
         [] | ["help" | "--help" | "-h"] => put(HELP.as_bytes()),
         _ => Err(format!("not understood\n\n{HELP}")),
     };
@@ -219,6 +240,23 @@ fn tally(seed: u64, count: u64) -> Done {
         .iter()
         .map(|(edge, count)| format!("{edge}: {count}\n"));
     put(lines.collect::<String>().as_bytes())
+}
+
+/// How often what was compared, each difference, and how many those are.
+fn judged(what: &str, count: u64, counted: Count) -> Done {
+    let mut out = String::new();
+    for (compared, count) in &counted.compared {
+        out += &format!("{compared}: {count}\n");
+    }
+    for difference in &counted.differences {
+        out += &format!("{difference}\n");
+    }
+    let differences = counted.differences.len();
+    put(format!("{out}{count} {what}, {differences} differences\n").as_bytes())?;
+    if differences > 0 {
+        return Err("the published Rust and the oracle differ".to_owned());
+    }
+    Ok(())
 }
 
 fn records(images: impl Iterator<Item = Vec<u8>>) -> Done {

@@ -24,8 +24,8 @@ pub mod value;
 pub mod vm;
 
 // The names by which the published files know their neighbours.
-pub use neighbours::{interpreter, quantity, span, typed_ast};
 pub(crate) use neighbours::{
     datetime, ffi, markup, math, number, prefix, prefix_transformer, pretty_print, typechecker,
     unit, unit_registry,
 };
+pub use neighbours::{interpreter, quantity, span, typed_ast};

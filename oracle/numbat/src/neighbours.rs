@@ -66,8 +66,7 @@ pub mod ffi {
     }
 
     pub fn functions() -> &'static HashMap<&'static str, ForeignFunction> {
-        static NONE: LazyLock<HashMap<&'static str, ForeignFunction>> =
-            LazyLock::new(HashMap::new);
+        static NONE: LazyLock<HashMap<&'static str, ForeignFunction>> = LazyLock::new(HashMap::new);
         &NONE
     }
 }

@@ -150,6 +150,12 @@ impl Vm {
         self.end_function();
     }
 
+    /// A struct of a known number.
+    pub fn instance(&self, number: usize, fields: Vec<Value>) -> Value {
+        let (_, info) = self.struct_infos.get_index(number).expect("known");
+        Value::StructInstance(info.clone(), fields)
+    }
+
     /// The state of a machine that was stopped, or whose host changed it.
     pub fn put(&mut self, stack: Vec<Value>, frames: &[Frame], last_result: Option<Value>) {
         self.stack = stack;
@@ -204,6 +210,11 @@ impl Vm {
             Some(_) => None,
         }
     }
+}
+
+/// The elements of a list, which list.rs tells numbat alone.
+pub fn elements(list: &NumbatList<Value>) -> Vec<&Value> {
+    list.iter().collect()
 }
 
 /// Looking at a machine.
