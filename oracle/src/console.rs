@@ -262,8 +262,9 @@ fn ran(report: &Report, stack: usize, frames: &[Frame]) -> String {
         Answer::Fault(number) => format!("fault {number}"),
     };
     format!(
-        "{answer}, spent {}, stack {stack}, frames {}\n{}",
+        "{answer}, spent {}, returns {}, stack {stack}, frames {}\n{}",
         report.spent,
+        report.returns,
         frames.len(),
         entries(&report.backtrace)
     )

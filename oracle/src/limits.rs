@@ -116,6 +116,9 @@ pub enum Answer {
 pub struct Report {
     pub answer: Answer,
     pub spent: u64,
+    /// How many root Returns the run has completed: what it returned before a
+    /// fault has counted. 0 with "continue".
+    pub returns: u64,
     /// Function and place, innermost frame first; empty unless a fault.
     pub backtrace: Vec<(usize, u32)>,
     /// How far the stores were filled on the way.
@@ -361,6 +364,7 @@ impl Machine {
         let mut cells_to_keep = self.cells_used;
         let mut answer = Answer::Continue;
         let mut spent = 0;
+        let mut returns = 0;
         let mut most = Most::default();
 
         let fault = loop {
@@ -370,6 +374,7 @@ impl Machine {
                 return Report {
                     answer,
                     spent,
+                    returns,
                     backtrace: vec![],
                     most,
                 };
@@ -382,6 +387,7 @@ impl Machine {
                 Ok(Step::Done(pairs)) => spent += pairs,
                 Ok(Step::RootReturn(value)) => {
                     cells_to_keep = self.cells_used;
+                    returns += 1;
                     answer = Answer::Value(value);
                 }
                 Err(fault) => break fault,
@@ -405,6 +411,7 @@ impl Machine {
         Report {
             answer: Answer::Fault(fault),
             spent,
+            returns,
             backtrace,
             most,
         }
