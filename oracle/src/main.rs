@@ -49,6 +49,8 @@ over f64, the plain machine; and document 01's machine, written for itself
                                 is the number of its first line (1)
   oracle calls SEED [BYTES]     a script for the console, made by chance from
                                 the seed, of at most BYTES bytes (48,000)
+  oracle calls-tally SEED COUNT counts the faults, the refusals and the edges among
+                                the calls of the scripts of COUNT seeds
 
 A record is the lengths of four parts (each u32, low byte first) and then the
 parts: the image, what `load` prints, what the runner prints, what the lister
@@ -60,8 +62,9 @@ and the counts of stores other than the frames', which speak of the words in
 stores, and at a frame past those that a call has left.
 
 A script of `calls` has one story of each sort (each fault, the stores full and
-one over, frames damaged, patches, names, lines not understood, an image), then
-any, emitted programs too. From 40,000 bytes on it begins with a long one: the
+one over, frames damaged, patches, names, lines not understood, an image, a
+function defined anew, a struct added, a callee's code that grows, frames put over
+values, an image over a machine that has run), then any, emitted programs too. From 40,000 bytes on it begins with a long one: the
 text store is filled for seeds 0, 4, 8 .., main's code for 1, 5 .., the others'
 code for 2, 6 .., constants, structs and functions for 3, 7 ..
 
@@ -102,6 +105,11 @@ fn main() -> ExitCode {
         ["calls", seed] => number(seed).and_then(|s| put(calls::script(s, CALLS).as_bytes())),
         ["calls", seed, bytes] => numbers(seed, bytes)
             .and_then(|(s, bytes)| put(calls::script(s, bytes as usize).as_bytes())),
+        ["calls-tally", seed, count] => numbers(seed, count).and_then(|(s, c)| {
+            counts(calls::tally::tally(
+                (s..s + c).map(|seed| calls::script(seed, CALLS)),
+            ))
+        }),
         ["published", seed, count] => {
             numbers(seed, count).and_then(|(s, c)| judged("images", c, published::images(s, c)))
         }
@@ -235,7 +243,12 @@ fn sample(seed: u64, count: u64) -> Done {
 }
 
 fn tally(seed: u64, count: u64) -> Done {
-    let counted = edges::tally((0..count).map(|index| generate::case(seed, index)));
+    counts(edges::tally(
+        (0..count).map(|index| generate::case(seed, index)),
+    ))
+}
+
+fn counts(counted: Vec<(String, u64)>) -> Done {
     let lines = counted
         .iter()
         .map(|(edge, count)| format!("{edge}: {count}\n"));
