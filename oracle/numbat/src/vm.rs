@@ -44,7 +44,14 @@ include!("../published/vm.rs");
 
 thread_local! {
     static PRINTED: RefCell<String> = const { RefCell::new(String::new()) };
-    static STEPS_LEFT: Cell<u64> = const { Cell::new(0) };
+    static GUARD: Cell<Guard> = const { Cell::new(Guard { steps_left: 0, all_opcodes: false }) };
+}
+
+/// What a run is let do.
+#[derive(Clone, Copy)]
+struct Guard {
+    steps_left: u64,
+    all_opcodes: bool,
 }
 
 fn print(words: &str) {
@@ -173,10 +180,25 @@ impl Vm {
 
 /// Running under guard.
 impl Vm {
-    /// `run`, for at most so many steps. It panics as `run` does, and with
-    /// [`Outside`] where the guard stops it.
+    /// `run`, for at most so many steps and with the carried opcodes. It panics
+    /// as `run` does, and with [`Outside`] where the guard stops it.
     pub fn run_guarded(&mut self, steps: u64) -> Result<InterpreterResult> {
-        STEPS_LEFT.set(steps);
+        self.run_under(Guard {
+            steps_left: steps,
+            all_opcodes: false,
+        })
+    }
+
+    /// The same with all opcodes: what they do then is what the stand-ins do.
+    pub fn run_all_opcodes(&mut self, steps: u64) -> Result<InterpreterResult> {
+        self.run_under(Guard {
+            steps_left: steps,
+            all_opcodes: true,
+        })
+    }
+
+    fn run_under(&mut self, guard: Guard) -> Result<InterpreterResult> {
+        GUARD.set(guard);
         // So that `debug` does not return at once.
         self.debug = true;
         self.run(&mut ExecutionContext {
@@ -188,14 +210,16 @@ impl Vm {
     }
 
     fn before_step(&self, frame: &CallFrame) {
-        if let Some(outside) = self.outside(frame) {
+        let mut guard = GUARD.get();
+        if let Some(outside) = self.outside(frame, guard) {
             std::panic::panic_any(outside);
         }
-        STEPS_LEFT.set(STEPS_LEFT.get() - 1);
+        guard.steps_left -= 1;
+        GUARD.set(guard);
     }
 
-    fn outside(&self, frame: &CallFrame) -> Option<Outside> {
-        if STEPS_LEFT.get() == 0 {
+    fn outside(&self, frame: &CallFrame, guard: Guard) -> Option<Outside> {
+        if guard.steps_left == 0 {
             return Some(Outside::Bound("steps"));
         }
         if let Some(top) = self.stack.last()
@@ -206,7 +230,7 @@ impl Vm {
         let byte = self.bytecode[frame.function_idx].1[frame.ip];
         match op_of(byte) {
             None => Some(Outside::UndefinedCast(byte)),
-            Some(op) if !is_carried(op) => Some(Outside::NotCarried(op)),
+            Some(op) if !is_carried(op) && !guard.all_opcodes => Some(Outside::NotCarried(op)),
             Some(_) => None,
         }
     }
