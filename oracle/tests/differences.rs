@@ -429,6 +429,9 @@ fn difference_19_a_backtrace_names_functions_or_numbers_them() {
         assert_eq!(common::fault(&report), Some(8));
         assert_eq!(report.backtrace, [(called, 6), (0, 4)]);
     }
+    let image = "0200000000000000F03F0000000000000000000003063C6D61696E3E051C02000000\
+                 05040166070000000001000B07060166070000000001000B0706";
+    assert_eq!(runner(image), "fault 8\nspent 4\nstack 0\nat 2 6\nat 0 4\n");
     // A panic has none; the fault that stands for it has.
     let (ending, _) = rust_of(&common::program(&[], &["06"]));
     assert!(matches!(ending, Ending::Panicked(_)));

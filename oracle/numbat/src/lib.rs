@@ -18,9 +18,14 @@ mod neighbours;
 #[path = "../published/list.rs"]
 #[rustfmt::skip]
 pub mod list;
-#[allow(dead_code)]
+#[allow(dead_code, clippy::default_constructed_unit_structs)]
 pub mod value;
-#[allow(dead_code)]
+#[allow(
+    dead_code,
+    clippy::default_constructed_unit_structs,
+    clippy::new_without_default,
+    clippy::useless_conversion
+)]
 pub mod vm;
 
 // The names by which the published files know their neighbours.
