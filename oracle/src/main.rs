@@ -5,10 +5,10 @@ use std::io::{Read, Write};
 use std::process::ExitCode;
 
 use oracle::limits::Answer;
-use oracle::plain::{self, Ending};
+use oracle::plain::Ending;
 use oracle::print::{self, value_text};
-use oracle::published::{self, Count};
-use oracle::vm::Vm;
+use oracle::published::{self, Count, State};
+use oracle::vm::Bounds;
 use oracle::{asm, calls, console, damage, edges, generate, image};
 
 const HELP: &str = "\
@@ -20,7 +20,7 @@ over f64, the plain machine; and document 01's machine, written for itself
   oracle judge FILE             `ok`, or `refused 20 OFFSET`; also checks that
                                 the image of what was read is FILE again
   oracle asm FILE               the image of a rule source (examples/README.md)
-  oracle rust FILE              what the plain machine does: its answer, error or
+  oracle rust FILE              what the published Rust does: its answer, error or
                                 panic, and stack, frames and last result after
   oracle published SEED COUNT   runs and lists generated images on the published
                                 Rust and compares with the plain machine
@@ -64,9 +64,10 @@ stores, and at a frame past those that a call has left.
 A script of `calls` has one story of each sort (each fault, the stores full and
 one over, frames damaged, patches, names, lines not understood, an image, a
 function defined anew, a struct added, a callee's code that grows, frames put over
-values, an image over a machine that has run), then any, emitted programs too. From 40,000 bytes on it begins with a long one: the
-text store is filled for seeds 0, 4, 8 .., main's code for 1, 5 .., the others'
-code for 2, 6 .., constants, structs and functions for 3, 7 ..
+values, an image over a machine that has run), then any, emitted programs too.
+From 40,000 bytes on it begins with a long one: the text store is filled for seeds
+0, 4, 8 .., main's code for 1, 5 .., the others' code for 2, 6 .., constants,
+structs and functions for 3, 7 ..
 
 FILE may be - for standard input. The plain machine and the published Rust are
 stopped after 2,000,000 steps, at a nesting of 1,000 (plain) or at a struct of more
@@ -174,31 +175,29 @@ fn rust(bytes: &[u8]) -> Done {
         Ok(program) => program,
         Err(offset) => return put(format!("refused 20 {offset}\n").as_bytes()),
     };
-    let mut vm = Vm::from_program(&program);
-    let ending = plain::run(&mut vm);
-    let mut out = match &ending {
-        Ending::Value(value) => format!("value {}\n", value_text(value)),
+    let mut vm = published::machine(&program);
+    let mut out = match published::run(&mut vm, Bounds::default().steps) {
+        Ending::Value(value) => format!("value {}\n", value_text(&value)),
         Ending::Continue => "continue\n".to_owned(),
-        Ending::Error(error) => format!("error: {:?}\n", error.kind),
+        Ending::Error(error) => {
+            let entries = error.backtrace.iter();
+            let entries = entries.map(|(f, place)| format!("at {} {place}\n", f.escape_ascii()));
+            format!("error: {:?}\n{}", error.kind, entries.collect::<String>())
+        }
         Ending::Panicked(words) => format!("panicked: {words}\n"),
-        Ending::UndefinedCast(byte) => format!("undefined cast: byte {byte}\n"),
-        Ending::NotCarried(op) => format!("not carried: {}\n", op.to_string()),
+        Ending::UndefinedCast(byte) => format!("stopped: byte {byte} is no opcode\n"),
+        Ending::NotCarried(op) => format!("stopped: {} is not carried\n", op.to_string()),
         Ending::Bound(which) => format!("stopped: too many {which}\n"),
     };
-    if let Ending::Error(error) = &ending {
-        for (name, place) in &error.backtrace {
-            out += &format!("at {} {place}\n", name.escape_ascii());
-        }
+    let after = State::of_published(&vm);
+    out += &format!("stack {}\n", after.stack.len());
+    for frame in &after.frames {
+        out += &format!(
+            "frame {} {} {}\n",
+            frame.function, frame.position, frame.base
+        );
     }
-    if !matches!(
-        ending,
-        Ending::Value(_) | Ending::Continue | Ending::Error(_)
-    ) {
-        let (function, offset) = vm.instruction;
-        out += &format!("in function {function} at byte {offset}\n");
-    }
-    out += &format!("stack {}\nframes {}\n", vm.stack.len(), vm.frames.len());
-    out += &match &vm.last_result {
+    out += &match &after.last_result {
         Some(value) => format!("last {}\n", value_text(value)),
         None => "last none\n".to_owned(),
     };

@@ -155,13 +155,13 @@ impl Given {
 /// What a machine is between runs, beside its program.
 #[derive(Clone, Debug)]
 pub struct State {
-    stack: Vec<Value>,
-    frames: Vec<Frame>,
-    last_result: Option<Value>,
+    pub stack: Vec<Value>,
+    pub frames: Vec<Frame>,
+    pub last_result: Option<Value>,
 }
 
 impl State {
-    fn of_published(vm: &Published) -> State {
+    pub fn of_published(vm: &Published) -> State {
         let mut taken = Taken {
             vm,
             lists: HashMap::new(),

@@ -141,9 +141,6 @@ pub struct Vm {
     pub lists: Lists,
     /// Added: comparisons whose answer depends on `lists`.
     pub depending: u64,
-    /// Added: function and offset of the instruction begun last, to say where
-    /// a panic came from.
-    pub instruction: (usize, usize),
 }
 
 impl Default for Vm {
@@ -166,7 +163,6 @@ impl Vm {
             steps: 0,
             lists: Lists::default(),
             depending: 0,
-            instruction: (0, 0),
         }
     }
 
@@ -660,8 +656,6 @@ impl Vm {
     // Added: the bounds, and the two equalities
 
     fn begin_instruction(&mut self) {
-        let frame = self.current_frame();
-        self.instruction = (frame.function_idx, frame.ip);
         self.steps += 1;
         if self.steps > self.bounds.steps {
             outside(Outside::Bound("steps"));
