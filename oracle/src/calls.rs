@@ -1,11 +1,13 @@
 //! Scripts of host calls for the console, made by chance and repeatable: many
 //! short stories, each begun by `new` or `image`.
 
+mod between;
 mod emitting;
 mod filling;
 mod looking;
 mod running;
 mod stories;
+pub mod tally;
 
 use crate::console::Console;
 use crate::generate::Rng;
@@ -17,8 +19,8 @@ const PATIENCE: usize = 20;
 /// A long story is told at the beginning of a script that has room for it.
 const LONG: usize = 40_000;
 /// One story of each sort but emitted programs comes first, then any.
-const SORTS: usize = 21;
-const ANY: usize = 30;
+const SORTS: usize = 26;
+const ANY: usize = 36;
 
 /// A script of at most `most` bytes.
 pub fn script(seed: u64, most: usize) -> String {
@@ -114,6 +116,11 @@ impl Story<'_> {
             18 => self.patched(),
             19 => self.not_understood(),
             20 => self.loaded(),
+            21 => self.redefined(),
+            22 => self.struct_added(),
+            23 => self.grown(),
+            24 => self.framed(),
+            25 => self.reloaded(),
             _ => self.emitted(),
         }
     }

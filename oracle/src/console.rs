@@ -59,6 +59,14 @@ impl Console {
         self.machine.as_ref()
     }
 
+    /// The machine as a run would find it, if the frames that the host lends
+    /// are in good order.
+    pub fn as_lent(&self) -> Option<Machine> {
+        let mut console = self.clone();
+        let machine = console.with_frames(Stores::RUNNER.values);
+        machine.ok().cloned()
+    }
+
     /// What a line is answered.
     pub fn obey(&mut self, number: u64, line: &[u8]) -> Result<Vec<u8>, String> {
         match Command::read(line) {
@@ -254,8 +262,9 @@ fn ran(report: &Report, stack: usize, frames: &[Frame]) -> String {
         Answer::Fault(number) => format!("fault {number}"),
     };
     format!(
-        "{answer}, spent {}, stack {stack}, frames {}\n{}",
+        "{answer}, spent {}, returns {}, stack {stack}, frames {}\n{}",
         report.spent,
+        report.returns,
         frames.len(),
         entries(&report.backtrace)
     )

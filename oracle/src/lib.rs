@@ -1,12 +1,15 @@
 //! The oracle of Chaffwheel.
 //!
-//! Two machines stand side by side here:
+//! Two machines stand side by side here, each written for itself:
 //!
 //! - [`vm::Vm`] is source document 000 (numbat's `vm.rs`) with an `f64` where
 //!   it has a quantity. Only the carried arms are there, written line by line
 //!   as they stand in 000, panics included.
 //! - [`limits::Machine`] is the machine of document 01: the same steps, but
 //!   with lent stores, units, cells, depth, and a number for every fault.
+//!
+//! [`published`] is their judge: it runs 000 itself, as published (`numbat/`),
+//! and compares.
 //!
 //! Both read programs from the rule image ([`image`]). [`print`] holds what
 //! the runner and the lister print, [`generate`] and [`damage`] make images to
@@ -30,6 +33,7 @@ pub mod limits;
 pub mod op;
 pub mod plain;
 pub mod print;
+pub mod published;
 pub mod readers;
 pub mod script;
 pub mod value;

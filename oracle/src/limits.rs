@@ -7,6 +7,8 @@
 //! machine: [`crate::console`] judges what a host may do to the frames, and
 //! how much it lends for an answer.
 
+use std::collections::BTreeSet;
+
 use crate::image::{self, Constant, Function, Program};
 use crate::op::Op;
 use crate::value::{Elements, Value};
@@ -116,10 +118,15 @@ pub enum Answer {
 pub struct Report {
     pub answer: Answer,
     pub spent: u64,
+    /// How many root Returns the run has completed: what it returned before a
+    /// fault has counted. 0 with "continue".
+    pub returns: u64,
     /// Function and place, innermost frame first; empty unless a fault.
     pub backtrace: Vec<(usize, u32)>,
     /// How far the stores were filled on the way.
     pub most: Most,
+    /// The functions that CallCallable has called.
+    pub by_name: BTreeSet<usize>,
 }
 
 /// The most that was taken at once, between two steps of a run.
@@ -146,6 +153,8 @@ pub struct Machine {
 enum Step {
     /// It went on, having spent so many units on pairs of elements.
     Done(u64),
+    /// It was a CallCallable of this function.
+    CalledByName(usize),
     /// It was a Return with one frame.
     RootReturn(Value),
 }
@@ -361,7 +370,9 @@ impl Machine {
         let mut cells_to_keep = self.cells_used;
         let mut answer = Answer::Continue;
         let mut spent = 0;
+        let mut returns = 0;
         let mut most = Most::default();
+        let mut by_name = BTreeSet::new();
 
         let fault = loop {
             most = self.taken_since(most);
@@ -370,8 +381,10 @@ impl Machine {
                 return Report {
                     answer,
                     spent,
+                    returns,
                     backtrace: vec![],
                     most,
+                    by_name,
                 };
             }
             if spent == units {
@@ -380,8 +393,12 @@ impl Machine {
             spent += 1;
             match self.step(units - spent) {
                 Ok(Step::Done(pairs)) => spent += pairs,
+                Ok(Step::CalledByName(function)) => {
+                    by_name.insert(function);
+                }
                 Ok(Step::RootReturn(value)) => {
                     cells_to_keep = self.cells_used;
+                    returns += 1;
                     answer = Answer::Value(value);
                 }
                 Err(fault) => break fault,
@@ -405,8 +422,10 @@ impl Machine {
         Report {
             answer: Answer::Fault(fault),
             spent,
+            returns,
             backtrace,
             most,
+            by_name,
         }
     }
 
@@ -543,6 +562,7 @@ impl Machine {
                 };
                 let function = self.newest_function(&name).ok_or(14u32)?;
                 self.call(function, operands[0])?;
+                return Ok(Step::CalledByName(function));
             }
             Op::BuildStructInstance => {
                 if operands[0] >= self.program.structs.len() {

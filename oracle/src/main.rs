@@ -5,21 +5,31 @@ use std::io::{Read, Write};
 use std::process::ExitCode;
 
 use oracle::limits::Answer;
-use oracle::plain::{self, Ending};
+use oracle::plain::Ending;
 use oracle::print::{self, value_text};
-use oracle::vm::Vm;
+use oracle::published::{self, Count, State};
+use oracle::vm::Bounds;
 use oracle::{asm, calls, console, damage, edges, generate, image};
 
 const HELP: &str = "\
-oracle: source document 000 over f64, and document 01's machine on top of it
+oracle: source document 000 (numbat's vm.rs) as published; the same written again
+over f64, the plain machine; and document 01's machine, written for itself
 
   oracle run FILE               what the runner prints
   oracle list FILE              what the lister prints
   oracle judge FILE             `ok`, or `refused 20 OFFSET`; also checks that
                                 the image of what was read is FILE again
   oracle asm FILE               the image of a rule source (examples/README.md)
-  oracle rust FILE              what the plain Rust does: its answer, error or
+  oracle rust FILE              what the published Rust does: its answer, error or
                                 panic, and stack, frames and last result after
+  oracle published SEED COUNT   runs and lists generated images on the published
+                                Rust and compares with the plain machine
+                                (answer, error or panic, and what is left) and,
+                                where no limit comes in, with document 01's
+                                machine: each difference, and a count
+  oracle published-calls SEED COUNT
+                                the same for the scripts of `calls` of COUNT
+                                seeds: what is emitted, and each run
   oracle generate SEED COUNT DIR
                                 writes images DIR/000000.img and so on
   oracle sample SEED COUNT      runs generated images, counts their endings
@@ -39,6 +49,8 @@ oracle: source document 000 over f64, and document 01's machine on top of it
                                 is the number of its first line (1)
   oracle calls SEED [BYTES]     a script for the console, made by chance from
                                 the seed, of at most BYTES bytes (48,000)
+  oracle calls-tally SEED COUNT counts the faults, the refusals and the edges among
+                                the calls of the scripts of COUNT seeds
 
 A record is the lengths of four parts (each u32, low byte first) and then the
 parts: the image, what `load` prints, what the runner prints, what the lister
@@ -50,13 +62,20 @@ and the counts of stores other than the frames', which speak of the words in
 stores, and at a frame past those that a call has left.
 
 A script of `calls` has one story of each sort (each fault, the stores full and
-one over, frames damaged, patches, names, lines not understood, an image), then
-any, emitted programs too. From 40,000 bytes on it begins with a long one: the
-text store is filled for seeds 0, 4, 8 .., main's code for 1, 5 .., the others'
-code for 2, 6 .., constants, structs and functions for 3, 7 ..
+one over, frames damaged, patches, names, lines not understood, an image, a
+function defined anew, a struct added, a callee's code that grows, frames put over
+values, an image over a machine that has run), then any, emitted programs too.
+From 40,000 bytes on it begins with a long one: the text store is filled for seeds
+0, 4, 8 .., main's code for 1, 5 .., the others' code for 2, 6 .., constants,
+structs and functions for 3, 7 ..
 
-FILE may be - for standard input. The plain Rust is stopped after 2,000,000
-steps or at a nesting of 1,000, which it would not be by itself.
+FILE may be - for standard input. The plain machine and the published Rust are
+stopped after 2,000,000 steps, at a nesting of 1,000 (plain) or at a struct of more
+than 10,000 values (published), which the Rust would not be by itself.
+
+The published Rust is numbat's vm.rs, list.rs and value.rs, unchanged, over
+stand-ins for what they name (oracle/numbat). It casts any byte to an opcode; it
+is stopped before a byte that is none, and before an opcode that is not carried.
 ";
 
 /// The bytes of a script, if nobody says how many.
@@ -87,6 +106,17 @@ fn main() -> ExitCode {
         ["calls", seed] => number(seed).and_then(|s| put(calls::script(s, CALLS).as_bytes())),
         ["calls", seed, bytes] => numbers(seed, bytes)
             .and_then(|(s, bytes)| put(calls::script(s, bytes as usize).as_bytes())),
+        ["calls-tally", seed, count] => numbers(seed, count).and_then(|(s, c)| {
+            counts(calls::tally::tally(
+                (s..s + c).map(|seed| calls::script(seed, CALLS)),
+            ))
+        }),
+        ["published", seed, count] => {
+            numbers(seed, count).and_then(|(s, c)| judged("images", c, published::images(s, c)))
+        }
+        ["published-calls", seed, count] => {
+            numbers(seed, count).and_then(|(s, c)| judged("scripts", c, published::calls(s, c)))
+        }
         [] | ["help" | "--help" | "-h"] => put(HELP.as_bytes()),
         _ => Err(format!("not understood\n\n{HELP}")),
     };
@@ -145,31 +175,29 @@ fn rust(bytes: &[u8]) -> Done {
         Ok(program) => program,
         Err(offset) => return put(format!("refused 20 {offset}\n").as_bytes()),
     };
-    let mut vm = Vm::from_program(&program);
-    let ending = plain::run(&mut vm);
-    let mut out = match &ending {
-        Ending::Value(value) => format!("value {}\n", value_text(value)),
+    let mut vm = published::machine(&program);
+    let mut out = match published::run(&mut vm, Bounds::default().steps) {
+        Ending::Value(value) => format!("value {}\n", value_text(&value)),
         Ending::Continue => "continue\n".to_owned(),
-        Ending::Error(error) => format!("error: {:?}\n", error.kind),
+        Ending::Error(error) => {
+            let entries = error.backtrace.iter();
+            let entries = entries.map(|(f, place)| format!("at {} {place}\n", f.escape_ascii()));
+            format!("error: {:?}\n{}", error.kind, entries.collect::<String>())
+        }
         Ending::Panicked(words) => format!("panicked: {words}\n"),
-        Ending::UndefinedCast(byte) => format!("undefined cast: byte {byte}\n"),
-        Ending::NotCarried(op) => format!("not carried: {}\n", op.to_string()),
+        Ending::UndefinedCast(byte) => format!("stopped: byte {byte} is no opcode\n"),
+        Ending::NotCarried(op) => format!("stopped: {} is not carried\n", op.to_string()),
         Ending::Bound(which) => format!("stopped: too many {which}\n"),
     };
-    if let Ending::Error(error) = &ending {
-        for (name, place) in &error.backtrace {
-            out += &format!("at {} {place}\n", name.escape_ascii());
-        }
+    let after = State::of_published(&vm);
+    out += &format!("stack {}\n", after.stack.len());
+    for frame in &after.frames {
+        out += &format!(
+            "frame {} {} {}\n",
+            frame.function, frame.position, frame.base
+        );
     }
-    if !matches!(
-        ending,
-        Ending::Value(_) | Ending::Continue | Ending::Error(_)
-    ) {
-        let (function, offset) = vm.instruction;
-        out += &format!("in function {function} at byte {offset}\n");
-    }
-    out += &format!("stack {}\nframes {}\n", vm.stack.len(), vm.frames.len());
-    out += &match &vm.last_result {
+    out += &match &after.last_result {
         Some(value) => format!("last {}\n", value_text(value)),
         None => "last none\n".to_owned(),
     };
@@ -214,11 +242,33 @@ fn sample(seed: u64, count: u64) -> Done {
 }
 
 fn tally(seed: u64, count: u64) -> Done {
-    let counted = edges::tally((0..count).map(|index| generate::case(seed, index)));
+    counts(edges::tally(
+        (0..count).map(|index| generate::case(seed, index)),
+    ))
+}
+
+fn counts(counted: Vec<(String, u64)>) -> Done {
     let lines = counted
         .iter()
         .map(|(edge, count)| format!("{edge}: {count}\n"));
     put(lines.collect::<String>().as_bytes())
+}
+
+/// How often what was compared, each difference, and how many those are.
+fn judged(what: &str, count: u64, counted: Count) -> Done {
+    let mut out = String::new();
+    for (compared, count) in &counted.compared {
+        out += &format!("{compared}: {count}\n");
+    }
+    for difference in &counted.differences {
+        out += &format!("{difference}\n");
+    }
+    let differences = counted.differences.len();
+    put(format!("{out}{count} {what}, {differences} differences\n").as_bytes())?;
+    if differences > 0 {
+        return Err("the published Rust and the oracle differ".to_owned());
+    }
+    Ok(())
 }
 
 fn records(images: impl Iterator<Item = Vec<u8>>) -> Done {

@@ -37,7 +37,7 @@ impl Elements {
 
 /// Equality as document 01 has it: what `derive` would write, element by
 /// element, and never by looking whether two values share an allocation.
-/// (`NumbatList` does look; FINDINGS.md says where that shows.)
+/// (`NumbatList` does look: see [`Value::equal_if_shared`].)
 impl PartialEq for Value {
     fn eq(&self, other: &Self) -> bool {
         match (self, other) {
@@ -80,6 +80,19 @@ impl Value {
         }
     }
 
+    /// Equality as value.rs and list.rs have it: two lists that share their
+    /// elements are equal without a look at those. Only a NaN shows it
+    /// (difference 2 in docs/DIFFERENCES.md).
+    pub fn equal_if_shared(&self, other: &Value) -> bool {
+        match (self, other) {
+            (Value::List(l), Value::List(r)) => Rc::ptr_eq(l, r) || all_equal_if_shared(l, r),
+            (Value::StructInstance(ln, l), Value::StructInstance(rn, r)) => {
+                ln == rn && all_equal_if_shared(l, r)
+            }
+            _ => self == other,
+        }
+    }
+
     /// Whether two values are the same thing: bits on scalars, all NaNs
     /// counting as one. Pairs of elements already found the same are not
     /// looked at again, so shared nestings do not take forever.
@@ -117,6 +130,14 @@ fn compare_elements(l: &Elements, r: &Elements, limit: u64, visited: &mut u64) -
         }
     }
     Some(true)
+}
+
+fn all_equal_if_shared(l: &Elements, r: &Elements) -> bool {
+    l.items.len() == r.items.len()
+        && l.items
+            .iter()
+            .zip(&r.items)
+            .all(|(left, right)| left.equal_if_shared(right))
 }
 
 fn same_elements(

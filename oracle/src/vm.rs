@@ -102,6 +102,16 @@ impl Default for Bounds {
     }
 }
 
+/// Added: how lists are compared.
+#[derive(Clone, Copy, Debug, Default, PartialEq, Eq)]
+pub enum Lists {
+    /// Element by element, as document 01 has it.
+    #[default]
+    ByElements,
+    /// As list.rs has it: [`Value::equal_if_shared`].
+    IfShared,
+}
+
 fn outside(outside: Outside) -> ! {
     std::panic::panic_any(outside)
 }
@@ -127,9 +137,10 @@ pub struct Vm {
     pub bounds: Bounds,
     /// Added: what the current run has used of `bounds.steps`.
     pub steps: u64,
-    /// Added: function and offset of the instruction begun last, to say where
-    /// a panic came from.
-    pub instruction: (usize, usize),
+    /// Added: see [`Lists`].
+    pub lists: Lists,
+    /// Added: comparisons whose answer depends on `lists`.
+    pub depending: u64,
 }
 
 impl Default for Vm {
@@ -150,11 +161,12 @@ impl Vm {
             stack: vec![],
             bounds: Bounds::default(),
             steps: 0,
-            instruction: (0, 0),
+            lists: Lists::default(),
+            depending: 0,
         }
     }
 
-    /// Added: a machine holding the program of an image.
+    /// Added: a machine holding a program.
     pub fn from_program(program: &image::Program) -> Self {
         let mut vm = Vm::new();
         vm.bytecode = program
@@ -505,8 +517,8 @@ impl Vm {
                     self.bound_comparison(&lhs, &rhs); // Added
 
                     let result = match op {
-                        Op::Equal => lhs == rhs,
-                        Op::NotEqual => lhs != rhs,
+                        Op::Equal => self.equal(&lhs, &rhs),
+                        Op::NotEqual => !self.equal(&lhs, &rhs),
                         _ => unreachable!(),
                     };
                     self.push(Value::Boolean(result));
@@ -641,11 +653,9 @@ impl Vm {
         }
     }
 
-    // Added: the bounds
+    // Added: the bounds, and the two equalities
 
     fn begin_instruction(&mut self) {
-        let frame = self.current_frame();
-        self.instruction = (frame.function_idx, frame.ip);
         self.steps += 1;
         if self.steps > self.bounds.steps {
             outside(Outside::Bound("steps"));
@@ -661,6 +671,16 @@ impl Vm {
             outside(Outside::Bound("steps"));
         }
         self.steps += visited;
+    }
+
+    fn equal(&mut self, lhs: &Value, rhs: &Value) -> bool {
+        let by_elements = lhs == rhs;
+        let if_shared = lhs.equal_if_shared(rhs);
+        self.depending += u64::from(by_elements != if_shared);
+        match self.lists {
+            Lists::ByElements => by_elements,
+            Lists::IfShared => if_shared,
+        }
     }
 
     fn elements(&self, items: Vec<Value>) -> std::rc::Rc<Elements> {

@@ -4,6 +4,7 @@
 use std::collections::BTreeSet;
 
 use oracle::calls::script;
+use oracle::calls::tally::tally;
 use oracle::console::play;
 
 const SEEDS: u64 = 8;
@@ -119,6 +120,70 @@ fn every_fault_and_refusal_comes_up() {
     ] {
         assert!(has(start), "{start}");
     }
+}
+
+#[test]
+fn every_edge_comes_up() {
+    let scripts = (0..SEEDS).map(|seed| script(seed, BYTES));
+    for (edge, count) in tally(scripts) {
+        assert!(count > 0, "{edge}");
+    }
+    // The script that the gate replays has all of them by itself.
+    for (edge, count) in tally(std::iter::once(script(7, BYTES))) {
+        assert!(count > 0, "seed 7: {edge}");
+    }
+}
+
+/// Edges of one story each, and of a story that has none.
+#[test]
+fn edges_are_counted_where_they_are() {
+    let found = |story: &str| -> Vec<String> {
+        let counted = tally(std::iter::once(story.to_owned()));
+        let found = counted.into_iter().filter(|(_, count)| *count > 0);
+        found.map(|(edge, _)| edge).collect()
+    };
+    assert!(found("new\nscalar 0\nop1 0 0 1\nrun 9\nop 37 1\nrun 9\nlast").is_empty());
+    // The name is known before, but no run lies between.
+    let anew = "begin 66\nop1 0 0 1\nop 37 2\nend";
+    let call = "op1 0 1 3\nop2 31 0 0 4\nop 37 5\nrun 99";
+    let start = "new\nscalar 0\nreference 66";
+    assert!(found(&format!("{start}\n{anew}\n{anew}\n{call}")).is_empty());
+    assert_eq!(
+        found(&format!("{start}\n{anew}\n{call}\n{anew}\n{call}")),
+        [
+            "a function defined anew after a run",
+            "a function defined anew after a run, called by name"
+        ]
+    );
+    let built = "op2 34 0 0 1\nrun 9";
+    assert!(found(&format!("new\nstruct 41\n{built}")).is_empty());
+    assert_eq!(
+        found(&format!("new\n{built}\nstruct 41\n{built}")),
+        ["fault 6", "a struct added after a run, built"]
+    );
+    let callee = "new\nscalar 0\nop2 28 1 0 1\nbegin 66";
+    assert!(found(&format!("{callee}\nop1 0 0 2\nrun 9\nrun 9")).is_empty());
+    assert_eq!(
+        found(&format!(
+            "{callee}\nop1 27 1 2\nrun 9\nop1 0 0 3\nop 37 4\nrun 9"
+        )),
+        [
+            "fault 6",
+            "a run that goes on in a callee whose code grew",
+            "such a run that enters the new code in its middle"
+        ]
+    );
+    let image = "image 000001063C6D61696E3E00";
+    assert!(found(&format!("new\n{image}\nrun 9")).is_empty());
+    assert_eq!(
+        found(&format!("new\nop1 36 0 1\nrun 9\nimage 00\n{image}")),
+        [
+            "refused 20",
+            "an image loaded over values on the stack",
+            "an image loaded over cells that are taken",
+            "a broken image refused by a machine that has run"
+        ]
+    );
 }
 
 /// Stack and frames are left exactly full, and a list of the greatest depth.

@@ -173,7 +173,7 @@ fn values_are_shown() {
         .skip(15)
         .collect::<Vec<_>>(),
         [
-            "continue, spent 9, stack 5, frames 1",
+            "continue, spent 9, returns 0, stack 5, frames 1",
             "refused 7",
             "shown list 2",
             "shown struct 1 2",
@@ -215,7 +215,7 @@ fn results_need_their_room() {
     ends(
         p1,
         "run 9 1024",
-        "value scalar 0000000000000001, spent 2, stack 0, frames 1",
+        "value scalar 0000000000000001, spent 2, returns 1, stack 0, frames 1",
     );
     ends(p1, "run 9 1023", "refused 17");
     ends(p1, "trace 1", "at 0 1");
@@ -277,13 +277,13 @@ fn damaged_frames_are_refused_by_runs_and_backtraces() {
     ends(
         made,
         &format!("{}\nrun 9", two("0 3 0", "1 0 9")),
-        "continue, spent 1, stack 1, frames 1",
+        "continue, spent 1, returns 0, stack 1, frames 1",
     );
     // Mended, it runs as it did.
     ends(
         made,
         "count frames 0\nrun 9\ncount frames 1\nrun 9",
-        "continue, spent 0, stack 1, frames 1",
+        "continue, spent 0, returns 0, stack 1, frames 1",
     );
 }
 
@@ -315,14 +315,25 @@ op1 0 0 7
 op1 0 1 8
 op 11 9";
     let faulted = &format!("{story}\nrun 99");
-    assert!(said(faulted).ends_with("fault 8, spent 7, stack 1, frames 1\nat 0 9\n"));
+    assert!(said(faulted).ends_with("fault 8, spent 7, returns 1, stack 1, frames 1\nat 0 9\n"));
     ends(faulted, "last", "shown list 1");
     ends(faulted, "stack 0", "shown list 1");
     ends(faulted, "frame 0", "frame 0 23 0");
-    ends(faulted, "run 0", "continue, spent 0, stack 1, frames 1");
+    ends(
+        faulted,
+        "run 0",
+        "continue, spent 0, returns 0, stack 1, frames 1",
+    );
     // With units for the Return only, and for one less.
     ends(story, "run 3\nlast", "shown list 1");
     ends(story, "run 2\nlast", "refused 7");
+    for (units, returns) in [(3, 1), (2, 0)] {
+        let told = format!("fault 13, spent {units}, returns {returns}, stack 1, frames 1\n");
+        assert!(
+            said(&format!("{story}\nrun {units}")).contains(&told),
+            "{units}"
+        );
+    }
 }
 
 /// Each run builds a list of 1,000 and faults behind it: the cells come back

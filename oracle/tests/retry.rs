@@ -1,5 +1,7 @@
 //! What docs/RETRY.md tells of examples/story.rule, on one machine.
 
+mod common;
+
 use oracle::asm::assemble;
 use oracle::image::{image, Constant};
 use oracle::limits::{Answer, Frame, Machine, Report, Stores};
@@ -44,7 +46,7 @@ fn scalar(report: &Report) -> f64 {
 fn faulted() -> Machine {
     let mut machine = story();
     let report = machine.run(UNITS);
-    assert_eq!((fault(&report), report.spent), (8, 9));
+    assert_eq!((fault(&report), report.spent, report.returns), (8, 9, 2));
     assert_eq!(report.backtrace, [(0, 17)]);
     machine
 }
@@ -79,7 +81,7 @@ fn a_further_run_of_the_same_machine_runs_nothing() {
     let mut machine = faulted();
     let report = machine.run(UNITS);
     assert!(matches!(report.answer, Answer::Continue));
-    assert_eq!(report.spent, 0);
+    assert_eq!((report.spent, report.returns), (0, 0));
     assert_eq!(last(&machine), Some(42.0));
 }
 
@@ -93,7 +95,10 @@ fn after_and_the_whole_counts_twice() {
     machine.add_op(Op::Return, 0).unwrap();
     mended_rest(&mut machine);
     let report = machine.run(UNITS);
-    assert_eq!((scalar(&report), report.spent), (43.0, 7));
+    assert_eq!(
+        (scalar(&report), report.spent, report.returns),
+        (43.0, 7, 1)
+    );
 }
 
 /// The last result after the fault, and the rest: once.
@@ -103,7 +108,10 @@ fn after_and_the_rest_counts_once() {
     mended_rest(&mut machine);
     let report = machine.run(UNITS);
     assert!(matches!(report.answer, Answer::Continue));
-    assert_eq!((report.spent, machine.stack.len()), (3, 1));
+    assert_eq!(
+        (report.spent, report.returns, machine.stack.len()),
+        (3, 0, 1)
+    );
     assert_eq!(last(&machine), Some(42.0));
 }
 
@@ -114,7 +122,10 @@ fn before_and_the_whole_counts_once() {
     let mended = STORY.replace("constant homes scalar 0", "constant homes scalar 2");
     let mut machine = load(&mended);
     let report = machine.run(UNITS);
-    assert_eq!((scalar(&report), report.spent), (42.0, 9));
+    assert_eq!(
+        (scalar(&report), report.spent, report.returns),
+        (42.0, 9, 2)
+    );
     assert_eq!(machine.stack.len(), 1);
 }
 
@@ -146,16 +157,17 @@ fn a_rule_whose_return_comes_last_has_not_counted_when_it_faults() {
 /// with 5 before it. The place is that of the last instruction paid for.
 #[test]
 fn units_that_run_out_behind_a_return_have_counted() {
-    for (units, place, result) in [(5, 13, 41.0), (6, 14, 42.0), (7, 15, 42.0)] {
+    for (units, place, result, returns) in [(5, 13, 41.0, 1), (6, 14, 42.0, 2), (7, 15, 42.0, 2)] {
         let mut machine = story();
         let report = machine.run(units);
         assert_eq!((fault(&report), report.spent), (13, units));
+        assert_eq!(report.returns, returns);
         assert_eq!(report.backtrace, [(0, place)]);
         assert_eq!(last(&machine), Some(result));
     }
     let mut machine = story();
     let report = machine.run(0);
-    assert_eq!((fault(&report), report.spent), (13, 0));
+    assert_eq!((fault(&report), report.spent, report.returns), (13, 0, 0));
     assert_eq!(report.backtrace, [(0, 9)]);
     assert_eq!(last(&machine), None);
 }
@@ -174,4 +186,49 @@ fn a_last_result_that_looks_the_same_may_have_been_returned_again() {
     assert_eq!((fault(&report), report.spent), (8, 5));
     assert_eq!(report.backtrace, [(0, 10)]);
     assert_eq!(last(&machine), Some(1.0));
+    // The number of root Returns tells what the last result cannot.
+    assert_eq!(report.returns, 1);
+}
+
+/// A jump leads over a Return, and the units run out behind the jump: the
+/// place is that of the Return, which never ran.
+#[test]
+fn the_place_of_a_return_is_no_sign_that_it_ran() {
+    let rule = common::program(
+        &[Constant::Boolean(false), common::number(1.0)],
+        &["000000 1A0400 000100 25 000100 25"],
+    );
+    let places = [1, 1, 1, 2, 2, 2, 3, 3, 3, 4, 5, 5, 5, 6];
+    let load = || {
+        let mut rule = rule.clone();
+        rule.functions[0].places = places.to_vec();
+        common::machine(&rule)
+    };
+    for (units, place) in [(2, 4), (3, 5)] {
+        let mut machine = load();
+        let report = machine.run(units);
+        assert_eq!((fault(&report), report.spent), (13, units));
+        assert_eq!(report.backtrace, [(0, place)]);
+        assert_eq!((report.returns, last(&machine)), (0, None));
+    }
+    let mut machine = load();
+    let report = machine.run(4);
+    assert_eq!((scalar(&report), report.spent), (1.0, 4));
+    assert_eq!((report.returns, last(&machine)), (1, Some(1.0)));
+}
+
+/// Only Returns of main count, and only those of the run itself.
+#[test]
+fn root_returns_are_counted_by_run() {
+    let constants = [common::number(1.0)];
+    let twice = "1C 01 00 00 00 25 ".repeat(2);
+    let mut machine = common::machine(&common::program(&constants, &[&twice, "00 00 00 25"]));
+    assert_eq!(machine.run(UNITS).returns, 2);
+    machine.add_op(Op::GetLastResult, 0).unwrap();
+    machine.add_op(Op::Return, 0).unwrap();
+    assert_eq!(machine.run(UNITS).returns, 1);
+    // A Return that faults has not completed.
+    machine.add_op(Op::Return, 0).unwrap();
+    let report = machine.run(UNITS);
+    assert_eq!((fault(&report), report.returns), (4, 0));
 }

@@ -5,10 +5,13 @@ use crate::generate::Rng;
 use crate::limits::Stores;
 use crate::op::{Op, OPS};
 
+/// A run with more units than any needs that comes to its end.
+pub(super) const PLENTY: &str = "run 1000000";
+
 impl Story<'_> {
     /// The units that a run would spend, if it is not refused.
     pub(super) fn needed(&self) -> u64 {
-        let said = self.console.clone().obey(0, b"run 1000000");
+        let said = self.console.clone().obey(0, PLENTY.as_bytes());
         let said = String::from_utf8(said.expect("as above")).expect("letters");
         let spent = said
             .split(", ")

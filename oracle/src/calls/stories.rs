@@ -1,14 +1,16 @@
 //! The stories.
 
+use super::running::PLENTY;
 use super::Story;
 use crate::generate::{scalar, short, short_damaged, some_constant, some_text};
 use crate::image::{image, Constant};
+use crate::limits::MAX_DEPTH;
 use crate::op::{Op, OPS};
 use crate::script::in_hex as hex;
 
 /// A function that calls itself.
 #[derive(Default)]
-struct Descent {
+pub(super) struct Descent {
     times: usize,
     /// Left at each call, as they are or in a list.
     values: u16,
@@ -18,6 +20,20 @@ struct Descent {
     /// Left by main before it.
     before: usize,
     lists_before: usize,
+}
+
+impl Descent {
+    /// Lists on the way take 2,040 cells, 204 times 10; empty ones before it
+    /// take one each.
+    pub(super) fn to_cells(lists_before: usize) -> Descent {
+        Descent {
+            times: 204,
+            values: 9,
+            listed: true,
+            lists_before,
+            ..Descent::default()
+        }
+    }
 }
 
 impl Story<'_> {
@@ -183,13 +199,7 @@ impl Story<'_> {
             }
             // Main, and one call more than it counts.
             "frames" => shape.times = 253 + self.rng.below(3),
-            // 204 times 10 are 2,040.
-            _ => {
-                shape.times = 204;
-                shape.values = 9;
-                shape.listed = true;
-                shape.lists_before = 7 + self.rng.below(3);
-            }
+            _ => shape = Descent::to_cells(7 + self.rng.below(3)),
         }
         let times = self.descending(&shape);
         if self.rng.chance(50) {
@@ -207,7 +217,7 @@ impl Story<'_> {
 
     /// Emits the function, and what main has before it; gives the constant
     /// that it is called with.
-    fn descending(&mut self, shape: &Descent) -> u16 {
+    pub(super) fn descending(&mut self, shape: &Descent) -> u16 {
         let zero = self.number(0.0);
         let one = self.number(1.0);
         let times = self.number(shape.times as f64);
@@ -247,25 +257,34 @@ impl Story<'_> {
         times
     }
 
-    /// A list in a list, and so on, to the greatest depth or one more.
+    /// A list in a list, and so on, to the greatest depth; then one more.
     pub(super) fn deep(&mut self) {
         self.lines(&["#! Depth", "new", "struct 53"]);
         let one = self.number(1.0);
-        if self.rng.chance(50) {
+        let empty = self.rng.chance(50);
+        if empty {
             self.code(Op::BuildList, &[0]);
         } else {
             self.load(one);
         }
-        for _ in 0..62 + self.rng.below(4) {
-            if self.rng.chance(80) {
-                self.code(Op::BuildList, &[1]);
-            } else {
-                self.code(Op::BuildStructInstance, &[0, 1]);
-            }
+        for _ in usize::from(empty)..MAX_DEPTH {
+            self.around();
         }
-        self.run();
+        self.line(PLENTY);
+        self.look();
+        self.around();
+        self.line(PLENTY);
         self.look();
         self.retry();
+    }
+
+    /// A list, or a struct, of what is on top.
+    fn around(&mut self) {
+        if self.rng.chance(80) {
+            self.code(Op::BuildList, &[1]);
+        } else {
+            self.code(Op::BuildStructInstance, &[0, 1]);
+        }
     }
 
     /// Lists and structs of all kinds of values on the stack, looked at.

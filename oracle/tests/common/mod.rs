@@ -3,7 +3,6 @@
 
 use oracle::image::{image, Constant, Function, Program, MAIN};
 use oracle::limits::{Answer, Machine, Report, Stores};
-use oracle::vm::Vm;
 
 /// Bytes from hex digits; spaces do not count.
 pub fn hex(text: &str) -> Vec<u8> {
@@ -42,10 +41,6 @@ pub fn program(constants: &[Constant], codes: &[&str]) -> Program {
 /// The program by way of its image, in the runner's stores.
 pub fn machine(program: &Program) -> Machine {
     Machine::load(&image(program), Stores::RUNNER).expect("the program fits")
-}
-
-pub fn vm(program: &Program) -> Vm {
-    Vm::from_program(program)
 }
 
 pub fn fault(report: &Report) -> Option<u32> {
