@@ -6,13 +6,13 @@ use Prim.Native.Nat.{ℕ, zero, suc, _+_, _-_, _<_, _≤_}
 use native.Mathlib.Omega.{arith}
 use native.Mathlib.Numerals.{lt-of-le-of-ne}
 use lib.Dec.{eqb, ltb}
-use lib.ListN.{length, drop}
+use lib.ListN.{length}
 use borrow.Author.Tests.{ltb-true, ltb-false, eqb-true, eqb-false}
 use Rattle.model.specs.Basics.{if_then_else_}
-use Rattle.model.specs.Numbers.{Step, got, andThen, number}
+use Rattle.model.specs.Numbers.{Step, andThen, number}
 use Rattle.model.specs.Equality.{sameBytes}
 use Rattle.model.specs.Programs.{Constant, among}
-use Rattle.model.specs.Images.{joined, series, readText, readConstant, always, readConstants, readName, snoc, readStructs}
+use Rattle.model.specs.Images.{joined, series, readConstant, always, readConstants, readName, snoc, readStructs}
 use Rattle.model.specs.Loading.{constantText}
 use Rattle.number.specs.Links.{NumPost}
 use Rattle.number.specs.declared.Num.{Num}

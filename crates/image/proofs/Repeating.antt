@@ -5,7 +5,7 @@ use mathlib.Core.List.{List}
 use Prim.Native.Nat.{ℕ, zero, suc, _+_, _-_, _*_, _/_, _≤_, _<_, _^_, min}
 use native.Mathlib.Omega.{arith}
 use native.Mathlib.Nat.{min-le-left, min-le-right, min-eq-left, min-eq-right}
-use native.Mathlib.Numerals.{add-one, lt-of-le-of-ne}
+use native.Mathlib.Numerals.{lt-of-le-of-ne}
 use lib.Dec.{eqb, ltb}
 use lib.ListN.{length, take, drop, length-drop}
 use lib.Seq.{take-all, drop-drop}
@@ -13,7 +13,7 @@ use borrow.Author.Tests.{ltb-true, ltb-false, eqb-true, eqb-false}
 use Rattle.model.specs.Values.{textAt}
 use Rattle.model.specs.Equality.{sameBytes}
 use Rattle.model.specs.Images.{readText}
-use Rattle.model.specs.Stores.{pack, part, structWord, orderWord}
+use Rattle.model.specs.Stores.{pack, part, orderWord}
 use Rattle.model.specs.Orders.{nameInOrder}
 use Rattle.ordering.specs.Sorted.{Edge, structPut}
 use Rattle.ordering.proofs.Halves.{edge-spot, found-not, stands-yes, stands-no}
@@ -22,7 +22,7 @@ use Rattle.ordering.proofs.Standing.{names-differ, none-of-them, stays-in-order
 use Rattle.program.proofs.Bools.{apart, either-way}
 use Rattle.program.proofs.Parts.{start-pack, size-pack}
 use Rattle.number.proofs.Codes.{never}
-use Rattle.image.specs.Links.{Good, Bad, partOf, TextAt, TextPost}
+use Rattle.image.specs.Links.{Bad, partOf, TextAt, TextPost}
 use Rattle.image.specs.Repeats.{textFrom, afterText, placeOf, nameOf, Stands, Rows, RowsPost, Again, RepeatPost, Holds, TakenPost, LookPost, ChunkPost}
 use Rattle.image.specs.declared.Text.{Text}
 use Rattle.image.specs.declared.Text.the-variants as t
@@ -176,8 +176,8 @@ module _ (s : List ℕ) (from n : ℕ) (rows : Rows s from n) where
               rw (← (held .names j q)) (none-of-them k ss (drop from s) (held .order) (nameOf s from i) place edge (stands-no place k _ (sym test ∙ x)) j q)
 
           -- a new one is put in its place
-          pub held-more : i ≡ k → b ≡ false → 2 * k + 2 ≤ length ss → from ≤ y → y - from ≤ 0xFFFF_FFFF → (w : ℕ) → w ≡ pack (y - from) m → (ss′ : List ℕ) → ss′ ≡ structPut k place w ss
-              → Holds s from (suc k) ss′
+          pub held-more : i ≡ k → b ≡ false → 2 * k + 2 ≤ length ss → from ≤ y → y - from ≤ 0xFFFF_FFFF → (w : ℕ) → w ≡ pack (y - from) m
+              → (ss′ : List ℕ) → ss′ ≡ structPut k place w ss → Holds s from (suc k) ss′
           held-more z x fits ah far w ew ss′ es =
               let T = drop from s in
               let spot = edge-spot k (nameInOrder ss T) (held .order .ascending) (nameOf s from i) place edge in
@@ -275,7 +275,8 @@ module _ (s : List ℕ) (from n : ℕ) (rows : Rows s from n) (ss₀ : List ℕ)
           pub taking-fits : (place ≤ i) × (2 * i + 2 ≤ length ss)
           taking-fits = let a = in-room in let d = h .same in (ed .most, omega arith)
 
-          pub taking-next : b ≡ false → y - from ≤ 0xFFFF_FFFF → (w : ℕ) → w ≡ pack (y - from) m → (ss′ : List ℕ) → ss′ ≡ structPut i place w ss → Taking s from n ss₀ ss′ (y + m) (i + 1)
+          pub taking-next : b ≡ false → y - from ≤ 0xFFFF_FFFF → (w : ℕ) → w ≡ pack (y - from) m → (ss′ : List ℕ) → ss′ ≡ structPut i place w ss
+              → Taking s from n ss₀ ss′ (y + m) (i + 1)
           taking-next x f w ew ss′ es =
               let z : i + 1 ≡ suc i = omega arith in let fw = few in
               record {

@@ -7,9 +7,9 @@ use lib.Dec.{ltb, eqb}
 use lib.ListN.{length, take, drop}
 use Rattle.model.specs.Basics.{if_then_else_}
 use Rattle.model.specs.Numbers.{Step, got, bad, andThen}
-use Rattle.model.specs.Programs.{Constant, scalar, boolean, string, reference, Function, Program, functionAt, codesWithin, among}
+use Rattle.model.specs.Programs.{Constant, scalar, boolean, string, reference, Function, Program, functionAt, codesWithin}
 use Rattle.model.specs.Images as i
-use Rattle.model.specs.Images.{joined, run, series, readText, always, noPlace, readRunBytes, readRunPlace, readRuns, readFunction, readFunctions, fine, broken, judge}
+use Rattle.model.specs.Images.{joined, run, series, readText, noPlace, readRunBytes, readRunPlace, readRuns, readFunction, readFunctions, fine, broken, judge}
 use Rattle.model.specs.Stores.{pack}
 use Rattle.model.specs.Loading.{constantText, constantWords, textsOf, mainOf, othersOf}
 use Rattle.image.specs.declared.Text.{Text}

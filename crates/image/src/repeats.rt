@@ -113,12 +113,11 @@ pub struct Chunk {
 }
 
 // Holds n texts against the chunk of the first of them.
-fn against_chunk(image: &[u8], from: usize, n: usize) -> Chunk
-    requires { ⌜ Rows (now image) from n ⌝ }
+fn against_chunk(image: &[u8], from: usize, n: usize, structs: &mut [u64]) -> Chunk
+    requires { ⌜ Rows (now image) from n × (2 ≤ length (now structs)) ⌝ }
     ensures { λ r. ⌜ ChunkPost (now (image .entry)) from n r ⌝ }
 {
-    let mut structs = [0u64; 32768];
-    let t = take_in(image, from, n, &mut structs);
+    let t = take_in(image, from, n, structs);
     let count = t.count;
     let next = t.next;
     if t.again {
@@ -128,7 +127,7 @@ fn against_chunk(image: &[u8], from: usize, n: usize) -> Chunk
             repeat: count,
         };
     }
-    let repeat = look_in(image, from, n, count, next, &structs);
+    let repeat = look_in(image, from, n, count, next, structs);
     Chunk {
         count,
         next,
@@ -136,9 +135,9 @@ fn against_chunk(image: &[u8], from: usize, n: usize) -> Chunk
     }
 }
 
-// The first of n texts that is the same as an earlier one, else n.
-pub fn first_repeat(image: &[u8], at: usize, n: usize) -> usize
-    requires { ⌜ Rows (now image) at n ⌝ }
+// The first of n texts that is the same as an earlier one, else n. The chunks stand one after another in the same words.
+fn over_chunks(image: &[u8], at: usize, n: usize, structs: &mut [u64]) -> usize
+    requires { ⌜ Rows (now image) at n × (2 ≤ length (now structs)) ⌝ }
     ensures { λ r. ⌜ RepeatPost (now (image .entry)) at n r ⌝ }
 {
     let mut repeat = n;
@@ -146,10 +145,23 @@ pub fn first_repeat(image: &[u8], at: usize, n: usize) -> usize
     let mut done: usize = 0;
     while done < repeat {
         let left = repeat - done;
-        let c = against_chunk(image, next, left);
+        let c = against_chunk(image, next, left, structs);
         repeat = done + c.repeat;
         done = done + c.count;
         next = c.next;
     }
     repeat
+}
+
+// The same, in few words where there are few texts: an array is filled with zeros before it is used.
+pub fn first_repeat(image: &[u8], at: usize, n: usize) -> usize
+    requires { ⌜ Rows (now image) at n ⌝ }
+    ensures { λ r. ⌜ RepeatPost (now (image .entry)) at n r ⌝ }
+{
+    if n <= 64 {
+        let mut few = [0u64; 128];
+        return over_chunks(image, at, n, &mut few);
+    }
+    let mut many = [0u64; 32768];
+    over_chunks(image, at, n, &mut many)
 }
