@@ -4,7 +4,7 @@ use mathlib.Core.Bool.{true, not}
 use mathlib.Core.List.{List, [], _∷_, _++_, append-assoc, append-nil}
 use Prim.Native.Nat.{ℕ, suc, _+_, _-_, _*_, _<_, _≤_, _^_}
 use native.Mathlib.Omega.{arith}
-use lib.ListN.{length, take, drop, replicate, set, length-append}
+use lib.ListN.{length, take, drop, replicate, length-append}
 use borrow.Author.Tests.{lt-ltb, le-ltb, not-true}
 use Rattle.model.specs.Numbers.{Step, got, bad, andThen, number}
 use Rattle.model.specs.Values.{putWords}
@@ -38,7 +38,7 @@ use Rattle.image.proofs.Items.{part-length, part-slice, text-is, text-n
 use Rattle.image.proofs.Held.{written-front, Pieces, pieces-here, StructsAt, structs-here, structs-held}
 use Rattle.image.proofs.Runs.{Running, runs-start, runs-good, runs-bad, runs-fits, runs-less, runs-step}
 use Rattle.image.proofs.Functions.{series-count}
-use Rattle.image.proofs.Written.{written-none, written-one, written-two, kept-length, more-written, more-joined}
+use Rattle.image.proofs.Written.{written-none, written-two, kept-length, more-written, more-joined}
 
 -- ---- what was judged
 

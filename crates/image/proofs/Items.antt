@@ -25,6 +25,7 @@ use Rattle.image.specs.declared.Text.the-variants as t
 use Rattle.image.specs.declared.Entry.{Entry}
 use Rattle.image.specs.declared.Item.{Item}
 use Rattle.image.specs.declared.Item.the-variants as e
+use Rattle.image.proofs.Near.{number-near}
 use Rattle.image.proofs.Reading.{no-number, a-number, bad-item, good-item, bad-test, bad-tested, good-test, bad-first, bad-second, good-both, good-made}
 
 -- ---- parts
@@ -87,6 +88,7 @@ module _ (s : List ℕ) (at : ℕ) (pre : at ≤ length s) (r : Num) (p : NumPos
       is = record {
         good = good-item (good-both takes g (part-read s start len (g .within) l));
         ahead = g .ahead;
+        near = number-near s at start len g;
         small = w .1;
       };
     }

@@ -4,7 +4,9 @@ pub mod Places
 pub mod Formats
 -- What the code reads.
 pub mod Reading
+pub mod Near
 pub mod Items
+pub mod Repeating
 pub mod Passes
 pub mod Runs
 pub mod Functions

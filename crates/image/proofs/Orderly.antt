@@ -1,6 +1,6 @@
 -- A program in good order has an image, and it is not too long to count.
 use mathlib.Core.Path.{_≡_, refl, sym, ap, subst, _∙_}
-use mathlib.Core.Bool.{Bool, true, false, not, _&&_}
+use mathlib.Core.Bool.{Bool, true, false, not}
 use mathlib.Core.List.{List, [], _∷_, _++_, append-assoc}
 use Prim.Native.Nat.{ℕ, zero, suc, _+_, _-_, _*_, _/_, _<_, _≤_, _^_, min}
 use native.Mathlib.Omega.{arith}
@@ -14,7 +14,7 @@ use Rattle.model.specs.Values.{places, kindAt, payloadAt, textAt}
 use Rattle.model.specs.Programs.{Function, boolean}
 use Rattle.model.specs.Images.{joined, counted, textImage, constantImage, Run, joinRun, runsOf, runImage, functionImage, imageOf}
 use Rattle.model.specs.Stores.{Stores, start, size, part, structWord, nameWord, codeWord, codeEnd, constantIn, constantsFrom, structsFrom, functionIn, functionsFrom, programIn}
-use Rattle.model.specs.Orders.{countsOk, textOk, insideText, constantOk, constantsOk, structsOk, codeStart, functionsOk, mainOk, mainTaken, otherTaken, insideCodes, programOk}
+use Rattle.model.specs.Orders.{insideText, constantOk, codeStart, mainTaken, otherTaken, insideCodes, programOk}
 use Rattle.model.specs.Loading.{OutRes, putOut, saveOf}
 use Rattle.model.specs.declared.Counts.{Counts}
 use Rattle.model.specs.declared.Told.{Told}

@@ -4,19 +4,23 @@ use mathlib.Core.Bool.{Bool, true, false, not}
 use mathlib.Core.List.{List, [], _∷_, _++_}
 use Prim.Native.Nat.{ℕ, zero, suc, _+_, _-_, _<_, _≤_}
 use native.Mathlib.Omega.{arith}
-use native.Mathlib.Numerals.{add-one}
-use lib.ListN.{length, take, drop}
+use native.Mathlib.Numerals.{lt-of-le-of-ne}
+use lib.Dec.{eqb, ltb}
+use lib.ListN.{length}
+use borrow.Author.Tests.{ltb-true, ltb-false, eqb-true, eqb-false}
 use Rattle.model.specs.Basics.{if_then_else_}
-use Rattle.model.specs.Numbers.{Step, got, andThen, number}
+use Rattle.model.specs.Numbers.{Step, andThen, number}
 use Rattle.model.specs.Equality.{sameBytes}
 use Rattle.model.specs.Programs.{Constant, among}
-use Rattle.model.specs.Images.{joined, series, readText, readConstant, always, readConstants, readName, snoc, readStructs}
+use Rattle.model.specs.Images.{joined, series, readConstant, always, readConstants, readName, snoc, readStructs}
 use Rattle.model.specs.Loading.{constantText}
 use Rattle.number.specs.Links.{NumPost}
 use Rattle.number.specs.declared.Num.{Num}
 use Rattle.number.specs.declared.Num.the-variants as n
+use Rattle.program.proofs.Bools.{apart, either-way}
 use Rattle.program.proofs.Searching.{among-false}
-use Rattle.image.specs.Links.{Good, Bad, partOf, TextPost, anyText, Texts, SeenPost, constantAt, ItemPost, SectionAt, CheckPost}
+use Rattle.image.specs.Links.{Good, Bad, partOf, TextAt, TextPost, constantAt, ItemPost, SectionAt, CheckPost}
+use Rattle.image.specs.Repeats.{placeOf, nameOf, namesTo, RowsPost, Again, RepeatPost}
 use Rattle.image.specs.declared.Text.{Text}
 use Rattle.image.specs.declared.Text.the-variants as t
 use Rattle.image.specs.declared.Entry.{Entry}
@@ -24,9 +28,9 @@ use Rattle.image.specs.declared.Item.{Item}
 use Rattle.image.specs.declared.Item.the-variants as e
 use Rattle.image.specs.declared.Checked.the-variants as c
 use Rattle.number.proofs.Codes.{never}
-use Rattle.image.proofs.Codecs.{got-value, got-rest, then-only, made-only}
-use Rattle.image.proofs.Reading.{Along, along-start, along-end, along-within, along-bad, along-step, joined-length, bad-first, bad-second, good-both, bad-test, bad-tested, good-test, no-number, a-number}
+use Rattle.image.proofs.Reading.{Along, along-start, along-end, along-bad, along-step, joined-length, bad-first, bad-second, good-both, bad-test, bad-tested, good-test, no-number, a-number}
 use Rattle.image.proofs.Items.{part-length, text-is, text-not, entry-is, entry-not}
+use Rattle.image.proofs.Repeating.{text-there, behind-there}
 
 -- ---- any section
 
@@ -109,113 +113,65 @@ module _ (s : List ℕ) (before at n : ℕ) (count : Good number s before at n) 
                 (sym (ap length (g .text) ∙ part-length s (y .from) (y .len) (g .inside))) (g .room) refl;
           }
 
--- ---- a name among others
+-- ---- struct names, all different
 
-among-true : (t : List ℕ) (l : List (List ℕ)) (x : List ℕ) (m : List (List ℕ)) → sameBytes t x ≡ true → among t ((l ++ (x ∷ [])) ++ m) ≡ true
+among-last : (t : List ℕ) (l : List (List ℕ)) (x : List ℕ) → sameBytes t x ≡ true → among t (l ++ (x ∷ [])) ≡ true
 unfolding among
-among-true t [] x m e = rw e
-among-true t (y ∷ l) x m e = or-right (sameBytes t y) (among-true t l x m e)
+among-last t [] x e = rw e
+among-last t (y ∷ l) x e = or-right (sameBytes t y) (among-last t l x e)
   where
     or-right : (c : Bool) {d : Bool} → d ≡ true → (if c then true else d) ≡ true
     or-right true h = refl
     or-right false h = h
 
-pub record Seeking (s : List ℕ) (from count : ℕ) (nm : List ℕ) (cur i : ℕ) : Type 0 where
-  pub done : List (List ℕ)
-  pub along : Along anyText always count tt s from i tt cur done
-  pub absent : among nm done ≡ false
+among-more : (t : List ℕ) (l : List (List ℕ)) (x : List ℕ) → among t l ≡ true → among t (l ++ (x ∷ [])) ≡ true
+unfolding among
+among-more t [] x e = apart false e refl
+among-more t (y ∷ l) x e = or-more (sameBytes t y) (among t l) e (λ q. among-more t l x q)
+  where
+    or-more : (c d : Bool) → (if c then true else d) ≡ true → {f : Bool} → (d ≡ true → f ≡ true) → (if c then true else f) ≡ true
+    or-more true d h k = refl
+    or-more false d h k = k h
 
-module _ (s : List ℕ) (from count : ℕ) (f : Texts s from count) (nm : List ℕ) where
-  from-in : from ≤ length s
-  from-in = let a = f .good .ahead in let b = f .good .within in omega arith
+-- a text is one of the first i, or none of them
+one-listed : (s : List ℕ) (at i : ℕ) (t : List ℕ) (j : ℕ) → j < i → sameBytes t (nameOf s at j) ≡ true → among t (namesTo s at i) ≡ true
+unfolding namesTo
+one-listed s at zero t j h e = absurd (let y : ⊥ = omega arith in y)
+one-listed s at (suc i) t j h e = either-way (eqb j i)
+    (λ x. let z : j ≡ i = eqb-true j i x in among-last t (namesTo s at i) (nameOf s at i) (rw z at e))
+    (λ x. among-more t (namesTo s at i) (nameOf s at i) (one-listed s at i t j (lt-of-le-of-ne (omega arith) (eqb-false j i x)) e))
 
-  pub seek-start : Seeking s from count nm from 0
-  unfolding among
-  seek-start = record { done = []; along = along-start _ _ count tt s from from-in; absent = refl }
+again-listed : (s : List ℕ) (at i repeat : ℕ) → i ≡ repeat → Again s at repeat → among (nameOf s at i) (namesTo s at i) ≡ true
+again-listed s at i repeat z a =
+    let q = a .earlier in
+    one-listed s at i (nameOf s at i) (a .first) (omega arith) (ap (λ (k : ℕ). sameBytes (nameOf s at k) (nameOf s at (a .first))) z ∙ a .same)
 
-  module _ (cur i : ℕ) (h : Seeking s from count nm cur i) where
-    pub seek-end : count ≤ i → SeenPost s from count nm false
-    seek-end l =
-        let g = along-end _ _ _ _ _ _ _ _ _ _ (h .along) l in
-        record { tells = λ k q e. sym (h .absent) ∙ ap (among nm) (got-value (sym (g .means) ∙ e)) }
+none-listed : (s : List ℕ) (at i : ℕ) (t : List ℕ) → ((j : ℕ) → j < i → sameBytes t (nameOf s at j) ≡ false) → among t (namesTo s at i) ≡ false
+unfolding namesTo among
+none-listed s at zero t h = refl
+none-listed s at (suc i) t h = among-false t (namesTo s at i) (nameOf s at i) (none-listed s at i t (λ j l. h j (omega arith))) (h i (omega arith))
 
-    module _ (l : i < count) (r : Text) (p : TextPost s cur r) where
-      pub seek-never : r ≡ t.Broken → ⊥
-      seek-never e =
-          let b = along-bad anyText always count tt s from i tt cur (h .done) (h .along) l cur (text-not s cur r p e) in
-          never (sym (b .means) ∙ f .good .means)
-
-      module _ (k m : ℕ) (e : r ≡ t.At k m) where
-        pub seek-in : k + m ≤ length s
-        seek-in = text-is s cur r p k m e .good .within
-
-        next-along : Along anyText always count tt s from (i + 1) tt (k + m) (h .done ++ (partOf s k m ∷ []))
-        next-along = along-step anyText always count tt s from i tt cur (h .done) (h .along) l (partOf s k m) (k + m) (text-is s cur r p k m e .good)
-
-        -- the part that was compared
-        slice : take (k + m - k) (drop k s) ≡ partOf s k m
-        unfolding partOf
-        slice = let z : k + m - k ≡ m = omega arith in rw z
-
-        pub seek-found : (b : Bool) → b ≡ sameBytes nm (take (k + m - k) (drop k s)) → b ≡ true → SeenPost s from count nm true
-        seek-found b eb et = record {
-          tells = λ l q g.
-              let w = along-within anyText always count tt s from (i + 1) tt (k + m) (h .done ++ (partOf s k m ∷ [])) next-along l q g in
-              sym (ap (among nm) (w .1) ∙ among-true nm (h .done) (partOf s k m) (w .0) (sym (ap (sameBytes nm) slice) ∙ sym eb ∙ et));
-        }
-
-        pub seek-step : (b : Bool) → b ≡ sameBytes nm (take (k + m - k) (drop k s)) → b ≡ false → Seeking s from count nm (k + m) (i + 1)
-        seek-step b eb ef = record {
-          done = h .done ++ (partOf s k m ∷ []);
-          along = next-along;
-          absent = among-false nm (h .done) (partOf s k m) (h .absent) (sym (ap (sameBytes nm) slice) ∙ sym eb ∙ ef);
-        }
-
--- ---- struct names, all different
-
--- one text more
-one-text : (b a r′ : List ℕ) → readText b ≡ got a r′ → andThen (readText b) (λ a r. andThen (got [] r) (λ l q. got (a ∷ l) q)) ≡ got (a ∷ []) r′
-unfolding andThen
-one-text b a r′ e = rw e
-
-more-texts : (b x q : List ℕ) → readText b ≡ got x q → (k : List ℕ → Step (List (List ℕ))) (l : List (List ℕ)) (r′ : List ℕ) → k q ≡ got l r′
-    → andThen (readText b) (λ a r. andThen (k r) (λ l q. got (a ∷ l) q)) ≡ got (x ∷ l) r′
-unfolding andThen
-more-texts b x q e k l r′ g = rw (e, g)
-
-texts-more : (n : ℕ) (b : List ℕ) (l : List (List ℕ)) (r : List ℕ) (a : List ℕ) (r′ : List ℕ) → series anyText always n tt b ≡ got l r → readText r ≡ got a r′
-    → series anyText always (suc n) tt b ≡ got (l ++ (a ∷ [])) r′
-unfolding series
-texts-more zero b l r a r′ e g =
-    subst (λ (x : List (List ℕ)). andThen (readText b) (λ a r. andThen (got [] r) (λ l q. got (a ∷ l) q)) ≡ got (x ++ (a ∷ [])) r′) (got-value e)
-    (one-text b a r′ (ap readText (got-rest e) ∙ g))
-texts-more (suc n) b l r a r′ e g =
-    let f = then-only (readText b) _ l r e in
-    let m = made-only (λ x. f .0 ∷ x) (series anyText always n tt (f .1)) l r (f .3) in
-    let ih = texts-more n (f .1) (m .0) r a r′ (m .2) g in
-    subst (λ (x : List (List ℕ)). andThen (readText b) (λ a r. andThen (series anyText always (suc n) tt r) (λ l q. got (a ∷ l) q)) ≡ got (x ++ (a ∷ [])) r′) (m .1)
-    (more-texts b (f .0) (f .1) (f .2) (λ r. series anyText always (suc n) tt r) (m .0 ++ (a ∷ [])) r′ ih)
-
-pub record Names (s : List ℕ) (at n cur text i : ℕ) : Type 0 where
+-- the names before i were read; none of them is there again
+pub record Names (s : List ℕ) (at n repeat cur text i : ℕ) : Type 0 where
   pub done : List (List ℕ)
   pub pass : Passing readName snoc (λ l. l) (λ t. t) s at n cur text i done
-  pub texts : Good (series anyText always i tt) s at cur done
+  pub listed : done ≡ namesTo s at i
+  pub here : cur ≡ placeOf s at i
+  pub least : i ≤ repeat
 
-pub names-start : (s : List ℕ) (at n : ℕ) → at ≤ length s → Names s at n at 0 0
-unfolding series
-names-start s at n h = record { done = []; pass = pass-start readName snoc (λ l. l) (λ t. t) s at n h; texts = record { means = refl; ahead = omega arith; within = h } }
+pub names-start : (s : List ℕ) (at n repeat : ℕ) → at ≤ length s → Names s at n repeat at 0 0
+unfolding namesTo placeOf
+names-start s at n repeat h = record { done = []; pass = pass-start readName snoc (λ l. l) (λ t. t) s at n h; listed = refl; here = refl; least = omega arith }
 
 pub names-none : (s : List ℕ) (at : ℕ) → at ≤ length s → (r : Num) → NumPost s at r → r ≡ n.Broken → CheckPost readStructs (λ t. t) s at (c.Broken at)
 unfolding readStructs
 names-none s at h r p e = record { is = bad-first (λ k r. series readName snoc k [] r) (no-number s at r p h e) }
 
-module _ (s : List ℕ) (before at n : ℕ) (count : Good number s before at n) (cur text i : ℕ) (h : Names s at n cur text i) where
+module _ (s : List ℕ) (before at n : ℕ) (count : Good number s before at n) (whole repeat : ℕ) (rows : RowsPost s at n whole) (again : RepeatPost s at whole repeat)
+    (cur text i : ℕ) (h : Names s at n repeat cur text i) where
   pub names-end : n ≤ i → CheckPost readStructs (λ t. t) s before (c.Fine (record { next = cur; count = n; text = text }))
   unfolding readStructs
   names-end l = record { is = pass-end readName snoc (λ l. l) (λ t. t) s at n cur text i (h .done) (h .pass) before count l }
-
-  pub names-texts : Texts s at i
-  names-texts = record { held = h .done; end = cur; good = h .texts }
 
   module _ (l : i < n) (r : Text) (p : TextPost s cur r) where
     refuse : Bad (readName (h .done)) s cur cur → CheckPost readStructs (λ t. t) s before (c.Broken cur)
@@ -227,33 +183,45 @@ module _ (s : List ℕ) (before at n : ℕ) (count : Good number s before at n) 
     names-bad e = refuse (bad-tested (λ t. not (among t (h .done))) (text-not s cur r p e))
 
     module _ (k m : ℕ) (e : r ≡ t.At k m) where
+      g : TextAt s cur k m
+      g = text-is s cur r p k m e
+
       pub names-in : k + m ≤ length s
-      names-in = text-is s cur r p k m e .good .within
+      names-in = g .good .within
 
-      tells : (b : Bool) → SeenPost s at i (take (k + m - k) (drop k s)) b → b ≡ among (partOf s k m) (h .done)
-      unfolding partOf
-      tells b w =
-          let z : k + m - k ≡ m = omega arith in
-          w .tells (h .done) (drop cur s) (h .texts .means) ∙ ap (λ (x : ℕ). among (take x (drop k s)) (h .done)) z
+      this : partOf s k m ≡ nameOf s at i
+      unfolding nameOf
+      this = sym (rw (h .here) at (text-there s cur k m g))
 
-      pub names-seen : (b : Bool) → SeenPost s at i (take (k + m - k) (drop k s)) b → b ≡ true → CheckPost readStructs (λ t. t) s before (c.Broken cur)
+      -- the text that is there again
+      is-again : i ≡ repeat → among (partOf s k m) (h .done) ≡ true
+      is-again z = either-way (ltb repeat whole)
+          (λ x. rw (this, h .listed) (again-listed s at i repeat z (again .again (ltb-true repeat whole x))))
+          (λ x.
+          let y : whole ≤ repeat = ltb-false repeat whole x in let b = again .most in let v : whole ≡ i = omega arith in
+          absurd (never (sym (rw (← (h .here)) at (rw v at (rows .ends (omega arith) .means))) ∙ g .good .means)))
+
+      is-new : (i ≡ repeat → ⊥) → among (partOf s k m) (h .done) ≡ false
+      is-new d =
+          let f : i < repeat = lt-of-le-of-ne (h .least) d in
+          rw (this, h .listed) (none-listed s at i (nameOf s at i) (λ j q. again .differ i j q f))
+
+      pub names-seen : i ≡ repeat → CheckPost readStructs (λ t. t) s before (c.Broken cur)
       unfolding readName
-      names-seen b w f = refuse (bad-test (λ t. not (among t (h .done))) (text-is s cur r p k m e .good) (ap not (sym (tells b w) ∙ f)))
+      names-seen z = refuse (bad-test (λ t. not (among t (h .done))) (g .good) (ap not (is-again z)))
 
       pub names-fit : text + m ≤ length s
-      names-fit = let g = text-is s cur r p k m e in let a = g .ahead in pass-fits readName snoc (λ l. l) (λ t. t) s at n cur text i (h .done) (h .pass) (k + m) m (omega arith) (g .good .within)
+      names-fit = let a = g .ahead in pass-fits readName snoc (λ l. l) (λ t. t) s at n cur text i (h .done) (h .pass) (k + m) m (omega arith) (g .good .within)
 
-      pub names-step : (b : Bool) → SeenPost s at i (take (k + m - k) (drop k s)) b → b ≡ false → Names s at n (k + m) (text + m) (i + 1)
-      unfolding readName
-      names-step b w f =
-          let g = text-is s cur r p k m e in let a = g .ahead in let z = h .texts .ahead in let y = g .good .ahead in
+      pub names-step : (i ≡ repeat → ⊥) → Names s at n repeat (k + m) (text + m) (i + 1)
+      unfolding readName namesTo placeOf
+      names-step d =
+          let a = g .ahead in let f : i < repeat = lt-of-le-of-ne (h .least) d in let z : i + 1 ≡ suc i = omega arith in
           record {
             done = h .done ++ (partOf s k m ∷ []);
             pass = pass-step readName snoc (λ l. l) (λ t. t) s at n cur text i (h .done) (h .pass) l (partOf s k m) (k + m) m
-                (good-test (λ t. not (among t (h .done))) (g .good) (ap not (sym (tells b w) ∙ f))) (sym (part-length s k m (g .good .within))) (omega arith) refl;
-            texts = record {
-              means = rw add-one (texts-more i (drop at s) (h .done) (drop cur s) (partOf s k m) (drop (k + m) s) (h .texts .means) (g .good .means));
-              ahead = omega arith;
-              within = g .good .within;
-            };
+                (good-test (λ t. not (among t (h .done))) (g .good) (ap not (is-new d))) (sym (part-length s k m (g .good .within))) (omega arith) refl;
+            listed = rw z (ap (λ (q : List (List ℕ)). q ++ (partOf s k m ∷ [])) (h .listed) ∙ ap (λ (q : List ℕ). namesTo s at i ++ (q ∷ [])) this);
+            here = rw z (sym (rw (h .here) at (behind-there s cur k m g)));
+            least = omega arith;
           }

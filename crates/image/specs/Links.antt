@@ -7,9 +7,9 @@ use lib.Dec.{ltb, eqb}
 use lib.ListN.{length, take, drop}
 use Rattle.model.specs.Basics.{if_then_else_}
 use Rattle.model.specs.Numbers.{Step, got, bad, andThen}
-use Rattle.model.specs.Programs.{Constant, scalar, boolean, string, reference, Function, Program, functionAt, codesWithin, among}
+use Rattle.model.specs.Programs.{Constant, scalar, boolean, string, reference, Function, Program, functionAt, codesWithin}
 use Rattle.model.specs.Images as i
-use Rattle.model.specs.Images.{joined, run, series, readText, always, noPlace, readRunBytes, readRunPlace, readRuns, readFunction, readFunctions, fine, broken, judge}
+use Rattle.model.specs.Images.{joined, run, series, readText, noPlace, readRunBytes, readRunPlace, readRuns, readFunction, readFunctions, fine, broken, judge}
 use Rattle.model.specs.Stores.{pack}
 use Rattle.model.specs.Loading.{constantText, constantWords, textsOf, mainOf, othersOf}
 use Rattle.image.specs.declared.Text.{Text}
@@ -63,6 +63,7 @@ partOf s i n = take n (drop i s)
 pub record TextAt (s : List ℕ) (at i n : ℕ) : Type 0 where
   pub good : Good readText s at (i + n) (partOf s i n)
   pub ahead : at ≤ i
+  pub near : i ≤ at + 5
   pub small : n < 2 ^ 32
 
 abbrev pub TextIs : List ℕ → ℕ → Text → Type 0
@@ -71,19 +72,6 @@ TextIs s at t.Broken = Bad readText s at at
 
 pub record TextPost (s : List ℕ) (at : ℕ) (r : Text) : Type 0 where
   pub is : TextIs s at r
-
--- n texts stand at the place `at`
-abbrev pub anyText : Unit {0} → List ℕ → Step (List ℕ)
-anyText u b = readText b
-
-pub record Texts (s : List ℕ) (at n : ℕ) : Type 0 where
-  pub held : List (List ℕ)
-  pub end : ℕ
-  pub good : Good (series anyText always n tt) s at end held
-
--- whether t is among them
-pub record SeenPost (s : List ℕ) (at n : ℕ) (t : List ℕ) (r : Bool) : Type 0 where
-  pub tells : (l : List (List ℕ)) (q : List ℕ) → series anyText always n tt (drop at s) ≡ got l q → r ≡ among t l
 
 -- ---- constants
 

@@ -1,4 +1,5 @@
 // The rule image: judged, then loaded into lent stores, and saved from them. A place is an offset in the image.
+mod repeats; // repeats.rt: the first struct name that is there again
 mod loading; // loading.rt: the writing pass of loading
 mod saving; // saving.rt: the image of a program, piece by piece
 
@@ -14,7 +15,7 @@ ghost use Prim.Native.Nat.{_+_, _≤_, _<_};
 ghost use lib.ListN.{length};
 ghost use Rattle.model.specs.Images.{wordOf, readBody, readConstant, readConstants, readStructs, mainFirst};
 ghost use Rattle.model.specs.Loading.{constantText, loadOf, saveOf};
-ghost use Rattle.image.specs.Links.{partOf, TextPost, Texts, SeenPost, ItemPost, CheckPost, RunPost, RunsPost, HeadPost, SpanPost, OthersPost, FunctionsPost, JudgePost};
+ghost use Rattle.image.specs.Links.{partOf, TextPost, ItemPost, CheckPost, RunPost, RunsPost, HeadPost, SpanPost, OthersPost, FunctionsPost, JudgePost};
 ghost use Rattle.image.specs.Fills.{lent};
 
 // ---- texts
@@ -45,27 +46,6 @@ fn read_text(image: &[u8], at: usize) -> Text
         return Text::Broken;
     }
     Text::At(start, len)
-}
-
-// Whether a text is among the count texts from a place on.
-fn seen(image: &[u8], from: usize, count: usize, name: &[u8]) -> bool
-    requires { ⌜ Texts (now image) from count ⌝ }
-    ensures { λ r. ⌜ SeenPost (now (image .entry)) from count (now (name .entry)) r ⌝ }
-{
-    let mut cur = from;
-    let mut i: usize = 0;
-    while i < count {
-        let Text::At(here, len) = read_text(image, cur) else {
-            return true;
-        };
-        let next = here + len;
-        if same_bytes(name, &image[here..next]) {
-            return true;
-        }
-        cur = next;
-        i = i + 1;
-    }
-    false
 }
 
 // ---- constants
@@ -233,6 +213,8 @@ fn check_structs(image: &[u8], at: usize) -> Checked
         return Checked::Broken(at);
     };
     let count = wide(n);
+    let whole = repeats::rows(image, first, count);
+    let repeat = repeats::first_repeat(image, first, whole);
     let mut next = first;
     let mut text: usize = 0;
     let mut i: usize = 0;
@@ -240,12 +222,11 @@ fn check_structs(image: &[u8], at: usize) -> Checked
         let Text::At(here, len) = read_text(image, next) else {
             return Checked::Broken(next);
         };
-        let behind = here + len;
-        if seen(image, first, i, &image[here..behind]) {
+        if i == repeat {
             return Checked::Broken(next);
         }
         text = text + len;
-        next = behind;
+        next = here + len;
         i = i + 1;
     }
     Checked::Fine(Section { next, count, text })

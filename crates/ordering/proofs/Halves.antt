@@ -1,5 +1,5 @@
 -- A search by halves among names in order.
-use mathlib.Core.Path.{_≡_, refl, sym, ap, _∙_}
+use mathlib.Core.Path.{_≡_, sym, _∙_}
 use mathlib.Core.Bool.{Bool, true, false, _&&_}
 use mathlib.Core.List.{List}
 use mathlib.Mathlib.Data.Bool.Basic.{and-elim-left as and-left, and-elim-right as and-right}
@@ -12,7 +12,7 @@ use Rattle.model.specs.Basics.{if_then_else_}
 use Rattle.model.specs.Equality.{sameBytes}
 use Rattle.model.specs.Programs.{before}
 use Rattle.ordering.specs.Sorted.{Ascending, Edge, Spot}
-use Rattle.ordering.proofs.Before.{apart, either-way, same-means, never-itself, before-both, before-differs, behind-differs}
+use Rattle.ordering.proofs.Before.{apart, either-way, same-means, before-both, before-differs, behind-differs}
 
 -- ---- names in order
 

@@ -1,6 +1,6 @@
 -- A list of numbers in the order of names, and the struct store that loading lays.
 use mathlib.Core.Path.{_≡_, refl, sym, ap, _∙_}
-use mathlib.Core.Bool.{Bool, true, false, not, _&&_}
+use mathlib.Core.Bool.{true, false, not}
 use mathlib.Mathlib.Data.Bool.Basic.{and-elim-left as and-left, and-elim-right as and-right}
 use mathlib.Core.List.{List, [], _∷_, _++_}
 use Prim.Native.Nat.{ℕ, zero, suc, _+_, _-_, _*_, _≤_, _<_}
@@ -10,7 +10,7 @@ use lib.Dec.{eqb}
 use lib.ListN.{length, getD, set, length-append, List·getD-append}
 use lib.Seq.{set-set, set-comm, getD-at}
 use borrow.Author.Tests.{eqb-true, eqb-false, not-true}
-use Rattle.model.specs.Basics.{if_then_else_, written}
+use Rattle.model.specs.Basics.{written}
 use Rattle.model.specs.Equality.{sameBytes}
 use Rattle.model.specs.Programs.{before, nameAt, putIn, orderOf, among}
 use Rattle.model.specs.Images.{joined}
@@ -22,7 +22,7 @@ use Rattle.ordering.specs.Sorted.{Ascending, Edge, InOrder, allDifferent
 use Rattle.ordering.proofs.Before.{apart, either-way, flip-differs}
 use Rattle.ordering.proofs.Halves.{edge-spot}
 use Rattle.ordering.proofs.Putting.{order-at}
-use Rattle.ordering.proofs.Standing.{Somewhere, somewhere, insert-below, insert-ascends, struct-at, put-named}
+use Rattle.ordering.proofs.Standing.{somewhere, insert-below, insert-ascends, struct-at, put-named}
 
 -- ---- a number put in a list
 
@@ -51,7 +51,8 @@ put-at ns x (j ∷ js) (suc at) m b h =
     let r = put-at ns x js at (omega arith) (λ k l. b (suc k) (omega arith)) (λ l. h (omega arith)) in
     record { low = lows j js at e r; here = rw e (r .here); moved = moves j js at e r }
   where
-    lows : (j : ℕ) (js : List ℕ) (at : ℕ) → putIn ns x (j ∷ js) ≡ j ∷ putIn ns x js → PutAt ns x js at → (k : ℕ) → k < suc at → getD (putIn ns x (j ∷ js)) k 0 ≡ getD (j ∷ js) k 0
+    lows : (j : ℕ) (js : List ℕ) (at : ℕ) → putIn ns x (j ∷ js) ≡ j ∷ putIn ns x js → PutAt ns x js at → (k : ℕ) → k < suc at
+        → getD (putIn ns x (j ∷ js)) k 0 ≡ getD (j ∷ js) k 0
     lows j js at e r zero l = rw e
     lows j js at e r (suc k) l = rw e (r .low k (omega arith))
 
@@ -93,7 +94,8 @@ in-order (suc n) ns u =
     }
 
 -- names behind the first n change nothing
-put-alike : (ns ms : List (List ℕ)) (x : ℕ) (js : List ℕ) → nameAt ns x ≡ nameAt ms x → ((k : ℕ) → k < length js → nameAt ns (getD js k 0) ≡ nameAt ms (getD js k 0)) → putIn ns x js ≡ putIn ms x js
+put-alike : (ns ms : List (List ℕ)) (x : ℕ) (js : List ℕ) → nameAt ns x ≡ nameAt ms x
+    → ((k : ℕ) → k < length js → nameAt ns (getD js k 0) ≡ nameAt ms (getD js k 0)) → putIn ns x js ≡ putIn ms x js
 unfolding putIn
 put-alike ns ms x [] e h = refl
 put-alike ns ms x (j ∷ js) e h =

@@ -1,13 +1,12 @@
 -- Numbers put in the order of names, in a list and in the struct store.
 use mathlib.Core.Path.{_≡_, refl, sym, ap, _∙_}
-use mathlib.Core.Bool.{Bool, true, false}
+use mathlib.Core.Bool.{true, false}
 use mathlib.Core.List.{List, [], _∷_, _++_}
 use Prim.Native.Nat.{ℕ, zero, suc, _+_, _-_, _*_, _≤_, _<_}
 use native.Mathlib.Omega.{arith}
 use native.Mathlib.Numerals.{add-one}
 use lib.ListN.{length, getD, set, length-set}
-use lib.Seq.{set-getD, set-set, set-comm, getD-set-same, getD-set-other}
-use Rattle.model.specs.Basics.{if_then_else_}
+use lib.Seq.{set-getD, getD-set-same, getD-set-other}
 use Rattle.model.specs.Values.{kindAt, payloadAt}
 use Rattle.model.specs.Programs.{before, nameAt, putIn}
 use Rattle.model.specs.Stores.{structWord, orderWord, ordersFrom}

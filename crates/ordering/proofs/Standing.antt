@@ -1,24 +1,24 @@
 -- Names that stand in order: they are all different, a search by halves finds the number that a search from the first finds, and one more is put in.
 use mathlib.Core.Path.{_≡_, refl, sym, ap, _∙_}
-use mathlib.Core.Bool.{Bool, true, false, not, _&&_}
+use mathlib.Core.Bool.{Bool, true, false}
 use mathlib.Core.List.{List, [], _∷_, _++_}
-use mathlib.Core.Option.{Option, none, some}
+use mathlib.Core.Option.{none, some}
 use Prim.Native.Nat.{ℕ, zero, suc, _+_, _-_, _*_, _≤_, _<_}
 use native.Mathlib.Omega.{arith}
 use native.Mathlib.Numerals.{lt-of-le-of-ne}
 use lib.Dec.{eqb, ltb}
 use lib.ListN.{length, getD, set, List·getD-append}
 use lib.Seq.{getD-at}
-use borrow.Author.Tests.{ltb-true, ltb-false, eqb-true, eqb-false, not-true}
-use Rattle.model.specs.Basics.{if_then_else_}
+use borrow.Author.Tests.{ltb-true, ltb-false, eqb-true, eqb-false}
 use Rattle.model.specs.Equality.{sameBytes}
 use Rattle.model.specs.Programs.{before, nameAt, putIn, firstFrom, among}
 use Rattle.model.specs.Stores.{part, structWord, orderWord, structsFrom, ordersFrom}
 use Rattle.model.specs.Orders.{nameInOrder}
 use Rattle.model.specs.Emission.{putOrders}
+use Rattle.model.specs.Basics.{if_then_else_}
 use Rattle.ordering.specs.Sorted.{Ascending, Edge, Spot, InOrder, allDifferent, structPut}
 use Rattle.ordering.proofs.Before.{apart, either-way, same-means, same-itself, one-before}
-use Rattle.ordering.proofs.Halves.{ascends, differ, edge-spot, found-not}
+use Rattle.ordering.proofs.Halves.{differ, found-not}
 use Rattle.ordering.proofs.Pigeons.{Hit, Pigeons, all-hit}
 use Rattle.ordering.proofs.Putting.{put-is, new-word, old-word, order-below, order-new, order-moved}
 
@@ -269,6 +269,7 @@ module _ (n : ℕ) (ss t : List ℕ) (o : InOrder n ss t) (name : List ℕ) (at 
     stays-in-order =
         let f = nameInOrder ss t in
         record {
-          below = insert-below n at (orderWord ss) (orderWord (structPut n at w ss)) most (o .below) (order-below n at w ss most fits) (order-new n at w ss most fits) (order-moved n at w ss most fits);
+          below = insert-below n at (orderWord ss) (orderWord (structPut n at w ss)) most (o .below)
+              (order-below n at w ss most fits) (order-new n at w ss most fits) (order-moved n at w ss most fits);
           ascending = insert-ascends n at f (nameInOrder (structPut n at w ss) u) name (o .ascending) spot new is-below is-new is-moved;
         }

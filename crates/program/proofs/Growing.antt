@@ -1,6 +1,6 @@
 -- Text that is appended changes no name below it. A constant more, a patch, a new function and the end of one keep good order.
 use mathlib.Core.Path.{_≡_, refl, sym, ap, _∙_}
-use mathlib.Core.Bool.{Bool, true, false, _&&_, _||_}
+use mathlib.Core.Bool.{Bool, true, false, _||_}
 use mathlib.Core.List.{List, _++_, append-assoc}
 use mathlib.Mathlib.Data.Bool.Basic.{or-inr}
 use Prim.Native.Nat.{ℕ, zero, suc, _+_, _-_, _*_, _≤_, _<_, _^_}

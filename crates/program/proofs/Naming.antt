@@ -7,8 +7,7 @@ use Prim.Native.Nat.{ℕ, zero, suc, _+_, _*_, _≤_, _<_, _^_}
 use native.Mathlib.Omega.{arith}
 use native.Mathlib.Numerals.{lt-of-le-of-ne}
 use lib.Dec.{eqb, leb}
-use lib.ListN.{length, set, length-set}
-use lib.Seq.{getD-set-same, getD-set-other}
+use lib.ListN.{length}
 use borrow.Author.Tests.{le-leb, leb-true, leb-false, eqb-true, eqb-false}
 use Rattle.model.specs.declared.Counts.{Counts}
 use Rattle.model.specs.declared.Emitted.the-variants.{Done}
@@ -23,9 +22,8 @@ use Rattle.ordering.specs.Sorted.{Spot, structPut}
 use Rattle.ordering.proofs.Halves.{edge-spot}
 use Rattle.ordering.proofs.Putting.{length-struct-put, new-word, old-word}
 use Rattle.ordering.proofs.Standing.{Somewhere, somewhere, none-among, put-named, stays-in-order}
-use Rattle.program.proofs.Bools.{either-way, and-left, and-right, and-both}
+use Rattle.program.proofs.Bools.{either-way, and-left, and-right}
 use Rattle.program.proofs.Parts.{room-1, room-2, places-same, start-pack, size-pack}
-use Rattle.program.proofs.Every.{pass-all}
 use Rattle.program.proofs.Known.{Limited, limited, Structs, structs-known, structs-good, text-inside, constants-known, function-known}
 use Rattle.program.proofs.Writing.{length-written}
 use Rattle.program.proofs.Searching.{among-none, among-some}

@@ -12,7 +12,6 @@ use borrow.Author.Tests.{eq-eqb, ne-eqb, eqb-true, eqb-false, ltb-false, leb-tru
 use Rattle.model.specs.declared.Constant.{Constant}
 use Rattle.model.specs.declared.Constant.the-variants as k
 use Rattle.model.specs.declared.Counts.{Counts}
-use Rattle.model.specs.Basics.{if_then_else_}
 use Rattle.model.specs.Values.{places, textAt, kindAt, payloadAt, putWords}
 use Rattle.model.specs.Programs.{scalar, boolean, string, reference, Function, functionAt, Program, codeLimit, constantLimit}
 use Rattle.model.specs.Programs as p
@@ -20,6 +19,7 @@ use Rattle.model.specs.Stores.{Stores, start, size, pack, part, nameWord, codeW
 use Rattle.model.specs.Orders.{insideText, constantOk, codeStart, programOk}
 use Rattle.model.specs.declared.Emitted.the-variants.{Done}
 use Rattle.model.specs.Emission.{Res, refuse, oneConstant, textRoom, withConstant, withTextConstant, constantAdded, constantOrder, addConstantOf, codeOrder, emitIn, emitOf, written, sizeHere, endHere, codeRoom, longer, appended, u16, patchOrder, patched, patchOf}
+use Rattle.model.specs.Basics.{if_then_else_}
 use Rattle.program.proofs.Bools.{apart, either-way}
 use Rattle.program.proofs.Parts.{room-1, room-2, start-pack, size-pack}
 use Rattle.program.proofs.Known.{Limited, limited, function-known, ascending, constants-known, structs-known, text-inside, code-in-other}

@@ -8,14 +8,13 @@ use native.Mathlib.Omega.{arith}
 use lib.Dec.{eqb}
 use lib.ListN.{length}
 use borrow.Author.Tests.{eq-eqb, ne-eqb, eqb-true, eqb-false}
-use Rattle.model.specs.declared.Told.{Told}
 use Rattle.model.specs.declared.Told.the-variants as tl
-use Rattle.model.specs.Basics.{if_then_else_}
 use Rattle.model.specs.Values.{kindAt}
 use Rattle.model.specs.Equality.{sameBytes}
 use Rattle.model.specs.Programs.{orElse, newestFrom, firstFrom, among}
 use Rattle.model.specs.Stores.{Stores, part, nameWord}
 use Rattle.model.specs.Emission.{namesFrom, toldName}
+use Rattle.model.specs.Basics.{if_then_else_}
 use Rattle.program.specs.Links.{namesLent}
 use Rattle.program.proofs.Bools.{either-way}
 

@@ -1,7 +1,6 @@
 -- `image::check_constants` meets its contract.
 use Rattle.image.proofs.check_constants.Statement.{statement}
 use Rattle.image.proofs.check_constants.Tie as tie
-use borrow.Author.Needs.{needs}
 use native.Mathlib.Omega.{arith}
 use Prim.Native.Nat.{_-_}
 use Rattle.image.proofs.Passes.{counted-at, Constants, constants-start, constants-none, constants-end, constants-bad, constants-fit, constants-step}

@@ -1,5 +1,4 @@
 -- `image::check_function` meets its contract.
-use borrow.Author.Needs.{needs}
 use Rattle.image.proofs.check_function.Statement.{statement}
 use Rattle.image.proofs.check_function.Tie as tie
 use native.Mathlib.Omega.{arith}

@@ -1,7 +1,6 @@
 -- `image::check_others` meets its contract.
 use Rattle.image.proofs.check_others.Statement.{statement}
 use Rattle.image.proofs.check_others.Tie as tie
-use borrow.Author.Needs.{needs}
 use native.Mathlib.Omega.{arith}
 use Prim.Native.Nat.{_-_}
 use Rattle.image.proofs.Functions.{Passing, others-start, others-end, others-bad, others-fit, others-step}

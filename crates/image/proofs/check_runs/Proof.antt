@@ -1,7 +1,6 @@
 -- `image::check_runs` meets its contract.
 use Rattle.image.proofs.check_runs.Statement.{statement}
 use Rattle.image.proofs.check_runs.Tie as tie
-use borrow.Author.Needs.{needs}
 use Rattle.image.proofs.Runs.{Judging, judging-start, judging-end, judging-bad, judging-fits, judging-step}
 
 abbrev Inv-loop : tie.InvT-loop

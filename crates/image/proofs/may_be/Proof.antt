@@ -1,5 +1,4 @@
 -- `image::may_be` meets its contract.
-use borrow.Author.Needs.{needs}
 use Rattle.image.proofs.may_be.Statement.{statement}
 use Rattle.image.proofs.may_be.Tie as tie
 use Rattle.image.proofs.Functions.{may-main, may-other}

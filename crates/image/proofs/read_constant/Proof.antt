@@ -2,7 +2,6 @@
 use borrow.Author.Needs.{needs}
 use Rattle.image.proofs.read_constant.Statement.{statement}
 use Rattle.image.proofs.read_constant.Tie as tie
-use mathlib.Core.Path.{refl}
 use Rattle.image.proofs.Items.{constant-none, constant-next, constant-kind, constant-read, two-left}
 
 read-number-requires : tie.Need-read-number-requires

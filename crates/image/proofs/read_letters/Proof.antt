@@ -1,5 +1,4 @@
 -- `image::read_letters` meets its contract.
-use borrow.Author.Needs.{needs}
 use Rattle.image.proofs.read_letters.Statement.{statement}
 use Rattle.image.proofs.read_letters.Tie as tie
 use native.Mathlib.Omega.{arith}

@@ -1,5 +1,4 @@
 -- `image::read_run` meets its contract.
-use borrow.Author.Needs.{needs}
 use Rattle.image.proofs.read_run.Statement.{statement}
 use Rattle.image.proofs.read_run.Tie as tie
 use Rattle.image.proofs.Runs.{run-none, run-zero, run-long, run-no-place, run-again, run-read}

@@ -1,5 +1,4 @@
 -- `image::read_text` meets its contract.
-use borrow.Author.Needs.{needs}
 use Rattle.image.proofs.read_text.Statement.{statement}
 use Rattle.image.proofs.read_text.Tie as tie
 use Rattle.image.proofs.Items.{text-none, text-starts, text-short, text-read}

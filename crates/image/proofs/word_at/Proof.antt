@@ -1,7 +1,6 @@
 -- `image::word_at` meets its contract.
 use Rattle.image.proofs.word_at.Statement.{statement}
 use Rattle.image.proofs.word_at.Tie as tie
-use borrow.Author.Needs.{needs}
 use native.Mathlib.Omega.{arith}
 use Rattle.image.proofs.Items.{Word, word-starts, word-small, word-step, word-ends}
 

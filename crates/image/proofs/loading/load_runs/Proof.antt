@@ -2,7 +2,6 @@
 use Rattle.image.proofs.loading.load_runs.Statement.{statement}
 use Rattle.image.proofs.loading.load_runs.Tie as tie
 use borrow.Author.Needs.{needs}
-use native.Mathlib.Omega.{arith}
 use Rattle.image.proofs.Filling.{FillingRuns, runs-begin, runs-same, runs-left, runs-filled, runs-never, runs-most, runs-room, runs-next}
 
 abbrev Inv-loop : tie.InvT-loop

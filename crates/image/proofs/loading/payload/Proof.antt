@@ -1,5 +1,4 @@
 -- `image::loading::payload` meets its contract.
-use borrow.Author.Needs.{needs}
 use Rattle.image.proofs.loading.payload.Statement.{statement}
 use Rattle.image.proofs.loading.payload.Tie as tie
 use Rattle.image.proofs.Filling.{payload-word, payload-text}

@@ -1,7 +1,6 @@
 -- `image::saving::put_constants` meets its contract.
 use Rattle.image.proofs.saving.put_constants.Statement.{statement}
 use Rattle.image.proofs.saving.put_constants.Tie as tie
-use borrow.Author.Needs.{needs}
 use native.Mathlib.Omega.{arith}
 use Prim.Native.Nat.{_-_}
 use Rattle.image.proofs.Putting.{PuttingConstants, constants-near, constants-start, constants-kept, constants-each, constants-step, constants-end}

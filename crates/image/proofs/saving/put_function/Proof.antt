@@ -2,7 +2,6 @@
 use borrow.Author.Needs.{needs}
 use Rattle.image.proofs.saving.put_function.Statement.{statement}
 use Rattle.image.proofs.saving.put_function.Tie as tie
-use native.Mathlib.Omega.{arith}
 use Rattle.image.proofs.Imaging.{name-puts, code-small, size-near, code-near, runs-put, function-put}
 
 -- src/saving.rt:190:9

@@ -2,7 +2,6 @@
 use borrow.Author.Needs.{needs}
 use Rattle.image.proofs.saving.put_part.Statement.{statement}
 use Rattle.image.proofs.saving.put_part.Tie as tie
-use native.Mathlib.Omega.{arith}
 use Rattle.image.proofs.Putting.{near-fits, part-put, part-not}
 
 -- src/saving.rt:47:16

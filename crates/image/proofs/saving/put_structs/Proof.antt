@@ -1,7 +1,6 @@
 -- `image::saving::put_structs` meets its contract.
 use Rattle.image.proofs.saving.put_structs.Statement.{statement}
 use Rattle.image.proofs.saving.put_structs.Tie as tie
-use borrow.Author.Needs.{needs}
 use native.Mathlib.Omega.{arith}
 use Prim.Native.Nat.{_-_}
 use Rattle.image.proofs.Putting.{PuttingStructs, structs-near, structs-start, structs-kept, structs-each, structs-step, structs-end}

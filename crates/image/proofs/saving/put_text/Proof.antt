@@ -1,5 +1,4 @@
 -- `image::saving::put_text` meets its contract.
-use borrow.Author.Needs.{needs}
 use Rattle.image.proofs.saving.put_text.Statement.{statement}
 use Rattle.image.proofs.saving.put_text.Tie as tie
 use Rattle.image.proofs.Putting.{text-split, front, back, both}

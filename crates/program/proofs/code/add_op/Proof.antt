@@ -1,6 +1,5 @@
 -- `program::code::add_op` meets its contract.
 use Rattle.model.specs.Emission.{addOpOf}
-use borrow.Author.Needs.{needs}
 use Rattle.program.proofs.code.add_op.Statement.{statement}
 use Rattle.program.proofs.code.add_op.Tie as tie
 

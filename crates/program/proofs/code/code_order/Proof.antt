@@ -1,7 +1,6 @@
 -- `program::code::code_order` meets its contract.
 use mathlib.Core.Path.{refl}
 use Rattle.program.proofs.Emitting.{order-is}
-use borrow.Author.Needs.{needs}
 use Rattle.program.proofs.code.code_order.Statement.{statement}
 use Rattle.program.proofs.code.code_order.Tie as tie
 

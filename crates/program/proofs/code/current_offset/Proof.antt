@@ -1,6 +1,5 @@
 -- `program::code::current_offset` meets its contract.
 use Rattle.program.proofs.Entered.{offset-told, offset-refused}
-use borrow.Author.Needs.{needs}
 use Rattle.program.proofs.code.current_offset.Statement.{statement}
 use Rattle.program.proofs.code.current_offset.Tie as tie
 

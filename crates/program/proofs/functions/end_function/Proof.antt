@@ -1,6 +1,5 @@
 -- `program::functions::end_function` meets its contract.
 use Rattle.program.proofs.Entered.{ended, not-ended}
-use borrow.Author.Needs.{needs}
 use Rattle.program.proofs.functions.end_function.Statement.{statement}
 use Rattle.program.proofs.functions.end_function.Tie as tie
 

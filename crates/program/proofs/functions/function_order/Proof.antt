@@ -1,6 +1,5 @@
 -- `program::functions::function_order` meets its contract.
 use Rattle.program.proofs.Adding.{function-order-is}
-use borrow.Author.Needs.{needs}
 use Rattle.program.proofs.functions.function_order.Statement.{statement}
 use Rattle.program.proofs.functions.function_order.Tie as tie
 

@@ -1,6 +1,5 @@
 -- `program::functions::get_function_idx` meets its contract.
 use Rattle.program.proofs.Adding.{index-19, index-told}
-use borrow.Author.Needs.{needs}
 use Rattle.program.proofs.functions.get_function_idx.Statement.{statement}
 use Rattle.program.proofs.functions.get_function_idx.Tie as tie
 

@@ -1,5 +1,4 @@
 -- `program::names::newest_function` meets its contract.
-use borrow.Author.Needs.{needs}
 use native.Mathlib.Omega.{arith}
 use Rattle.program.proofs.Searching.{Newest, newest-start, newest-none, newest-here, newest-below}
 use Rattle.program.proofs.names.newest_function.Statement.{statement}

@@ -16,7 +16,9 @@ abbrev μ-loop : tie.MeasureT-loop
 μ-loop n structs text last i₀ i = last - i
 
 returns : tie.Need-returns Inv-loop μ-loop
-returns c = none-ascend (c .before .before .before .args .n) (c .before .before .before .args .structs .now) (c .before .before .before .args .text .now) (c .if1 .taken)
+returns c =
+    let at-start = c .before .before .before in
+    none-ascend (at-start .args .n) (at-start .args .structs .now) (at-start .args .text .now) (c .if1 .taken)
 
 sub-last : tie.Need-sub-last Inv-loop μ-loop
 sub-last c = omega arith

@@ -1,6 +1,5 @@
 -- `program::order::function_ok` meets its contract.
 use Rattle.program.proofs.Checks.{function-is}
-use borrow.Author.Needs.{needs}
 use Rattle.program.proofs.order.function_ok.Statement.{statement}
 use Rattle.program.proofs.order.function_ok.Tie as tie
 

@@ -17,8 +17,10 @@ use Rattle.program.proofs.order.structs_inside.Tie as tie
 
 abbrev Inv-loop : tie.InvT-loop
 Inv-loop c structs n i₀ i =
-    Passed (leb (c .structs) (places 2 structs) && everyFrom (c .structs) 0 (λ j. insideText c (structWord structs j) && ltb (orderWord structs j) (c .structs)))
-    (c .structs) (λ j. insideText c (structWord structs j) && ltb (orderWord structs j) (c .structs)) i
+    Passed
+    (leb (c .structs) (places 2 structs) && everyFrom (c .structs) 0
+    (λ j. insideText c (structWord structs j) && ltb (orderWord structs j) (c .structs))) (c .structs)
+    (λ j. insideText c (structWord structs j) && ltb (orderWord structs j) (c .structs)) i
 
 abbrev μ-loop : tie.MeasureT-loop
 μ-loop c structs n i₀ i = c .structs - i
@@ -27,10 +29,16 @@ room-requires : tie.Need-room-requires Inv-loop μ-loop
 room-requires c κs = search needs
 
 returns : tie.Need-returns Inv-loop μ-loop
-returns c = too-many (structs-judged (c .before .before .before .args .c) (c .before .before .before .args .structs .now)) _ (c .before .room .ensures _ refl) (c .if1 .taken)
+returns c =
+    let at-start = c .before .before .before in
+    too-many (structs-judged (at-start .args .c) (at-start .args .structs .now)) _ (c .before .room .ensures _ refl)
+    (c .if1 .taken)
 
 loop-holds : tie.Need-loop-holds Inv-loop μ-loop
-loop-holds c = none-yet (structs-judged (c .before .before .before .args .c) (c .before .before .before .args .structs .now)) _ (c .before .room .ensures _ refl) (c .if1 .left)
+loop-holds c =
+    let at-start = c .before .before .before in
+    none-yet (structs-judged (at-start .args .c) (at-start .args .structs .now)) _ (c .before .room .ensures _ refl)
+    (c .if1 .left)
 
 second-requires : tie.Need-second-requires Inv-loop μ-loop
 second-requires c κs = search

@@ -1,6 +1,4 @@
 -- `program::ordered::in_order` meets its contract.
-use mathlib.Core.Path.{_∙_}
-use Rattle.model.specs.Stores.{structWord, orderWord}
 use Rattle.program.proofs.Checks.{in-order-is}
 use borrow.Author.Needs.{needs}
 use Rattle.program.proofs.ordered.in_order.Statement.{statement}

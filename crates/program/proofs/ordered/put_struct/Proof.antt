@@ -19,7 +19,10 @@ move-up-requires c κs = search needs
 
 same-length : tie.Need-same-length
 unfolding structPut
-same-length c = put-keeps-length (c .before .before .before .before .before .args .n) (c .before .before .before .before .before .args .at) (c .before .before .before .before .before .args .word) (c .before .before .before .before .before .args .structs .now) _ (c .before .before .move-up .ensures)
+same-length c =
+    let at-start = c .before .before .before .before .before in
+    put-keeps-length (at-start .args .n) (at-start .args .at) (at-start .args .word) (at-start .args .structs .now) _
+    (c .before .before .move-up .ensures)
 
 returns : tie.Need-returns
 unfolding structPut

@@ -1,6 +1,5 @@
 -- `program::structs::struct_order` meets its contract.
 use Rattle.program.proofs.Adding.{struct-order-is, struct-order-not}
-use borrow.Author.Needs.{needs}
 use Rattle.program.proofs.structs.struct_order.Statement.{statement}
 use Rattle.program.proofs.structs.struct_order.Tie as tie
 

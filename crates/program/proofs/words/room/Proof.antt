@@ -1,6 +1,5 @@
 -- `program::words::room` meets its contract.
 use Rattle.program.proofs.Parts.{room-is}
-use borrow.Author.Needs.{needs}
 use Rattle.program.proofs.words.room.Statement.{statement}
 use Rattle.program.proofs.words.room.Tie as tie
 

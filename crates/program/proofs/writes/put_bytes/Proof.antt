@@ -1,7 +1,6 @@
 -- `program::writes::put_bytes` meets its contract.
 use Prim.Native.Nat.{_-_}
 use lib.ListN.{length}
-use mathlib.Core.Path.{refl}
 use native.Mathlib.Omega.{arith}
 use Rattle.program.proofs.Writing.{Writing, nothing-yet, another, whole}
 use Rattle.program.proofs.writes.put_bytes.Statement.{statement}
