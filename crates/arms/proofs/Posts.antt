@@ -1,5 +1,6 @@
 -- What an arm ensures, for each way out of an arm.
-use mathlib.Core.Path.{_≡_, refl, sym, _∙_}
+use mathlib.Core.Path.{_≡_, refl, sym, ap, _∙_}
+use mathlib.Core.Option.{Option, none, some}
 use mathlib.Core.Bool.{Bool, true, false, not}
 use mathlib.Core.List.{List, [], _∷_}
 use Prim.Native.Nat.{ℕ, zero, suc, _+_, _-_, _≤_, _<_, min}
@@ -39,7 +40,6 @@ use Rattle.arms.specs.declared.Answer.{Answer}
 use Rattle.arms.specs.declared.Answer.the-variants.{Went, Returned, Call, Back, Stopped}
 use Rattle.arms.specs.Links.{stateOf, outcomeOf, Within, Suits, ArmPost}
 use Rattle.arms.proofs.Keeping.{place, fewer, topped}
-use Rattle.program.proofs.Searching.{told-none, told-some}
 use Rattle.arms.proofs.Rules.{no-top, top, no-scalars, scalars, two-scalars, no-booleans, booleans, two-booleans, cut-vals, is-reference}
 
 -- the machine with n values on its stack, at position i, and with the last result in the words a and b
@@ -246,6 +246,17 @@ pub calls-named : (u : World) (n : ℕ)
     (λ y r t. enterNamed u n r t (functionNamed (textAt (u .text) (y .0) (y .1)) (u .functions)))
 unfolding callCallableStep
 calls-named u n = record { is = λ t. refl }
+
+-- what a search for a name tells
+told-some : (o : Option ℕ) (r : Told) (k : ℕ) → r ≡ toldName o → r ≡ Number k → o ≡ some k
+unfolding toldName
+told-some none r k e f = absurd (let z : _≡_ {A = ℕ} 0 1 = cc in let y : ⊥ = omega arith in y)
+told-some (some i) r k e f = let z : i ≡ k = cc in ap some z
+
+told-none : (o : Option ℕ) (r : Told) (k : ℕ) → r ≡ toldName o → r ≡ Refused k → o ≡ none
+unfolding toldName
+told-none none r k e f = refl
+told-none (some i) r k e f = absurd (let z : _≡_ {A = ℕ} 0 1 = cc in let y : ⊥ = omega arith in y)
 
 module _ {k : Fixed} {g : Going} {s : List ℕ} (w : Within k g s) {r : Found} (p : r ≡ popOf (vals (g .sp) s)) {v : Value} (e : r ≡ Got v) {o m : ℕ} (h : v ≡ FunctionReference o m)
     (u : World) (n : ℕ) {q : Told} (d : q ≡ toldName (functionNamed (textAt (u .text) o m) (u .functions))) where

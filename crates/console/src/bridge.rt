@@ -1,8 +1,8 @@
 // The calls over frames: for each the frames are laid into a slice of records, and kept in numbers after it.
 use crate::damage::frame_in;
 use crate::damage::put_frame;
+use frames::push_frame;
 use frames::read_frame;
-use frames::write_frame;
 use model::Frame;
 use model::RunResult;
 use model::Started;
@@ -67,7 +67,7 @@ pub fn lay(frames: &mut [Frame], words: &[u64])
 {
     let mut l = last_in(words, frames.len());
     while l.more {
-        write_frame(frames, l.at, l.frame);
+        push_frame(frames, l.at, l.frame);
         let next = last_in(words, l.at);
         l = next;
     }

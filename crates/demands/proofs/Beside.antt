@@ -18,7 +18,7 @@ use Rattle.model.specs.Values.{places, putWords}
 use Rattle.model.specs.Programs.{Program, Function, functionAt, codeLimit, constantLimit, nameLimit}
 use Rattle.model.specs.Stores.{Stores, withConstants, withStructs, withFunctions, withText, size, codeWord, codeEnd, codeHere, placesHere, withCode, structsFrom, functionIn, functionsFrom, programIn}
 use Rattle.model.specs.Orders.{codeStart, programOk, traces, judgedBy}
-use Rattle.model.specs.Emission.{Res, done, refuse, oneConstant, oneStruct, oneFunction, written, textRoom, sizeHere, endHere, codeRoom, longer, appended, codeOrder, emitIn, emitOf, patchOrder, patched, patchOf, withConstant, withTextConstant, constantAdded, constantOrder, addConstantOf, structAdded, structFound, structOrder, addStructOf, functionOrder, begun, beginFunctionOf, endFunctionOf, currentOffsetOf, namesFrom, functionIdxOf}
+use Rattle.model.specs.Emission.{structNames, withStructName, Res, done, refuse, oneConstant, oneStruct, oneFunction, written, textRoom, sizeHere, endHere, codeRoom, longer, appended, codeOrder, emitIn, emitOf, patchOrder, patched, patchOf, withConstant, withTextConstant, constantAdded, constantOrder, addConstantOf, structAdded, structFound, structOrder, addStructOf, functionOrder, begun, beginFunctionOf, endFunctionOf, currentOffsetOf, namesFrom, functionIdxOf}
 use Rattle.model.specs.Loading.{saveOf, listOrder, listOf}
 use Rattle.model.specs.Machines.{traceOrder, backtraceIn}
 use Rattle.program.proofs.Bools.{either-way}
@@ -28,6 +28,7 @@ use Rattle.program.proofs.Writing.{length-written, length-words}
 use Rattle.program.proofs.Reading.{Reads, emit-reads, patch-reads, add-constant-reads}
 use Rattle.program.proofs.Naming.{struct-reads, begin-reads, end-reads}
 use Rattle.rules.proofs.Programs.{parts-of, code-size}
+use Rattle.ordering.proofs.Putting.{length-put}
 use Rattle.demands.specs.Meant.{AsLong}
 use Rattle.demands.proofs.Fronts.{places-alike}
 
@@ -216,16 +217,21 @@ module _ {c : Counts} {s s' : Stores} (one : OneProgram c s s') where
   pub constant-alike : (x : Constant) (lent : List ℕ) → AlikeRes (addConstantOf c x lent s) (addConstantOf c x lent s')
   constant-alike x lent = alike-res (constant-res x lent) (add-constant-reads c x lent s (one .ok)) (add-constant-reads c x lent s' (one .ok')) (rw (one .same))
 
+  name-long : (name : List ℕ) → length (withStructName c name s') ≡ length (withStructName c name s)
+  unfolding withStructName
+  name-long name =
+      length-put 0 _ _ ∙ set-long (s .structs) (s' .structs) (2 * c .structs) (2 * c .structs) _ _ (one .long .structs) ∙ sym (length-put 0 _ _)
+
   struct-by : (name : List ℕ) (x : Option ℕ) → SameRes (structFound c name s x) (structFound c name s' x)
   unfolding structFound structAdded
   struct-by name (some i) = both-done c i (one .long)
   struct-by name none =
-      rw (text-room (length name), places-alike (s' .structs) (s .structs) (one .long .structs) 1)
-      (same-if (leb nameLimit (c .structs)) (refused 22) (same-if (leb (places 1 (s .structs)) (c .structs)) (refused 21) (same-if (textRoom c s (length name))
-      (both-done (oneStruct (length name) c) (c .structs) (structs-long (more-text name) _ _ (set-long (s .structs) (s' .structs) (c .structs) (c .structs) _ _ (one .long .structs)))) (refused 21))))
+      rw (text-room (length name), places-alike (s' .structs) (s .structs) (one .long .structs) 2)
+      (same-if (leb nameLimit (c .structs)) (refused 22) (same-if (leb (places 2 (s .structs)) (c .structs)) (refused 21) (same-if (textRoom c s (length name))
+      (both-done (oneStruct (length name) c) (c .structs) (structs-long (more-text name) _ _ (name-long name))) (refused 21))))
 
   struct-res : (name : List ℕ) → SameRes (addStructOf c name s) (addStructOf c name s')
-  unfolding addStructOf structOrder
+  unfolding addStructOf structOrder structNames
   struct-res name = rw (g .counts, g .text, g .structs, g' .text, g' .structs, structs-same) (struct-by name _)
 
   pub struct-alike : (name : List ℕ) → AlikeRes (addStructOf c name s) (addStructOf c name s')

@@ -125,7 +125,7 @@ module _ (c : Counts) (s : Stores) (b : CodeBytes s) where
   unfolding structFound structAdded
   struct-by name (some i) = same-code _ _ _ refl refl
   struct-by name none =
-      code-if (leb nameLimit (c .structs)) (stays 22) (λ _. code-if (leb (places 1 (s .structs)) (c .structs)) (stays 21) (λ _. code-if (textRoom c s (length name)) (same-code _ _ _ refl refl) (λ _. stays 21)))
+      code-if (leb nameLimit (c .structs)) (stays 22) (λ _. code-if (leb (places 2 (s .structs)) (c .structs)) (stays 21) (λ _. code-if (textRoom c s (length name)) (same-code _ _ _ refl refl) (λ _. stays 21)))
 
   pub struct-bytes : (name : List ℕ) → Coded (addStructOf c name s)
   unfolding addStructOf

@@ -116,7 +116,7 @@ module _ (c : Counts) (s : Stores) where
   unfolding structFound structAdded
   struct-by name none =
       grows-if (leb nameLimit (c .structs)) _ _ (λ _. grows-refused 22) (λ _.
-      grows-if (leb (places 1 (s .structs)) (c .structs)) _ _ (λ _. grows-refused 21) (λ _.
+      grows-if (leb (places 2 (s .structs)) (c .structs)) _ _ (λ _. grows-refused 21) (λ _.
       grows-if (textRoom c s (length name)) _ _ (λ _. grows-same _ _ _ (omega arith) (omega arith) (text-front (s .text) (c .text) name) refl) (λ _. grows-refused 21)))
   struct-by name (some i) = grows-same _ _ _ (omega arith) (omega arith) refl refl
 

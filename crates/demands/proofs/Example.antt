@@ -44,7 +44,7 @@ abbrev pub made : Held
 made = holds (ascii "ab<main>") 0 2 one 2 0
 
 both-fine : Fine used × Fine made
-unfolding ascii everyFrom places valueOf kindAt payloadAt valueAt vals exactValue textAt sameBytes mainName functionAt frameRoom machineIn runOrder hp.headerOf hp.cellOf hp.cellAt hp.cellsFrom hp.heapOf hp.cellIn hp.itemIn hp.headIn hp.items hp.elementsIn hp.depthIn hp.deepest hp.wholeBelow hp.placedBelow hp.elementBelow hp.elementsBelow hp.blockOk hp.blocksFrom hp.heapOk hp.exactCell hp.exactCells st.start st.size st.pack st.part st.structWord st.nameWord st.codeWord st.codeEnd st.structsFrom st.functionIn st.functionsFrom o.countsOk o.textOk o.insideText o.constantOk o.constantsOk o.allDifferent o.structsOk o.codeStart o.functionOk o.functionsOk o.mainOk o.mainTaken o.otherTaken o.insideCodes o.programOk o.cellsOk o.stackOk o.lastOk o.frameOk o.callerOk o.framesFrom o.framesOk o.frameStoreOk
+unfolding ascii everyFrom places valueOf kindAt payloadAt valueAt vals exactValue textAt sameBytes mainName functionAt frameRoom machineIn runOrder hp.headerOf hp.cellOf hp.cellAt hp.cellsFrom hp.heapOf hp.cellIn hp.itemIn hp.headIn hp.items hp.elementsIn hp.depthIn hp.deepest hp.wholeBelow hp.placedBelow hp.elementBelow hp.elementsBelow hp.blockOk hp.blocksFrom hp.heapOk hp.exactCell hp.exactCells st.start st.size st.pack st.part st.structWord st.nameWord st.codeWord st.codeEnd st.structsFrom st.functionIn st.functionsFrom o.countsOk o.textOk o.insideText o.constantOk o.constantsOk o.structsOk o.codeStart o.functionOk o.functionsOk o.mainOk o.mainTaken o.otherTaken o.insideCodes o.programOk o.cellsOk o.stackOk o.lastOk o.frameOk o.callerOk o.framesFrom o.framesOk o.frameStoreOk
 both-fine = (
   record { order = record { program = refl; machine = refl }; code = record { main = λ j h. omega arith; other = λ j h. omega arith } },
   record { order = record { program = refl; machine = refl }; code = record { main = λ j h. omega arith; other = λ j h. omega arith } },

@@ -38,7 +38,7 @@ module _ (s s' : Stores) (long : AsLong s' s) where
   room-same p =
       rw (
         places-alike (s' .constants) (s .constants) (long .constants) 2,
-        places-alike (s' .structs) (s .structs) (long .structs) 1,
+        places-alike (s' .structs) (s .structs) (long .structs) 2,
         places-alike (s' .functions) (s .functions) (long .functions) 2,
         places-alike (s' .text) (s .text) (long .text) 1,
         places-alike (s' .main) (s .main) (long .main) 1,

@@ -113,7 +113,7 @@ module _ (h : Held) where
 
   struct-says : (name : List ℕ) (x : Option ℕ)
       → Says h (mustNot (isNone x && leb nameLimit (h .vm .program .structs)) 22
-      ∷ mustNot (isNone x && leb (places 1 (h .stores .structs)) (h .vm .program .structs)) 21
+      ∷ mustNot (isNone x && leb (places 2 (h .stores .structs)) (h .vm .program .structs)) 21
       ∷ must (not (isNone x) || textRoom (h .vm .program) (h .stores) (length name)) 21
       ∷ [])
       (emits h (structFound (h .vm .program) name (h .stores) x))

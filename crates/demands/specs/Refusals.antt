@@ -29,9 +29,9 @@ use Rattle.model.specs.Programs.{newestFrom, firstFrom, codeLimit, constantLimi
 use Rattle.model.specs.Images.{imageOf, Judged, fine, broken, judge}
 use Rattle.model.specs.Listings.{Listed, text, unlisted, listingOf}
 use Rattle.model.specs.Runs.{traceable}
-use Rattle.model.specs.Stores.{structsFrom, functionsFrom, programIn}
+use Rattle.model.specs.Stores.{functionsFrom, programIn}
 use Rattle.model.specs.Orders.{countsOk, textOk, functionsOk, programOk}
-use Rattle.model.specs.Emission.{textRoom, sizeHere, endHere, codeRoom, codeOrder, patchOrder, constantOrder, structOrder, functionOrder, namesFrom}
+use Rattle.model.specs.Emission.{structNames, textRoom, sizeHere, endHere, codeRoom, codeOrder, patchOrder, constantOrder, structOrder, functionOrder, namesFrom}
 use Rattle.model.specs.Loading.{roomFor, listOrder}
 use Rattle.model.specs.Machines.{innermost, callersIn, runOrder, tooShort, RunAnswer, ran as answered, refused, traceOrder}
 use Rattle.model.specs.Readers.{reads, headerAt, readsText}
@@ -87,7 +87,7 @@ loadChecks h (fine p) =
     ∷ []
 
 unfoldable pub newName : Held → List ℕ → Bool
-newName h name = isNone (firstFrom 0 name (structsFrom (h .vm .program .structs) 0 (h .stores .structs) (h .stores .text)))
+newName h name = isNone (firstFrom 0 name (structNames (h .vm .program) (h .stores)))
 
 -- n bytes fit
 unfoldable pub fitsOut : List ℕ → ℕ → Bool
@@ -147,7 +147,7 @@ askChecks (addConstant x bytes) h =
 askChecks (addStruct name) h =
     must (structOrder (h .vm .program) (h .stores)) 19
     ∷ mustNot (newName h name && leb nameLimit (h .vm .program .structs)) 22
-    ∷ mustNot (newName h name && leb (places 1 (h .stores .structs)) (h .vm .program .structs)) 21
+    ∷ mustNot (newName h name && leb (places 2 (h .stores .structs)) (h .vm .program .structs)) 21
     ∷ must (not (newName h name) || textRoom (h .vm .program) (h .stores) (length name)) 21
     ∷ []
 askChecks (beginFunction name) h =

@@ -28,7 +28,7 @@ use Rattle.frames.proofs.Frames.{R, fval, tells, frame-makes}
 use Rattle.frames.proofs.Slices.{Sl, Arg, val, shr, mut, peek, lent, passing}
 use Rattle.frames.proofs.Calls.{Rule, call-with, asked}
 use Rattle.frames.proofs.read_frame as read
-use Rattle.frames.proofs.write_frame as write
+use Rattle.frames.proofs.push_frame as write
 
 module _ {M : Type 1} (𝓤 : URA M) (H : Heap 𝓤) (A : Atoms 𝓤) (W : Given 𝓤 H A) (mem : Memory → SProp 𝓤) (run : Routine → Fun 𝓤) where
   abbrev pub Read : Contract 𝓤

@@ -15,7 +15,8 @@ pub fn read_frame(frames: &[Frame], i: usize) -> Frame
     frames[i]
 }
 
-pub fn write_frame(frames: &mut [Frame], i: usize, f: Frame)
+// The frame f on top of i frames.
+pub fn push_frame(frames: &mut [Frame], i: usize, f: Frame)
     requires { ⌜ i < length (now frames) ⌝ }
     ensures { λ _. ⌜ now (frames .exit) ≡ set (now (frames .entry)) i f ⌝ }
 {

@@ -328,8 +328,8 @@ module _ (cs : List Constant) (ss : List (List ℕ)) (f : Function) (l : List Fu
       structs-good c (y .structs) (y .text) (record {
         within = rw (same-places .1 .0) (room .structs);
         inside = λ k g.
-        let z : 0 + k ≡ k = omega arith in
-        rw z at (structs-fine c ss (y .structs) 0 (length C) (structs-at .0) (let z : length C + length S ≤ c .text = omega arith in z) text-small k g);
+            let z : 0 + k ≡ k = omega arith in
+            rw z at (structs-fine c ss (y .structs) 0 (length C) (structs-at .0) (let z : length C + length S ≤ c .text = omega arith in z) text-small k g);
         order = standing-of (length ss) (y .structs) (y .text) ss e (structs-at .1) (different-unlike ss (different ss [] (sound .structs .1) .0));
       })
 

@@ -14,7 +14,7 @@ use crate::tracing::put_trace;
 use crate::tracing::refused;
 use crate::tracing::trace_order;
 use crate::tracing::trace_refusal;
-use frames::write_frame;
+use frames::push_frame;
 use model::Frame;
 use model::RunResult;
 use model::Started;
@@ -134,7 +134,7 @@ pub fn new(functions: &mut [u64], text: &mut [u8], frames: &mut [Frame]) -> Star
     let done = is_done(made);
     if done {
         let f = first_frame();
-        write_frame(frames, 0, f);
+        push_frame(frames, 0, f);
         return made;
     }
     made
@@ -170,7 +170,7 @@ pub fn load(
     let done = is_done(made);
     if done {
         let f = first_frame();
-        write_frame(frames, 0, f);
+        push_frame(frames, 0, f);
         return made;
     }
     made

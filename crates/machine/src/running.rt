@@ -12,8 +12,8 @@ use ends::root_at;
 use ends::too_short;
 use frames::backtrace::trace;
 use frames::order::frames_ok;
+use frames::push_frame;
 use frames::read_frame;
-use frames::write_frame;
 use model::Frame;
 use model::RunResult;
 use model::Vm;
@@ -119,7 +119,7 @@ fn finish(m: Vm, units: u64, g: Going, frames: &mut [Frame]) -> RunResult
 {
     let f = frame_of(g);
     let at = g.callers;
-    write_frame(frames, at, f);
+    push_frame(frames, at, f);
     let answer = ended(m, units, g);
     answer
 }
@@ -139,7 +139,7 @@ fn recover(n: usize, functions: &[u64], stack: &mut [u64], frames: &mut [Frame],
 {
     put_back(n, stack, copy);
     let f = root_at(functions);
-    write_frame(frames, 0, f);
+    push_frame(frames, 0, f);
 }
 
 // The end of a run that a fault stops: its backtrace, then recovery.

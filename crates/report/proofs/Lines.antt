@@ -91,7 +91,7 @@ module _ {n : ℕ} {b s : List ℕ} {at : ℕ} {s' : List ℕ} {i j : ℕ} (h : 
 -- ---- what an answer speaks of lies inside the stores
 
 module _ {x : RunResult} {cells backtrace : List ℕ} (h : Shows x cells backtrace) where
-  pub cells-inside : {m : Vm} {u : Value} {n : ℕ} → x ≡ r.Value m u n → 2 * m .cells ≤ length cells
+  pub cells-inside : {m : Vm} {u : Value} {n : Tally} → x ≡ r.Value m u n → 2 * m .cells ≤ length cells
   cells-inside e = rw e at (h .inside)
 
   pub entries-inside : {m : Vm} {k : ℕ} {n : Tally} {j : ℕ} → x ≡ r.Fault m k n j → 2 * j ≤ length backtrace

@@ -64,7 +64,7 @@ module _ (m : Vm) (s : Stores) (l : Lent) (u : ℕ) (bytes : CodeBytes s) where
       let z : frameRoom (l .frames) ≤ places 2 (l .backtrace) = ltb-false _ _ (or-false (ltb (places 2 (l .copy)) (places 2 (l .stack))) (ltb (places 2 (l .backtrace)) (frameRoom (l .frames))) e) in
       omega arith
 
-  granted-trace : runOrder m s l ≡ true → tooShort l ≡ false → (n k : ℕ) (es : List Entry) → runOf (worldOf m s l) (machineIn m l) u .reply ≡ fault n k es → 2 * length es ≤ length (l .backtrace)
+  granted-trace : runOrder m s l ≡ true → tooShort l ≡ false → (n : ℕ) (k : Tally) (es : List Entry) → runOf (worldOf m s l) (machineIn m l) u .reply ≡ fault n k es → 2 * length es ≤ length (l .backtrace)
   granted-trace ok long n k es e =
       let a = trace-short (worldOf m s l) (order-world m s l ok bytes) (machineIn m l) u (order-sane m s l ok u) n k es e in
       let b : worldOf m s l .frameRoom ≡ frameRoom (l .frames) = unfold worldOf worldIn in refl in
@@ -72,7 +72,7 @@ module _ (m : Vm) (s : Stores) (l : Lent) (u : ℕ) (bytes : CodeBytes s) where
       omega arith
 
   -- a fault's backtrace lies inside its store
-  pub run-trace : (c : Counts) (x : Ran) → ran c x ≡ runAnswer m s l u → (n k : ℕ) (es : List Entry) → x .reply ≡ fault n k es → 2 * length es ≤ length (l .backtrace)
+  pub run-trace : (c : Counts) (x : Ran) → ran c x ≡ runAnswer m s l u → (n : ℕ) (k : Tally) (es : List Entry) → x .reply ≡ fault n k es → 2 * length es ≤ length (l .backtrace)
   unfolding runAnswer
   run-trace c x e n k es f =
       either-way (runOrder m s l)

@@ -1,8 +1,8 @@
 // The run's loop: from function to function, over the call frames that the host lends.
 use arms::Fixed;
 use arms::Going;
+use frames::push_frame;
 use frames::read_frame;
-use frames::write_frame;
 use model::Fault;
 use model::Frame;
 use program::words::part;
@@ -110,8 +110,8 @@ fn entered(g: Going, i: usize, b: usize) -> Course
     })
 }
 
-// Where the innermost caller stands.
-fn caller_at(g: Going) -> usize
+// The current frame is dropped: where its caller stands, which is then the innermost.
+fn drop_frame(g: Going) -> usize
     requires { ⌜ 0 < g .callers ⌝ }
     ensures { λ r. ⌜ g .callers ≡ r + 1 ⌝ }
 {
@@ -190,12 +190,12 @@ pub fn turns(
             }
             Event::Call(g, i, b) => {
                 let f = frame_of(g);
-                write_frame(frames, g.callers, f);
+                push_frame(frames, g.callers, f);
                 let next = entered(g, i, b);
                 c = next;
             }
             Event::Back(g) => {
-                let i = caller_at(g);
+                let i = drop_frame(g);
                 let f = read_frame(frames, i);
                 let next = resumed(g, i, f);
                 c = next;

@@ -28,9 +28,9 @@ use Rattle.machine.proofs.starting.first_frame as first
 use Rattle.machine.proofs.starting.first_frame.Symbol as first-def
 use Rattle.machine.proofs.starting.first_frame.Symbol.{name as #first}
 use Rattle.machine.proofs.starting.first_frame.Met as first-thm
-use Rattle.frames.proofs.write_frame.Symbol as writef-def
-use Rattle.frames.proofs.write_frame.Symbol.{name as #writef}
-use Rattle.frames.proofs.write_frame.Met as writef-thm
+use Rattle.frames.proofs.push_frame.Symbol as writef-def
+use Rattle.frames.proofs.push_frame.Symbol.{name as #writef}
+use Rattle.frames.proofs.push_frame.Met as writef-thm
 use Rattle.machine.proofs.new.Key.{name as #me}
 use Rattle.machine.proofs.new as me
 use Rattle.machine.proofs.new.Statement as stated
@@ -167,5 +167,5 @@ new-spec 𝓤 H 𝓜 𝓖 𝓡 =
     (done-thm.met 𝓤 H 𝓜 𝓖 𝓡))
     (cited 𝓤 H (First 𝓤 H (𝓖 .A) W (𝓜 .mem) (𝓡 .run)) 𝓜 𝓡 code.env #first first-def.routine
     code.calls-machine·starting·first-frame (first-thm.met 𝓤 H 𝓜 𝓖 𝓡))
-    (cited 𝓤 H (Write 𝓤 H (𝓖 .A) W (𝓜 .mem) (𝓡 .run)) 𝓜 𝓡 code.env #writef writef-def.routine code.calls-frames·write-frame
+    (cited 𝓤 H (Write 𝓤 H (𝓖 .A) W (𝓜 .mem) (𝓡 .run)) 𝓜 𝓡 code.env #writef writef-def.routine code.calls-frames·push-frame
     (writef-thm.met 𝓤 H 𝓜 𝓖 𝓡)) κs qs a is))

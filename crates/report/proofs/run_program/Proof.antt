@@ -24,21 +24,36 @@ play-requires : tie.Need-play-requires
 play-requires c κs = search
 
 slice-aggregate-print-report : tie.Need-slice-aggregate-print-report
-slice-aggregate-print-report c = search
+slice-aggregate-print-report c = search needs
 
 slice-aggregate-print-report-2 : tie.Need-slice-aggregate-print-report-2
-slice-aggregate-print-report-2 c = search
+slice-aggregate-print-report-2 c = search needs
 
 print-report-requires : tie.Need-print-report-requires
 print-report-requires c κs =
-    can-print _ _ _ _ _ _ _ _ _ _ (@fresh-vm .ensures) _ _ _ _ _ (@play .ensures)
-    (λ j. omega (arith, @shared-slice-known5 .given j)) (λ j. omega (arith, @shared-slice-known7 .given j))
+    can-print _ _ _ _ _ _ _ _ _ _
+    (c .before .before .before .before .before .before .before .before .before .before .before .before .fresh-vm .ensures) _ _ _ _
+    _ (c .before .before .before .before .before .before .before .play .ensures)
+    (λ j. omega (
+      arith,
+      c .before .before .before .before .before .before .before .before .before .before .before .before .before .before .before
+          .before .before .shared-slice-known5 .given j,
+    ))
+    (λ j. omega (
+      arith,
+      c .before .before .before .before .before .before .before .before .before .before .before .before .before .before .before
+          .shared-slice-known7 .given j,
+    ))
 
 same-length : tie.Need-same-length
 same-length c = search
 
 returns : tie.Need-returns
-returns c = report-printed _ _ _ _ _ _ _ _ _ _ (@fresh-vm .ensures) _ _ _ _ _ (@play .ensures) _ (@print-report .ensures)
+returns c =
+    let at-play = c .before .before .before .before .before .before .before .before .before .before in
+    let at-fresh-vm = at-play .before .before .before .before .before in
+    report-printed _ _ _ _ _ _ _ _ _ _ (at-fresh-vm .fresh-vm .ensures) _ _ _ _ _ (at-play .play .ensures) _
+    (c .before .before .print-report .ensures)
 
 pub run-program-spec : {M : Type 1} → statement M
 run-program-spec =

@@ -30,9 +30,9 @@ use Rattle.steps.specs.Links.{Ready}
 use Rattle.frames.proofs.read_frame.Symbol as read-def
 use Rattle.frames.proofs.read_frame.Symbol.{name as #read}
 use Rattle.frames.proofs.read_frame.Met as read-thm
-use Rattle.frames.proofs.write_frame.Symbol as write-def
-use Rattle.frames.proofs.write_frame.Symbol.{name as #write}
-use Rattle.frames.proofs.write_frame.Met as write-thm
+use Rattle.frames.proofs.push_frame.Symbol as write-def
+use Rattle.frames.proofs.push_frame.Symbol.{name as #write}
+use Rattle.frames.proofs.push_frame.Met as write-thm
 use Rattle.turns.specs.declared.Course.{Course}
 use Rattle.turns.specs.Links.{codeIn, goesOn, isOver, isStopped, inFrame, Under}
 use Rattle.turns.proofs.Turning.{Ways, Said, weight, over-less, stopped-less, gone-none, goes, ends-so, asks, roomy, over-on, stopped-on, call-on, back-on, within, some-back, call-less, back-less}
@@ -58,10 +58,10 @@ use Rattle.turns.proofs.entered as enter
 use Rattle.turns.proofs.entered.Symbol as enter-def
 use Rattle.turns.proofs.entered.Symbol.{name as #enter}
 use Rattle.turns.proofs.entered.Met as enter-thm
-use Rattle.turns.proofs.caller_at as caller-at
-use Rattle.turns.proofs.caller_at.Symbol as caller-at-def
-use Rattle.turns.proofs.caller_at.Symbol.{name as #caller-at}
-use Rattle.turns.proofs.caller_at.Met as caller-at-thm
+use Rattle.turns.proofs.drop_frame as drop-frame
+use Rattle.turns.proofs.drop_frame.Symbol as drop-frame-def
+use Rattle.turns.proofs.drop_frame.Symbol.{name as #drop-frame}
+use Rattle.turns.proofs.drop_frame.Met as drop-frame-thm
 use Rattle.turns.proofs.resumed as resume
 use Rattle.turns.proofs.resumed.Symbol as resume-def
 use Rattle.turns.proofs.resumed.Symbol.{name as #resume}
@@ -164,8 +164,8 @@ module _ {M : Type 1} (𝓤 : URA M) (H : Heap 𝓤) (A : Atoms 𝓤) (W : Given
   abbrev Enter : Contract 𝓤
   Enter = tripleOf 𝓤 H A enter.signature (enter.spec 𝓤 H A mem run)
 
-  abbrev CallerAt : Contract 𝓤
-  CallerAt = tripleOf 𝓤 H A caller-at.signature (caller-at.spec 𝓤 H A mem run)
+  abbrev DropFrame : Contract 𝓤
+  DropFrame = tripleOf 𝓤 H A drop-frame.signature (drop-frame.spec 𝓤 H A mem run)
 
   abbrev Resume : Contract 𝓤
   Resume = tripleOf 𝓤 H A resume.signature (resume.spec 𝓤 H A mem run)
@@ -194,9 +194,9 @@ module _ {M : Type 1} (𝓤 : URA M) (H : Heap 𝓤) (A : Atoms 𝓤) (W : Given
     call-frame-of = call-with 𝓤 H A W it FrameOf R fval (λ r zs. r ≡ frameIn g) tells (λ ns. passing (lent it ns)) (λ ns. refl)
         (λ ns. unasked W (lent it ns)) (λ ns w. id⊢ 𝓤 _) (LL.makes TG.the-type TG′.the-plain 𝓤 H A g _ is, tt) tt
 
-    call-caller-at : 0 < g .callers → Rule 𝓤 H A W it CallerAt usize (vint w64) (λ r zs. g .callers ≡ r + 1)
-    call-caller-at ask =
-        call-with 𝓤 H A W it CallerAt usize (vint w64) (λ r zs. g .callers ≡ r + 1) (uint-tells w64) (λ ns. passing (lent it ns))
+    call-drop-frame : 0 < g .callers → Rule 𝓤 H A W it DropFrame usize (vint w64) (λ r zs. g .callers ≡ r + 1)
+    call-drop-frame ask =
+        call-with 𝓤 H A W it DropFrame usize (vint w64) (λ r zs. g .callers ≡ r + 1) (uint-tells w64) (λ ns. passing (lent it ns))
         (λ ns. refl) (λ ns. asked W (lent it ns) ask) (λ ns w. id⊢ 𝓤 _) (LL.makes TG.the-type TG′.the-plain 𝓤 H A g _ is, tt) tt
 
     module _ (i b : ℕ) (fits-i : i < 2 ^ 64) (fits-b : b < 2 ^ 64) where
@@ -235,7 +235,7 @@ module _ {M : Type 1} (𝓤 : URA M) (H : Heap 𝓤) (A : Atoms 𝓤) (W : Given
           (LL.makes TG.the-type TG′.the-plain 𝓤 H A g _ is, (EL.makes TN.the-type TN′.the-plain 𝓤 H A f _ isf, tt)) tt
 
   module _ (𝓣 : Tables 𝓤 H) (k-read : Triple 𝓤 (𝓣 .C #read) (Read 𝓤 H A W mem run)) (k-write : Triple 𝓤 (𝓣 .C #write) (Write 𝓤 H A W mem run)) (k-begun : Triple 𝓤 (𝓣 .C #begun) Begun) (k-advance : Triple 𝓤 (𝓣 .C #advance) Advance) (k-over : Triple 𝓤 (𝓣 .C #over) Overs) (k-frame-of : Triple 𝓤 (𝓣 .C #frame-of) FrameOf)
-      (k-enter : Triple 𝓤 (𝓣 .C #enter) Enter) (k-caller-at : Triple 𝓤 (𝓣 .C #caller-at) CallerAt) (k-resume : Triple 𝓤 (𝓣 .C #resume) Resume) (k-stop : Triple 𝓤 (𝓣 .C #stop) Stop) (κs : Lfts 8) (qs : Shares 8) (a : Passed kinds TC.the-row κs) (is : Known kinds TC.the-row κs a) where
+      (k-enter : Triple 𝓤 (𝓣 .C #enter) Enter) (k-drop-frame : Triple 𝓤 (𝓣 .C #drop-frame) DropFrame) (k-resume : Triple 𝓤 (𝓣 .C #resume) Resume) (k-stop : Triple 𝓤 (𝓣 .C #stop) Stop) (κs : Lfts 8) (qs : Shares 8) (a : Passed kinds TC.the-row κs) (is : Known kinds TC.the-row κs a) where
     -- the parameters
     abbrev k : Fixed
     k = a .0
@@ -432,7 +432,7 @@ module _ {M : Type 1} (𝓤 : URA M) (H : Heap 𝓤) (A : Atoms 𝓤) (W : Given
                 again ! loop (c, st, cs, fs, (isc, e5, e6, e7, came)) (r, ts .1 .1 .1 .1 .1 .1 .1 .1 .0, ts .1 .1 .1 .1 .1 .1 .1 .1 .1 .0, ws .0, (isr, lens .0, lens .1 .0, lens″ .0, call-on k n constants functions text main other c (way on) (lens .1 .0 ∙ sym e6) said ef ew er)) (call-less k n constants functions text main other c (way on) under said er on))))
             | Back g ↦ λ ts said lens ise. lands-in ! (event-typed (Back g) ise) $ matches ! (tag-of ! refl refl refl refl) refl $
                 sets ! (of-opd ! (payload-of ! refl refl refl refl refl refl)) (going-typed g (back-is g ise)) $
-                nothing ! $ move ! (1 ∷ []) $ call-caller-at g (back-is g ise) (some-back k n constants functions text main other c (way on) under said) .calls ! fm k-caller-at refl (λ j us ej lens′ isj. lands-in ! (tt, record { fits = isj .1 }) $ move ! (1 ∷ []) $ drop ! $
+                nothing ! $ move ! (1 ∷ []) $ call-drop-frame g (back-is g ise) (some-back k n constants functions text main other c (way on) under said) .calls ! fm k-drop-frame refl (λ j us ej lens′ isj. lands-in ! (tt, record { fits = isj .1 }) $ move ! (1 ∷ []) $ drop ! $
                 sets ! (addr ! (behind ! refl refl)) (tt, tt) $ sets ! (agg ! (ofs ! refl)) (tt, (tt, (record { fits = room7 .0 }, tt))) $
                 move ! (0 ∷ 2 ∷ []) $ call-peek 𝓤 H A W mem run s7 fs e7 room7 j (isj .1) (omega (arith, ej, within k n constants functions text main other c (way on) under (Back g) said, roomy k n constants functions text main other c (way on) under)) .calls ! fm k-read refl (λ f ws ef lens″ isf. lands-in ! (frame-typed 𝓤 H A W f isf) $
                 nothing ! $ move ! (1 ∷ []) $ call-resume g (back-is g ise) j (isj .1) f isf .calls ! fm k-resume refl (λ r vs er lens‴ isr. lands-in ! (course-typed r isr) $ move ! (1 ∷ []) $ drop ! $ move ! (0 ∷ 2 ∷ []) $
@@ -514,7 +514,7 @@ turns-spec 𝓤 H 𝓜 𝓖 𝓡 =
     (walk 𝓤 H (𝓖 .A) W (𝓜 .mem) (𝓡 .run) (tablesOf 𝓤 H 𝓜 (tables 𝓤 H 𝓜 𝓡 code.env))
     (cited 𝓤 H (Read 𝓤 H (𝓖 .A) W (𝓜 .mem) (𝓡 .run)) 𝓜 𝓡 code.env #read read-def.routine code.calls-frames·read-frame
     (read-thm.met 𝓤 H 𝓜 𝓖 𝓡))
-    (cited 𝓤 H (Write 𝓤 H (𝓖 .A) W (𝓜 .mem) (𝓡 .run)) 𝓜 𝓡 code.env #write write-def.routine code.calls-frames·write-frame
+    (cited 𝓤 H (Write 𝓤 H (𝓖 .A) W (𝓜 .mem) (𝓡 .run)) 𝓜 𝓡 code.env #write write-def.routine code.calls-frames·push-frame
     (write-thm.met 𝓤 H 𝓜 𝓖 𝓡))
     (cited 𝓤 H (Begun 𝓤 H (𝓖 .A) W (𝓜 .mem) (𝓡 .run)) 𝓜 𝓡 code.env #begun begun-def.routine code.calls-turns·begun
     (begun-thm.met 𝓤 H 𝓜 𝓖 𝓡))
@@ -526,8 +526,8 @@ turns-spec 𝓤 H 𝓜 𝓖 𝓡 =
     (frame-of-thm.met 𝓤 H 𝓜 𝓖 𝓡))
     (cited 𝓤 H (Enter 𝓤 H (𝓖 .A) W (𝓜 .mem) (𝓡 .run)) 𝓜 𝓡 code.env #enter enter-def.routine code.calls-turns·entered
     (enter-thm.met 𝓤 H 𝓜 𝓖 𝓡))
-    (cited 𝓤 H (CallerAt 𝓤 H (𝓖 .A) W (𝓜 .mem) (𝓡 .run)) 𝓜 𝓡 code.env #caller-at caller-at-def.routine code.calls-turns·caller-at
-    (caller-at-thm.met 𝓤 H 𝓜 𝓖 𝓡))
+    (cited 𝓤 H (DropFrame 𝓤 H (𝓖 .A) W (𝓜 .mem) (𝓡 .run)) 𝓜 𝓡 code.env #drop-frame drop-frame-def.routine code.calls-turns·drop-frame
+    (drop-frame-thm.met 𝓤 H 𝓜 𝓖 𝓡))
     (cited 𝓤 H (Resume 𝓤 H (𝓖 .A) W (𝓜 .mem) (𝓡 .run)) 𝓜 𝓡 code.env #resume resume-def.routine code.calls-turns·resumed
     (resume-thm.met 𝓤 H 𝓜 𝓖 𝓡))
     (cited 𝓤 H (Stop 𝓤 H (𝓖 .A) W (𝓜 .mem) (𝓡 .run)) 𝓜 𝓡 code.env #stop stop-def.routine code.calls-turns·stopped

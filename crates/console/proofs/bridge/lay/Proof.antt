@@ -14,9 +14,9 @@ use Rattle.console.proofs.bridge.Resting as TR
 use Rattle.console.proofs.bridge.Resting.Laws as TR′
 use Rattle.frames.proofs.Frames.{R, fval}
 use Rattle.frames.proofs.FrameCalls.{Write, call-write}
-use Rattle.frames.proofs.write_frame.Symbol as write-def
-use Rattle.frames.proofs.write_frame.Symbol.{name as #write}
-use Rattle.frames.proofs.write_frame.Met as write-thm
+use Rattle.frames.proofs.push_frame.Symbol as write-def
+use Rattle.frames.proofs.push_frame.Symbol.{name as #write}
+use Rattle.frames.proofs.push_frame.Met as write-thm
 use Rattle.console.proofs.bridge.last_in as last
 use Rattle.console.proofs.bridge.last_in.Symbol as last-def
 use Rattle.console.proofs.bridge.last_in.Symbol.{name as #last}
@@ -139,5 +139,5 @@ lay-spec 𝓤 H 𝓜 𝓖 𝓡 =
     let W : Given 𝓤 H (𝓖 .A) = givenOf 𝓤 H 𝓜 𝓖 in
     closed kinds Nothing 𝓤 H 𝓜 𝓖 𝓡 code.env #me code.function (code.unfolded 𝓤 H 𝓜 𝓡) (me.clauses 𝓤 H (𝓖 .A) (𝓜 .mem) (𝓡 .run))
     (λ κs qs a g is. via 𝓤 _ (fst∗ 𝓤 _ (emp 𝓤)) (walk 𝓤 H (𝓖 .A) W (𝓜 .mem) (𝓡 .run) (tablesOf 𝓤 H 𝓜 (tables 𝓤 H 𝓜 𝓡 code.env))
-    (cited 𝓤 H (Write 𝓤 H (𝓖 .A) W (𝓜 .mem) (𝓡 .run)) 𝓜 𝓡 code.env #write write-def.routine code.calls-frames·write-frame (write-thm.met 𝓤 H 𝓜 𝓖 𝓡))
+    (cited 𝓤 H (Write 𝓤 H (𝓖 .A) W (𝓜 .mem) (𝓡 .run)) 𝓜 𝓡 code.env #write write-def.routine code.calls-frames·push-frame (write-thm.met 𝓤 H 𝓜 𝓖 𝓡))
     (cited 𝓤 H (LastIn 𝓤 H (𝓖 .A) W (𝓜 .mem) (𝓡 .run)) 𝓜 𝓡 code.env #last last-def.routine code.calls-console·bridge·last-in (last-thm.met 𝓤 H 𝓜 𝓖 𝓡)) κs qs a is))

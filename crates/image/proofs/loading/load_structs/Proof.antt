@@ -8,7 +8,7 @@ use Rattle.image.proofs.loading.load_structs.Statement.{statement}
 use Rattle.image.proofs.loading.load_structs.Tie as tie
 
 abbrev Inv-loop : tie.InvT-loop
-Inv-loop image at structs₀ text₀ t0 n first count next₀ t₀ i₀ structs text next t i = 
+Inv-loop image at structs₀ text₀ t0 n first count next₀ t₀ i₀ structs text next t i =
     FillingStructs image first count t0 structs₀ text₀ structs text next t i
 
 abbrev μ-loop : tie.MeasureT-loop

@@ -17,9 +17,9 @@ use Rattle.turns.proofs.frame_of as current
 use Rattle.turns.proofs.frame_of.Symbol as current-def
 use Rattle.turns.proofs.frame_of.Symbol.{name as #current}
 use Rattle.turns.proofs.frame_of.Met as current-thm
-use Rattle.frames.proofs.write_frame.Symbol as writef-def
-use Rattle.frames.proofs.write_frame.Symbol.{name as #writef}
-use Rattle.frames.proofs.write_frame.Met as writef-thm
+use Rattle.frames.proofs.push_frame.Symbol as writef-def
+use Rattle.frames.proofs.push_frame.Symbol.{name as #writef}
+use Rattle.frames.proofs.push_frame.Met as writef-thm
 use Rattle.ends.proofs.ended as over
 use Rattle.ends.proofs.ended.Symbol as over-def
 use Rattle.ends.proofs.ended.Symbol.{name as #over}
@@ -121,7 +121,7 @@ finish-spec 𝓤 H 𝓜 𝓖 𝓡 =
     (walk 𝓤 H (𝓖 .A) W (𝓜 .mem) (𝓡 .run) (tablesOf 𝓤 H 𝓜 (tables 𝓤 H 𝓜 𝓡 code.env))
     (cited 𝓤 H (Current 𝓤 H (𝓖 .A) W (𝓜 .mem) (𝓡 .run)) 𝓜 𝓡 code.env #current current-def.routine code.calls-turns·frame-of
     (current-thm.met 𝓤 H 𝓜 𝓖 𝓡))
-    (cited 𝓤 H (Write 𝓤 H (𝓖 .A) W (𝓜 .mem) (𝓡 .run)) 𝓜 𝓡 code.env #writef writef-def.routine code.calls-frames·write-frame
+    (cited 𝓤 H (Write 𝓤 H (𝓖 .A) W (𝓜 .mem) (𝓡 .run)) 𝓜 𝓡 code.env #writef writef-def.routine code.calls-frames·push-frame
     (writef-thm.met 𝓤 H 𝓜 𝓖 𝓡))
     (cited 𝓤 H (Over 𝓤 H (𝓖 .A) W (𝓜 .mem) (𝓡 .run)) 𝓜 𝓡 code.env #over over-def.routine code.calls-ends·ended
     (over-thm.met 𝓤 H 𝓜 𝓖 𝓡)) κs qs a is))

@@ -20,9 +20,9 @@ use Rattle.ends.proofs.root_at as end
 use Rattle.ends.proofs.root_at.Symbol as end-def
 use Rattle.ends.proofs.root_at.Symbol.{name as #end}
 use Rattle.ends.proofs.root_at.Met as end-thm
-use Rattle.frames.proofs.write_frame.Symbol as writef-def
-use Rattle.frames.proofs.write_frame.Symbol.{name as #writef}
-use Rattle.frames.proofs.write_frame.Met as writef-thm
+use Rattle.frames.proofs.push_frame.Symbol as writef-def
+use Rattle.frames.proofs.push_frame.Symbol.{name as #writef}
+use Rattle.frames.proofs.push_frame.Met as writef-thm
 use Rattle.machine.proofs.running.recover.Key.{name as #me}
 use Rattle.machine.proofs.running.recover as me
 use Rattle.machine.proofs.running.recover.Statement as stated
@@ -141,5 +141,5 @@ recover-spec 𝓤 H 𝓜 𝓖 𝓡 =
     (back-thm.met 𝓤 H 𝓜 𝓖 𝓡))
     (cited 𝓤 H (End 𝓤 H (𝓖 .A) W (𝓜 .mem) (𝓡 .run)) 𝓜 𝓡 code.env #end end-def.routine code.calls-ends·root-at
     (end-thm.met 𝓤 H 𝓜 𝓖 𝓡))
-    (cited 𝓤 H (Write 𝓤 H (𝓖 .A) W (𝓜 .mem) (𝓡 .run)) 𝓜 𝓡 code.env #writef writef-def.routine code.calls-frames·write-frame
+    (cited 𝓤 H (Write 𝓤 H (𝓖 .A) W (𝓜 .mem) (𝓡 .run)) 𝓜 𝓡 code.env #writef writef-def.routine code.calls-frames·push-frame
     (writef-thm.met 𝓤 H 𝓜 𝓖 𝓡)) κs qs a is))

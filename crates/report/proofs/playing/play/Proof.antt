@@ -162,7 +162,8 @@ module _ {M : Type 1} (𝓤 : URA M) (H : Heap 𝓤) (A : Atoms 𝓤) (W : Given
     cells-room = is .1 .1 .1 .1 .1 .1 .1 .1 .1 .1 .1 .0 .0 .1
 
     abbrev copy-at : Sl
-    copy-at = sl (κs .1 .1 .1 .1 .1 .1 .1 .1 .1 .1 .0) (qs .1 .1 .1 .1 .1 .1 .1 .1 .1 .1 .0) (a .1 .1 .1 .1 .1 .1 .1 .1 .1 .1 .1 .1 .0)
+    copy-at =
+        sl (κs .1 .1 .1 .1 .1 .1 .1 .1 .1 .1 .0) (qs .1 .1 .1 .1 .1 .1 .1 .1 .1 .1 .0) (a .1 .1 .1 .1 .1 .1 .1 .1 .1 .1 .1 .1 .0)
 
     abbrev copy : List ℕ
     copy = now (a .1 .1 .1 .1 .1 .1 .1 .1 .1 .1 .1 .1 .0)
@@ -171,7 +172,9 @@ module _ {M : Type 1} (𝓤 : URA M) (H : Heap 𝓤) (A : Atoms 𝓤) (W : Given
     copy-room = is .1 .1 .1 .1 .1 .1 .1 .1 .1 .1 .1 .1 .0 .0 .1
 
     abbrev backtrace-at : Sl
-    backtrace-at = sl (κs .1 .1 .1 .1 .1 .1 .1 .1 .1 .1 .1 .0) (qs .1 .1 .1 .1 .1 .1 .1 .1 .1 .1 .1 .0) (a .1 .1 .1 .1 .1 .1 .1 .1 .1 .1 .1 .1 .1 .0)
+    backtrace-at =
+        sl (κs .1 .1 .1 .1 .1 .1 .1 .1 .1 .1 .1 .0) (qs .1 .1 .1 .1 .1 .1 .1 .1 .1 .1 .1 .0)
+        (a .1 .1 .1 .1 .1 .1 .1 .1 .1 .1 .1 .1 .1 .0)
 
     abbrev backtrace : List ℕ
     backtrace = now (a .1 .1 .1 .1 .1 .1 .1 .1 .1 .1 .1 .1 .1 .0)
@@ -182,8 +185,9 @@ module _ {M : Type 1} (𝓤 : URA M) (H : Heap 𝓤) (A : Atoms 𝓤) (W : Given
     -- the slices before and behind the frames
     abbrev firsts : List ℕ → List ℕ → List Arg
     firsts stack′ cells′ =
-        shr u64 constants-at constants ∷ shr u64 structs-at structs ∷ shr u64 functions-at functions ∷ shr u8 text-at text ∷ shr u8 main-at main ∷ shr u32 main-places-at mainPlaces ∷ shr u8 other-at other ∷
-        shr u32 other-places-at otherPlaces ∷ mut u64 stack-at stack′ ∷ mut u64 cells-at cells′ ∷ []
+        shr u64 constants-at constants ∷ shr u64 structs-at structs ∷ shr u64 functions-at functions ∷ shr u8 text-at text ∷ shr
+        u8 main-at main ∷ shr u32 main-places-at mainPlaces ∷ shr u8 other-at other ∷ shr u32 other-places-at otherPlaces ∷ mut
+        u64 stack-at stack′ ∷ mut u64 cells-at cells′ ∷ []
 
     abbrev lasts : List ℕ → List ℕ → List Arg
     lasts copy′ backtrace′ = mut u64 copy-at copy′ ∷ mut u32 backtrace-at backtrace′ ∷ []
@@ -213,8 +217,8 @@ module _ {M : Type 1} (𝓤 : URA M) (H : Heap 𝓤) (A : Atoms 𝓤) (W : Given
         qed W (‵ (Holds (slices stack′ cells′ copy′ backtrace′)) ∷ []) ∵ suffices ! _
         (ends-at 𝓤 H A me.ended (stays kinds) (me.clauses 𝓤 H A mem run) W (passing entry) (resultVal r) r
         (tt, (tt, (tt, (tt, (tt, (tt, (tt, (tt, (tt, (tt, (stack′, (cells′, (copy′, (backtrace′, tt))))))))))))))
-        (tt, (tt, (tt, (tt, (tt, (tt, (tt, (tt, (tt, (tt, (len-stack, (len-cells, (len-copy, (len-backtrace, tt))))))))))))))) $ says !
-        said $ gives ! (xs stack′ cells′ copy′ backtrace′)
+        (tt, (tt, (tt, (tt, (tt, (tt, (tt, (tt, (tt, (tt, (len-stack, (len-cells, (len-copy, (len-backtrace, tt))))))))))))))) $
+        says ! said $ gives ! (xs stack′ cells′ copy′ backtrace′)
         (vm-makes 𝓤 H A W m _ (is .0), (uint-makes 𝓤 H A W w64 units _ (is .1 .0), tt))
         (frame ! $ owned ! ResultRow (Is ResultRow) (result-makes 𝓤 H A W) r _ isr $ keep ! (1 ∷ 0 ∷ []) $ done !)
 
@@ -243,15 +247,17 @@ module _ {M : Type 1} (𝓤 : URA M) (H : Heap 𝓤) (A : Atoms 𝓤) (W : Given
 
     abbrev us : List (Option Val)
     us =
-        none ∷ some (vmVal m) ∷ some (vint w64 units) ∷ some (sval constants-at) ∷ some (sval structs-at) ∷ some (sval functions-at) ∷ some (sval text-at) ∷ some (sval main-at) ∷ some
-        (sval main-places-at) ∷ some (sval other-at) ∷ some (sval other-places-at) ∷ some (sval stack-at) ∷ some (sval cells-at) ∷ some (sval copy-at) ∷ some (sval backtrace-at) ∷ some
-        (fval (root 0)) ∷ []
+        none ∷ some (vmVal m) ∷ some (vint w64 units) ∷ some (sval constants-at) ∷ some (sval structs-at) ∷ some
+        (sval functions-at) ∷ some (sval text-at) ∷ some (sval main-at) ∷ some (sval main-places-at) ∷ some (sval other-at) ∷ some
+        (sval other-places-at) ∷ some (sval stack-at) ∷ some (sval cells-at) ∷ some (sval copy-at) ∷ some (sval backtrace-at) ∷
+        some (fval (root 0)) ∷ []
 
     abbrev ws : ℕ → List (Option Val)
     ws l =
-        none ∷ some (vptr (stack-at .block) (stack-at .offset)) ∷ some (sval stack-at) ∷ some (vptr (cells-at .block) (cells-at .offset)) ∷ some (sval cells-at) ∷
-        some (vptr l 0) ∷ some (sliceVal (l, 0) 256) ∷ some (vptr (copy-at .block) (copy-at .offset)) ∷ some (sval copy-at) ∷ some
-        (vptr (backtrace-at .block) (backtrace-at .offset)) ∷ some (sval backtrace-at) ∷ []
+        none ∷ some (vptr (stack-at .block) (stack-at .offset)) ∷ some (sval stack-at) ∷ some
+        (vptr (cells-at .block) (cells-at .offset)) ∷ some (sval cells-at) ∷ some (vptr l 0) ∷ some (sliceVal (l, 0) 256) ∷ some
+        (vptr (copy-at .block) (copy-at .offset)) ∷ some (sval copy-at) ∷ some (vptr (backtrace-at .block) (backtrace-at .offset))
+        ∷ some (sval backtrace-at) ∷ []
 
     walk : ent 𝓤 (onEntry 𝓤 H A me.signature (lfts entry) (shares entry) (denots entry) (valss entry)) (WpFn 𝓤 H (𝓣 .C) (𝓣 .Λ) code.function (values entry) Post)
     walk =

@@ -1,4 +1,4 @@
--- `frames::write_frame` meets its contract: a walk of its MIR, by hand. The slice is opened, the element is taken out and stored to, and the slice is shut at the list with the frame in it.
+-- `frames::push_frame` meets its contract: a walk of its MIR, by hand. The slice is opened, the element is taken out and stored to, and the slice is shut at the list with the frame in it.
 -- Assumes nothing.
 use Rattle.frames.proofs.Walk.{refl, List, [], _∷_, none, some, ℕ, _*_, _<_, length, set, URA, fullShare, w64, Val, vunit, vint, vptr, SProp, ent, Memory, Routine, Heap, Tables, WpFn, Atoms, Lfts, Shares, Fun, givenOf, tables, tablesOf}
 use Rattle.frames.proofs.Walk.{Given, ‵, ⋆, _$_, _∵_, !, qed, by, move, keep, drop, rewrite, fsplit, fjoin, feqI, suffices, frame, done, look-in, store-raw, stop, hop, from, of-opd, bin, assigns, Is, shows, Nothing, uint-makes, usize, now, Room, owned, onEntry, says, needs, walkOf, ends-at}
@@ -9,10 +9,10 @@ use Rattle.model.specs.declared.Frame.{Frame}
 use Rattle.frames.specs.Links.{noFrame}
 use Rattle.frames.proofs.Frames.{R, fval, tells, place-frame, times-fits, frame-makes, frame-typed}
 use Rattle.frames.proofs.Lends.{opens, shuts}
-use Rattle.frames.proofs.write_frame.Key.{name as #me}
-use Rattle.frames.proofs.write_frame as me
-use Rattle.frames.proofs.write_frame.Statement as stated
-use Rattle.frames.proofs.write_frame.Code as code
+use Rattle.frames.proofs.push_frame.Key.{name as #me}
+use Rattle.frames.proofs.push_frame as me
+use Rattle.frames.proofs.push_frame.Statement as stated
+use Rattle.frames.proofs.push_frame.Code as code
 
 abbrev kinds : List (Kind 1)
 kinds = unique 0 tt R ∷ number ∷ own R fval tells (λ x f. refl) ∷ []
@@ -63,9 +63,9 @@ module _ {M : Type 1} (𝓤 : URA M) (H : Heap 𝓤) (A : Atoms 𝓤) (W : Given
       move ! (0 ∷ 2 ∷ []) $ shuts ! tt R (s .block) (s .offset) (s .count) ys zs refl (length-set ys i f) room $ move ! (0 ∷ 2 ∷ []) $ fjoin ! $ move ! (1 ∷ []) $
       sets ! (of-opd ! (of ! refl)) (tt, tt) $ leaves ! refl $ by ! exits)))
 
-pub write-frame-spec : {M : Type 1} → stated.statement M
+pub push-frame-spec : {M : Type 1} → stated.statement M
 unfolding code.routine tablesOf
-write-frame-spec 𝓤 H 𝓜 𝓖 𝓡 =
+push-frame-spec 𝓤 H 𝓜 𝓖 𝓡 =
     closed kinds Nothing 𝓤 H 𝓜 𝓖 𝓡 code.env #me code.function (code.unfolded 𝓤 H 𝓜 𝓡) (me.clauses 𝓤 H (𝓖 .A) (𝓜 .mem) (𝓡 .run))
     (λ κs qs a g is. needs 𝓤 (a .1 .0 < length (now (a .0))) _
     (walk 𝓤 H (𝓖 .A) (givenOf 𝓤 H 𝓜 𝓖) (𝓜 .mem) (𝓡 .run) (tablesOf 𝓤 H 𝓜 (tables 𝓤 H 𝓜 𝓡 code.env)) κs qs a is))
