@@ -1,4 +1,4 @@
-/* Chaffwheel for a host in C: a machine over stores that the host lends. C99.
+/* Chaffwheel for a host in C: a machine over stores that the host lends. C99; C++ may include it too.
  *
  * The functions are those of crates/embed; each is proved to meet its contract there. docs/EMBEDDING.md shows how a broker uses them, and what
  * this boundary assumes. The library allocates nothing, keeps nothing between calls, and holds no pointer after a call has returned: all
@@ -14,8 +14,8 @@
  *
  * All but chaffwheel_new and chaffwheel_load look at what crosses first: 19 where vm has fewer than 10 words, its last result is not exactly
  * the words of a value or of none, or a value that is handed in is not exactly the words of a value; 17 where answer is too short. Then come the
- * refusals that stand at each function, in order. The library judges what it is lent, in time linear in what is taken; a reader judges what it
- * reads and nothing else.
+ * refusals that stand at each function, in order. The library judges what it is lent, in time linear in what is taken, the bytes of struct
+ * names counted once for each name (docs/EMBEDDING.md, "What it costs"); a reader judges what it reads and nothing else.
  */
 #ifndef CHAFFWHEEL_H
 #define CHAFFWHEEL_H
@@ -23,6 +23,10 @@
 #include <stdbool.h>
 #include <stddef.h>
 #include <stdint.h>
+
+#ifdef __cplusplus
+extern "C" {
+#endif
 
 /* A lent slice: a pointer and a count of elements, as two arguments. The count must be true. `const`: it is only read. */
 #define CHAFFWHEEL_SLICE(type, name) type *name, size_t name##_len
@@ -64,9 +68,10 @@ enum {
 enum {
     CHAFFWHEEL_OUTCOME = 0,      /* one of the three below */
     CHAFFWHEEL_SPENT = 1,        /* units */
-    CHAFFWHEEL_KIND = 2,         /* of the value. After a fault: its number, 1 to 14 */
-    CHAFFWHEEL_PAYLOAD = 3,      /* of the value. After a fault: the entries of its backtrace */
-    CHAFFWHEEL_ANSWER = 4        /* words of an answer: enough for every function */
+    CHAFFWHEEL_RETURNS = 2,      /* root Returns that the run completed. 0: NOTHING HAS COUNTED */
+    CHAFFWHEEL_KIND = 3,         /* of the value. After a fault: its number, 1 to 14. 0 with "continue" */
+    CHAFFWHEEL_PAYLOAD = 4,      /* of the value. After a fault: the entries of its backtrace. 0 with "continue" */
+    CHAFFWHEEL_ANSWER = 5        /* words of an answer: enough for every function */
 };
 enum { CHAFFWHEEL_VALUE = 1, CHAFFWHEEL_CONTINUE = 2, CHAFFWHEEL_FAULT = 3 };
 
@@ -94,22 +99,27 @@ uint32_t chaffwheel_load(
  * to the front of copy, after a fault the backtrace to the front of trace (two words to an entry, function and place, the innermost frame
  * first), the machine as it then is to vm, and the answer. After a fault vm is a machine that can go on: the stack of the start, one frame at
  * the end of main, and the last result of the last root Return that was completed. THE LAST RESULT IS NOT PUT BACK: docs/EMBEDDING.md.
- * answer has 4 words. Refused 19: not in good order. 17: copy has fewer places than stack, or trace than frames. Nothing has run then. */
+ * Whether the run has counted is told by answer[CHAFFWHEEL_RETURNS] and by nothing else. A place of the backtrace cannot tell it: behind a jump it
+ * is the place of code that was passed over.
+ * answer has 5 words. Refused 19: the program or the machine is not in good order. 17: copy has fewer places than stack, or trace than frames.
+ * Nothing has run then. */
 uint32_t chaffwheel_run(
     uint64_t units, CHAFFWHEEL_SLICE(uint64_t, vm),
-    CHAFFWHEEL_SLICE(const uint64_t, constants), CHAFFWHEEL_SLICE(const uint64_t, functions), CHAFFWHEEL_SLICE(const uint8_t, text),
-    CHAFFWHEEL_SLICE(const uint8_t, main_code), CHAFFWHEEL_SLICE(const uint32_t, main_places),
+    CHAFFWHEEL_SLICE(const uint64_t, constants), CHAFFWHEEL_SLICE(const uint64_t, structs), CHAFFWHEEL_SLICE(const uint64_t, functions),
+    CHAFFWHEEL_SLICE(const uint8_t, text), CHAFFWHEEL_SLICE(const uint8_t, main_code), CHAFFWHEEL_SLICE(const uint32_t, main_places),
     CHAFFWHEEL_SLICE(const uint8_t, other_code), CHAFFWHEEL_SLICE(const uint32_t, other_places),
     CHAFFWHEEL_SLICE(uint64_t, stack), CHAFFWHEEL_SLICE(uint64_t, cells), CHAFFWHEEL_SLICE(chaffwheel_frame, frames),
     CHAFFWHEEL_SLICE(uint64_t, copy), CHAFFWHEEL_SLICE(uint32_t, trace), CHAFFWHEEL_SLICE(uint64_t, answer));
 
-/* The backtrace of the machine's frames, as a fault's; answer[0] is how many entries it has.
+/* The backtrace of the machine's frames, as a fault's; answer[0] is how many entries it has. The stack store is lent for its length alone: a
+ * frame's base may not lie past it.
  * Refused 19. 17: out has fewer places than there are frames. 16: the place of a frame lies outside its code. */
 uint32_t chaffwheel_backtrace(
     CHAFFWHEEL_SLICE(const uint64_t, vm), CHAFFWHEEL_SLICE(const uint64_t, functions), CHAFFWHEEL_SLICE(const uint8_t, text),
     CHAFFWHEEL_SLICE(const uint8_t, main_code), CHAFFWHEEL_SLICE(const uint32_t, main_places),
     CHAFFWHEEL_SLICE(const uint8_t, other_code), CHAFFWHEEL_SLICE(const uint32_t, other_places),
-    CHAFFWHEEL_SLICE(const chaffwheel_frame, frames), CHAFFWHEEL_SLICE(uint32_t, out), CHAFFWHEEL_SLICE(uint64_t, answer));
+    CHAFFWHEEL_SLICE(const uint64_t, stack), CHAFFWHEEL_SLICE(const chaffwheel_frame, frames),
+    CHAFFWHEEL_SLICE(uint32_t, out), CHAFFWHEEL_SLICE(uint64_t, answer));
 
 /* The image of the program, to the front of out; answer[0] is its length. Refused 19, 17. */
 uint32_t chaffwheel_save(
@@ -200,12 +210,13 @@ uint32_t chaffwheel_add_reference(
     CHAFFWHEEL_SLICE(uint64_t, vm), CHAFFWHEEL_SLICE(const uint8_t, name),
     CHAFFWHEEL_SLICE(uint64_t, constants), CHAFFWHEEL_SLICE(uint8_t, text), CHAFFWHEEL_SLICE(uint64_t, answer));
 
-/* answer[0] is the number of a struct name, which is added where it is not known. Refused 19, 22, 21. */
+/* answer[0] is the number of a struct name, which is added where it is not known. A place of the struct store has two words: the name, and a number
+ * of the order of names. Refused 19, 22, 21. */
 uint32_t chaffwheel_add_struct_info(
     CHAFFWHEEL_SLICE(uint64_t, vm), CHAFFWHEEL_SLICE(const uint8_t, name),
     CHAFFWHEEL_SLICE(uint64_t, structs), CHAFFWHEEL_SLICE(uint8_t, text), CHAFFWHEEL_SLICE(uint64_t, answer));
 
-/* Begins a function without code, which is then current. Refused 19, 22, 21. */
+/* Begins a function without code, which is then current. answer[0] is its number. Refused 19, 22, 21. */
 uint32_t chaffwheel_begin_function(
     CHAFFWHEEL_SLICE(uint64_t, vm), CHAFFWHEEL_SLICE(const uint8_t, name),
     CHAFFWHEEL_SLICE(uint64_t, functions), CHAFFWHEEL_SLICE(uint8_t, text), CHAFFWHEEL_SLICE(uint64_t, answer));
@@ -217,5 +228,9 @@ uint32_t chaffwheel_end_function(CHAFFWHEEL_SLICE(uint64_t, vm), CHAFFWHEEL_SLIC
 uint32_t chaffwheel_get_function_idx(
     CHAFFWHEEL_SLICE(const uint64_t, vm), CHAFFWHEEL_SLICE(const uint8_t, name),
     CHAFFWHEEL_SLICE(const uint64_t, functions), CHAFFWHEEL_SLICE(const uint8_t, text), CHAFFWHEEL_SLICE(uint64_t, answer));
+
+#ifdef __cplusplus
+}
+#endif
 
 #endif

@@ -16,7 +16,7 @@ struct chaffwheel_stores {
     uint64_t answer[CHAFFWHEEL_ANSWER];
     /* the program */
     CHAFFWHEEL_STORE(uint64_t, constants);
-    CHAFFWHEEL_STORE(uint64_t, structs);
+    CHAFFWHEEL_STORE(uint64_t, structs); /* two words to a struct, like constants and functions */
     CHAFFWHEEL_STORE(uint64_t, functions);
     CHAFFWHEEL_STORE(uint8_t, text);
     CHAFFWHEEL_STORE(uint8_t, main_code);
@@ -51,14 +51,14 @@ static inline uint32_t cw_load(struct chaffwheel_stores *m, CHAFFWHEEL_SLICE(con
 
 static inline uint32_t cw_run(struct chaffwheel_stores *m, uint64_t units)
 {
-    return chaffwheel_run(units, CW_VM, CW_LEND(constants), CW_LEND(functions), CW_LEND(text), CW_CODE, CW_LEND(stack), CW_LEND(cells),
-        CW_LEND(frames), CW_LEND(copy), CW_LEND(trace), CW_ANSWER);
+    return chaffwheel_run(units, CW_VM, CW_LEND(constants), CW_LEND(structs), CW_LEND(functions), CW_LEND(text), CW_CODE, CW_LEND(stack),
+        CW_LEND(cells), CW_LEND(frames), CW_LEND(copy), CW_LEND(trace), CW_ANSWER);
 }
 
 /* the backtrace goes to m->trace */
 static inline uint32_t cw_backtrace(struct chaffwheel_stores *m)
 {
-    return chaffwheel_backtrace(CW_VM, CW_LEND(functions), CW_LEND(text), CW_CODE, CW_LEND(frames), CW_LEND(trace), CW_ANSWER);
+    return chaffwheel_backtrace(CW_VM, CW_LEND(functions), CW_LEND(text), CW_CODE, CW_LEND(stack), CW_LEND(frames), CW_LEND(trace), CW_ANSWER);
 }
 
 static inline uint32_t cw_save(struct chaffwheel_stores *m, CHAFFWHEEL_SLICE(uint8_t, out))

@@ -1,7 +1,9 @@
 /* A broker that runs a rule over a reading, meets a fault behind the rule's Return, and counts the reading once: docs/EMBEDDING.md.
  * The rule is examples/story.rule: it adds 1 to the last result, returns that, then divides by a constant that is 0 by mistake.
+ * Then a rule that jumps over a Return, where the place of the fault would tell a lie and the number of root Returns does not.
  * At the end a rule that answers with a list, and what the broker reads of it. */
 #include <inttypes.h>
+#include <math.h>
 #include <stdio.h>
 #include <string.h>
 #include "machine.h"
@@ -9,14 +11,16 @@
 /* a refusal ends the function: nothing was done, and the caller is told why */
 #define TRY(call) do { uint32_t no = (call); if (no) return no; } while (0)
 
-enum { LOAD_CONSTANT = 0, DIVIDE = 11, BUILD_LIST = 36, RETURN = 37 }; /* opcodes: docs/RULES.md */
+enum { LOAD_CONSTANT = 0, DIVIDE = 11, JUMP_IF_FALSE = 26, BUILD_LIST = 36, RETURN = 37 }; /* opcodes: docs/RULES.md */
 
 /* What a broker writes down of a run. */
 struct journal {
-    double before, after; /* the last result that the rule was given, and the one that it left */
+    double before, after; /* the last result that the rule was given, and the one that it left; NAN: none */
     uint32_t refused;     /* 0: it ran */
     uint64_t outcome, spent, fault;
-    uint32_t place;       /* after a fault: of main's frame, which is the last entry */
+    uint64_t returns;     /* root Returns that the run completed */
+    uint64_t brought;     /* how many of them only return what the broker brought: they are the first */
+    uint32_t place;       /* after a fault: of main's frame, which is the last entry. It helps to find the mistake, and decides nothing */
 };
 
 static uint64_t bits_of(double x)
@@ -54,7 +58,7 @@ static struct journal run(struct chaffwheel_stores *m, double before, uint64_t u
     j.refused = cw_run(m, units);
     if (j.refused)
         return j; /* nothing ran, no store changed */
-    j.outcome = m->answer[CHAFFWHEEL_OUTCOME], j.spent = m->answer[CHAFFWHEEL_SPENT];
+    j.outcome = m->answer[CHAFFWHEEL_OUTCOME], j.spent = m->answer[CHAFFWHEEL_SPENT], j.returns = m->answer[CHAFFWHEEL_RETURNS];
     if (j.outcome == CHAFFWHEEL_FAULT) {
         uint64_t entries = m->answer[CHAFFWHEEL_PAYLOAD];
         j.fault = m->answer[CHAFFWHEEL_KIND], j.place = m->trace[2 * entries - 1];
@@ -63,13 +67,18 @@ static struct journal run(struct chaffwheel_stores *m, double before, uint64_t u
     return j;
 }
 
-/* The whole rule, on a machine that is newly loaded: it has no last result, so the broker brings the one to start from, as constant 0. */
+/* The whole rule, on a machine that is newly loaded: it has no last result, so the broker brings the one to start from, as constant 0. The rule
+ * begins by returning it (lines 9 and 10 of story.rule): that is the first root Return, and counts no reading. */
 static struct journal whole_rule(struct chaffwheel_stores *m, uint8_t *image, size_t len, double before, uint64_t units)
 {
     struct journal j = { .before = before, .after = before };
     bring(image, 0, before);
     j.refused = cw_load(m, image, len);
-    return j.refused ? j : run(m, before, units);
+    if (j.refused)
+        return j;
+    j = run(m, before, units);
+    j.brought = 1;
+    return j;
 }
 
 /* The rest of the rule, mended: it is emitted at the end of main, where the machine that faulted stands. */
@@ -86,6 +95,26 @@ static struct journal rest_of_rule(struct chaffwheel_stores *m, double before, u
 {
     struct journal j = { .before = before, .after = before, .refused = emit_rest(m) };
     return j.refused ? j : run(m, before, units);
+}
+
+/* A rule that jumps: its first constant decides which of two ways it returns 1, and it passes over the other. Instruction i has place i. */
+static uint32_t emit_jump_rule(struct chaffwheel_stores *m)
+{
+    TRY(cw_new(m));
+    TRY(cw_add_boolean(m, false));                /* constant 0 */
+    TRY(cw_add_scalar(m, bits_of(1)));            /* constant 1 */
+    TRY(cw_add_op1(m, LOAD_CONSTANT, 0, 1));
+    TRY(cw_add_op1(m, JUMP_IF_FALSE, 4, 2));      /* over the 4 bytes of places 3 and 4 */
+    TRY(cw_add_op1(m, LOAD_CONSTANT, 1, 3));
+    TRY(cw_add_op(m, RETURN, 4));                 /* never runs */
+    TRY(cw_add_op1(m, LOAD_CONSTANT, 1, 5));
+    return cw_add_op(m, RETURN, 6);
+}
+
+static struct journal jump_rule(struct chaffwheel_stores *m, uint64_t units)
+{
+    struct journal j = { .before = NAN, .after = NAN, .refused = emit_jump_rule(m) };
+    return j.refused ? j : run(m, NAN, units);
 }
 
 /* A rule that is emitted: it returns a list of the reading and its unit of measure, and leaves a text on the stack. */
@@ -144,17 +173,19 @@ static uint32_t show_list_rule(struct chaffwheel_stores *m)
     return 0;
 }
 
-/* Has the reading counted? A root Return that was completed is never undone. If the last result is another one than before, the run has counted;
- * if it is the same, the place of main's frame decides: the Returns that stand before it were completed. This rule's is on line `counts`.
- * A run of this rule that answers a value has come to its end: it has no jump, so it has passed that line.
- * (Of fault 13 the place is that of the last instruction that was completed.) */
-static int counted(const struct journal *j, uint32_t counts)
+/* Has the reading counted? A root Return that was completed is never undone, and the run tells how many it completed: that number alone decides.
+ * No place can: behind a jump it is that of code that was passed over. Nor can the last result: a rule may return once more what was there. */
+static int counted(const struct journal *j)
 {
-    if (j->refused || j->outcome == CHAFFWHEEL_CONTINUE)
-        return 0;
-    if (j->outcome == CHAFFWHEEL_VALUE || j->after != j->before)
-        return 1;
-    return j->fault == 13 ? counts <= j->place : counts < j->place;
+    return !j->refused && j->returns > j->brought;
+}
+
+static void show_last(const char *when, double x)
+{
+    if (x != x)
+        printf("%s none", when);
+    else
+        printf("%s %g", when, x);
 }
 
 static void show(const char *what, const struct journal *j)
@@ -163,10 +194,12 @@ static void show(const char *what, const struct journal *j)
     if (j->refused)
         printf("    refused %" PRIu32 ": nothing ran\n", j->refused);
     else if (j->outcome == CHAFFWHEEL_FAULT)
-        printf("    fault %" PRIu64 ", spent %" PRIu64 ", main at line %" PRIu32 "\n", j->fault, j->spent, j->place);
+        printf("    fault %" PRIu64 ", spent %" PRIu64 ", returns %" PRIu64 ", main at place %" PRIu32 "\n", j->fault, j->spent, j->returns, j->place);
     else
-        printf("    %s, spent %" PRIu64 "\n", j->outcome == CHAFFWHEEL_VALUE ? "value" : "continue", j->spent);
-    printf("    last result before %g, after %g: this run has%s counted\n", j->before, j->after, counted(j, 14) ? "" : " not");
+        printf("    %s, spent %" PRIu64 ", returns %" PRIu64 "\n", j->outcome == CHAFFWHEEL_VALUE ? "value" : "continue", j->spent, j->returns);
+    show_last("    last result before", j->before);
+    show_last(", after", j->after);
+    printf(": this run has%s counted\n", counted(j) ? "" : " not");
 }
 
 int main(int argc, char **argv)
@@ -197,10 +230,19 @@ int main(int argc, char **argv)
     show("mended, the whole rule from the last result AFTER the fault: wrong, it counts twice", &twice);
 
     struct journal again = whole_rule(&m, image, len, 41, 5);
-    show("the mended rule with 5 units: it stops before its Return", &again);
+    show("the mended rule with 5 units: its one Return is that of the number brought", &again);
+
+    struct journal passed = jump_rule(&m, 2);
+    show("a rule that jumps, with 2 units: main is at the place of a Return that never ran", &passed);
+
+    struct journal jumped = jump_rule(&m, 4);
+    show("the same on a new machine, with 4 units", &jumped);
 
     uint32_t refused = show_list_rule(&m);
 
     machine_free(&m);
-    return !refused && first.after == 42 && rest.after == 42 && once.after == 42 && twice.after == 43 && !counted(&again, 14) ? 0 : 1;
+    int story = counted(&first) && first.after == 42 && !counted(&rest) && rest.after == 42 && counted(&once) && once.after == 42
+        && counted(&twice) && twice.after == 43 && !counted(&again) && again.after == 41;
+    int jump = passed.place == 4 && passed.returns == 0 && !counted(&passed) && jumped.returns == 1 && counted(&jumped) && jumped.after == 1;
+    return !refused && story && jump ? 0 : 1;
 }

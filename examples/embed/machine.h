@@ -19,7 +19,7 @@ static inline void *zeros(size_t n, size_t size)
 static inline void machine_init(struct chaffwheel_stores *m, size_t scale)
 {
     *m = (struct chaffwheel_stores){ .vm = { 0 } };
-    MAKE(constants, 2 * 256 * scale), MAKE(structs, 256 * scale), MAKE(functions, 2 * 256 * scale), MAKE(text, 16384 * scale);
+    MAKE(constants, 2 * 256 * scale), MAKE(structs, 2 * 256 * scale), MAKE(functions, 2 * 256 * scale), MAKE(text, 16384 * scale);
     MAKE(main_code, 8192 * scale), MAKE(main_places, 8192 * scale), MAKE(other_code, 8192 * scale), MAKE(other_places, 8192 * scale);
     MAKE(stack, 2 * 1024 * scale), MAKE(cells, 2 * 2048 * scale), MAKE(frames, 256 * scale);
     MAKE(copy, m->stack_len), MAKE(trace, 2 * m->frames_len);
