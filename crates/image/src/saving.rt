@@ -1,11 +1,11 @@
 // Saving: the image of a program, written into a lent slice as far as it fits. With an empty slice it is only counted.
 use model::Counts;
-use program::words::first;
-use program::words::part;
-use program::words::second;
-use program::words::size_of;
-use program::words::start_of;
-use program::writes::put_bytes;
+use words::reads::first;
+use words::reads::part;
+use words::reads::second;
+use words::reads::size_of;
+use words::reads::start_of;
+use words::writes::put_bytes;
 ghost use mathlib.Core.Path.{_≡_};
 ghost use mathlib.Core.Bool.{true};
 ghost use mathlib.Core.List.{[], _∷_};

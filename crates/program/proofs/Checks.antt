@@ -6,7 +6,7 @@ use Prim.Native.Nat.{ℕ, suc, _+_, _-_, _≤_, _<_}
 use native.Mathlib.Omega.{arith}
 use lib.Dec.{eqb, leb, ltb}
 use lib.ListN.{length}
-use borrow.Author.Tests.{eq-eqb, ne-eqb, le-leb, lt-leb, lt-ltb, le-ltb}
+use borrow.Author.Tests.{eq-eqb, ne-eqb, le-leb, lt-leb}
 use Rattle.model.specs.declared.Counts.{Counts}
 use Rattle.model.specs.Values.{places, kindAt, payloadAt}
 use Rattle.model.specs.Equality.{sameBytes}
@@ -14,6 +14,7 @@ use Rattle.model.specs.Stores.{start, size, part, structWord, orderWord, nameWo
 use Rattle.model.specs.Programs.{before, mainName}
 use Rattle.model.specs.Basics.{ascii, everyFrom}
 use Rattle.program.proofs.Every.{Judged, Passed}
+use Rattle.words.proofs.Names.{name-here}
 use Rattle.model.specs.Orders.{countsOk, textOk, insideText, constantOk, constantsOk, nameInOrder, structsOk, codeStart, functionOk, functionsOk, mainOk, mainTaken, otherTaken, insideCodes, programOk}
 use Rattle.program.specs.Links.{WholeIs}
 
@@ -66,27 +67,7 @@ pub struct-here : (c : Counts) (ss : List ℕ) (i v k w : ℕ) (b : Bool) → v 
 unfolding structWord orderWord
 struct-here c ss i v k w b ev ek ew eb = rw (eb, ew, ek, ev)
 
--- a place of the order, read in two steps
-pub in-order-is : (ss : List ℕ) (i v k w : ℕ) → v ≡ payloadAt ss i → k ≡ v → w ≡ kindAt ss k → w ≡ structWord ss (orderWord ss i)
-unfolding structWord orderWord
-in-order-is ss i v k w ev ek ew = ew ∙ rw (ek, ev)
-
 -- each name before the next
-pub name-here : (ss t : List ℕ) (i w : ℕ) (p : List ℕ) → w ≡ structWord ss (orderWord ss i) → p ≡ part t w → p ≡ nameInOrder ss t i
-unfolding nameInOrder
-name-here ss t i w p ew ep = ep ∙ rw ew
-
--- the name in the middle, compared
-pub middle-is : (ss t : List ℕ) (i w : ℕ) (p name : List ℕ) (b : Bool) → w ≡ structWord ss (orderWord ss i) → p ≡ part t w → b ≡ before p name → b ≡ before (nameInOrder ss t i) name
-middle-is ss t i w p name b ew ep eb = eb ∙ rw (name-here ss t i w p ew ep)
-
-pub stands-is : (ss t : List ℕ) (at n w : ℕ) (p name : List ℕ) (b : Bool) → at < n → w ≡ structWord ss (orderWord ss at) → p ≡ part t w → b ≡ sameBytes name p
-    → b ≡ (ltb at n && sameBytes name (nameInOrder ss t at))
-stands-is ss t at n w p name b h ew ep eb = rw (lt-ltb at n h) (eb ∙ rw (name-here ss t at w p ew ep))
-
-pub stands-not : (ss t : List ℕ) (at n : ℕ) (name : List ℕ) → n ≤ at → false ≡ (ltb at n && sameBytes name (nameInOrder ss t at))
-stands-not ss t at n name h = rw (le-ltb at n h)
-
 module _ (n : ℕ) (ss t : List ℕ) where
   abbrev pub ascending : ℕ → Bool
   ascending i = before (nameInOrder ss t i) (nameInOrder ss t (suc i))

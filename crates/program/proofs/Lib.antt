@@ -1,8 +1,5 @@
--- tests, words and written stores
-pub mod Bools
-pub mod Parts
+-- place after place
 pub mod Every
-pub mod Writing
 -- good order: what each check answers, and what it hands on
 pub mod Checks
 pub mod Known

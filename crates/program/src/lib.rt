@@ -1,8 +1,5 @@
 // Emission: a program is written into lent stores, entry by entry.
-pub mod words; // words.rt: what stands where in the stores
-pub mod writes; // writes.rt: a store written from a place on
 pub mod names; // names.rt: searches by name
-pub mod ordered; // ordered.rt: the order of struct names, searched by halves
 pub mod order; // order.rt: good order
 pub mod code; // code.rt: add_op to add_op3, current_offset, patch_u16_value_at
 pub mod constants; // constants.rt: add_constant
