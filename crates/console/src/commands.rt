@@ -15,7 +15,7 @@ use model::Told;
 use model::Vm;
 use program::code::current_offset;
 use program::functions::get_function_idx;
-use program::words::same_bytes;
+use words::reads::same_bytes;
 ghost use mathlib.Core.Path.{_≡_};
 ghost use Rattle.console.specs.Asks.{lentWhole, askNew, askTrace, askRun, askLoad, askOf, isCode, isConstant, isName, isLook, isRead, isSaid, groupOf};
 ghost use Rattle.console.specs.Said.{noMachine, afterDamage};

@@ -16,7 +16,7 @@ use program::constants::add_constant;
 use program::functions::begin_function;
 use program::functions::end_function;
 use program::structs::add_struct_info;
-use program::words::same_bytes;
+use words::reads::same_bytes;
 ghost use mathlib.Core.Path.{_≡_};
 ghost use Prim.Native.Nat.{_%_};
 ghost use lib.Dec.{ltb};

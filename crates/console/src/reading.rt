@@ -7,12 +7,12 @@ use model::Headed;
 use model::Shown;
 use model::Told;
 use model::Vm;
-use program::words::same_bytes;
 use readers::block_header;
 use readers::element;
 use readers::last_result;
 use readers::stack_value;
 use readers::text_bytes;
+use words::reads::same_bytes;
 ghost use mathlib.Core.Path.{_≡_};
 ghost use Rattle.console.specs.Asks.{headerAfter, elementAfter, textAfter};
 

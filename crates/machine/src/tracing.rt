@@ -12,7 +12,7 @@ use program::order::functions_ok;
 use program::order::inside_codes;
 use program::order::main_ok;
 use program::order::text_ok;
-use program::words::room;
+use words::reads::room;
 ghost use mathlib.Core.Path.{_≡_};
 ghost use mathlib.Core.Bool.{_&&_};
 ghost use mathlib.Core.List.{List};

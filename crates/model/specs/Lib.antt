@@ -1,4 +1,4 @@
--- What a reader must believe, from the bottom up.
+-- What a reader must believe first, from the bottom up.
 pub mod Basics
 -- the leaves: opcodes, the image's numbers, values and their words, arithmetic, the heap, equality, meaning
 pub mod Opcodes

@@ -118,7 +118,7 @@ pub struct Counts {
     pub current: usize,
 }
 
-// What an emission entry answers: the counts as they then are with the number that vm.rs returns (0 where it returns none), or a refusal.
+// What an emission entry answers: the counts as they then are with the number of what was added or found (0 where there is none), or a refusal.
 pub enum Emitted {
     Done(Counts, usize),
     Refused(u8),

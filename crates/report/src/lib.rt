@@ -13,7 +13,7 @@ use model::Counts;
 use model::Loaded;
 use model::RunResult;
 use model::Told;
-use program::words::room;
+use words::reads::room;
 ghost use mathlib.Core.Path.{_≡_};
 ghost use mathlib.Core.Bool.{true};
 ghost use mathlib.Core.List.{List};
