@@ -15,7 +15,7 @@ use Rattle.model.specs.Equality.{sameBytes}
 use Rattle.model.specs.Stores.{Stores}
 use Rattle.model.specs.Loading.{saveOf}
 use Rattle.model.specs.Reports.{runnerText, listerText}
-use Rattle.words.proofs.Bools.{apart, and-left, and-right}
+use Rattle.layout.proofs.Bools.{apart, and-left, and-right}
 use Rattle.compare.specs.Compared.{loadText, readOf, backTo, savingOf, comparedAt, compareOf, verdictOf}
 
 same-is : (a b : List ℕ) → sameBytes a b ≡ true → a ≡ b

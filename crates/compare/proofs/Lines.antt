@@ -17,7 +17,7 @@ use Rattle.model.specs.Equality.{sameBytes}
 use Rattle.model.specs.Listings.{decimal}
 use Rattle.model.specs.Emission.{written}
 use Rattle.model.specs.Reports.{refusedLine}
-use Rattle.words.proofs.Bools.{either-way}
+use Rattle.layout.proofs.Bools.{either-way}
 use Rattle.texts.specs.Links.{Put}
 use Rattle.texts.proofs.Puts.{is, within, both}
 use Rattle.compare.specs.Compared.{field, breach, loaded, loadText}

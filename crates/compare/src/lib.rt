@@ -1,6 +1,8 @@
 // What loading, saving, running and listing an image answer, held against texts that say what they should.
 use image::load;
 use image::save;
+use layout::reads::lesser;
+use layout::reads::same_bytes;
 use model::Counts;
 use model::Loaded;
 use model::Told;
@@ -8,8 +10,6 @@ use report::list_image;
 use report::run_image;
 use texts::put_count;
 use texts::put_line;
-use words::reads::lesser;
-use words::reads::same_bytes;
 ghost use mathlib.Core.Path.{_≡_};
 ghost use lib.ListN.{take};
 ghost use Rattle.model.specs.Equality.{sameBytes};

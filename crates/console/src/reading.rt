@@ -3,6 +3,7 @@ use crate::say;
 use crate::script;
 use crate::script::word;
 use crate::stores;
+use layout::reads::same_bytes;
 use model::Headed;
 use model::Shown;
 use model::Told;
@@ -12,7 +13,6 @@ use readers::element;
 use readers::last_result;
 use readers::stack_value;
 use readers::text_bytes;
-use words::reads::same_bytes;
 ghost use mathlib.Core.Path.{_≡_};
 ghost use Rattle.console.specs.Asks.{headerAfter, elementAfter, textAfter};
 

@@ -1,5 +1,5 @@
 // A script's lines, their words, and the numbers and bytes that words say.
-use words::reads::lesser;
+use layout::reads::lesser;
 ghost use mathlib.Core.Path.{_≡_};
 ghost use Prim.Native.Nat.{_*_, _/_, _≤_, min};
 ghost use Rattle.console.specs.Lines.{weight};

@@ -26,7 +26,7 @@ use Rattle.model.specs.Readers.{stackValueOf, reads, headerAt, blockHeaderOf, e
 use Rattle.value.proofs.Coding.{and-right}
 use Rattle.cells.proofs.Order.{Whole, Placed, list-of, struct-of}
 use Rattle.rules.proofs.Frames.{some-frame}
-use Rattle.words.proofs.Parts.{places-same}
+use Rattle.layout.proofs.Parts.{places-same}
 use Rattle.demands.specs.Host.{Held, Ask, new, load, addOp, addOp1, addOp2, addOp3, patch, addConstant, addStruct, beginFunction, endFunction, currentOffset, functionIdx, save, disassemble, backtrace, lastResult, stackValue, blockHeader, element, textBytes, Answer, put, shown, headed, Done, counted, withFrames, emits, starts, looks, done}
 use Rattle.demands.specs.Agree.{Alike, LentAlike, Agree}
 use Rattle.demands.proofs.Fronts.{places-alike, value-alike, shown-alike, heap-to, heap-alike, frames-alike, innermost-alike, callers-alike}

@@ -21,10 +21,10 @@ use Rattle.model.specs.Orders.{codeStart, programOk, traces, judgedBy}
 use Rattle.model.specs.Emission.{structNames, withStructName, Res, done, refuse, oneConstant, oneStruct, oneFunction, written, textRoom, sizeHere, endHere, codeRoom, longer, appended, codeOrder, emitIn, emitOf, patchOrder, patched, patchOf, withConstant, withTextConstant, constantAdded, constantOrder, addConstantOf, structAdded, structFound, structOrder, addStructOf, functionOrder, begun, beginFunctionOf, endFunctionOf, currentOffsetOf, namesFrom, functionIdxOf}
 use Rattle.model.specs.Loading.{saveOf, listOrder, listOf}
 use Rattle.model.specs.Machines.{traceOrder, backtraceIn}
-use Rattle.words.proofs.Bools.{either-way}
+use Rattle.layout.proofs.Bools.{either-way}
 use Rattle.program.proofs.Known.{limited, function-known}
 use Rattle.program.proofs.Keeping.{Good, good-of}
-use Rattle.words.proofs.Writing.{length-written, length-words}
+use Rattle.layout.proofs.Writing.{length-written, length-words}
 use Rattle.program.proofs.Reading.{Reads, emit-reads, patch-reads, add-constant-reads}
 use Rattle.program.proofs.Naming.{struct-reads, begin-reads, end-reads}
 use Rattle.rules.proofs.Programs.{parts-of, code-size}

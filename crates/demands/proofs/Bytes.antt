@@ -25,7 +25,7 @@ use Rattle.model.specs.Emission.{Res, refuse, counts, written, u16, textRoom, s
 use Rattle.model.specs.Emission as e
 use Rattle.model.specs.Machines.{startWith, newMachineOf, loadMachineOf}
 use Rattle.model.specs.Loading.{LoadRes, mainOf, othersOf, laid, countsFor, roomFor, loadJudged, loadOf}
-use Rattle.words.proofs.Bools.{either-way}
+use Rattle.layout.proofs.Bools.{either-way}
 use Rattle.image.proofs.Codecs.{bytes-front, bytes-rest}
 use Rattle.image.proofs.Trip.{image-only}
 use Rattle.rules.specs.Ordered.{CodeBytes}

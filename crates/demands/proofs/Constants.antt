@@ -17,7 +17,7 @@ use Rattle.model.specs.Programs.{Constant}
 use Rattle.model.specs.Programs as p
 use Rattle.model.specs.Stores.{start, size, part, constantIn, constantsFrom}
 use Rattle.model.specs.Orders.{textOk, insideText, constantOk, constantsOk}
-use Rattle.words.proofs.Bools.{either-way}
+use Rattle.layout.proofs.Bools.{either-way}
 use Rattle.program.proofs.Known.{text-within, text-inside, constants-known}
 use Rattle.alike.specs.Alike.{AlikeValues, none, more}
 use Rattle.alike.proofs.Texts.{text-kept}

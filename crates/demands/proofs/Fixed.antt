@@ -21,7 +21,7 @@ use Rattle.model.specs.Machines.{Lent, innermost, callersIn, machineIn, worldOf
 use Rattle.value.proofs.Coding.{and-left, exact-kind, exact-payload, exact-cell-kind, exact-cell-payload}
 use Rattle.value.proofs.Stores.{length-vals, vals-slot, getD-cells}
 use Rattle.cells.proofs.Stands.{length-heap, exact-at}
-use Rattle.words.proofs.Bools.{either-way}
+use Rattle.layout.proofs.Bools.{either-way}
 use Rattle.image.proofs.Loads.{two-words}
 use Rattle.rules.specs.Ordered.{Exact}
 use Rattle.rules.proofs.Ordered.{order-of, order-sane, order-exact}

@@ -41,7 +41,7 @@ use Rattle.demands.specs.Jobs.{makes, writes, looks, handed, jobOf, isMa
 use Rattle.demands.proofs.Fronts.{places-alike}
 use Rattle.demands.proofs.Fixed.{Standing, standing, split}
 use Rattle.demands.proofs.Fixed as fx
-use Rattle.words.proofs.Parts.{places-same}
+use Rattle.layout.proofs.Parts.{places-same}
 use Rattle.demands.proofs.Asks.{trace-alike}
 use Rattle.demands.proofs.Emitted.{Grows, emit-grows, patch-grows, constant-grows, struct-grows, begin-grows}
 use Rattle.demands.proofs.Refusing.{ask-says}

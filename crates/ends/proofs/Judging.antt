@@ -19,7 +19,7 @@ use Rattle.model.specs.Orders.{programOk, cellsOk, stackOk, lastOk}
 use Rattle.model.specs.Machines.{frameRoom, tooShort}
 use Rattle.cells.proofs.Stands.{length-heap}
 use Rattle.program.specs.Links.{WholeIs}
-use Rattle.words.proofs.Bools.{and-left}
+use Rattle.layout.proofs.Bools.{and-left}
 use Rattle.program.proofs.Every.{Judged}
 use Rattle.ends.specs.Links.{programLent, restOrder, ShortPost}
 

@@ -10,7 +10,7 @@ use Rattle.model.specs.declared.Last.{Last}
 use Rattle.model.specs.Emission.{written}
 use Rattle.model.specs.Machines.{frameRoom}
 use Rattle.value.specs.Links.{lastIn, lastKind}
-use Rattle.words.proofs.Writing.{Writing, another, whole}
+use Rattle.layout.proofs.Writing.{Writing, another, whole}
 use Rattle.ends.specs.Links.{FixedPost}
 use Rattle.ends.proofs.Judging.{Room}
 

@@ -10,7 +10,7 @@ use lib.Seq.{take-at, drop-at, length-take-le}
 use borrow.Author.Tests.{le-leb, leb-true}
 use Rattle.model.specs.Numbers.{Step, got, bad, andThen, item, checked, Bytes, Codes}
 use Rattle.model.specs.Images.{joined, series, takes, Each}
-use Rattle.words.proofs.Bools.{either-way}
+use Rattle.layout.proofs.Bools.{either-way}
 use Rattle.number.proofs.Codes.{never, item-only}
 
 -- ---- steps taken apart

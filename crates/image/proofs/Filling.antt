@@ -29,7 +29,7 @@ use Rattle.image.specs.declared.NextRun.{NextRun}
 use Rattle.image.specs.declared.NextRun.the-variants as r
 use Rattle.ordering.specs.Sorted.{Edge, structPut}
 use Rattle.ordering.proofs.Laying.{Unlike, unlike-more, length-order, laid-length as structs-length, laid-more as structs-more}
-use Rattle.words.proofs.Bools.{either-way}
+use Rattle.layout.proofs.Bools.{either-way}
 use Rattle.program.proofs.Growing.{split, below}
 use Rattle.number.proofs.Codes.{never}
 use Rattle.image.proofs.Codecs.{got-value, then-only, made-only}

@@ -15,7 +15,7 @@ use Rattle.model.specs.Images.{joined}
 use Rattle.model.specs.Stores.{Stores, pack, part, structWord, orderWord, nameWord, codeWord, constantIn, constantsFrom, structsFrom, ordersFrom, functionIn, functionsFrom}
 use Rattle.model.specs.Emission.{written}
 use Rattle.model.specs.Loading.{constantText, constantWords, constantsLaid, structsLaid, othersLaid}
-use Rattle.words.proofs.Parts.{start-pack, size-pack}
+use Rattle.layout.proofs.Parts.{start-pack, size-pack}
 
 -- ---- a store that was written from its start
 

@@ -11,7 +11,7 @@ use Rattle.model.specs.Values.{kindAt, payloadAt, textAt}
 use Rattle.model.specs.Images.{joined, textImage, Run, run, joinRun, runsOf, runImage, functionImage}
 use Rattle.model.specs.Stores.{start, size, part, nameWord, codeWord}
 use Rattle.image.specs.Puts.{Put, Near, TextPuts, SameRun, RunsPut, functionHere, FunctionPuts}
-use Rattle.words.proofs.Bools.{either-way}
+use Rattle.layout.proofs.Bools.{either-way}
 use Rattle.image.proofs.Places.{joins}
 use Rattle.image.proofs.Held.{same-cons}
 use Rattle.image.proofs.Putting.{put-as, put-then, Split, front, back, both, Putting, putting-start, putting-near, putting-step, putting-end}

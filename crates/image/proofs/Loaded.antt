@@ -19,13 +19,13 @@ use Rattle.model.specs.declared.Counts.{Counts}
 use Rattle.ordering.specs.Sorted.{allDifferent}
 use Rattle.ordering.proofs.Laying.{length-order, laid-length as structs-length, different-unlike, standing-of}
 use Rattle.program.proofs.Known.{structs-good}
-use Rattle.words.proofs.Parts.{one-word, two-words, places-same, start-pack, size-pack}
-use Rattle.words.proofs.Bools.{either-way, both-true, and-both}
+use Rattle.layout.proofs.Parts.{one-word, two-words, places-same, start-pack, size-pack}
+use Rattle.layout.proofs.Bools.{either-way, both-true, and-both}
 use Rattle.program.proofs.Searching.{same-sym}
 use Rattle.image.proofs.Filling.{laid-length}
 use Rattle.image.proofs.Placing.{others-length}
 use Rattle.image.proofs.Loads.{Room, room-of}
-use Rattle.words.proofs.Writing.{length-written}
+use Rattle.layout.proofs.Writing.{length-written}
 use Rattle.image.proofs.Held.{written-front, Pieces, pieces-here, named, ConstantsAt, constants-here, constants-held, StructsAt, structs-here, structs-held, FunctionsAt, functions-here, Placed, places-sum, function-held, others-held, first-here, second-here}
 
 -- ---- in good order, part by part

@@ -21,10 +21,10 @@ use Rattle.image.specs.declared.Sizes.{Sizes}
 use Rattle.image.specs.declared.Judgement.{Judgement}
 use Rattle.image.specs.declared.Judgement.the-variants as j
 use Rattle.image.specs.declared.loading.Filled.{Filled}
-use Rattle.words.proofs.Bools.{both-true}
+use Rattle.layout.proofs.Bools.{both-true}
 use Rattle.number.proofs.Codes.{never}
 use Rattle.image.proofs.Codecs.{then-only, got-value, got-rest}
-pub use Rattle.words.proofs.Parts.{one-word, two-words}
+pub use Rattle.layout.proofs.Parts.{one-word, two-words}
 use Rattle.image.proofs.Formats.{judged-fine}
 use Rattle.image.proofs.Written.{kept-length, more-written}
 

@@ -7,7 +7,7 @@ use lib.Dec.{ltb}
 use lib.ListN.{length, drop, length-drop}
 use Rattle.model.specs.Numbers.{Step, got, bad, item, more, groups, number}
 use Rattle.image.specs.Links.{Good}
-use Rattle.words.proofs.Bools.{either-way}
+use Rattle.layout.proofs.Bools.{either-way}
 use Rattle.number.proofs.Codes.{never}
 use Rattle.image.proofs.Codecs.{got-rest}
 

@@ -19,12 +19,12 @@ use Rattle.model.specs.Loading.{OutRes, putOut, saveOf}
 use Rattle.model.specs.declared.Counts.{Counts}
 use Rattle.model.specs.declared.Told.{Told}
 use Rattle.model.specs.declared.Told.the-variants as t
-use Rattle.words.proofs.Parts.{one-word}
+use Rattle.layout.proofs.Parts.{one-word}
 use Rattle.program.proofs.Known.{Limited, limited, text-inside, constants-known, structs-known, Known as KnownFunction, function-known, ascending}
 use Rattle.program.proofs.Keeping.{Good, good-of}
 use Rattle.image.specs.Fills.{lent}
 use Rattle.image.specs.Puts.{Put, Near, Known, ConstantsPut, StructsPut, functionHere, Lies, FunctionPuts, functionsHere, FunctionsPut}
-use Rattle.words.proofs.Bools.{either-way, both-true}
+use Rattle.layout.proofs.Bools.{either-way, both-true}
 use Rattle.image.proofs.Formats.{bytes-length}
 use Rattle.image.proofs.Putting.{put-as, Split, front, back, both, Putting, putting-start, count-split, one-split, each-near, each-step, each-end, constants-open, constants-shut, structs-open, structs-shut}
 

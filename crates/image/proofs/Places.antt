@@ -10,7 +10,7 @@ use borrow.Author.Tests.{lt-ltb, ltb-true, le-leb, leb-true, eq-eqb, ne-eqb, eqb
 use Rattle.model.specs.Numbers.{got, andThen, digits, Bytes, Codes}
 use Rattle.model.specs.Images.{joined, Run, run, joinRun, runsOf, runImage, noPlace, readRunBytes, readRunPlace, readRuns, Small, AllSmall}
 use Rattle.number.proofs.Codes.{number-codes, never}
-use Rattle.words.proofs.Bools.{either-way, both-true}
+use Rattle.layout.proofs.Bools.{either-way, both-true}
 use Rattle.image.proofs.Codecs.{got-value, got-rest, then-only, made-only, bytes-rest, codes-item, codes-checked}
 
 -- ---- runs, and the places that they give

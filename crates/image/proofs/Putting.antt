@@ -15,8 +15,8 @@ use Rattle.model.specs.Stores.{part, structWord, constantIn, constantsFrom, str
 use Rattle.model.specs.Emission.{written}
 use Rattle.number.specs.Links.{WritePost}
 use Rattle.image.specs.Puts.{Put, Near, TextPuts, Known, ConstantPuts, ConstantsPut, StructsPut, SameRun}
-use Rattle.words.proofs.Bools.{either-way}
-use Rattle.words.proofs.Writing.{length-written}
+use Rattle.layout.proofs.Bools.{either-way}
+use Rattle.layout.proofs.Writing.{length-written}
 use Rattle.image.proofs.Written.{written-none, written-one, more-written}
 
 -- ---- one piece

@@ -19,8 +19,8 @@ use Rattle.ordering.specs.Sorted.{Edge, structPut}
 use Rattle.ordering.proofs.Halves.{edge-spot, found-not, stands-yes, stands-no}
 use Rattle.ordering.proofs.Putting.{put-keeps-length, new-word, old-word}
 use Rattle.ordering.proofs.Standing.{names-differ, none-of-them, stays-in-order}
-use Rattle.words.proofs.Bools.{apart, either-way}
-use Rattle.words.proofs.Parts.{start-pack, size-pack}
+use Rattle.layout.proofs.Bools.{apart, either-way}
+use Rattle.layout.proofs.Parts.{start-pack, size-pack}
 use Rattle.number.proofs.Codes.{never}
 use Rattle.image.specs.Links.{Bad, partOf, TextAt, TextPost}
 use Rattle.image.specs.Repeats.{textFrom, afterText, placeOf, nameOf, Stands, Rows, RowsPost, Again, RepeatPost, Holds, TakenPost, LookPost, ChunkPost}

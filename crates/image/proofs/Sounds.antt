@@ -19,7 +19,7 @@ use Rattle.ordering.specs.Sorted.{allDifferent}
 use Rattle.ordering.proofs.Standing.{all-different}
 use Rattle.image.specs.Fills.{lent}
 use Rattle.image.specs.Puts.{Known}
-use Rattle.words.proofs.Bools.{either-way, both-true}
+use Rattle.layout.proofs.Bools.{either-way, both-true}
 use Rattle.program.proofs.Searching.{same-sym}
 use Rattle.program.proofs.Known.{structs-known, Known as KnownFunction}
 use Rattle.image.proofs.Loaded.{Clear}

@@ -13,7 +13,7 @@ use Rattle.model.specs.Orders.{programOk}
 use Rattle.model.specs.Loading.{laid, countsFor, roomFor, LoadRes, loadJudged, loadOf, putOut, saveOf}
 use Rattle.model.specs.declared.Counts.{Counts}
 use Rattle.model.specs.declared.Loaded.the-variants as l
-use Rattle.words.proofs.Bools.{either-way}
+use Rattle.layout.proofs.Bools.{either-way}
 use Rattle.image.proofs.Formats.{judge-back, judge-only}
 use Rattle.image.proofs.Loaded.{laid-again}
 use Rattle.image.proofs.Sounds.{Below, order-sound}

@@ -8,7 +8,7 @@ use lib.Seq.{sets}
 use Rattle.model.specs.Values.{putWords}
 use Rattle.model.specs.Images.{joined}
 use Rattle.model.specs.Emission.{written}
-use Rattle.words.proofs.Writing.{length-written}
+use Rattle.layout.proofs.Writing.{length-written}
 use Rattle.image.proofs.Reading.{joined-more}
 
 sets-append : (l : List ℕ) (i : ℕ) (x y : List ℕ) → sets (sets l i x) (i + length x) y ≡ sets l i (x ++ y)

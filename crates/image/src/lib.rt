@@ -3,13 +3,13 @@ mod repeats; // repeats.rt: the first struct name that is there again
 mod loading; // loading.rt: the writing pass of loading
 mod saving; // saving.rt: the image of a program, piece by piece
 
+use layout::reads::room;
+use layout::reads::same_bytes;
 use model::Counts;
 use model::Loaded;
 use model::Told;
 use number::Num;
 use program::order::program_ok;
-use words::reads::room;
-use words::reads::same_bytes;
 ghost use mathlib.Core.Path.{_≡_};
 ghost use Prim.Native.Nat.{_+_, _≤_, _<_};
 ghost use lib.ListN.{length};

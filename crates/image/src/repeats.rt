@@ -2,11 +2,11 @@
 // is found by halves, and what is put in moves few others, however many texts there are.
 use crate::Text;
 use crate::read_text;
-use words::ordered::put_struct;
-use words::ordered::spot;
-use words::ordered::stands;
-use words::reads::lesser;
-use words::reads::pack;
+use layout::ordered::put_struct;
+use layout::ordered::spot;
+use layout::ordered::stands;
+use layout::reads::lesser;
+use layout::reads::pack;
 ghost use mathlib.Core.Path.{_≡_};
 ghost use Prim.Native.Nat.{_≤_};
 ghost use lib.ListN.{length};

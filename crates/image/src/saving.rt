@@ -1,11 +1,11 @@
 // Saving: the image of a program, written into a lent slice as far as it fits. With an empty slice it is only counted.
+use layout::reads::first;
+use layout::reads::part;
+use layout::reads::second;
+use layout::reads::size_of;
+use layout::reads::start_of;
+use layout::writes::put_bytes;
 use model::Counts;
-use words::reads::first;
-use words::reads::part;
-use words::reads::second;
-use words::reads::size_of;
-use words::reads::start_of;
-use words::writes::put_bytes;
 ghost use mathlib.Core.Path.{_≡_};
 ghost use mathlib.Core.Bool.{true};
 ghost use mathlib.Core.List.{[], _∷_};

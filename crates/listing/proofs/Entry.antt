@@ -18,7 +18,7 @@ use Rattle.model.specs.Stores.{Stores, programIn}
 use Rattle.model.specs.Orders.{countsOk, textOk, functionsOk, mainOk, insideCodes}
 use Rattle.model.specs.Emission.{written}
 use Rattle.model.specs.Loading.{OutRes, putOut, putListing, listOrder, listOf}
-use Rattle.words.proofs.Bools.{and-left}
+use Rattle.layout.proofs.Bools.{and-left}
 use Rattle.program.proofs.Known.{limited}
 use Rattle.listing.specs.Links.{Listing, toldOf, lent}
 use Rattle.listing.proofs.Judging.{wrote, not-wrote}

@@ -2,6 +2,10 @@
 mod lines; // lines.rt: the lines of one function's code
 
 use crate::lines::write_lines;
+use layout::reads::first;
+use layout::reads::part;
+use layout::reads::room;
+use layout::reads::second;
 use model::Counts;
 use model::Told;
 use program::order::counts_ok;
@@ -11,10 +15,6 @@ use program::order::main_ok;
 use program::order::text_ok;
 use texts::put_text;
 use texts::write_decimal;
-use words::reads::first;
-use words::reads::part;
-use words::reads::room;
-use words::reads::second;
 ghost use mathlib.Core.Path.{_≡_};
 ghost use mathlib.Core.List.{List};
 ghost use Prim.Native.Nat.{ℕ, _+_, _*_, _≤_, _<_, _^_};

@@ -26,8 +26,8 @@ use Rattle.ordering.specs.Sorted.{Edge, InOrder, Placed, structPut}
 use Rattle.ordering.proofs.Halves.{edge-spot, stands-yes, stands-no}
 use Rattle.ordering.proofs.Standing.{halves-find, halves-miss, put-named}
 use Rattle.program.specs.Links.{Is, constantsLent, structsLent, namesLent}
-use Rattle.words.proofs.Bools.{and-left, and-right}
-use Rattle.words.proofs.Parts.{room-1, room-2}
+use Rattle.layout.proofs.Bools.{and-left, and-right}
+use Rattle.layout.proofs.Parts.{room-1, room-2}
 use Rattle.program.proofs.Known.{structs-known, function-known}
 
 -- ---- constants

@@ -14,7 +14,7 @@ use Rattle.model.specs.Stores.{start, size, part, structWord, orderWord, nameWo
 use Rattle.model.specs.Programs.{before, mainName}
 use Rattle.model.specs.Basics.{ascii, everyFrom}
 use Rattle.program.proofs.Every.{Judged, Passed}
-use Rattle.words.proofs.Names.{name-here}
+use Rattle.layout.proofs.Names.{name-here}
 use Rattle.model.specs.Orders.{countsOk, textOk, insideText, constantOk, constantsOk, nameInOrder, structsOk, codeStart, functionOk, functionsOk, mainOk, mainTaken, otherTaken, insideCodes, programOk}
 use Rattle.program.specs.Links.{WholeIs}
 

@@ -14,8 +14,8 @@ use Rattle.model.specs.Stores.{Stores, start, size, pack, codeWord, codeEnd, co
 use Rattle.model.specs.Orders.{countsOk, functionsOk, insideCodes}
 use Rattle.model.specs.Emission.{written, sizeHere, endHere, codeRoom, longer, appended, codeOrder, emitIn, emitOf, u16, patchOrder, patched, patchOf}
 use Rattle.program.specs.Links.{Is, codeLent, bytesLent}
-use Rattle.words.proofs.Bools.{and-left, and-right}
-use Rattle.words.proofs.Parts.{room-1}
+use Rattle.layout.proofs.Bools.{and-left, and-right}
+use Rattle.layout.proofs.Parts.{room-1}
 use Rattle.program.proofs.Known.{Limited, limited, Known, function-known, code-in-main, code-in-other}
 
 pub order-is : (c : Counts) (fs m mp o op : List ℕ) (b1 b2 b3 b4 : Bool) → b1 ≡ countsOk c → b2 ≡ functionsOk c fs → b3 ≡ insideCodes c fs m o → b4 ≡ insideCodes c fs mp op

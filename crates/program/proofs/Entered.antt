@@ -7,8 +7,8 @@ use lib.Dec.{leb}
 use lib.ListN.{length}
 use native.Mathlib.Omega.{arith}
 use borrow.Author.Tests.{leb-true}
-use Rattle.words.proofs.Bools.{and-left, and-right}
-use Rattle.words.proofs.Parts.{room-1, room-2}
+use Rattle.layout.proofs.Bools.{and-left, and-right}
+use Rattle.layout.proofs.Parts.{room-1, room-2}
 use Rattle.model.specs.declared.Counts.{Counts}
 use Rattle.model.specs.declared.Emitted.{Emitted}
 use Rattle.model.specs.declared.Emitted.the-variants.{Done, Refused}

@@ -7,7 +7,7 @@ use native.Mathlib.Numerals.{add-one}
 use lib.Dec.{leb}
 use borrow.Author.Tests.{le-leb, lt-leb}
 use Rattle.model.specs.Basics.{everyFrom}
-use Rattle.words.proofs.Bools.{and-left, and-right, and-both, and-not}
+use Rattle.layout.proofs.Bools.{and-left, and-right, and-both, and-not}
 
 -- the first i of n places have passed: the rest decides the whole
 pub record Passed (whole : Bool) (n : ℕ) (t : ℕ → Bool) (i : ℕ) : Type 0 where

@@ -20,11 +20,11 @@ use Rattle.model.specs.Programs.{constantLimit}
 use Rattle.model.specs.Stores.{Stores, start, size, pack, part, structWord, orderWord, nameWord, codeWord, codeEnd, structsFrom, codeHere, placesHere, withCode, withConstants, withFunctions, withText}
 use Rattle.model.specs.Orders.{countsOk, textOk, insideText, constantOk, constantsOk, nameInOrder, structsOk, codeStart, functionOk, functionsOk, mainOk, mainTaken, otherTaken, insideCodes, programOk}
 use Rattle.model.specs.Emission.{counts, oneConstant, written, textRoom, withConstant, withTextConstant, constantAdded, constantOrder, addConstantOf, u16, sizeHere, patchOrder, patched, patchOf, endFunctionOf, oneFunction}
-use Rattle.words.proofs.Bools.{either-way, and-left, and-right, and-both}
-use Rattle.words.proofs.Parts.{room-1, room-2, places-same, start-pack, size-pack}
+use Rattle.layout.proofs.Bools.{either-way, and-left, and-right, and-both}
+use Rattle.layout.proofs.Parts.{room-1, room-2, places-same, start-pack, size-pack}
 use Rattle.program.proofs.Every.{pass-all}
 use Rattle.program.proofs.Known.{Limited, limited, Structs, structs-known, structs-good, text-inside, constants-known, function-known, codes-behind}
-use Rattle.words.proofs.Writing.{length-written, length-words}
+use Rattle.layout.proofs.Writing.{length-written, length-words}
 use Rattle.program.proofs.Adding.{start-below}
 use Rattle.program.proofs.Keeping.{Good, good-of, of-good, inside-back, function-good, Kept, kept-if, kept-refused}
 

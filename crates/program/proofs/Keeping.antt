@@ -17,11 +17,11 @@ use Rattle.model.specs.Programs.{codeLimit}
 use Rattle.model.specs.Stores.{Stores, start, size, pack, nameWord, codeWord, codeEnd, codeHere, placesHere, withCode, withFunctions, withMain, withOther}
 use Rattle.model.specs.Orders.{countsOk, textOk, insideText, constantsOk, structsOk, codeStart, functionOk, functionsOk, mainOk, mainTaken, otherTaken, insideCodes, programOk}
 use Rattle.model.specs.Emission.{Res, refuse, sizeHere, endHere, codeRoom, longer, appended, codeOrder, emitIn, emitOf}
-use Rattle.words.proofs.Bools.{either-way, and-left, and-right, and-both}
-use Rattle.words.proofs.Parts.{room-1, places-same, start-pack, size-pack}
+use Rattle.layout.proofs.Bools.{either-way, and-left, and-right, and-both}
+use Rattle.layout.proofs.Parts.{room-1, places-same, start-pack, size-pack}
 use Rattle.program.proofs.Every.{pass-all}
 use Rattle.program.proofs.Known.{Limited, limited, Known, function-known, codes-behind}
-use Rattle.words.proofs.Writing.{length-written}
+use Rattle.layout.proofs.Writing.{length-written}
 
 -- ---- good order, clause by clause
 

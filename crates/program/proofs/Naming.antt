@@ -22,10 +22,10 @@ use Rattle.ordering.specs.Sorted.{Spot, structPut}
 use Rattle.ordering.proofs.Halves.{edge-spot}
 use Rattle.ordering.proofs.Putting.{length-struct-put, new-word, old-word}
 use Rattle.ordering.proofs.Standing.{Somewhere, somewhere, none-among, put-named, stays-in-order}
-use Rattle.words.proofs.Bools.{either-way, and-left, and-right}
-use Rattle.words.proofs.Parts.{room-1, room-2, places-same, start-pack, size-pack}
+use Rattle.layout.proofs.Bools.{either-way, and-left, and-right}
+use Rattle.layout.proofs.Parts.{room-1, room-2, places-same, start-pack, size-pack}
 use Rattle.program.proofs.Known.{Limited, limited, Structs, structs-known, structs-good, text-inside, constants-known, function-known}
-use Rattle.words.proofs.Writing.{length-written}
+use Rattle.layout.proofs.Writing.{length-written}
 use Rattle.program.proofs.Searching.{among-none, among-some}
 use Rattle.program.proofs.Adding.{start-below}
 use Rattle.program.proofs.Keeping.{Good, good-of, of-good, inside-back, function-good, Kept}

@@ -20,8 +20,8 @@ use Rattle.model.specs.Orders.{insideText, constantOk, codeStart, programOk}
 use Rattle.model.specs.declared.Emitted.the-variants.{Done}
 use Rattle.model.specs.Emission.{Res, refuse, oneConstant, textRoom, withConstant, withTextConstant, constantAdded, constantOrder, addConstantOf, codeOrder, emitIn, emitOf, written, sizeHere, endHere, codeRoom, longer, appended, u16, patchOrder, patched, patchOf}
 use Rattle.model.specs.Basics.{if_then_else_}
-use Rattle.words.proofs.Bools.{apart, either-way}
-use Rattle.words.proofs.Parts.{room-1, room-2, start-pack, size-pack}
+use Rattle.layout.proofs.Bools.{apart, either-way}
+use Rattle.layout.proofs.Parts.{room-1, room-2, start-pack, size-pack}
 use Rattle.program.proofs.Known.{Limited, limited, function-known, ascending, constants-known, structs-known, text-inside, code-in-other}
 use Rattle.program.proofs.Keeping.{Good, good-of, Longer, in-code, in-places, now-longer}
 use Rattle.program.proofs.Growing.{split, part-kept, part-new, words-here, words-other, names-same}

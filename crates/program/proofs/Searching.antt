@@ -16,7 +16,7 @@ use Rattle.model.specs.Stores.{Stores, part, nameWord}
 use Rattle.model.specs.Emission.{namesFrom, toldName}
 use Rattle.model.specs.Basics.{if_then_else_}
 use Rattle.program.specs.Links.{namesLent}
-use Rattle.words.proofs.Bools.{either-way}
+use Rattle.layout.proofs.Bools.{either-way}
 
 -- ---- the newest first
 

@@ -1,8 +1,8 @@
 // Searches by name: newest first for functions.
+use layout::reads::first;
+use layout::reads::part;
+use layout::reads::same_bytes;
 use model::Told;
-use words::reads::first;
-use words::reads::part;
-use words::reads::same_bytes;
 ghost use mathlib.Core.Path.{_≡_};
 ghost use Rattle.model.specs.Programs.{newestFrom};
 ghost use Rattle.model.specs.Stores.{Stores};

@@ -27,8 +27,8 @@ use Rattle.model.specs.Orders.{textOk}
 use Rattle.model.specs.Loading.{OutRes, putOut}
 use Rattle.model.specs.Readers.{valueShown, stackValueOf, reads, headerAt, headerShown, blockHeaderOf, elementShown, elementOf, readsText, textShown, textBytesOf}
 use Rattle.readers.specs.Links.{toldHeader, blockAt, textPut}
-use Rattle.words.proofs.Bools.{either-way, and-left, and-right}
-use Rattle.words.proofs.Parts.{room-1, room-2}
+use Rattle.layout.proofs.Bools.{either-way, and-left, and-right}
+use Rattle.layout.proofs.Parts.{room-1, room-2}
 use Rattle.program.proofs.Known.{text-within}
 use Rattle.cells.proofs.Order.{Whole, Placed, list-of, struct-of}
 use Rattle.cells.proofs.Stands.{header-is, header-room}

@@ -1,5 +1,7 @@
 // What a host reads of a machine. Each entry judges what it reads, and costs the same whatever the stores hold.
 use cells::placed;
+use layout::reads::room;
+use layout::writes::put_bytes;
 use model::Headed;
 use model::Last;
 use model::Shown;
@@ -8,8 +10,6 @@ use model::Value;
 use model::Vm;
 use program::order::text_ok;
 use value::words;
-use words::reads::room;
-use words::writes::put_bytes;
 ghost use mathlib.Core.Path.{_≡_};
 ghost use Prim.Native.Nat.{_+_, _*_, _≤_};
 ghost use lib.ListN.{length};

@@ -26,7 +26,7 @@ use Rattle.model.specs.Stores.{Stores, programIn}
 use Rattle.model.specs.Orders.{countsOk, textOk, constantsOk, structsOk, functionsOk, mainOk, insideCodes, programOk}
 use Rattle.model.specs.Loading.{loadOf, OutRes, putOut, putListing, listOrder, listOf}
 use Rattle.model.specs.Reports.{emptyStores, refusedLine, listedText, loadedText, listerText}
-use Rattle.words.proofs.Bools.{either-way, and-left, and-right, and-both}
+use Rattle.layout.proofs.Bools.{either-way, and-left, and-right, and-both}
 use Rattle.image.specs.Fills as whole
 use Rattle.image.proofs.Trip.{loaded-as}
 use Rattle.listing.specs.Links.{lent}

@@ -8,7 +8,7 @@ use lib.ListN.{length}
 use borrow.Author.Tests.{le-leb, lt-leb, leb-true}
 use Rattle.model.specs.Values.{places}
 use Rattle.model.specs.Emission.{written}
-use Rattle.words.proofs.Bools.{either-way}
+use Rattle.layout.proofs.Bools.{either-way}
 use Rattle.image.proofs.Loads.{one-word}
 use Rattle.listing.proofs.Entry.{empty}
 use Rattle.texts.specs.Links.{Put}

@@ -24,7 +24,7 @@ use Rattle.model.specs.Orders.{cellsOk}
 use Rattle.model.specs.Emission.{written}
 use Rattle.model.specs.Machines.{Lent, frameRoom, machineIn, worldOf, runOrder, tooShort, RunAnswer, ran, refused, runAnswer, entryWords, traceOfReply, traceAfter, entriesIn, answerIn, RunPost}
 use Rattle.value.proofs.Coding.{and-left}
-use Rattle.words.proofs.Bools.{either-way}
+use Rattle.layout.proofs.Bools.{either-way}
 use Rattle.rules.specs.Sane.{SaneWorld, Sane}
 use Rattle.rules.specs.Ordered.{CodeBytes}
 use Rattle.rules.proofs.Runs.{path-sane}

@@ -15,7 +15,7 @@ use Rattle.model.specs.Heap.{Cell, heapOf}
 use Rattle.model.specs.Steps.{World, State, Outcome, went, returned, faulted, withLast, codeOf, stepOf}
 use Rattle.model.specs.Runs.{Progress, stopped, over, next}
 use Rattle.cells.proofs.Stands.{length-heap}
-use Rattle.words.proofs.Parts.{places-same}
+use Rattle.layout.proofs.Parts.{places-same}
 use Rattle.rules.specs.Sane as sane
 use Rattle.rules.specs.Paths.{Spends, Grows, Adds, endFrom}
 use Rattle.rules.proofs.Does.{Does, Stepped, step-one}

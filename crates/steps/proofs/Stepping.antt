@@ -24,7 +24,7 @@ use Rattle.model.specs.Steps.{World, State, Outcome, faulted, codeOf, execOf, o
 use Rattle.value.proofs.Stores.{length-vals, vals-slot}
 use Rattle.cells.proofs.Stands.{length-heap}
 use Rattle.program.specs.Links.{namesLent}
-use Rattle.words.proofs.Bools.{and-left, and-right}
+use Rattle.layout.proofs.Bools.{and-left, and-right}
 use Rattle.rules.proofs.Spends.{no-units}
 use Rattle.rules.proofs.Placed.{all-at}
 use Rattle.rules.proofs.Keeps.{code-fits}

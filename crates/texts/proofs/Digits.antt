@@ -9,7 +9,7 @@ use lib.ListN.{length, replicate, length-append, length-replicate}
 use borrow.Author.Tests.{lt-ltb, le-ltb, ltb-true, ltb-false}
 use Rattle.model.specs.Basics.{ascii}
 use Rattle.model.specs.Listings.{decimalFor, decimal, digitsOrMore}
-use Rattle.words.proofs.Bools.{apart, and-left, and-right, either-way}
+use Rattle.layout.proofs.Bools.{apart, and-left, and-right, either-way}
 use Rattle.texts.specs.Links.{Put}
 use Rattle.texts.proofs.Puts.{is, within, both}
 

@@ -7,7 +7,7 @@ use native.Mathlib.Numerals.{add-one}
 use lib.ListN.{length, getD, set, take, length-append}
 use lib.Seq.{set-out, take-suc, take-all}
 use Rattle.model.specs.Emission.{written}
-use Rattle.words.proofs.Writing.{length-written}
+use Rattle.layout.proofs.Writing.{length-written}
 use Rattle.texts.specs.Links.{Put}
 
 -- a and then b is a ++ b

@@ -3,7 +3,7 @@ use borrow.Author.Needs.{needs}
 use Prim.Native.Nat.{_*_, _-_}
 use lib.ListN.{take}
 use native.Mathlib.Omega.{arith}
-use Rattle.words.proofs.Writing.{Writing, nothing-yet}
+use Rattle.layout.proofs.Writing.{Writing, nothing-yet}
 use Rattle.ends.proofs.Starting.{copies, copied}
 use Rattle.ends.proofs.copy_front.Statement.{statement}
 use Rattle.ends.proofs.copy_front.Tie as tie

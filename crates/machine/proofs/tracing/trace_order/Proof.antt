@@ -25,10 +25,10 @@ use Rattle.machine.proofs.tracing.counted as count
 use Rattle.machine.proofs.tracing.counted.Symbol as count-def
 use Rattle.machine.proofs.tracing.counted.Symbol.{name as #count}
 use Rattle.machine.proofs.tracing.counted.Met as count-thm
-use Rattle.words.proofs.reads.room as slots
-use Rattle.words.proofs.reads.room.Symbol as slots-def
-use Rattle.words.proofs.reads.room.Symbol.{name as #slots}
-use Rattle.words.proofs.reads.room.Met as slots-thm
+use Rattle.layout.proofs.reads.room as slots
+use Rattle.layout.proofs.reads.room.Symbol as slots-def
+use Rattle.layout.proofs.reads.room.Symbol.{name as #slots}
+use Rattle.layout.proofs.reads.room.Met as slots-thm
 use Rattle.frames.proofs.order.frames_ok as good
 use Rattle.frames.proofs.order.frames_ok.Symbol as good-def
 use Rattle.frames.proofs.order.frames_ok.Symbol.{name as #good}
@@ -262,7 +262,7 @@ trace-order-spec 𝓤 H 𝓜 𝓖 𝓡 =
     code.calls-machine·tracing·trace-program (whole-thm.met 𝓤 H 𝓜 𝓖 𝓡))
     (cited 𝓤 H (Count 𝓤 H (𝓖 .A) W (𝓜 .mem) (𝓡 .run)) 𝓜 𝓡 code.env #count count-def.routine code.calls-machine·tracing·counted
     (count-thm.met 𝓤 H 𝓜 𝓖 𝓡))
-    (cited 𝓤 H (Slots 𝓤 H (𝓖 .A) W (𝓜 .mem) (𝓡 .run)) 𝓜 𝓡 code.env #slots slots-def.routine code.calls-words·reads·room
+    (cited 𝓤 H (Slots 𝓤 H (𝓖 .A) W (𝓜 .mem) (𝓡 .run)) 𝓜 𝓡 code.env #slots slots-def.routine code.calls-layout·reads·room
     (slots-thm.met 𝓤 H 𝓜 𝓖 𝓡))
     (cited 𝓤 H (Good 𝓤 H (𝓖 .A) W (𝓜 .mem) (𝓡 .run)) 𝓜 𝓡 code.env #good good-def.routine code.calls-frames·order·frames-ok
     (good-thm.met 𝓤 H 𝓜 𝓖 𝓡))

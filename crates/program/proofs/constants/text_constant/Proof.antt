@@ -2,7 +2,7 @@
 use mathlib.Core.Path.{refl}
 use native.Mathlib.Omega.{arith}
 use Rattle.program.specs.Links.{constantsLent}
-use Rattle.words.proofs.Rooms.{lent-fits}
+use Rattle.layout.proofs.Rooms.{lent-fits}
 use Rattle.program.proofs.Adding.{text-21, text-added}
 use borrow.Author.Needs.{needs}
 use Rattle.program.proofs.constants.text_constant.Statement.{statement}

@@ -2,7 +2,7 @@
 use mathlib.Core.Path.{refl}
 use native.Mathlib.Omega.{arith}
 use Rattle.program.specs.Links.{namesLent}
-use Rattle.words.proofs.Rooms.{lent-fits}
+use Rattle.layout.proofs.Rooms.{lent-fits}
 use Rattle.program.proofs.Adding.{pair-fits, behind-fits, begin-19, begin-22, begin-21, begin-text-21, begin-done}
 use borrow.Author.Needs.{needs}
 use Rattle.program.proofs.functions.begin_function.Statement.{statement}

@@ -1,5 +1,5 @@
 -- `program::order::last_of` meets its contract.
-use Rattle.words.proofs.Parts.{last-never, last-is}
+use Rattle.layout.proofs.Parts.{last-never, last-is}
 use borrow.Author.Needs.{needs}
 use Rattle.program.proofs.order.last_of.Statement.{statement}
 use Rattle.program.proofs.order.last_of.Tie as tie

@@ -2,7 +2,7 @@
 use mathlib.Core.Path.{refl}
 use native.Mathlib.Omega.{arith}
 use Rattle.program.specs.Links.{structsLent}
-use Rattle.words.proofs.Rooms.{lent-fits}
+use Rattle.layout.proofs.Rooms.{lent-fits}
 use Rattle.program.proofs.Adding.{pair-fits, struct-22, struct-21, struct-text-21, struct-added}
 use borrow.Author.Needs.{needs}
 use Rattle.program.proofs.structs.add_struct.Statement.{statement}
