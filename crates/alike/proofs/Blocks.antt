@@ -29,7 +29,9 @@ module _ (t t' : List ℕ) (H H' : List Cell) (e : heapOk (length t) H ≡ true)
       let g = good-of (length t) H e in
       let g' = good-of (length t') H' e' in
       let c : headIn H p .count ≡ headIn H' p' .count = items-count _ _ H H' _ _ (suc p) (suc p') q in
-      let d : headIn H p .depth ≡ headIn H' p' .depth = g p (w .headed) .deep ∙ ap suc (deepest-is t H g (within (length t) H g p w) ∙ ap treesDepth q ∙ sym (deepest-is t' H' g' (within (length t') H' g' p' w'))) ∙ sym (g' p' (w' .headed) .deep) in
+      let d : headIn H p .depth ≡ headIn H' p' .depth = g p (w .headed) .deep
+      ∙ ap suc (deepest-is t H g (within (length t) H g p w) ∙ ap treesDepth q ∙ sym (deepest-is t' H' g' (within (length t') H' g' p' w')))
+      ∙ sym (g' p' (w' .headed) .deep) in
       record {
         header = sym (same-header (headIn H p) (headIn H' p') c n d);
         element = λ i l. record {
@@ -43,13 +45,15 @@ module _ (t t' : List ℕ) (H H' : List Cell) (e : heapOk (length t) H ≡ true)
   unfolding treeOf
   lists-alike b =
       let z = sym (meaning-step t H (good-of _ H e) (v.List p) (b .left)) ∙ b .alike ∙ meaning-step t' H' (good-of _ H' e') (v.List p') (b .right) in
-      block-alike (list-of (length t) H (length H) p (b .left)) (list-of (length t') H' (length H') p' (b .right)) (list-number (length t) H (length H) p (b .left) ∙ sym (list-number (length t') H' (length H') p' (b .right))) (let y : T = cc in y)
+      block-alike (list-of (length t) H (length H) p (b .left)) (list-of (length t') H' (length H') p' (b .right))
+      (list-number (length t) H (length H) p (b .left) ∙ sym (list-number (length t') H' (length H') p' (b .right))) (let y : T = cc in y)
 
   pub structs-alike : Both t t' H H' (v.StructInstance p) (v.StructInstance p') → AlikeBlock t t' H H' p p'
   unfolding treeOf
   structs-alike b =
       let z = sym (meaning-step t H (good-of _ H e) (v.StructInstance p) (b .left)) ∙ b .alike ∙ meaning-step t' H' (good-of _ H' e') (v.StructInstance p') (b .right) in
-      block-alike (struct-of (length t) H (length H) p (b .left)) (struct-of (length t') H' (length H') p' (b .right)) (let y : headIn H p .number ≡ headIn H' p' .number = cc in y) (let y : T = cc in y)
+      block-alike (struct-of (length t) H (length H) p (b .left)) (struct-of (length t') H' (length H') p' (b .right))
+      (let y : headIn H p .number ≡ headIn H' p' .number = cc in y) (let y : T = cc in y)
 
 pub strings-alike : (t t' : List ℕ) (H H' : List Cell) {o n o' n' : ℕ} → Both t t' H H' (v.String o n) (v.String o' n') → textAt t o n ≡ textAt t' o' n'
 unfolding meaning meaningTo treeOf

@@ -50,7 +50,8 @@ record Running (w : World) (lay : Layout) (k k' : Progress) (s s' : State) : Typ
   marks : AlikeMark w lay k k'
 
 -- cells behind both heaps change no meaning
-grown-alike : {t t' : List ℕ} {H H' K K' : List Cell} → heapOk (length t) H ≡ true → heapOk (length t') H' ≡ true → Grows H K → Grows H' K' → (x x' : Value) → Both t t' H H' x x' → AlikeValue t t' K K' x x'
+grown-alike : {t t' : List ℕ} {H H' K K' : List Cell} → heapOk (length t) H ≡ true → heapOk (length t') H' ≡ true → Grows H K → Grows H' K' → (x x' : Value)
+    → Both t t' H H' x x' → AlikeValue t t' K K' x x'
 grown-alike {t} {t'} {H} {H'} e e' g g' x x' b = rw (g .is, g' .is) (meaning-kept t H (g .more) e x (b .left) ∙ b .alike ∙ sym (meaning-kept t' H' (g' .more) e' x' (b .right)))
 
 -- the cells of the start are at the front of those that a fault leaves

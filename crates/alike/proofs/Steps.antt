@@ -38,7 +38,8 @@ use Rattle.alike.specs.Alike as a
 use Rattle.alike.proofs.Values.{Boths, empty, over, BothLast, nothing, is, boths-of, last-of, values-on, last-on, Kinds, scalars, booleans, strings, references, lists, structs, BothFound, got, bad, found-if, kinds, same-alike, length-alike, at-alike, drop-alike, take-alike, turned-alike, field-alike}
 use Rattle.alike.proofs.Builds.{BothGrow, BothBuilt, made, refused, build-alike}
 
-made-alike : {t t' : List ℕ} {n n' : ℕ} {H H' K K' : List Cell} {c : ℕ → Value} {elements : ℕ → List Value → List Value} {k : ℕ} → Makes c elements k → BothGrow t t' n n' H H' k K K' → AlikeValue t t' K K' (c (length H)) (c (length H'))
+made-alike : {t t' : List ℕ} {n n' : ℕ} {H H' K K' : List Cell} {c : ℕ → Value} {elements : ℕ → List Value → List Value} {k : ℕ} → Makes c elements k
+    → BothGrow t t' n n' H H' k K K' → AlikeValue t t' K K' (c (length H)) (c (length H'))
 made-alike list g = g .list refl
 made-alike (struct i) g = g .struct
 
@@ -63,7 +64,8 @@ record Beside (w : World) (lay : Layout) (s : State) (vs' : List Value) (H' : Li
   last : BothLast (w .text) (lay .text) (s .heap) H' (s .last) l'
   free : SameFree (w .cellRoom) (lay .cellRoom) (s .heap) H'
 
-module _ (w : World) (lay : Layout) (good : SaneWorld w) (beside-good : SaneWorld (laidOut lay w)) (same-constants : AlikeConstants w lay) (s : State) (vs' : List Value) (H' : List Cell) (l' : Last) (sides : Beside w lay s vs' H' l') where
+module _ (w : World) (lay : Layout) (good : SaneWorld w) (beside-good : SaneWorld (laidOut lay w)) (same-constants : AlikeConstants w lay) (s : State)
+    (vs' : List Value) (H' : List Cell) (l' : Last) (sides : Beside w lay s vs' H' l') where
   abbrev other : State
   other = beside s vs' H' l'
 
@@ -94,7 +96,9 @@ module _ (w : World) (lay : Layout) (good : SaneWorld w) (beside-good : SaneWorl
 
   -- ---- one law for each combinator of the rules
 
-  popping-alike : {r r' : List Value} {k k' : Value → List Value → Outcome} → Bs r r' → ((x x' : Value) (q q' : List Value) → B x x' → Bs q q' → R (k x q) (k' x' q')) → R (popping r (λ i. faulted i s) k) (popping r' (λ i. faulted i other) k')
+  popping-alike : {r r' : List Value} {k k' : Value → List Value → Outcome} → Bs r r'
+      → ((x x' : Value) (q q' : List Value) → B x x' → Bs q q' → R (k x q) (k' x' q'))
+      → R (popping r (λ i. faulted i s) k) (popping r' (λ i. faulted i other) k')
   unfolding popping
   popping-alike empty p = halt f.TooFewValues
   popping-alike (over b bs) p = p _ _ _ _ b bs
@@ -103,7 +107,8 @@ module _ (w : World) (lay : Layout) (good : SaneWorld w) (beside-good : SaneWorl
   unfolding faultNumber
   wrong x x' = faults refl here
 
-  scalar-alike : {x x' : Value} → Kinds (w .text) (lay .text) (s .heap) H' x x' → (k k' : Float → Outcome) {y y' : Outcome} → ((z : Float) → R (k z) (k' z)) → R y y' → R (ifScalar x k y) (ifScalar x' k' y')
+  scalar-alike : {x x' : Value} → Kinds (w .text) (lay .text) (s .heap) H' x x' → (k k' : Float → Outcome) {y y' : Outcome} → ((z : Float) → R (k z) (k' z))
+      → R y y' → R (ifScalar x k y) (ifScalar x' k' y')
   unfolding ifScalar
   scalar-alike (scalars z) k k' p q = p z
   scalar-alike (booleans z) k k' p q = q
@@ -112,7 +117,8 @@ module _ (w : World) (lay : Layout) (good : SaneWorld w) (beside-good : SaneWorl
   scalar-alike lists k k' p q = q
   scalar-alike (structs h) k k' p q = q
 
-  boolean-alike : {x x' : Value} → Kinds (w .text) (lay .text) (s .heap) H' x x' → (k k' : Bool → Outcome) {y y' : Outcome} → ((z : Bool) → R (k z) (k' z)) → R y y' → R (ifBoolean x k y) (ifBoolean x' k' y')
+  boolean-alike : {x x' : Value} → Kinds (w .text) (lay .text) (s .heap) H' x x' → (k k' : Bool → Outcome) {y y' : Outcome} → ((z : Bool) → R (k z) (k' z))
+      → R y y' → R (ifBoolean x k y) (ifBoolean x' k' y')
   unfolding ifBoolean
   boolean-alike (scalars z) k k' p q = q
   boolean-alike (booleans z) k k' p q = p z
@@ -229,7 +235,8 @@ module _ (w : World) (lay : Layout) (good : SaneWorld w) (beside-good : SaneWorl
   elements-alike list i = turned-alike _ _ _ _ (take-alike _ _ _ _ i (sides .stack)) empty
   elements-alike (struct k) i = take-alike _ _ _ _ i (sides .stack)
 
-  built-alike : {c : ℕ → Value} {elements : ℕ → List Value → List Value} {k : ℕ} {x x' : Built} {r r' : List Value} → Makes c elements k → BothBuilt (w .text) (lay .text) (w .cellRoom) (lay .cellRoom) (s .heap) H' k x x' → Bs r r'
+  built-alike : {c : ℕ → Value} {elements : ℕ → List Value → List Value} {k : ℕ} {x x' : Built} {r r' : List Value} → Makes c elements k
+      → BothBuilt (w .text) (lay .text) (w .cellRoom) (lay .cellRoom) (s .heap) H' k x x' → Bs r r'
       → R (onBuilt w c r s x) (onBuilt (laidOut lay w) c r' other x')
   unfolding onBuilt
   built-alike m (refused i) b = halt i
@@ -245,7 +252,8 @@ module _ (w : World) (lay : Layout) (good : SaneWorld w) (beside-good : SaneWorl
   build k i m =
       rw (← length-alike _ _ _ _ (sides .stack))
       (if-each R (ltb (length (s .stack)) i) (λ h. halt f.TooFewValues)
-      (λ h. built-alike m (build-alike (w .text) (lay .text) (w .cellRoom) (lay .cellRoom) (s .heap) H' (sides .left) (sides .right) (sides .free) k (elements-alike m i)) (drop-alike _ _ _ _ i (sides .stack))))
+      (λ h. built-alike m (build-alike (w .text) (lay .text) (w .cellRoom) (lay .cellRoom) (s .heap) H' (sides .left) (sides .right) (sides .free) k
+      (elements-alike m i)) (drop-alike _ _ _ _ i (sides .stack))))
 
   unless : (x : Bool) (i : ℕ) {r r' : List Value} → Bs r r' → R (went (withStack r (if x then s else at (position s + i) s))) (went (withStack r' (if x then other else at (position s + i) other)))
   unless true i b = stacks b
@@ -272,7 +280,8 @@ module _ (w : World) (lay : Layout) (good : SaneWorld w) (beside-good : SaneWorl
   exec-alike o.Jump i j = goes (states _ (s .callers) (s .units) (sides .stack))
   exec-alike o.Call i j = if-each R (ltb i (length (w .functions))) (λ h. enter-alike i j (sides .stack)) (λ h. halt f.OutOfRange)
   exec-alike o.CallCallable i j =
-      popping-alike (sides .stack) (λ x x' r r' c b. reference-alike (kind-of c) (λ z. enterNamed w i r s (functionNamed z (w .functions))) (λ z. enterNamed (laidOut lay w) i r' other (functionNamed z (w .functions)))
+      popping-alike (sides .stack) (λ x x' r r' c b. reference-alike (kind-of c) (λ z. enterNamed w i r s (functionNamed z (w .functions)))
+      (λ z. enterNamed (laidOut lay w) i r' other (functionNamed z (w .functions)))
       (λ z. named-alike i _ b) (wrong x x'))
   exec-alike o.BuildStructInstance i j = if-each R (ltb i (w .structs)) (λ h. build i j (struct i)) (λ h. halt f.OutOfRange)
   exec-alike o.AccessStructField i j =
@@ -321,7 +330,8 @@ module _ (w : World) (lay : Layout) (good : SaneWorld w) (beside-good : SaneWorl
   step-parts s c q cs u x y z = rw (x, y, z) (step-beside s c)
 
 -- two machines in good order that mean the same take the same step
-pub step-alike : (w : World) (lay : Layout) → SaneWorld w → SaneWorld (laidOut lay w) → AlikeConstants w lay → (s s' : State) → Sane w s → Sane (laidOut lay w) s' → AlikeState w lay s s' → AlikeOutcome w lay (stepOf w s) (stepOf (laidOut lay w) s')
+pub step-alike : (w : World) (lay : Layout) → SaneWorld w → SaneWorld (laidOut lay w) → AlikeConstants w lay → (s s' : State) → Sane w s
+    → Sane (laidOut lay w) s' → AlikeState w lay s s' → AlikeOutcome w lay (stepOf w s) (stepOf (laidOut lay w) s')
 step-alike w lay good beside-good same-constants s s' h h' a =
     let m = a .machine in
     step-parts w lay good beside-good same-constants (s' .stack) (s' .heap) (s' .last) s

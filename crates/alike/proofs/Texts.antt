@@ -46,7 +46,8 @@ meaning-text : (t y : List ℕ) (H : List Cell) → heapOk (length t) H ≡ true
 unfolding meaning
 meaning-text t y H e x f = meaning-to t y H (good-of (length t) H e) 64 x f
 
-text-alike : {t t' u u' : List ℕ} {H H' : List Cell} → heapOk (length t) H ≡ true → heapOk (length t') H' ≡ true → Begins t u → Begins t' u' → (x x' : Value) → Both t t' H H' x x' → AlikeValue u u' H H' x x'
+text-alike : {t t' u u' : List ℕ} {H H' : List Cell} → heapOk (length t) H ≡ true → heapOk (length t') H' ≡ true → Begins t u → Begins t' u' → (x x' : Value)
+    → Both t t' H H' x x' → AlikeValue u u' H H' x x'
 text-alike {t} {t'} {H = H} {H' = H'} e e' g g' x x' b =
     rw (g .is, g' .is) (meaning-text t (g .more) H e x (b .left) ∙ b .alike ∙ sym (meaning-text t' (g' .more) H' e' x' (b .right)))
 

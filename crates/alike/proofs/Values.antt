@@ -143,7 +143,8 @@ pub data BothFound (t t' : List ℕ) (H H' : List Cell) : Found → Found → Ty
   bad : (n : Fault) → BothFound t t' H H' (g.Bad n) (g.Bad n)
 
 -- found by the same test
-pub found-if : (t t' : List ℕ) (H H' : List Cell) (b : Bool) (x x' : Value) (n : Fault) → (b ≡ true → Both t t' H H' x x') → BothFound t t' H H' (if b then g.Got x else g.Bad n) (if b then g.Got x' else g.Bad n)
+pub found-if : (t t' : List ℕ) (H H' : List Cell) (b : Bool) (x x' : Value) (n : Fault) → (b ≡ true → Both t t' H H' x x')
+    → BothFound t t' H H' (if b then g.Got x else g.Bad n) (if b then g.Got x' else g.Bad n)
 found-if t t' H H' true x x' n f = got (f refl)
 found-if t t' H H' false x x' n f = bad n
 

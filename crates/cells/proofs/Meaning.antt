@@ -206,7 +206,8 @@ module _ (t : List ℕ) (H : List Cell) (g : Good (length t) H) where
   abbrev Agree : (Value → Value → Same) → (Value → Value → Same) → Value → Type 0
   Agree r r' a = (x y : Value) → Lower a x → Placed (length t) H (length H) y → r x y ≡ r' x y
 
-  list-fuel : (r r' : Value → Value → Same) (p : ℕ) → Whole H p (length H) → (b : Value) → Placed (length t) H (length H) b → Agree r r' (v.List p) → samePair r t H (v.List p) b ≡ samePair r' t H (v.List p) b
+  list-fuel : (r r' : Value → Value → Same) (p : ℕ) → Whole H p (length H) → (b : Value) → Placed (length t) H (length H) b → Agree r r' (v.List p)
+      → samePair r t H (v.List p) b ≡ samePair r' t H (v.List p) b
   unfolding samePair ifList depthIn
   list-fuel r r' p w (v.Scalar x) f e = refl
   list-fuel r r' p w (v.Boolean x) f e = refl

@@ -229,7 +229,8 @@ module _ (t : ℕ) (w : List ℕ) (used p : ℕ) where
                   all-next : elementsBelow t (heapOf used w) p (h .count) (suc p) ≡ elementsBelow t (heapOf used w) p (h .count - (i + 1)) (suc p + (i + 1))
                   all-next = step ∙ rw (here ∙ good-place)
 
-                  deep-next : max d (max m (deepest (heapOf used w) (items (h .count - (i + 1)) (suc p + (i + 1)) (heapOf used w)))) ≡ deepest (heapOf used w) (items (h .count) (suc p) (heapOf used w))
+                  deep-next : max d (max m (deepest (heapOf used w) (items (h .count - (i + 1)) (suc p + (i + 1)) (heapOf used w)))) ≡ deepest (heapOf used w)
+                      (items (h .count) (suc p) (heapOf used w))
                   deep-next =
                       let c = h .count in
                       let H = heapOf used w in
@@ -241,10 +242,20 @@ module _ (t : ℕ) (w : List ℕ) (used p : ℕ) where
                       rw (q, s) at (u .deep)
 
                   pub walk-deeper : d < m → (d' : ℕ) → d' ≡ m → Walk t (heapOf used w) p (h .count) d' (i + 1)
-                  walk-deeper q d' e' = record { inside = omega arith; all = all-next; deep = let r = deep-next in let s = deepest (heapOf used w) (items (h .count - (i + 1)) (suc p + (i + 1)) (heapOf used w)) in omega arith }
+                  walk-deeper q d' e' = record {
+                    inside = omega arith;
+                    all = all-next;
+                    deep = let r = deep-next in let s = deepest (heapOf used w)
+                        (items (h .count - (i + 1)) (suc p + (i + 1)) (heapOf used w)) in omega arith;
+                  }
 
                   pub walk-same : m ≤ d → (d' : ℕ) → d' ≡ d → Walk t (heapOf used w) p (h .count) d' (i + 1)
-                  walk-same q d' e' = record { inside = omega arith; all = all-next; deep = let r = deep-next in let s = deepest (heapOf used w) (items (h .count - (i + 1)) (suc p + (i + 1)) (heapOf used w)) in omega arith }
+                  walk-same q d' e' = record {
+                    inside = omega arith;
+                    all = all-next;
+                    deep = let r = deep-next in let s = deepest (heapOf used w)
+                        (items (h .count - (i + 1)) (suc p + (i + 1)) (heapOf used w)) in omega arith;
+                  }
 
       module _ (l : h .count ≤ i) where
         all-true : elementsBelow t (heapOf used w) p (h .count) (suc p) ≡ true

@@ -81,7 +81,8 @@ exact-from : (n i : ℕ) (w : List ℕ) → exactCells n i w ≡ true → (j : �
 unfolding exactCells
 exact-from zero i w e j h = absurd (let z : ⊥ = omega arith in z)
 exact-from (suc n) i w e zero h = let z : i + 0 ≡ i = omega arith in rw z (and-left (exactCell (kindAt w i) (payloadAt w i)) (exactCells n (suc i) w) e)
-exact-from (suc n) i w e (suc j) h = let z : i + suc j ≡ suc i + j = omega arith in rw z (exact-from n (suc i) w (and-right (exactCell (kindAt w i) (payloadAt w i)) (exactCells n (suc i) w) e) j (omega arith))
+exact-from (suc n) i w e (suc j) h = let z : i + suc j ≡ suc i + j = omega arith in rw z
+    (exact-from n (suc i) w (and-right (exactCell (kindAt w i) (payloadAt w i)) (exactCells n (suc i) w) e) j (omega arith))
 
 -- each cell of an exact store is exact
 pub exact-at : (used : ℕ) (w : List ℕ) → exactCells used 0 w ≡ true → (i : ℕ) → i < used → exactCell (kindAt w i) (payloadAt w i) ≡ true

@@ -115,7 +115,8 @@ module _ (w a : List ℕ) where
     told-not e = rw e
 
   module _ {x : Shown} where
-    pub shown-value : {a1 a2 : List ℕ} {v : Value} {k p : ℕ} → x ≡ sh.Value v → k ≡ kind v → p ≡ payload v → a1 ≡ set a 0 k → a2 ≡ set a1 1 p → record { number = 0; vm = w; answer = a2 } ≡ shownCoded x w a
+    pub shown-value : {a1 a2 : List ℕ} {v : Value} {k p : ℕ} → x ≡ sh.Value v → k ≡ kind v → p ≡ payload v → a1 ≡ set a 0 k → a2 ≡ set a1 1 p
+        → record { number = 0; vm = w; answer = a2 } ≡ shownCoded x w a
     unfolding shownCoded written
     shown-value e ek ep e1 e2 = rw (e, e2, e1, ek, ep)
 
@@ -124,7 +125,8 @@ module _ (w a : List ℕ) where
     shown-not e = rw e
 
   module _ {x : Headed} where
-    pub headed-is : {a1 a2 a3 : List ℕ} {y : Header} → x ≡ h.Is y → a1 ≡ set a 0 (y .count) → a2 ≡ set a1 1 (y .number) → a3 ≡ set a2 2 (y .depth) → record { number = 0; vm = w; answer = a3 } ≡ headedCoded x w a
+    pub headed-is : {a1 a2 a3 : List ℕ} {y : Header} → x ≡ h.Is y → a1 ≡ set a 0 (y .count) → a2 ≡ set a1 1 (y .number) → a3 ≡ set a2 2 (y .depth)
+        → record { number = 0; vm = w; answer = a3 } ≡ headedCoded x w a
     unfolding headedCoded written
     headed-is e e1 e2 e3 = rw (e, e3, e2, e1)
 

@@ -88,7 +88,16 @@ told k bytes want small h {n} e r g =
 
 pub judged : (image loading running listing : List ℕ) {a b ran listed : Bool} {s : Stores} {saved : List ℕ}
     → record { loading = a; saving = b; stores = s; saved = saved } ≡ compareOf image loading
-    record { constants = replicate 512 0; structs = replicate 256 0; functions = replicate 512 0; text = replicate 16384 0; main = replicate 8192 0; mainPlaces = replicate 8192 0; other = replicate 8192 0; otherPlaces = replicate 8192 0 } (replicate 16384 0)
+    record {
+      constants = replicate 512 0;
+      structs = replicate 256 0;
+      functions = replicate 512 0;
+      text = replicate 16384 0;
+      main = replicate 8192 0;
+      mainPlaces = replicate 8192 0;
+      other = replicate 8192 0;
+      otherPlaces = replicate 8192 0;
+    } (replicate 16384 0)
     → ran ≡ sameBytes (runnerText image) running → listed ≡ sameBytes (listerText image) listing
     → record { loading = a; saving = b; running = ran; listing = listed } ≡ verdictOf image loading running listing
 unfolding verdictOf emptyStores

@@ -35,7 +35,8 @@ unfoldable pub askTrace : List ℕ → Asked
 askTrace line = if roomOf line 1 .good then q.Frames c.Trace (record { image = 0; copy = 4294967295; trace = roomOf line 1 .is }) else q.Other
 
 unfoldable pub askRun : List ℕ → Asked
-askRun line = if numberOf 10 (wordOf line 1) .good && roomOf line 2 .good then q.Frames (c.Run (numberOf 10 (wordOf line 1) .is)) (record { image = 0; copy = roomOf line 2 .is; trace = 4294967295 }) else q.Other
+askRun line = if numberOf 10 (wordOf line 1) .good && roomOf line 2 .good then q.Frames (c.Run (numberOf 10 (wordOf line 1) .is))
+    (record { image = 0; copy = roomOf line 2 .is; trace = 4294967295 }) else q.Other
 
 -- what is asked, and the space, which holds the bytes of an image
 pub record Heard : Type 0 where
@@ -43,7 +44,11 @@ pub record Heard : Type 0 where
   pub space : List ℕ
 
 unfoldable pub askLoad : List ℕ → List ℕ → Heard
-askLoad line space = record { asked = if hexOf (wordsFrom line 1) space .read .good then q.Frames c.Load (lentWhole (hexOf (wordsFrom line 1) space .read .size)) else q.Other; space = hexOf (wordsFrom line 1) space .out }
+askLoad line space = record {
+  asked = if hexOf (wordsFrom line 1) space .read .good then q.Frames c.Load
+      (lentWhole (hexOf (wordsFrom line 1) space .read .size)) else q.Other;
+  space = hexOf (wordsFrom line 1) space .out;
+}
 
 unfoldable pub askOf : List ℕ → List ℕ → Heard
 askOf line space =

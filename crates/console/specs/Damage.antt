@@ -77,9 +77,23 @@ pub record PokedWords : Type 0 where
 -- number i of the store of words of that name is n
 unfoldable pub pokedWords : List ℕ → ℕ → ℕ → List ℕ → List ℕ → List ℕ → List ℕ → List ℕ → PokedWords
 pokedWords name i n constants structs functions stack cells =
-    if sameBytes name (ascii "constants") then record { good = ltb i (length constants); constants = putAt constants i n; structs = structs; functions = functions; stack = stack; cells = cells } else (
+    if sameBytes name (ascii "constants") then record {
+      good = ltb i (length constants);
+      constants = putAt constants i n;
+      structs = structs;
+      functions = functions;
+      stack = stack;
+      cells = cells;
+    } else (
     if sameBytes name (ascii "structs") then record { good = ltb i (length structs); constants = constants; structs = putAt structs i n; functions = functions; stack = stack; cells = cells } else (
-    if sameBytes name (ascii "functions") then record { good = ltb i (length functions); constants = constants; structs = structs; functions = putAt functions i n; stack = stack; cells = cells } else (
+    if sameBytes name (ascii "functions") then record {
+      good = ltb i (length functions);
+      constants = constants;
+      structs = structs;
+      functions = putAt functions i n;
+      stack = stack;
+      cells = cells;
+    } else (
     if sameBytes name (ascii "stack") then record { good = ltb i (length stack); constants = constants; structs = structs; functions = functions; stack = putAt stack i n; cells = cells } else (
     if sameBytes name (ascii "cells") then record { good = ltb i (length cells); constants = constants; structs = structs; functions = functions; stack = stack; cells = putAt cells i n } else (
     record { good = false; constants = constants; structs = structs; functions = functions; stack = stack; cells = cells })))))
@@ -115,13 +129,23 @@ unfoldable pub pokeArgs : List ℕ → Args
 pokeArgs line = argsOf line 2 4 (record { a = 4294967295; b = 18446744073709551615; c = 0; d = 0; e = 0 })
 
 unfoldable pub wordsAsked : List ℕ → List ℕ → List ℕ → List ℕ → List ℕ → List ℕ → PokedWords
-wordsAsked line constants structs functions stack cells = if pokeArgs line .good then pokedWords (wordOf line 1) (pokeArgs line .a) (pokeArgs line .b) constants structs functions stack cells else record { good = false; constants = constants; structs = structs; functions = functions; stack = stack; cells = cells }
+wordsAsked line constants structs functions stack cells = if pokeArgs line .good then pokedWords (wordOf line 1) (pokeArgs line .a)
+    (pokeArgs line .b) constants structs functions stack cells else record {
+      good = false;
+      constants = constants;
+      structs = structs;
+      functions = functions;
+      stack = stack;
+      cells = cells;
+    }
 
 unfoldable pub bytesAsked : List ℕ → List ℕ → List ℕ → List ℕ → PokedBytes
-bytesAsked line text main other = if pokeArgs line .good then pokedBytes (wordOf line 1) (pokeArgs line .a) (pokeArgs line .b) text main other else record { good = false; text = text; main = main; other = other }
+bytesAsked line text main other = if pokeArgs line .good then pokedBytes (wordOf line 1) (pokeArgs line .a)
+    (pokeArgs line .b) text main other else record { good = false; text = text; main = main; other = other }
 
 unfoldable pub placesAsked : List ℕ → List ℕ → List ℕ → PokedPlaces
-placesAsked line mainPlaces otherPlaces = if pokeArgs line .good then pokedPlaces (wordOf line 1) (pokeArgs line .a) (pokeArgs line .b) mainPlaces otherPlaces else record { good = false; mainPlaces = mainPlaces; otherPlaces = otherPlaces }
+placesAsked line mainPlaces otherPlaces = if pokeArgs line .good then pokedPlaces (wordOf line 1) (pokeArgs line .a)
+    (pokeArgs line .b) mainPlaces otherPlaces else record { good = false; mainPlaces = mainPlaces; otherPlaces = otherPlaces }
 
 -- the frame that rests at i, in three numbers; one of zeros where there is none
 unfoldable pub frameIn : List ℕ → ℕ → Frame

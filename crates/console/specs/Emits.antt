@@ -31,7 +31,8 @@ unfoldable pub withOp2 : Counts → Args → Stores → Res
 withOp2 c n s = if (not (n .good) || ltb 65535 (n .b)) || ltb 65535 (n .c) then notKnown s else addOp2Of c (n .a % 256) (n .b % 65536) (n .c % 65536) (n .d % 4294967296) s
 
 unfoldable pub withOp3 : Counts → Args → Stores → Res
-withOp3 c n s = if ((not (n .good) || ltb 65535 (n .b)) || ltb 65535 (n .c)) || ltb 65535 (n .d) then notKnown s else addOp3Of c (n .a % 256) (n .b % 65536) (n .c % 65536) (n .d % 65536) (n .e % 4294967296) s
+withOp3 c n s = if ((not (n .good) || ltb 65535 (n .b)) || ltb 65535 (n .c)) || ltb 65535 (n .d) then notKnown s else addOp3Of c (n .a % 256) (n .b % 65536)
+    (n .c % 65536) (n .d % 65536) (n .e % 4294967296) s
 
 unfoldable pub codeAsked : Counts → List ℕ → Stores → Res
 codeAsked c line s =

@@ -26,9 +26,13 @@ mixedLast h (Is v) = mixedWith (mixedWith h (kind v)) (payload v)
 -- with the counts and the last result behind it
 unfoldable pub mixedCounts : ℕ → Vm → ℕ
 mixedCounts h m =
-    mixedLast (mixedWith (mixedWith (mixedWith (mixedWith (mixedWith (mixedWith (mixedWith (mixedWith h (m .program .constants)) (m .program .structs)) (m .program .functions)) (m .program .text)) (m .program .current)) (m .stack)) (m .frames)) (m .cells)) (m .last)
+    mixedLast (mixedWith (mixedWith (mixedWith (mixedWith (mixedWith
+    (mixedWith (mixedWith (mixedWith h (m .program .constants)) (m .program .structs)) (m .program .functions)) (m .program .text)) (m .program .current))
+    (m .stack)) (m .frames)) (m .cells)) (m .last)
 
 -- of all counts and stores
 unfoldable pub sumOf : Vm → List ℕ → List ℕ → List ℕ → List ℕ → List ℕ → List ℕ → List ℕ → List ℕ → List ℕ → List ℕ → List ℕ → List ℕ → List ℕ → ℕ
 sumOf m constants structs functions text main mainPlaces other otherPlaces stack cells copy trace frames =
-    mixedAll (mixedAll (mixedAll (mixedAll (mixedAll (mixedAll (mixedAll (mixedAll (mixedAll (mixedAll (mixedAll (mixedAll (mixedAll (mixedCounts 0 m) constants) structs) functions) text) main) mainPlaces) other) otherPlaces) stack) cells) copy) trace) frames
+    mixedAll (mixedAll (mixedAll (mixedAll (mixedAll (mixedAll (mixedAll
+    (mixedAll (mixedAll (mixedAll (mixedAll (mixedAll (mixedAll (mixedCounts 0 m) constants) structs) functions) text) main) mainPlaces) other) otherPlaces)
+    stack) cells) copy) trace) frames

@@ -85,7 +85,10 @@ roomOf s k = if eqb (length (wordsFrom s k)) 0 then record { is = 4294967295; go
 
 -- the number that word k of the words before end says, at most so much; 0 from there on
 unfoldable pub argOf : List ℕ → ℕ → ℕ → ℕ → Number
-argOf s k end most = if ltb k end then record { is = numberOf 10 (wordOf s k) .is; good = numberOf 10 (wordOf s k) .good && leb (numberOf 10 (wordOf s k) .is) most } else record { is = 0; good = true }
+argOf s k end most = if ltb k end then record {
+  is = numberOf 10 (wordOf s k) .is;
+  good = numberOf 10 (wordOf s k) .good && leb (numberOf 10 (wordOf s k) .is) most;
+} else record { is = 0; good = true }
 
 -- those of the words from k on, before end, where the line then ends
 unfoldable pub argsOf : List ℕ → ℕ → ℕ → Most → Args
@@ -96,7 +99,8 @@ argsOf s k end most =
       c = argOf s (k + 2) end (most .c) .is;
       d = argOf s (k + 3) end (most .d) .is;
       e = argOf s (k + 4) end (most .e) .is;
-      good = ((((argOf s k end (most .a) .good && argOf s (k + 1) end (most .b) .good) && argOf s (k + 2) end (most .c) .good) && argOf s (k + 3) end (most .d) .good) && argOf s (k + 4) end (most .e) .good) && eqb (length (wordOf s end)) 0;
+      good = ((((argOf s k end (most .a) .good && argOf s (k + 1) end (most .b) .good) && argOf s (k + 2) end (most .c) .good) && argOf s (k + 3) end
+          (most .d) .good) && argOf s (k + 4) end (most .e) .good) && eqb (length (wordOf s end)) 0;
     }
 
 -- ---- bytes in hex
@@ -115,7 +119,10 @@ withByte x b =
     if eqb b 32 then x else (
     if ltb (digitOf b) 16 then (
     if leb 16 (x .read .high) then record { read = record { size = x .read .size; high = digitOf b; good = x .read .good }; out = x .out } else (
-    if ltb (x .read .size) (length (x .out)) then record { read = record { size = x .read .size + 1; high = 16; good = x .read .good }; out = set (x .out) (x .read .size) ((x .read .high * 16 + digitOf b) % 256) } else
+    if ltb (x .read .size) (length (x .out)) then record {
+      read = record { size = x .read .size + 1; high = 16; good = x .read .good };
+      out = set (x .out) (x .read .size) ((x .read .high * 16 + digitOf b) % 256);
+    } else
     broken x)) else
     broken x)
 

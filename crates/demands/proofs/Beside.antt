@@ -55,16 +55,52 @@ alike-res s r r' e = record { answer = s .answer; rooms = s .rooms; program = λ
 -- one store anew in each
 module _ {s s' : Stores} (long : AsLong s' s) (l l' : List ℕ) (e : length l' ≡ length l) where
   constants-long : AsLong (withConstants l' s') (withConstants l s)
-  constants-long = record { constants = e; structs = long .structs; functions = long .functions; text = long .text; main = long .main; mainPlaces = long .mainPlaces; other = long .other; otherPlaces = long .otherPlaces }
+  constants-long = record {
+    constants = e;
+    structs = long .structs;
+    functions = long .functions;
+    text = long .text;
+    main = long .main;
+    mainPlaces = long .mainPlaces;
+    other = long .other;
+    otherPlaces = long .otherPlaces;
+  }
 
   structs-long : AsLong (withStructs l' s') (withStructs l s)
-  structs-long = record { constants = long .constants; structs = e; functions = long .functions; text = long .text; main = long .main; mainPlaces = long .mainPlaces; other = long .other; otherPlaces = long .otherPlaces }
+  structs-long = record {
+    constants = long .constants;
+    structs = e;
+    functions = long .functions;
+    text = long .text;
+    main = long .main;
+    mainPlaces = long .mainPlaces;
+    other = long .other;
+    otherPlaces = long .otherPlaces;
+  }
 
   pub functions-long : AsLong (withFunctions l' s') (withFunctions l s)
-  functions-long = record { constants = long .constants; structs = long .structs; functions = e; text = long .text; main = long .main; mainPlaces = long .mainPlaces; other = long .other; otherPlaces = long .otherPlaces }
+  functions-long = record {
+    constants = long .constants;
+    structs = long .structs;
+    functions = e;
+    text = long .text;
+    main = long .main;
+    mainPlaces = long .mainPlaces;
+    other = long .other;
+    otherPlaces = long .otherPlaces;
+  }
 
   pub text-long : AsLong (withText l' s') (withText l s)
-  text-long = record { constants = long .constants; structs = long .structs; functions = long .functions; text = e; main = long .main; mainPlaces = long .mainPlaces; other = long .other; otherPlaces = long .otherPlaces }
+  text-long = record {
+    constants = long .constants;
+    structs = long .structs;
+    functions = long .functions;
+    text = e;
+    main = long .main;
+    mainPlaces = long .mainPlaces;
+    other = long .other;
+    otherPlaces = long .otherPlaces;
+  }
 
 -- a store written to, a word set, two words set
 pub written-long : (l l' : List ℕ) (i i' : ℕ) (m m' : List ℕ) → length l' ≡ length l → length (written l' i' m') ≡ length (written l i m)
@@ -156,8 +192,26 @@ module _ {c : Counts} {s s' : Stores} (one : OneProgram c s s') where
   unfolding withCode
   with-code m p m' p' a b =
       either-way (eqb (c .current) 0)
-      (λ t. rw t (record { constants = one .long .constants; structs = one .long .structs; functions = one .long .functions; text = one .long .text; main = a; mainPlaces = b; other = one .long .other; otherPlaces = one .long .otherPlaces }))
-      (λ f. rw f (record { constants = one .long .constants; structs = one .long .structs; functions = one .long .functions; text = one .long .text; main = one .long .main; mainPlaces = one .long .mainPlaces; other = a; otherPlaces = b }))
+      (λ t. rw t (record {
+        constants = one .long .constants;
+        structs = one .long .structs;
+        functions = one .long .functions;
+        text = one .long .text;
+        main = a;
+        mainPlaces = b;
+        other = one .long .other;
+        otherPlaces = one .long .otherPlaces;
+      }))
+      (λ f. rw f (record {
+        constants = one .long .constants;
+        structs = one .long .structs;
+        functions = one .long .functions;
+        text = one .long .text;
+        main = one .long .main;
+        mainPlaces = one .long .mainPlaces;
+        other = a;
+        otherPlaces = b;
+      }))
 
   -- ---- the entries
 
@@ -173,7 +227,8 @@ module _ {c : Counts} {s s' : Stores} (one : OneProgram c s s') where
   unfolding emitOf emitIn codeOrder
   emit-res op bytes place =
       rw (g .counts, g .functions, g .codes, g .places, g' .functions, g' .codes, g' .places, size-here, code-room, end-here)
-      (same-if (ltb codeLimit (sizeHere c s + length bytes)) (refused 22) (same-if (ltb (codeRoom c s) (endHere c s + length bytes)) (refused 21) (same-if (leb 38 op) (refused 1) (appended-same bytes place))))
+      (same-if (ltb codeLimit (sizeHere c s + length bytes)) (refused 22)
+      (same-if (ltb (codeRoom c s) (endHere c s + length bytes)) (refused 21) (same-if (leb 38 op) (refused 1) (appended-same bytes place))))
 
   pub emit-alike : (op : ℕ) (bytes : List ℕ) (place : ℕ) → AlikeRes (emitOf c op bytes place s) (emitOf c op bytes place s')
   emit-alike op bytes place = alike-res (emit-res op bytes place) (emit-reads c op bytes place s (one .ok)) (emit-reads c op bytes place s' (one .ok')) (rw (one .same))
@@ -195,7 +250,9 @@ module _ {c : Counts} {s s' : Stores} (one : OneProgram c s s') where
 
   text-constant : (kind : ℕ) (lent : List ℕ) → SameRes (withTextConstant c kind lent s) (withTextConstant c kind lent s')
   unfolding withTextConstant
-  text-constant kind lent = rw (text-room (length lent)) (same-if (textRoom c s (length lent)) (both-done (oneConstant (length lent) c) (c .constants) (constants-long (more-text lent) _ _ (words-long _ _ _ _ _ _ _ _ (one .long .constants)))) (refused 21))
+  text-constant kind lent = rw (text-room (length lent)) (same-if (textRoom c s (length lent))
+      (both-done (oneConstant (length lent) c) (c .constants) (constants-long (more-text lent) _ _ (words-long _ _ _ _ _ _ _ _ (one .long .constants))))
+      (refused 21))
 
   plain-constant : (kind payload : ℕ) → SameRes (withConstant c kind payload s) (withConstant c kind payload s')
   unfolding withConstant

@@ -92,7 +92,8 @@ module _ (c : Counts) (s : Stores) (b : CodeBytes s) where
   appended-bytes : (bytes : List ℕ) (place : ℕ) → Bytes bytes → Coded (appended c bytes place s)
   unfolding appended
   appended-bytes bytes place h =
-      let z = with-code (written (codeHere c s) (endHere c s) bytes) (written (placesHere c s) (endHere c s) (replicate (length bytes) place)) (written-bytes (codeHere c s) (endHere c s) bytes h code-here) in
+      let z = with-code (written (codeHere c s) (endHere c s) bytes) (written (placesHere c s) (endHere c s) (replicate (length bytes) place))
+      (written-bytes (codeHere c s) (endHere c s) bytes h code-here) in
       record { code = record { main = z .main; other = z .other } }
 
   pub emit-bytes : (op : ℕ) (rest : List ℕ) (place : ℕ) → Bytes rest → Coded (emitOf c op (op ∷ rest) place s)
@@ -119,13 +120,15 @@ module _ (c : Counts) (s : Stores) (b : CodeBytes s) where
   pub constant-bytes : (x : Constant) (lent : List ℕ) → Coded (addConstantOf c x lent s)
   unfolding addConstantOf
   constant-bytes x lent =
-      code-if (constantOrder c s) (code-if (leb constantLimit (c .constants)) (stays 22) (λ _. code-if (leb (places 2 (s .constants)) (c .constants)) (stays 21) (λ _. constant-by x lent))) (λ _. stays 19)
+      code-if (constantOrder c s) (code-if (leb constantLimit (c .constants)) (stays 22)
+      (λ _. code-if (leb (places 2 (s .constants)) (c .constants)) (stays 21) (λ _. constant-by x lent))) (λ _. stays 19)
 
   struct-by : (name : List ℕ) (x : Option ℕ) → Coded (structFound c name s x)
   unfolding structFound structAdded
   struct-by name (some i) = same-code _ _ _ refl refl
   struct-by name none =
-      code-if (leb nameLimit (c .structs)) (stays 22) (λ _. code-if (leb (places 2 (s .structs)) (c .structs)) (stays 21) (λ _. code-if (textRoom c s (length name)) (same-code _ _ _ refl refl) (λ _. stays 21)))
+      code-if (leb nameLimit (c .structs)) (stays 22) (λ _. code-if (leb (places 2 (s .structs)) (c .structs)) (stays 21)
+      (λ _. code-if (textRoom c s (length name)) (same-code _ _ _ refl refl) (λ _. stays 21)))
 
   pub struct-bytes : (name : List ℕ) → Coded (addStructOf c name s)
   unfolding addStructOf
@@ -151,14 +154,16 @@ codes-bytes : (fs : List Function) → Bytes (joined functionImage fs) → Bytes
 unfolding joined functionImage functionAt
 codes-bytes [] h = (h, h, h)
 codes-bytes (f ∷ fs) h =
-    let one : Bytes (f .code) = bytes-rest (textImage (f .name) ++ digits (length (f .code))) (f .code) (bytes-front _ (joined runImage (runsOf (f .places))) (bytes-front (functionImage f) (joined functionImage fs) h)) in
+    let one : Bytes (f .code) = bytes-rest (textImage (f .name) ++ digits (length (f .code))) (f .code)
+    (bytes-front _ (joined runImage (runsOf (f .places))) (bytes-front (functionImage f) (joined functionImage fs) h)) in
     let rest = codes-bytes fs (bytes-rest (functionImage f) (joined functionImage fs) h) .2 in
     (one, rest, bytes-append (f .code) (joined (λ f. f .code) fs) one rest)
 
 laid-bytes : (p : Program) (s : Stores) → Bytes (imageOf p) → CodeBytes s → CodeBytes (laid p s)
 unfolding laid imageOf counted mainOf othersOf
 laid-bytes p s h b =
-    let z = codes-bytes (p .functions) (bytes-rest (digits (length (p .functions))) (joined functionImage (p .functions)) (bytes-rest (counted constantImage (p .constants) ++ counted textImage (p .structs)) (counted functionImage (p .functions)) h)) in
+    let z = codes-bytes (p .functions) (bytes-rest (digits (length (p .functions))) (joined functionImage (p .functions))
+    (bytes-rest (counted constantImage (p .constants) ++ counted textImage (p .structs)) (counted functionImage (p .functions)) h)) in
     record { main = written-bytes (s .main) 0 (mainOf p .code) (z .0) (b .main); other = written-bytes (s .other) 0 (joined (λ f. f .code) (othersOf p)) (z .1) (b .other) }
 
 judged-bytes : (x : Judged) (s : Stores) → ((p : Program) → x ≡ fine p → Bytes (imageOf p)) → CodeBytes s → CodeBytes (loadJudged x s .stores)
@@ -167,7 +172,10 @@ judged-bytes (broken i) s h b = b
 judged-bytes (fine p) s h b = by (withinLimits p) (roomFor p s)
   where
     by : (x y : Bool)
-        → (let z : LoadRes = if x then (if y then record { answer = ld.Done (countsFor p); stores = laid p s } else record { answer = ld.Refused 21; stores = s }) else record { answer = ld.Refused 22; stores = s } in
+        → (let z : LoadRes = if x then (if y then record { answer = ld.Done (countsFor p); stores = laid p s } else record {
+          answer = ld.Refused 21;
+          stores = s;
+        }) else record { answer = ld.Refused 22; stores = s } in
         CodeBytes (z .stores))
     by true true = laid-bytes p s (h p refl) b
     by true false = b
@@ -194,7 +202,8 @@ ask-bytes (addOp op place) h t b = emit-bytes (h .vm .program) (h .stores) b op 
 ask-bytes (addOp1 op x place) h t b = emit-bytes (h .vm .program) (h .stores) b op (u16 x) place (u16-bytes x (t .0)) .code
 ask-bytes (addOp2 op x y place) h t b = emit-bytes (h .vm .program) (h .stores) b op (u16 x ++ u16 y) place (bytes-append (u16 x) (u16 y) (u16-bytes x (t .0)) (u16-bytes y (t .1 .0))) .code
 ask-bytes (addOp3 op x y z place) h t b =
-    emit-bytes (h .vm .program) (h .stores) b op (u16 x ++ u16 y ++ u16 z) place (bytes-append (u16 x ++ u16 y) (u16 z) (bytes-append (u16 x) (u16 y) (u16-bytes x (t .0)) (u16-bytes y (t .1 .0))) (u16-bytes z (t .1 .1 .0))) .code
+    emit-bytes (h .vm .program) (h .stores) b op (u16 x ++ u16 y ++ u16 z) place
+    (bytes-append (u16 x ++ u16 y) (u16 z) (bytes-append (u16 x) (u16 y) (u16-bytes x (t .0)) (u16-bytes y (t .1 .0))) (u16-bytes z (t .1 .1 .0))) .code
 ask-bytes (patch offset word) h t b = patch-bytes (h .vm .program) (h .stores) b offset word (t .0) .code
 ask-bytes (addConstant x text) h t b = constant-bytes (h .vm .program) (h .stores) b x text .code
 ask-bytes (addStruct text) h t b = struct-bytes (h .vm .program) (h .stores) b text .code

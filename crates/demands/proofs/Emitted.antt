@@ -102,7 +102,8 @@ module _ (c : Counts) (s : Stores) where
   constant-by (k.Scalar w) lent = grows-same _ _ _ (omega arith) (omega arith) refl refl
   constant-by (k.Boolean b) lent = grows-same _ _ _ (omega arith) (omega arith) refl refl
   constant-by k.String lent = grows-if (textRoom c s (length lent)) _ _ (λ _. grows-same _ _ _ (omega arith) (omega arith) (text-front (s .text) (c .text) lent) refl) (λ _. grows-refused 21)
-  constant-by k.FunctionReference lent = grows-if (textRoom c s (length lent)) _ _ (λ _. grows-same _ _ _ (omega arith) (omega arith) (text-front (s .text) (c .text) lent) refl) (λ _. grows-refused 21)
+  constant-by k.FunctionReference lent = grows-if (textRoom c s (length lent)) _ _
+      (λ _. grows-same _ _ _ (omega arith) (omega arith) (text-front (s .text) (c .text) lent) refl) (λ _. grows-refused 21)
 
   pub constant-grows : (x : Constant) (lent : List ℕ) → Grows c s (addConstantOf c x lent s)
   unfolding addConstantOf
@@ -133,7 +134,8 @@ module _ (c : Counts) (s : Stores) where
           text = omega arith;
           front = text-front (s .text) (c .text) name;
           functions = omega arith;
-          codes = λ j h. rw (words-other (s .functions) (c .functions) (pack (c .text) (length name)) (pack (otherTaken c (s .functions)) 0) (omega (arith, room-2 (s .functions))) j (λ (e : j ≡ c .functions). omega arith) .1) (omega arith);
+          codes = λ j h. rw (words-other (s .functions) (c .functions) (pack (c .text) (length name)) (pack (otherTaken c (s .functions)) 0)
+              (omega (arith, room-2 (s .functions))) j (λ (e : j ≡ c .functions). omega arith) .1) (omega arith);
         });
   }
 

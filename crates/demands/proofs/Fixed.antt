@@ -66,7 +66,8 @@ module _ (c : ℕ) (a b : List ℕ) (fits : 2 * c ≤ length a) (room : length a
   unfolding heapOf exactCells cellAt
   cells-fix p q e =
       let d : Cell = item (v.Boolean false) in
-      let same : (i : ℕ) → i < c → cellAt a i ≡ cellAt b i = (λ i h. let z : 0 + i ≡ i = omega arith in rw z at (sym (getD-cells c 0 a i d h) ∙ ap (λ (l : List Cell). getD l i d) e ∙ getD-cells c 0 b i d h)) in
+      let same : (i : ℕ) → i < c → cellAt a i ≡ cellAt b i = (λ i h. let z : 0 + i ≡ i = omega arith in rw z at
+      (sym (getD-cells c 0 a i d h) ∙ ap (λ (l : List Cell). getD l i d) e ∙ getD-cells c 0 b i d h)) in
       words-alike (λ i h. kinds i (exact-at c a p i h) (exact-at c b q i h) (same i h)) (λ i h. payloads i (exact-at c a p i h) (exact-at c b q i h) (same i h))
     where
       kinds : (i : ℕ) → exactCell (kindAt a i) (payloadAt a i) ≡ true → exactCell (kindAt b i) (payloadAt b i) ≡ true → cellAt a i ≡ cellAt b i → kindAt a i ≡ kindAt b i
@@ -114,7 +115,8 @@ unfolding machineIn
 counts-fix {m} {m'} {l} {l'} a b p e =
     let stack : m .stack ≡ m' .stack = sym (length-vals (m .stack) (l .stack)) ∙ ap (λ (x : Machine). length (x .stack)) e ∙ length-vals (m' .stack) (l' .stack) in
     let cells : m .cells ≡ m' .cells = sym (length-heap (m .cells) (l .cells)) ∙ ap (λ (x : Machine). length (x .heap)) e ∙ length-heap (m' .cells) (l' .cells) in
-    let frames : m .frames ≡ m' .frames = sym (counted (m .frames) (l .frames) (a .exact .frames) (a .frames)) ∙ ap (λ (x : Machine). suc (length (x .callers))) e ∙ counted (m' .frames) (l' .frames) (b .exact .frames) (b .frames) in
+    let frames : m .frames ≡ m' .frames = sym (counted (m .frames) (l .frames) (a .exact .frames) (a .frames))
+    ∙ ap (λ (x : Machine). suc (length (x .callers))) e ∙ counted (m' .frames) (l' .frames) (b .exact .frames) (b .frames) in
     let last : m .last ≡ m' .last = ap (λ (x : Machine). x .last) e in
     rw (p, stack, cells, frames, last)
 
@@ -125,7 +127,8 @@ lent-fix m {l} {l'} a b r e = record {
   stack = values-fix (m .stack) (l .stack) (l' .stack) (a .stack) (r .stack) (a .exact .stack) (b .exact .stack) (ap (λ (x : Machine). x .stack) e);
   cells = cells-fix (m .cells) (l .cells) (l' .cells) (a .cells) (r .cells) (a .exact .cells) (b .exact .cells) (ap (λ (x : Machine). x .heap) e);
   frames = record {
-    front = split (m .frames) (l .frames) (a .exact .frames) (a .frames) ∙ ap (λ (x : Machine). reverse (x .callers) ++ x .frame ∷ []) e ∙ sym (split (m .frames) (l' .frames) (b .exact .frames) (b .frames));
+    front = split (m .frames) (l .frames) (a .exact .frames) (a .frames) ∙ ap (λ (x : Machine). reverse (x .callers) ++ x .frame ∷ []) e
+        ∙ sym (split (m .frames) (l' .frames) (b .exact .frames) (b .frames));
     room = r .frames;
   };
   copy = r .copy;
@@ -136,7 +139,8 @@ pub record FixedBy (m m' : Vm) (l l' : Lent) : Type 0 where
   pub vm : m ≡ m'
   pub lent : LentAlike m l l'
 
-pub machine-fixes : {m m' : Vm} {l l' : Lent} (s s' : Stores) → runOrder m s l ≡ true → runOrder m' s' l' ≡ true → Rooms l l' → m .program ≡ m' .program → machineIn m l ≡ machineIn m' l' → FixedBy m m' l l'
+pub machine-fixes : {m m' : Vm} {l l' : Lent} (s s' : Stores) → runOrder m s l ≡ true → runOrder m' s' l' ≡ true → Rooms l l' → m .program ≡ m' .program
+    → machineIn m l ≡ machineIn m' l' → FixedBy m m' l l'
 machine-fixes {m} {m'} {l} {l'} s s' a b r p e =
     let x = standing m s l a in
     let y = standing m' s' l' b in

@@ -89,7 +89,8 @@ module _ (c : ℕ) {a b : List ℕ} (k : Alike (2 * c) a b) where
   stack-alike t H =
       rw (
         places-alike a b (k .room) 2,
-        every-alike c 0 (λ i. exactValue (kindAt a i) (payloadAt a i) && placedBelow t H (length H) (valueAt a i)) (λ i. exactValue (kindAt b i) (payloadAt b i) && placedBelow t H (length H) (valueAt b i))
+        every-alike c 0 (λ i. exactValue (kindAt a i) (payloadAt a i) && placedBelow t H (length H) (valueAt a i))
+            (λ i. exactValue (kindAt b i) (payloadAt b i) && placedBelow t H (length H) (valueAt b i))
             (λ i h. rw (kind-alike i (omega arith), payload-alike i (omega arith), value-alike i (omega arith))),
       )
 

@@ -108,7 +108,8 @@ module _ {r : Bool} {h d : Held} (a : AlikeHeld r h d) where
         counts = rw (q, q');
         program = rw (q, q') (l .program n i q);
         stores = l .rooms;
-        machine = rw (q, q') (later-alike (sane a 0) (beside-sane a 0) (text-begins h n (x .stores) (g .grown n i q)) (text-begins d n (x' .stores) (g' .grown n i q')) (unfold worldOf st.worldIn in refl) (unfold worldOf st.worldIn in refl) (a .machine));
+        machine = rw (q, q') (later-alike (sane a 0) (beside-sane a 0) (text-begins h n (x .stores) (g .grown n i q))
+            (text-begins d n (x' .stores) (g' .grown n i q')) (unfold worldOf st.worldIn in refl) (unfold worldOf st.worldIn in refl) (a .machine));
         stack = a .stack;
         frames = a .frames;
         copy = a .copy;
@@ -122,7 +123,8 @@ module _ {r : Bool} {h d : Held} (a : AlikeHeld r h d) where
   abbrev Line : Ask → Type 0
   Line q = AlikeCall r (ask q) (done q h .answer) (done q h .held) (done q d .answer) (done q d .held)
 
-  emits-line : (q : Ask) {ws : List ℕ} (x x' : Res) → Typed (jobOf q) → jobOf q ≡ writes ws → done q h ≡ emits h x → done q d ≡ emits d x' → AlikeRes x x' → Grows c (h .stores) x → Grows (d .vm .program) (d .stores) x' → Line q
+  emits-line : (q : Ask) {ws : List ℕ} (x x' : Res) → Typed (jobOf q) → jobOf q ≡ writes ws → done q h ≡ emits h x → done q d ≡ emits d x' → AlikeRes x x'
+      → Grows c (h .stores) x → Grows (d .vm .program) (d .stores) x' → Line q
   unfolding says
   emits-line q x x' b e one other l g g' = record {
     says = rw (e, one, other) (unfold emits saidIn in rw (l .answer));
@@ -138,9 +140,11 @@ module _ {r : Bool} {h d : Held} (a : AlikeHeld r h d) where
   unstarted : (fs fs' : List Frame) → h .lent .frames ≡ fs → d .lent .frames ≡ fs' → AlikeHeld r (with-frames h fs) (with-frames d fs')
   unstarted fs fs' p q = rw (← p, ← q) a
 
-  starts-by : (q : Ask) {i : List ℕ} → jobOf q ≡ makes i → length (d .lent .cells) ≡ length (h .lent .cells) → (x : Loaded) (t t' : Stores) → AlikeLoaded x x t t' → (fs fs' : List Frame) → h .lent .frames ≡ fs → d .lent .frames ≡ fs'
+  starts-by : (q : Ask) {i : List ℕ} → jobOf q ≡ makes i → length (d .lent .cells) ≡ length (h .lent .cells) → (x : Loaded) (t t' : Stores)
+      → AlikeLoaded x x t t' → (fs fs' : List Frame) → h .lent .frames ≡ fs → d .lent .frames ≡ fs'
       → Fine (starts h (startWith x t (h .stores) fs) .held) → Fine (starts d (startWith x t' (d .stores) fs') .held)
-      → AlikeCall r (ask q) (starts h (startWith x t (h .stores) fs) .answer) (starts h (startWith x t (h .stores) fs) .held) (starts d (startWith x t' (d .stores) fs') .answer) (starts d (startWith x t' (d .stores) fs') .held)
+      → AlikeCall r (ask q) (starts h (startWith x t (h .stores) fs) .answer) (starts h (startWith x t (h .stores) fs) .held)
+      (starts d (startWith x t' (d .stores) fs') .answer) (starts d (startWith x t' (d .stores) fs') .held)
   unfolding starts startWith fresh says saidIn
   starts-by k e long (ld.Done n) t t' l [] [] p q o o' = record { says = rw e; held = unstarted [] [] p q }
   starts-by k e long (ld.Done n) t t' l [] (r ∷ rs) p q o o' = absurd (let z = frames-same _ _ p q in let y : ⊥ = omega arith in y)
@@ -151,7 +155,13 @@ module _ {r : Bool} {h d : Held} (a : AlikeHeld r h d) where
       counts = refl;
       program = l .program n refl;
       stores = l .rooms;
-      machine = unfold machineIn vals heapOf cellsFrom innermost callersIn worldOf st.worldIn in record { stack = none; last = nothing; frame = refl; callers = refl; free = rw (places-alike (d .lent .cells) (h .lent .cells) long 2) };
+      machine = unfold machineIn vals heapOf cellsFrom innermost callersIn worldOf st.worldIn in record {
+        stack = none;
+        last = nothing;
+        frame = refl;
+        callers = refl;
+        free = rw (places-alike (d .lent .cells) (h .lent .cells) long 2);
+      };
       stack = a .stack;
       frames = frames-same _ _ p q;
       copy = a .copy;
@@ -174,7 +184,8 @@ module _ {r : Bool} {h d : Held} (a : AlikeHeld r h d) where
 
   -- ---- entries that only look
 
-  looks-line : (q : Ask) (x y : Answer) → jobOf q ≡ looks → done q h ≡ seen h x → done q d ≡ seen d y → saidIn (worldIn h .text) (machineOf h .heap) x ≡ saidIn (worldIn d .text) (machineOf d .heap) y → Line q
+  looks-line : (q : Ask) (x y : Answer) → jobOf q ≡ looks → done q h ≡ seen h x → done q d ≡ seen d y
+      → saidIn (worldIn h .text) (machineOf h .heap) x ≡ saidIn (worldIn d .text) (machineOf d .heap) y → Line q
   unfolding says
   looks-line q x y e one other g = record { says = rw (e, one, other) (unfold seen in g); held = rw (one, other) (unfold seen in a) }
 
@@ -248,7 +259,8 @@ module _ {r : Bool} {h d : Held} (a : AlikeHeld r h d) where
   pub ask-said : (q : Ask) → Typed (jobOf q) → (isMakes (jobOf q) ≡ true → r ≡ true) → Line q
   unfolding done jobOf newMachineOf loadMachineOf addOpOf addOp1Of addOp2Of addOp3Of saidIn
   ask-said new b n = starts-line new refl (a .cells (n refl)) (new-alike (h .stores) (d .stores) (a .stores)) (left new h (a .fine) b) (left new d (a .beside) b)
-  ask-said (load image) b n = starts-line (load image) refl (a .cells (n refl)) (load-alike (h .stores) (d .stores) (a .stores) image b) (left (load image) h (a .fine) b) (left (load image) d (a .beside) b)
+  ask-said (load image) b n = starts-line (load image) refl (a .cells (n refl)) (load-alike (h .stores) (d .stores) (a .stores) image b)
+      (left (load image) h (a .fine) b) (left (load image) d (a .beside) b)
   ask-said (addOp op place) b n = emits-line _ _ _ b refl refl refl (rw (a .counts) (emit-alike one _ _ _)) (emit-grows _ _ _ _ _ (one .ok)) (emit-grows _ _ _ _ _ (a .beside .order .program))
   ask-said (addOp1 op x place) b n = emits-line _ _ _ b refl refl refl (rw (a .counts) (emit-alike one _ _ _)) (emit-grows _ _ _ _ _ (one .ok)) (emit-grows _ _ _ _ _ (a .beside .order .program))
   ask-said (addOp2 op x y place) b n = emits-line _ _ _ b refl refl refl (rw (a .counts) (emit-alike one _ _ _)) (emit-grows _ _ _ _ _ (one .ok)) (emit-grows _ _ _ _ _ (a .beside .order .program))

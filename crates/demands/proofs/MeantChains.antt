@@ -21,7 +21,8 @@ use Rattle.demands.proofs.Bytes.{fine-kept}
 use Rattle.demands.proofs.MeantRuns.{AlikeCall, same-world, run-said}
 use Rattle.demands.proofs.MeantAsks.{ask-said}
 
-call-alike : {r : Bool} (c : Call) {h d h' d' : Held} {x y : Answer} → AlikeHeld r h d → (anew (c ∷ []) ≡ true → r ≡ true) → AllTyped (c ∷ []) → After c h x h' → After c d y d' → AlikeCall r c x h' y d'
+call-alike : {r : Bool} (c : Call) {h d h' d' : Held} {x y : Answer} → AlikeHeld r h d → (anew (c ∷ []) ≡ true → r ≡ true) → AllTyped (c ∷ []) → After c h x h'
+    → After c d y d' → AlikeCall r c x h' y d'
 unfolding anew AllTyped
 call-alike (run u) {x = x} {y = y} a n t p q = run-said a u (fine-kept (run u) x t p (a .fine)) (fine-kept (run u) y t q (a .beside)) p q
 call-alike (ask i) a n t p q = rw (p, q) at (ask-said a i (t .0) (λ e. n (rw e)))
@@ -45,7 +46,8 @@ anew-rest (ask q) cs e = rest (isMakes (jobOf q)) (anew cs) e
     rest false z e = e
 
 -- whatever calls come
-pub chain-alike : {r : Bool} {cs : List Call} {h d e f : Held} {xs ys : List Answer} → AlikeHeld r h d → (anew cs ≡ true → r ≡ true) → AllTyped cs → (p : Chain cs h xs e) (q : Chain cs d ys f) → AlikeChains r p q
+pub chain-alike : {r : Bool} {cs : List Call} {h d e f : Held} {xs ys : List Answer} → AlikeHeld r h d → (anew cs ≡ true → r ≡ true) → AllTyped cs
+    → (p : Chain cs h xs e) (q : Chain cs d ys f) → AlikeChains r p q
 unfolding said
 chain-alike a n t none none = record { says = refl; held = a }
 chain-alike a n t (more {c = c} {cs = cs} p ps) (more q qs) =

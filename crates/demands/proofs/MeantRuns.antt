@@ -104,7 +104,8 @@ module _ {r : Bool} {h d : Held} (a : AlikeHeld r h d) where
   constants-same =
       let g = good-of c (h .stores) (one-program .ok) in
       let g' = good-of c (d .stores) (one-program .ok') in
-      rw (a .counts) (constants-mean c (h .stores .text) (d .stores .text) (h .stores .constants) (d .stores .constants) (g .text) (g' .text) (g .constants) (g' .constants) (ap (λ (p : Program). p .constants) (one-program .same)))
+      rw (a .counts) (constants-mean c (h .stores .text) (d .stores .text) (h .stores .constants) (d .stores .constants) (g .text) (g' .text) (g .constants)
+      (g' .constants) (ap (λ (p : Program). p .constants) (one-program .same)))
 
   pub sane : (u : ℕ) → Sane (worldIn h) (begin (machineOf h) u)
   sane u = order-sane (h .vm) (h .stores) (h .lent) (a .fine .order .machine) u
@@ -114,7 +115,12 @@ module _ {r : Bool} {h d : Held} (a : AlikeHeld r h d) where
 
   short-same : tooShort (d .lent) ≡ tooShort (h .lent)
   unfolding tooShort frameRoom
-  short-same = rw (places-alike (d .lent .copy) (h .lent .copy) (a .copy) 2, places-alike (d .lent .stack) (h .lent .stack) (a .stack) 2, places-alike (d .lent .backtrace) (h .lent .backtrace) (a .backtrace) 2, a .frames)
+  short-same = rw (
+    places-alike (d .lent .copy) (h .lent .copy) (a .copy) 2,
+    places-alike (d .lent .stack) (h .lent .stack) (a .stack) 2,
+    places-alike (d .lent .backtrace) (h .lent .backtrace) (a .backtrace) 2,
+    a .frames,
+  )
 
   both-run : (u : ℕ) → AlikeRan (worldIn h) (layoutOf d) (runOf (worldIn h) (machineOf h) u) (runOf (worldIn d) (machineOf d) u)
   both-run u =

@@ -97,7 +97,8 @@ module _ (m : Vm) (s : Stores) (u : ℕ) {l k l' k' : Lent} {x y : RunResult} (b
   leaves : Seen m s l x l' → Seen m s k y k' → FixedBy (vmAfter m x) (vmAfter m y) l' k'
   leaves (went a e o) (went b f d) =
       let z : ranAs (vmAfter m x) l' a ≡ ranAs (vmAfter m y) k' b = sym e ∙ same-answer ∙ f in
-      machine-fixes s s o d rooms (cc) (let w : _≡_ {A = Ran} (record { reply = a; machine = machineIn (vmAfter m x) l' }) (record { reply = b; machine = machineIn (vmAfter m y) k' }) = cc in ap (λ (t : Ran). t .machine) w)
+      machine-fixes s s o d rooms (cc) (let w : _≡_ {A = Ran} (record { reply = a; machine = machineIn (vmAfter m x) l' })
+      (record { reply = b; machine = machineIn (vmAfter m y) k' }) = cc in ap (λ (t : Ran). t .machine) w)
   leaves (went a e o) (stayed n f v g) = absurd (let c = same-answer in let z : _≡_ {A = ℕ} 0 1 = cc in let b : ⊥ = omega arith in b)
   leaves (stayed n e v g) (went b f d) = absurd (let c = same-answer in let z : _≡_ {A = ℕ} 0 1 = cc in let b : ⊥ = omega arith in b)
   leaves (stayed n e v g) (stayed i f w d) = record { vm = v ∙ sym w; lent = rw (v, g, d) before }

@@ -47,7 +47,8 @@ loaded-done (em.Done d n) c e f = f n (let z : d ≡ c = cc in rw z)
 loaded-done (em.Refused n) c e f = absurd (let z : _≡_ {A = ℕ} 0 1 = cc in let y : ⊥ = omega arith in y)
 
 fine-good : (p : Program) (s : Stores) → Sound p → (a b : Bool) → withinLimits p ≡ a → roomFor p s ≡ b → (c : Counts)
-    → (let x : LoadRes = if a then (if b then record { answer = ld.Done (countsFor p); stores = laid p s } else record { answer = ld.Refused 21; stores = s }) else record { answer = ld.Refused 22; stores = s } in
+    → (let x : LoadRes = if a then (if b then record { answer = ld.Done (countsFor p); stores = laid p s } else record { answer = ld.Refused 21; stores = s })
+    else record { answer = ld.Refused 22; stores = s } in
     x .answer ≡ ld.Done c → programOk c (x .stores) ≡ true)
 fine-good p s k true true l r c e = let z : countsFor p ≡ c = cc in rw (← z) (loaded-stands p s k l r .0)
 fine-good p s k true false l r c e = absurd (let z : _≡_ {A = ℕ} 0 1 = cc in let y : ⊥ = omega arith in y)

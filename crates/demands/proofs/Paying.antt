@@ -82,7 +82,8 @@ module _ (w : World) (s : State) where
 
   -- ---- none of these faults is 13
 
-  pop-free : (vs : List Value) {j j' : Value → List Value → Outcome} → ((x : Value) (r : List Value) → Free (j x r) (j' x r)) → Free (popping vs (λ n. faulted n s) j) (popping vs (λ n. faulted n s) j')
+  pop-free : (vs : List Value) {j j' : Value → List Value → Outcome} → ((x : Value) (r : List Value) → Free (j x r) (j' x r))
+      → Free (popping vs (λ n. faulted n s) j) (popping vs (λ n. faulted n s) j')
   unfolding popping faultNumber
   pop-free [] h = fails (λ e. omega arith)
   pop-free (x ∷ r) h = h x r
@@ -91,11 +92,13 @@ module _ (w : World) (s : State) where
   unfolding faultNumber
   wrong-kind x = fails (λ e. omega arith)
 
-  scalar-free : (vs : List Value) {j j' : Float → List Value → Outcome} → ((x : Float) (r : List Value) → Free (j x r) (j' x r)) → Free (poppingScalar vs (λ n. faulted n s) j) (poppingScalar vs (λ n. faulted n s) j')
+  scalar-free : (vs : List Value) {j j' : Float → List Value → Outcome} → ((x : Float) (r : List Value) → Free (j x r) (j' x r))
+      → Free (poppingScalar vs (λ n. faulted n s) j) (poppingScalar vs (λ n. faulted n s) j')
   unfolding poppingScalar
   scalar-free vs h = pop-free vs (λ x r. ifScalar-each Free x (λ y e. h y r) (wrong-kind x))
 
-  boolean-free : (vs : List Value) {j j' : Bool → List Value → Outcome} → ((x : Bool) (r : List Value) → Free (j x r) (j' x r)) → Free (poppingBoolean vs (λ n. faulted n s) j) (poppingBoolean vs (λ n. faulted n s) j')
+  boolean-free : (vs : List Value) {j j' : Bool → List Value → Outcome} → ((x : Bool) (r : List Value) → Free (j x r) (j' x r))
+      → Free (poppingBoolean vs (λ n. faulted n s) j) (poppingBoolean vs (λ n. faulted n s) j')
   unfolding poppingBoolean
   boolean-free vs h = pop-free vs (λ x r. ifBoolean-each Free x (λ y e. h y r) (wrong-kind x))
 
@@ -110,7 +113,8 @@ module _ (w : World) (s : State) where
 
   enter-free : (i n : ℕ) (r : List Value) → Free (enter w i n r s) (enter w i n r s)
   unfolding enter faultNumber
-  enter-free i n r = if-each Free (ltb (length r) n) (λ l. fails (λ e. omega arith)) (λ l. if-each Free (leb (w .frameRoom) (suc (length (s .callers)))) (λ q. fails (λ e. omega arith)) (λ q. goes refl))
+  enter-free i n r = if-each Free (ltb (length r) n) (λ l. fails (λ e. omega arith))
+      (λ l. if-each Free (leb (w .frameRoom) (suc (length (s .callers)))) (λ q. fails (λ e. omega arith)) (λ q. goes refl))
 
   named-free : (n : ℕ) (r : List Value) (x : Option ℕ) → Free (enterNamed w n r s x) (enterNamed w n r s x)
   unfolding enterNamed faultNumber

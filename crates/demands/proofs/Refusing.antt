@@ -118,7 +118,8 @@ module _ (h : Held) where
       ∷ [])
       (emits h (structFound (h .vm .program) name (h .stores) x))
   unfolding structFound structAdded
-  struct-says name none = stop-if (emits h) h _ (emit-refused 22) (stop-if (emits h) h _ (emit-refused 21) (pass-if (emits h) h (textRoom (h .vm .program) (h .stores) (length name)) (emit-refused 21) (emit-done _ _ _)))
+  struct-says name none = stop-if (emits h) h _ (emit-refused 22)
+      (stop-if (emits h) h _ (emit-refused 21) (pass-if (emits h) h (textRoom (h .vm .program) (h .stores) (length name)) (emit-refused 21) (emit-done _ _ _)))
   struct-says name (some i) = says-more (says-more (says-held (emit-done _ _ _)))
 
   -- ---- making a machine
@@ -217,7 +218,8 @@ module _ (h : Held) where
       let y : h .vm .program .text ≤ min (length (h .stores .text) / 1) 0xFFFF_FFFF = leb-true _ _ q in
       length-take-le n (drop o (h .stores .text)) (omega (arith, length-drop o (h .stores .text)))
 
-  bytes-says : (out : List ℕ) (o n : ℕ) → leb (o + n) (h .vm .program .text) ≡ true → textOk (h .vm .program) (h .stores .text) ≡ true → Says h (must (fitsOut out n) 17 ∷ []) (puts out (putOut (textAt (h .stores .text) o n) out))
+  bytes-says : (out : List ℕ) (o n : ℕ) → leb (o + n) (h .vm .program .text) ≡ true → textOk (h .vm .program) (h .stores .text) ≡ true
+      → Says h (must (fitsOut out n) 17 ∷ []) (puts out (putOut (textAt (h .stores .text) o n) out))
   bytes-says out o n e q = rw (text-length o n e q) at (out-says out (textAt (h .stores .text) o n))
 
   text-says : (out : List ℕ) (x : Value) → textOk (h .vm .program) (h .stores .text) ≡ true → readsText (h .vm) x ≡ true → Says h (textChecks out x) (puts out (textShown (h .stores .text) out x))

@@ -40,7 +40,8 @@ module _ (w a : List ℕ) (s : Stores) (l : Lent) (u : ℕ) (n : ℕ) (e : n ≡
 -- ---- making a machine
 
 module _ (w a : List ℕ) (s : Stores) (fs : List Frame) (res : StartRes) (n : ℕ) (e : n ≡ outRefusal w 1 a) where
-  pub start-through : n ≡ 0 → (x : Started) (s' : Stores) (fs' : List Frame) → record { answer = x; stores = s'; frames = fs' } ≡ res → (c : Coded) → c ≡ startedCoded x w a → record { coded = c; stores = s'; frames = fs' } ≡ startThrough w a s fs res
+  pub start-through : n ≡ 0 → (x : Started) (s' : Stores) (fs' : List Frame) → record { answer = x; stores = s'; frames = fs' } ≡ res → (c : Coded)
+      → c ≡ startedCoded x w a → record { coded = c; stores = s'; frames = fs' } ≡ startThrough w a s fs res
   unfolding startThrough
   start-through z x s' fs' er c ec = rw (← er, ec, eq-eqb (outRefusal w 1 a) 0 (sym e ∙ z))
 
@@ -51,7 +52,8 @@ module _ (w a : List ℕ) (s : Stores) (fs : List Frame) (res : StartRes) (n : �
 -- ---- an entry that tells a number
 
 module _ (w a out : List ℕ) (rule : Vm → OutRes) (n : ℕ) {why : ℕ} (e : n ≡ why) where
-  pub out-through : n ≡ 0 → (m : Vm) → m ≡ vmIn w → (x : Told) (out' : List ℕ) → record { answer = x; out = out' } ≡ rule m → (c : Coded) → c ≡ toldCoded x w a → record { coded = c; out = out' } ≡ outThrough why w a out rule
+  pub out-through : n ≡ 0 → (m : Vm) → m ≡ vmIn w → (x : Told) (out' : List ℕ) → record { answer = x; out = out' } ≡ rule m → (c : Coded) → c ≡ toldCoded x w a
+      → record { coded = c; out = out' } ≡ outThrough why w a out rule
   unfolding outThrough
   out-through z m em x out' er c ec = rw (← em, ← er, ec, eq-eqb why 0 (sym e ∙ z))
 
@@ -62,7 +64,8 @@ module _ (w a out : List ℕ) (rule : Vm → OutRes) (n : ℕ) {why : ℕ} (e : 
 -- ---- emission
 
 module _ (w a : List ℕ) (n : ℕ) (e : n ≡ slicesRefusal w 1 a) (s : Stores) (rule : Counts → Res) where
-  pub emit-through : n ≡ 0 → {m : Vm} → m ≡ vmIn w → {x : Emitted} {s' : Stores} → record { answer = x; stores = s' } ≡ rule (m .program) → {c : Coded} → c ≡ emittedCoded x w a → record { coded = c; stores = s' } ≡ emitThrough w a s rule
+  pub emit-through : n ≡ 0 → {m : Vm} → m ≡ vmIn w → {x : Emitted} {s' : Stores} → record { answer = x; stores = s' } ≡ rule (m .program) → {c : Coded}
+      → c ≡ emittedCoded x w a → record { coded = c; stores = s' } ≡ emitThrough w a s rule
   unfolding emitThrough
   emit-through z em er ec = rw (← em, ← er, ec, eq-eqb (slicesRefusal w 1 a) 0 (sym e ∙ z))
 
@@ -73,7 +76,8 @@ module _ (w a : List ℕ) (n : ℕ) (e : n ≡ slicesRefusal w 1 a) (s : Stores)
 -- ---- an entry that changes no store but the record and the answer: its rule of the record's machine, coded
 
 module _ (w a : List ℕ) (n : ℕ) {why : ℕ} (e : n ≡ why) where
-  pub is-through : n ≡ 0 → {m : Vm} → m ≡ vmIn w → {A : Type 0} (rule : Vm → A) (coded : A → List ℕ → List ℕ → Coded) → {x : A} → x ≡ rule m → {c : Coded} → c ≡ coded x w a → c ≡ through why w a (coded (rule (vmIn w)) w a)
+  pub is-through : n ≡ 0 → {m : Vm} → m ≡ vmIn w → {A : Type 0} (rule : Vm → A) (coded : A → List ℕ → List ℕ → Coded) → {x : A} → x ≡ rule m → {c : Coded}
+      → c ≡ coded x w a → c ≡ through why w a (coded (rule (vmIn w)) w a)
   unfolding through
   is-through z em rule coded er ec = rw (ec, er, em, eq-eqb why 0 (sym e ∙ z))
 

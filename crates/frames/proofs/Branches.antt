@@ -33,11 +33,17 @@ module _ {M : Type 1} {𝓤 : URA M} {H : Heap 𝓤} {A : Atoms 𝓤} {K : Type 
   returns-if t 𝓣 {E} {Kf} {b = b} {rest} o on off =
       let P : SProp 𝓤 = Wp 𝓤 H (𝓣 .C) (𝓣 .Λ) E rest (atReturn 𝓤 H E Kf) in
       first t $ branches t o
-      (λ h. record { prf = via 𝓤 (Wp 𝓤 H (𝓣 .C) (𝓣 .Λ) E b (atReturn 𝓤 H E Kf)) (on h .prf) (Wp-mono 𝓤 H (W .laws) 𝓣 E b (atReturn 𝓤 H E Kf) (afterSeq 𝓤 H P (atReturn 𝓤 H E Kf)) (only-returns 𝓤 H E Kf P)) })
+      (λ h. record {
+        prf = via 𝓤 (Wp 𝓤 H (𝓣 .C) (𝓣 .Λ) E b (atReturn 𝓤 H E Kf)) (on h .prf)
+            (Wp-mono 𝓤 H (W .laws) 𝓣 E b (atReturn 𝓤 H E Kf) (afterSeq 𝓤 H P (atReturn 𝓤 H E Kf)) (only-returns 𝓤 H E Kf P));
+      })
       (λ h. skips t $ record { prf = off h .prf })
 
   pub returns-match : K → (𝓣 : Tables 𝓤 H) {E : Env 𝓤 H} {Kf : Val → SProp 𝓤} {o : Operand} {w : Width} {x : ℕ} {arms : Arms} {b rest : Body} → Opd K W Γ E o (vint w x) → picked arms x ≡ some b
       → Seq K W Γ (runs (𝓣 .C) (𝓣 .Λ) E b (atRet E Kf)) → Seq K W Γ (runs (𝓣 .C) (𝓣 .Λ) E (seq (switch o arms) rest) (atRet E Kf))
   returns-match t 𝓣 {E} {Kf} {b = b} {rest} o e k =
       let P : SProp 𝓤 = Wp 𝓤 H (𝓣 .C) (𝓣 .Λ) E rest (atReturn 𝓤 H E Kf) in
-      first t $ matches t o e $ record { prf = via 𝓤 (Wp 𝓤 H (𝓣 .C) (𝓣 .Λ) E b (atReturn 𝓤 H E Kf)) (k .prf) (Wp-mono 𝓤 H (W .laws) 𝓣 E b (atReturn 𝓤 H E Kf) (afterSeq 𝓤 H P (atReturn 𝓤 H E Kf)) (only-returns 𝓤 H E Kf P)) }
+      first t $ matches t o e $ record {
+        prf = via 𝓤 (Wp 𝓤 H (𝓣 .C) (𝓣 .Λ) E b (atReturn 𝓤 H E Kf)) (k .prf)
+            (Wp-mono 𝓤 H (W .laws) 𝓣 E b (atReturn 𝓤 H E Kf) (afterSeq 𝓤 H P (atReturn 𝓤 H E Kf)) (only-returns 𝓤 H E Kf P));
+      }

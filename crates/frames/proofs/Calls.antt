@@ -47,7 +47,8 @@ module _ {M : Type 1} (𝓤 : URA M) (H : Heap 𝓤) (A : Atoms 𝓤) (xs : List
 -- the operands are read, in any way, beside what is passed
 module _ {M : Type 1} (𝓤 : URA M) (H : Heap 𝓤) (A : Atoms 𝓤) (W : Given 𝓤 H A) (xs : List Arg) (c : Contract 𝓤) (Q : RattleType) (qval : Q .Denot → Val) (φ : Q .Denot → Lists xs → Type 0)
     (tells : Tells Q (Is Q) (λ r. qval r ∷ [])) (to : Names xs → c .Ghost) (goes : Goes 𝓤 H A xs c Q to φ) (comes : Comes 𝓤 H A xs c Q to φ) (made : Made 𝓤 H A xs) (fits : Fits xs) where
-  pub calls-with : {K : Type 0} {Γ : List (Item 𝓤)} {E : Env 𝓤 H} {C : Calls 𝓤 H} {Λ : Loops 𝓤 H} {q : Post 𝓤 H} {d : Place} {f : Name} → K → FmC 𝓤 H (W .laws) C → Triple 𝓤 (C f) c → {os : List Operand} {rest : Body}
+  pub calls-with : {K : Type 0} {Γ : List (Item 𝓤)} {E : Env 𝓤 H} {C : Calls 𝓤 H} {Λ : Loops 𝓤 H} {q : Post 𝓤 H} {d : Place} {f : Name} → K
+      → FmC 𝓤 H (W .laws) C → Triple 𝓤 (C f) c → {os : List Operand} {rest : Body}
       → ((ns : Names xs) → Opds K W (raw (c .pre (to ns)) ∷ ‵ (Kept xs ns) ∷ Γ) E os (c .args (to ns)))
       → ((r : Q .Denot) (zs : Lists xs) → φ r zs → Lens xs zs → Is Q r (qval r ∷ []) → Seq K W (‵ (Holds (after xs zs)) ∷ Γ) (lands C Λ E d (qval r) rest q))
       → Seq K W (‵ (Holds xs) ∷ Γ) (runs C Λ E (seq (call f os d) rest) q)
@@ -60,19 +61,28 @@ module _ {M : Type 1} (𝓤 : URA M) (H : Heap 𝓤) (A : Atoms 𝓤) (W : Given
       subst (λ (u : Val). Seq K W (‵ (Holds (after xs zs)) ∷ Γ) (lands C Λ E d u rest q)) (sym (ap only (tells r (w ∷ []) is))) (k r zs said lens (subst (Is Q r) (tells r (w ∷ []) is) is))))))))))
 
 -- the operands are read from the locals
-pub record Rule {M : Type 1} (𝓤 : URA M) (H : Heap 𝓤) (A : Atoms 𝓤) (W : Given 𝓤 H A) (xs : List Arg) (c : Contract 𝓤) (Q : RattleType) (qval : Q .Denot → Val) (φ : Q .Denot → Lists xs → Type 0) : Type 2 where
-  pub calls : {K : Type 0} {L : List Local} {ls : Blocks L} {vs : List (Option Val)} {Γ : List (Item 𝓤)} {C : Calls 𝓤 H} {Λ : Loops 𝓤 H} {q : Post 𝓤 H} {d : Place} {f : Name} → K → FmC 𝓤 H (W .laws) C → Triple 𝓤 (C f) c → {os : List Operand} {rest : Body}
+pub record Rule {M : Type 1} (𝓤 : URA M) (H : Heap 𝓤) (A : Atoms 𝓤) (W : Given 𝓤 H A) (xs : List Arg) (c : Contract 𝓤) (Q : RattleType) (qval : Q .Denot → Val)
+    (φ : Q .Denot → Lists xs → Type 0) : Type 2 where
+  pub calls : {K : Type 0} {L : List Local} {ls : Blocks L} {vs : List (Option Val)} {Γ : List
+      (Item 𝓤)} {C : Calls 𝓤 H} {Λ : Loops 𝓤 H} {q : Post 𝓤 H} {d : Place} {f : Name} → K → FmC 𝓤 H (W .laws) C → Triple 𝓤 (C f) c
+      → {os : List Operand} {rest : Body}
       → operands L vs os ≡ some (values xs)
       → ((r : Q .Denot) (zs : Lists xs) → φ r zs → Lens xs zs → Is Q r (qval r ∷ []) → Seq K W (‵ (Locals L ls vs) ∷ ‵ (Holds (after xs zs)) ∷ Γ) (lands C Λ (envAt L ls) d (qval r) rest q))
       → Seq K W (‵ (Locals L ls vs) ∷ ‵ (Holds xs) ∷ Γ) (runs C Λ (envAt L ls) (seq (call f os d) rest) q)
 
 module _ {M : Type 1} {𝓤 : URA M} {H : Heap 𝓤} {A : Atoms 𝓤} {K : Type 0} {W : Given 𝓤 H A} {Γ : List (Item 𝓤)} {E : Env 𝓤 H} where
   behind : {i j l : Item 𝓤} {os : List Operand} {us : List Val} → Opds K W (l ∷ i ∷ j ∷ Γ) E os us → Opds K W (i ∷ j ∷ l ∷ Γ) E os us
-  behind {i} {j} {l} o = record { go = λ Kt h. via 𝓤 (⋆ 𝓤 H A (l ∷ i ∷ j ∷ Γ)) (sel⊢ 𝓤 H A (2 ∷ []) (i ∷ j ∷ l ∷ Γ)) (o .go Kt (via 𝓤 (⋆ 𝓤 H A (i ∷ j ∷ l ∷ Γ)) (sel⊢ 𝓤 H A (1 ∷ 1 ∷ []) (l ∷ i ∷ j ∷ Γ)) h)) }
+  behind {i} {j} {l} o = record {
+    go = λ Kt h. via 𝓤 (⋆ 𝓤 H A (l ∷ i ∷ j ∷ Γ)) (sel⊢ 𝓤 H A (2 ∷ []) (i ∷ j ∷ l ∷ Γ))
+        (o .go Kt (via 𝓤 (⋆ 𝓤 H A (i ∷ j ∷ l ∷ Γ)) (sel⊢ 𝓤 H A (1 ∷ 1 ∷ []) (l ∷ i ∷ j ∷ Γ)) h));
+  }
 
 module _ {M : Type 1} (𝓤 : URA M) (H : Heap 𝓤) (A : Atoms 𝓤) (W : Given 𝓤 H A) (xs : List Arg) (c : Contract 𝓤) (Q : RattleType) (qval : Q .Denot → Val) (φ : Q .Denot → Lists xs → Type 0)
-    (tells : Tells Q (Is Q) (λ r. qval r ∷ [])) (to : Names xs → c .Ghost) (same : (ns : Names xs) → values xs ≡ c .args (to ns)) (goes : Goes 𝓤 H A xs c Q to φ) (comes : Comes 𝓤 H A xs c Q to φ) (made : Made 𝓤 H A xs) (fits : Fits xs) where
-  called : {K : Type 0} {L : List Local} {ls : Blocks L} {vs : List (Option Val)} {Γ : List (Item 𝓤)} {C : Calls 𝓤 H} {Λ : Loops 𝓤 H} {q : Post 𝓤 H} {d : Place} {f : Name} → K → FmC 𝓤 H (W .laws) C → Triple 𝓤 (C f) c → {os : List Operand} {rest : Body}
+    (tells : Tells Q (Is Q) (λ r. qval r ∷ [])) (to : Names xs → c .Ghost) (same : (ns : Names xs) → values xs ≡ c .args (to ns))
+    (goes : Goes 𝓤 H A xs c Q to φ) (comes : Comes 𝓤 H A xs c Q to φ) (made : Made 𝓤 H A xs) (fits : Fits xs) where
+  called : {K : Type 0} {L : List Local} {ls : Blocks L} {vs : List (Option Val)} {Γ : List
+      (Item 𝓤)} {C : Calls 𝓤 H} {Λ : Loops 𝓤 H} {q : Post 𝓤 H} {d : Place} {f : Name} → K → FmC 𝓤 H (W .laws) C → Triple 𝓤 (C f) c
+      → {os : List Operand} {rest : Body}
       → operands L vs os ≡ some (values xs)
       → ((r : Q .Denot) (zs : Lists xs) → φ r zs → Lens xs zs → Is Q r (qval r ∷ []) → Seq K W (‵ (Locals L ls vs) ∷ ‵ (Holds (after xs zs)) ∷ Γ) (lands C Λ (envAt L ls) d (qval r) rest q))
       → Seq K W (‵ (Locals L ls vs) ∷ ‵ (Holds xs) ∷ Γ) (runs C Λ (envAt L ls) (seq (call f os d) rest) q)

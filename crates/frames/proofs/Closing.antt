@@ -95,10 +95,13 @@ module _ {n : ℕ} where
     abbrev pub Known : (κs : Lfts n) → Passed κs → Type 0
     Known κs a = Are (typesAt (slots ks) κs) (Ises (typesAt (slots ks) κs)) a (valss (typesAt (slots ks) κs) (spells ks κs) a)
 
-    pub closed : {M : Type 1} (𝓤 : URA M) (H : Heap 𝓤) (𝓜 : Model 𝓤 H) (𝓖 : GhostRules 𝓤 H) (𝓡 : Running 𝓤 H 𝓜) (γ : Env) (k : Name) (e : Fn) → Closed 𝓤 H (tables 𝓤 H 𝓜 𝓡 γ .C) (tables 𝓤 H 𝓜 𝓡 γ .Λ) k e → (c : Clauses 𝓤 end)
+    pub closed : {M : Type 1} (𝓤 : URA M) (H : Heap 𝓤) (𝓜 : Model 𝓤 H) (𝓖 : GhostRules 𝓤 H) (𝓡 : Running 𝓤 H 𝓜) (γ : Env) (k : Name) (e : Fn)
+        → Closed 𝓤 H (tables 𝓤 H 𝓜 𝓡 γ .C) (tables 𝓤 H 𝓜 𝓡 γ .Λ) k e → (c : Clauses 𝓤 end)
         → ((κs : Lfts n) (qs : Shares n) (a : Passed κs) (g : c κs a .ghost) → Known κs a
         → ent 𝓤 (sep 𝓤 (onEntry 𝓤 H (𝓖 .A) sig κs qs a (valss (typesAt (slots ks) κs) (spells ks κs) a)) (c κs a .requires g))
-        (WpFn 𝓤 H (tablesOf 𝓤 H 𝓜 (tables 𝓤 H 𝓜 𝓡 γ) .C) (tablesOf 𝓤 H 𝓜 (tables 𝓤 H 𝓜 𝓡 γ) .Λ) e (flat (typesAt (slots ks) κs) (valss (typesAt (slots ks) κs) (spells ks κs) a)) (walkOf 𝓤 H (𝓖 .A) end (stays ks) c .post ((κs, qs, tt, a, valss (typesAt (slots ks) κs) (spells ks κs) a), g))))
+        (WpFn 𝓤 H (tablesOf 𝓤 H 𝓜 (tables 𝓤 H 𝓜 𝓡 γ) .C) (tablesOf 𝓤 H 𝓜 (tables 𝓤 H 𝓜 𝓡 γ) .Λ) e
+        (flat (typesAt (slots ks) κs) (valss (typesAt (slots ks) κs) (spells ks κs) a))
+        (walkOf 𝓤 H (𝓖 .A) end (stays ks) c .post ((κs, qs, tt, a, valss (typesAt (slots ks) κs) (spells ks κs) a), g))))
         → Triple 𝓤 (tables 𝓤 H 𝓜 𝓡 γ .C k) (tripleOf 𝓤 H (𝓖 .A) sig (closing 𝓤 H (𝓖 .A) end c))
     unfolding tablesOf
     closed 𝓤 H 𝓜 𝓖 𝓡 γ k e cl c walk =

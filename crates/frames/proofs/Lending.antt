@@ -53,7 +53,8 @@ Each (x ∷ xs) (u ∷ us) = Each xs us
 
 module _ {M : Type 1} {𝓤 : URA M} {H : Heap 𝓤} {A : Atoms 𝓤} {K : Type 0} {W : Given 𝓤 H A} {G : Goal 𝓤 H} (τ : Ty) (h : Home) (bs : List Local) (ws : List (Option Val)) where
   cells-apart : K → (fs : List Local) (us : List (Option Val)) → Each fs us → (v : Val) (ls : Blocks (fs ++ local τ h ∷ bs)) {Γ : List (Item 𝓤)}
-      → Seq K W (‵ (cells fs (front fs (local τ h ∷ bs) ls) us) ∷ ‵ (fat fullShare τ (rear fs (local τ h ∷ bs) ls .0) 0 v) ∷ ‵ (fdies τ (rear fs (local τ h ∷ bs) ls .0)) ∷ ‵ (cells bs (rear fs (local τ h ∷ bs) ls .1) ws) ∷ Γ) G
+      → Seq K W (‵ (cells fs (front fs (local τ h ∷ bs) ls) us) ∷ ‵ (fat fullShare τ (rear fs (local τ h ∷ bs) ls .0) 0 v)
+      ∷ ‵ (fdies τ (rear fs (local τ h ∷ bs) ls .0)) ∷ ‵ (cells bs (rear fs (local τ h ∷ bs) ls .1) ws) ∷ Γ) G
       → Seq K W (‵ (cells (fs ++ local τ h ∷ bs) ls (us ++ some v ∷ ws)) ∷ Γ) G
   unfolding cells
   cells-apart t [] [] e v ls k = fsplit t $ fsplit t $ nothing t $ k
@@ -63,7 +64,8 @@ module _ {M : Type 1} {𝓤 : URA M} {H : Heap 𝓤} {A : Atoms 𝓤} {K : Type 
 
   cells-whole : K → (fs : List Local) (us : List (Option Val)) → Each fs us → (v : Val) (ls : Blocks (fs ++ local τ h ∷ bs)) {Γ : List (Item 𝓤)}
       → Seq K W (‵ (cells (fs ++ local τ h ∷ bs) ls (us ++ some v ∷ ws)) ∷ Γ) G
-      → Seq K W (‵ (cells fs (front fs (local τ h ∷ bs) ls) us) ∷ ‵ (fat fullShare τ (rear fs (local τ h ∷ bs) ls .0) 0 v) ∷ ‵ (fdies τ (rear fs (local τ h ∷ bs) ls .0)) ∷ ‵ (cells bs (rear fs (local τ h ∷ bs) ls .1) ws) ∷ Γ) G
+      → Seq K W (‵ (cells fs (front fs (local τ h ∷ bs) ls) us) ∷ ‵ (fat fullShare τ (rear fs (local τ h ∷ bs) ls .0) 0 v)
+      ∷ ‵ (fdies τ (rear fs (local τ h ∷ bs) ls .0)) ∷ ‵ (cells bs (rear fs (local τ h ∷ bs) ls .1) ws) ∷ Γ) G
   unfolding cells
   cells-whole t [] [] e v ls k = drop t $ fjoin t $ fjoin t $ k
   cells-whole t [] (u ∷ us) e v ls k = absurd e
@@ -71,7 +73,8 @@ module _ {M : Type 1} {𝓤 : URA M} {H : Heap 𝓤} {A : Atoms 𝓤} {K : Type 
   cells-whole t (local σ g ∷ fs) (u ∷ us) e v ls k = fsplit t $ move t (1 ∷ 2 ∷ 3 ∷ 4 ∷ []) $ cells-whole t fs us e v (ls .1) (move t (1 ∷ []) $ fjoin t $ k)
 
   pub apart : K → (fs : List Local) (us : List (Option Val)) → Each fs us → (v : Val) (ls : Blocks (fs ++ local τ h ∷ bs)) {Γ : List (Item 𝓤)}
-      → Seq K W (‵ (Locals fs (front fs (local τ h ∷ bs) ls) us) ∷ ‵ (fat fullShare τ (rear fs (local τ h ∷ bs) ls .0) 0 v) ∷ ‵ (fdies τ (rear fs (local τ h ∷ bs) ls .0)) ∷ ‵ (Locals bs (rear fs (local τ h ∷ bs) ls .1) ws) ∷ Γ) G
+      → Seq K W (‵ (Locals fs (front fs (local τ h ∷ bs) ls) us) ∷ ‵ (fat fullShare τ (rear fs (local τ h ∷ bs) ls .0) 0 v)
+      ∷ ‵ (fdies τ (rear fs (local τ h ∷ bs) ls .0)) ∷ ‵ (Locals bs (rear fs (local τ h ∷ bs) ls .1) ws) ∷ Γ) G
       → Seq K W (‵ (Locals (fs ++ local τ h ∷ bs) ls (us ++ some v ∷ ws)) ∷ Γ) G
   apart t fs us e v ls k = fpick t (λ _. cells-apart t fs us e v ls
       (fpack t (Of fs (front fs (local τ h ∷ bs) ls) us) (λ _. cells fs (front fs (local τ h ∷ bs) ls) us) these $ move t (3 ∷ []) $
@@ -79,7 +82,8 @@ module _ {M : Type 1} {𝓤 : URA M} {H : Heap 𝓤} {A : Atoms 𝓤} {K : Type 
 
   pub whole : K → (fs : List Local) (us : List (Option Val)) → Each fs us → (v : Val) (ls : Blocks (fs ++ local τ h ∷ bs)) {Γ : List (Item 𝓤)}
       → Seq K W (‵ (Locals (fs ++ local τ h ∷ bs) ls (us ++ some v ∷ ws)) ∷ Γ) G
-      → Seq K W (‵ (Locals fs (front fs (local τ h ∷ bs) ls) us) ∷ ‵ (fat fullShare τ (rear fs (local τ h ∷ bs) ls .0) 0 v) ∷ ‵ (fdies τ (rear fs (local τ h ∷ bs) ls .0)) ∷ ‵ (Locals bs (rear fs (local τ h ∷ bs) ls .1) ws) ∷ Γ) G
+      → Seq K W (‵ (Locals fs (front fs (local τ h ∷ bs) ls) us) ∷ ‵ (fat fullShare τ (rear fs (local τ h ∷ bs) ls .0) 0 v)
+      ∷ ‵ (fdies τ (rear fs (local τ h ∷ bs) ls .0)) ∷ ‵ (Locals bs (rear fs (local τ h ∷ bs) ls .1) ws) ∷ Γ) G
   whole t fs us e v ls k = fpick t (λ _. move t (3 ∷ []) $ fpick t (λ _. move t (1 ∷ 2 ∷ 3 ∷ []) $ cells-whole t fs us e v ls
       (fpack t (Of (fs ++ local τ h ∷ bs) ls (us ++ some v ∷ ws)) (λ _. cells (fs ++ local τ h ∷ bs) ls (us ++ some v ∷ ws)) these $ k)))
 

@@ -64,7 +64,8 @@ module _ {M : Type 1} {𝓤 : URA M} {H : Heap 𝓤} {A : Atoms 𝓤} {K : Type 
       → ((ν : ℕ) (δ : GName) → Seq K W (‵ (Has R (ν ∷ []) fullShare δ b o n ys) ∷ ‵ (LentMut R κ ν q γ b o δ ys) ∷ Γ) G) → Seq K W (‵ (Has R κ q γ b o n ys) ∷ Γ) G
   lend-mut t z R b o n ys e room k =
       opens t z R b o n ys $ use1 W (‵ (cells (mem R) ys b o)) (whole-in 𝓤 H A W R ys b o) $ lft-new t z (λ ν. move t (1 ∷ []) $
-      use1 W (later (some (λ (δ : GName). ‵ (MutSlice (named 0) (ν ∷ []) R .own (at-list b o δ ys) (sliceVal (b, o) (length ys) ∷ [])) ⊛ ‵ (flent (ν ∷ []) (Held R (length ys) b o δ))))) (lends-slice 𝓤 H A W R (named 0) (ν ∷ []) ys b o (subst (Room R) (sym e) room)) $
+      use1 W (later (some (λ (δ : GName). ‵ (MutSlice (named 0) (ν ∷ []) R .own (at-list b o δ ys) (sliceVal (b, o) (length ys) ∷ [])) ⊛ ‵
+      (flent (ν ∷ []) (Held R (length ys) b o δ))))) (lends-slice 𝓤 H A W R (named 0) (ν ∷ []) ys b o (subst (Room R) (sym e) room)) $
       await t z $ pick t (λ δ. split t $ rewrite t 0 (λ (m : ℕ). ‵ (MutSlice (named 0) (ν ∷ []) R .own (at-list b o δ ys) (sliceVal (b, o) m ∷ []))) e refl $
       -- [what is lent; the lender's part; the token; the rest]
       move t (1 ∷ 3 ∷ []) $ fjoin t $ move t (1 ∷ 2 ∷ []) $ fjoin t $ k ν δ))
@@ -79,7 +80,9 @@ module _ {M : Type 1} {𝓤 : URA M} {H : Heap 𝓤} {A : Atoms 𝓤} {K : Type 
       → ((ν : ℕ) (δ : GName) → Seq K W (‵ (HasShr R (ν ∷ []) fullShare δ b o n ys) ∷ ‵ (LentShr R κ ν q γ b o ys) ∷ Γ) G) → Seq K W (‵ (Has R κ q γ b o n ys) ∷ Γ) G
   lend-shr t z R b o n ys e room k =
       opens t z R b o n ys $ feqI t ℕ (length ys) (length ys) refl $ fjoin t $ lft-new t z (λ ν. move t (1 ∷ []) $
-      use1 W (later (some (λ (δ : GName). ‵ (ShrSlice (named 0) (ν ∷ []) R .own (at-list b o δ ys) (sliceVal (b, o) (length ys) ∷ [])) ⊛ ‵ (flent (ν ∷ []) (arr-parts (shares R) (length ys) .part fullShare ys b o))))) (lends-shr-slice 𝓤 H A W R (named 0) (ν ∷ []) fullShare ys b o (subst (Room R) (sym e) room)) $
+      use1 W (later (some (λ (δ : GName). ‵ (ShrSlice (named 0) (ν ∷ []) R .own (at-list b o δ ys) (sliceVal (b, o) (length ys) ∷ [])) ⊛ ‵
+      (flent (ν ∷ []) (arr-parts (shares R) (length ys) .part fullShare ys b o)))))
+      (lends-shr-slice 𝓤 H A W R (named 0) (ν ∷ []) fullShare ys b o (subst (Room R) (sym e) room)) $
       await t z $ pick t (λ δ. split t $ rewrite t 0 (λ (m : ℕ). ‵ (ShrSlice (named 0) (ν ∷ []) R .own (at-list b o δ ys) (sliceVal (b, o) m ∷ []))) e refl $
       move t (1 ∷ 3 ∷ []) $ fjoin t $ move t (1 ∷ 2 ∷ []) $ fjoin t $ k ν δ))
 

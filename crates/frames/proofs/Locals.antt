@@ -299,18 +299,22 @@ module _ {M : Type 1} {𝓤 : URA M} {H : Heap 𝓤} {A : Atoms 𝓤} {K : Type 
 
     in-field : K → (i k : ℕ) {ν : Sym} {τs : Tys} {us : Vals} {τ : Ty} {d : ℕ} → held xs vs i ≡ some (vstruct us) → typeOf xs i ≡ tyStruct ν τs → fieldAt zero τs k ≡ some (τ, d)
         → Reads K W (‵ (Locals xs ls vs) ∷ Γ) τ (blockAt 𝓤 H A xs ls i) (zero + d) (getV us k)
-    in-field t i k {us = us} e f g = look-in t 0 (sub t k g (subst (λ (σ : Ty). Part K W (‵ (Locals xs ls vs)) fullShare σ (blockAt 𝓤 H A xs ls i) zero (vstruct us) (λ u. ‵ (Locals xs ls (put i (some u) vs)))) (type-is 𝓤 H A xs ls i ∙ f) (here t i e)))
+    in-field t i k {us = us} e f g = look-in t 0 (sub t k g (subst
+        (λ (σ : Ty). Part K W (‵ (Locals xs ls vs)) fullShare σ (blockAt 𝓤 H A xs ls i) zero (vstruct us) (λ u. ‵ (Locals xs ls (put i (some u) vs))))
+        (type-is 𝓤 H A xs ls i ∙ f) (here t i e)))
 
     to-field : K → (i k : ℕ) {ν : Sym} {τs : Tys} {τ : Ty} {d : ℕ} {st : List PStep} {sp : Spot 𝓤 H} → typeOf xs i ≡ tyStruct ν τs → fieldAt zero τs k ≡ some (τ, d)
         → Walks K W (‵ (Locals xs ls vs) ∷ Γ) (envAt xs ls) (τ, blockAt 𝓤 H A xs ls i, zero + d) st sp → Finds K W (‵ (Locals xs ls vs) ∷ Γ) (envAt xs ls) (place i (field k ∷ st)) sp
     to-field t i k f g w = from t (fld t (ap (λ (σ : Ty). fieldOf σ k) (type-is 𝓤 H A xs ls i ∙ f) ∙ g) w)
 
-    by-field : K → (i k : ℕ) (m : Option Vals) (f : Option (Ty × ℕ)) {v : Val} → fields (held xs vs i) ≡ m → fieldOf (typeOf xs i) k ≡ f → pick m f k ≡ some v → Opd K W (‵ (Locals xs ls vs) ∷ Γ) (envAt xs ls) (copy (place i (field k ∷ []))) v
+    by-field : K → (i k : ℕ) (m : Option Vals) (f : Option (Ty × ℕ)) {v : Val} → fields (held xs vs i) ≡ m → fieldOf (typeOf xs i) k ≡ f → pick m f k ≡ some v
+        → Opd K W (‵ (Locals xs ls vs) ∷ Γ) (envAt xs ls) (copy (place i (field k ∷ []))) v
     by-field t i k none f d e g = absurd (subst IsNone g tt)
     by-field t i k (some us) none d e g = absurd (subst IsNone g tt)
     by-field t i k (some us) (some x) {v} d e g =
         let is : StructAt (typeOf xs i) k x = struct-at (typeOf xs i) k x e in
-        subst (Opd K W (‵ (Locals xs ls vs) ∷ Γ) (envAt xs ls) (copy (place i (field k ∷ [])))) (ap (or-else v) g) (load t (to-field t i k (is .2) (is .3) (stop t)) (in-field t i k (fields-are (held xs vs i) us d) (is .2) (is .3)))
+        subst (Opd K W (‵ (Locals xs ls vs) ∷ Γ) (envAt xs ls) (copy (place i (field k ∷ [])))) (ap (or-else v) g)
+        (load t (to-field t i k (is .2) (is .3) (stop t)) (in-field t i k (fields-are (held xs vs i) us d) (is .2) (is .3)))
 
     by-number : K → (w : Width) (n : ℕ) (b : Bool) {v : Val} → ltb n (2 ^ bits w) ≡ b → when b (vint w n) ≡ some v → Opd K W (‵ (Locals xs ls vs) ∷ Γ) (envAt xs ls) (int w n) v
     by-number t w n true {v} e f = subst (Opd K W (‵ (Locals xs ls vs) ∷ Γ) (envAt xs ls) (int w n)) (ap (or-else v) f) (lit t (subst T (sym e) tt))
@@ -334,7 +338,8 @@ module _ {M : Type 1} {𝓤 : URA M} {H : Heap 𝓤} {A : Atoms 𝓤} {K : Type 
     pub of : K → {o : Operand} {v : Val} → operand xs vs o ≡ some v → Opd K W (‵ (Locals xs ls vs) ∷ Γ) (envAt xs ls) o v
     of t {o} e = worth t o e
 
-    by-each : K → (o : Operand) (os : List Operand) (a : Option Val) (m : Option (List Val)) {us : List Val} → operand xs vs o ≡ a → ((ws : List Val) → m ≡ some ws → Opds K W (‵ (Locals xs ls vs) ∷ Γ) (envAt xs ls) os ws) → both a m ≡ some us
+    by-each : K → (o : Operand) (os : List Operand) (a : Option Val) (m : Option (List Val)) {us : List Val} → operand xs vs o ≡ a
+        → ((ws : List Val) → m ≡ some ws → Opds K W (‵ (Locals xs ls vs) ∷ Γ) (envAt xs ls) os ws) → both a m ≡ some us
         → Opds K W (‵ (Locals xs ls vs) ∷ Γ) (envAt xs ls) (o ∷ os) us
     by-each t o os none m d k e = absurd (subst AreNone e tt)
     by-each t o os (some v) none d k e = absurd (subst AreNone e tt)
@@ -348,16 +353,19 @@ module _ {M : Type 1} {𝓤 : URA M} {H : Heap 𝓤} {A : Atoms 𝓤} {K : Type 
     ofs t {os} e = worths t os e
 
     -- what a slice that a local holds points to
-    pub behind : K → {i : ℕ} {τ ρ : Ty} {b o n : ℕ} → held xs vs i ≡ some (sliceVal (b, o) n) → typeOf xs i ≡ sliceTy ρ → Finds K W (‵ (Locals xs ls vs) ∷ Γ) (envAt xs ls) (place i (field 0 ∷ deref τ ∷ [])) (τ, b, o)
+    pub behind : K → {i : ℕ} {τ ρ : Ty} {b o n : ℕ} → held xs vs i ≡ some (sliceVal (b, o) n) → typeOf xs i ≡ sliceTy ρ
+        → Finds K W (‵ (Locals xs ls vs) ∷ Γ) (envAt xs ls) (place i (field 0 ∷ deref τ ∷ [])) (τ, b, o)
     behind t {i} e f = to-field t i 0 f refl (hop t (in-field t i 0 e f refl) (stop t))
 
     -- whatever the local held before
-    into : K → (i : ℕ) (v : Val) → T (hasTy (tyAt 𝓤 H A xs ls i) v) × WT v → Writes K W (‵ (Locals xs ls vs) ∷ Γ) (tyAt 𝓤 H A xs ls i) (blockAt 𝓤 H A xs ls i) zero v (‵ (Locals xs ls (put i (some v) vs)) ∷ Γ)
+    into : K → (i : ℕ) (v : Val) → T (hasTy (tyAt 𝓤 H A xs ls i) v) × WT v
+        → Writes K W (‵ (Locals xs ls vs) ∷ Γ) (tyAt 𝓤 H A xs ls i) (blockAt 𝓤 H A xs ls i) zero v (‵ (Locals xs ls (put i (some v) vs)) ∷ Γ)
     into t i v wt = record {
       go = λ P h. via 𝓤 (⋆ 𝓤 H A (‵ (froom τ b zero) ∷ ‵ (others xs ls vs i) ∷ Γ))
           (qed W (‵ (Locals xs ls vs) ∷ Γ) ∵ opens ! $ use1 W (‵ (cell τ b (held xs vs i)) ⊛ ‵ (others xs ls vs i)) (out 𝓤 H A W xs ls vs i w) $ split ! $ blank ! τ b (held xs vs i) $ done !)
           (init {W = W} {Γ = ‵ (froom τ b zero) ∷ ‵ (others xs ls vs i) ∷ Γ} t 0 refl wt .go P (via 𝓤 (⋆ 𝓤 H A (‵ (Locals xs ls (put i (some v) vs)) ∷ Γ))
-          (qed W (‵ (fat fullShare τ b zero v) ∷ ‵ (others xs ls vs i) ∷ Γ) ∵ use2 W (‵ (cells xs ls (put i (some v) vs))) (back 𝓤 H A W xs ls vs i (some v) w) $ shuts ! xs ls (put i (some v) vs) $ done !) h));
+          (qed W (‵ (fat fullShare τ b zero v) ∷ ‵ (others xs ls vs i) ∷ Γ) ∵
+          use2 W (‵ (cells xs ls (put i (some v) vs))) (back 𝓤 H A W xs ls vs i (some v) w) $ shuts ! xs ls (put i (some v) vs) $ done !) h));
     }
       where
         τ : Ty
@@ -399,13 +407,15 @@ module _ {M : Type 1} {𝓤 : URA M} {H : Heap 𝓤} {A : Atoms 𝓤} {K : Type 
   allocated t [] k = use0 W (‵ ftrue) (id⊢ 𝓤 (emp 𝓤)) $ alloc0 t $ k tt
   allocated t (local τ h ∷ xs) k = alloc1 t (λ l. allocated t xs (λ ls. move t (1 ∷ 2 ∷ []) $ fjoin t $ fjoin t $ k (l, ls)))
 
-  passed : K → (xs : List Local) (ls : Blocks xs) (us : List Val) → Typed xs us → {Γ : List (Item 𝓤)} {g : Goal 𝓤 H} → Seq K W (‵ (cells xs ls (somes us)) ∷ Γ) g → Seq K W (‵ (cells xs ls []) ∷ Γ) (passes (envAt xs ls) us g)
+  passed : K → (xs : List Local) (ls : Blocks xs) (us : List Val) → Typed xs us → {Γ : List (Item 𝓤)} {g : Goal 𝓤 H}
+      → Seq K W (‵ (cells xs ls (somes us)) ∷ Γ) g → Seq K W (‵ (cells xs ls []) ∷ Γ) (passes (envAt xs ls) us g)
   unfolding cells
   passed t xs ls [] wt k = pass0 t $ k
   passed t [] ls (u ∷ us) wt k = absurd wt
   passed t (local τ h ∷ xs) ls (u ∷ us) wt k = fsplit t $ fsplit t $ pass1 t (init t 0 refl (wt .0)) $ move t (2 ∷ []) $ passed t xs (ls .1) us (wt .1) (move t (1 ∷ 2 ∷ []) $ fjoin t $ fjoin t $ k)
 
-  passed-all : K → (xs : List Local) (ls : Blocks xs) (us : List Val) → TypedArgs xs us → {Γ : List (Item 𝓤)} {g : Goal 𝓤 H} → Seq K W (‵ (cells xs ls (none ∷ somes us)) ∷ Γ) g → Seq K W (‵ (cells xs ls []) ∷ Γ) (params′ (envAt xs ls) us g)
+  passed-all : K → (xs : List Local) (ls : Blocks xs) (us : List Val) → TypedArgs xs us → {Γ : List (Item 𝓤)} {g : Goal 𝓤 H}
+      → Seq K W (‵ (cells xs ls (none ∷ somes us)) ∷ Γ) g → Seq K W (‵ (cells xs ls []) ∷ Γ) (params′ (envAt xs ls) us g)
   unfolding cells
   passed-all t [] ls us wt k = absurd wt
   passed-all t (local τ h ∷ xs) ls us wt k = fsplit t $ move t (1 ∷ []) $ params1 t $ passed t xs (ls .1) us wt (move t (1 ∷ []) $ fjoin t $ k)
@@ -415,14 +425,16 @@ module _ {M : Type 1} {𝓤 : URA M} {H : Heap 𝓤} {A : Atoms 𝓤} {K : Type 
   freed t [] ls vs k = drop t $ free0 t $ k
   freed t (local τ h ∷ xs) ls vs k = fsplit t $ fsplit t $ blank t τ (ls .0) (head vs) $ free1 t $ freed t xs (ls .1) (tail vs) k
 
-  trimmed : K → (n : ℕ) (xs : List Local) (ls : Blocks xs) (vs : List (Option Val)) {Γ : List (Item 𝓤)} {g : Goal 𝓤 H} → Seq K W (‵ (cells xs ls (firsts n vs)) ∷ Γ) g → Seq K W (‵ (cells xs ls vs) ∷ Γ) g
+  trimmed : K → (n : ℕ) (xs : List Local) (ls : Blocks xs) (vs : List (Option Val)) {Γ : List (Item 𝓤)} {g : Goal 𝓤 H}
+      → Seq K W (‵ (cells xs ls (firsts n vs)) ∷ Γ) g → Seq K W (‵ (cells xs ls vs) ∷ Γ) g
   unfolding cells
   trimmed t n [] ls vs k = k
   trimmed t zero (local τ h ∷ xs) ls vs k = fsplit t $ fsplit t $ blank t τ (ls .0) (head vs) $ move t (2 ∷ []) $ trimmed t zero xs (ls .1) (tail vs) (move t (1 ∷ 2 ∷ []) $ fjoin t $ fjoin t $ k)
   trimmed t (suc n) (local τ h ∷ xs) ls vs k = fsplit t $ move t (1 ∷ []) $ trimmed t n xs (ls .1) (tail vs) (move t (1 ∷ []) $ fjoin t $ k)
 
   pub enters : K → (C : Calls 𝓤 H) (Λ : Loops 𝓤 H) (f : Fn) (us : List Val) (Kf : Val → SProp 𝓤) {Γ : List (Item 𝓤)} → TypedArgs (f .locals) us
-      → ((ls : Blocks (f .locals)) → Seq K W (‵ (Locals (f .locals) ls (none ∷ somes us)) ∷ Γ) (runs C Λ (envAt (f .locals) ls) (f .body) (atRet (envAt (f .locals) ls) Kf))) → Seq K W Γ (prop (WpFn 𝓤 H C Λ f us Kf))
+      → ((ls : Blocks (f .locals)) → Seq K W (‵ (Locals (f .locals) ls (none ∷ somes us)) ∷ Γ)
+      (runs C Λ (envAt (f .locals) ls) (f .body) (atRet (envAt (f .locals) ls) Kf))) → Seq K W Γ (prop (WpFn 𝓤 H C Λ f us Kf))
   enters t C Λ f us Kf wt k = enter t C Λ f us Kf $ allocated t (f .locals) (λ ls. passed-all t (f .locals) ls us wt (shuts t (f .locals) ls (none ∷ somes us) $ k ls))
 
   pub leaves : K → {xs : List Local} {ls : Blocks xs} {vs : List (Option Val)} {Γ : List (Item 𝓤)} {C : Calls 𝓤 H} {Λ : Loops 𝓤 H} {Kf : Val → SProp 𝓤} {r : Val} → held xs vs 0 ≡ some r

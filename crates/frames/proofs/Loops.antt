@@ -36,7 +36,8 @@ module _ {M : Type 1} {𝓤 : URA M} {H : Heap 𝓤} {A : Atoms 𝓤} {𝓣 : Ta
   Turn x = anyQ (afterTurn 𝓤 H (Below 𝓤 H A less (l .inv) x) (afterBlock 𝓤 H (afterSeq 𝓤 H (Wp 𝓤 H (𝓣 .C) (𝓣 .Λ) (l .env) (l .rest) (post 𝓤 H (l .end))) (post 𝓤 H (l .end)))))
 
 module _ {M : Type 1} {𝓤 : URA M} {H : Heap 𝓤} {A : Atoms 𝓤} {K : Type 0} {W : Given 𝓤 H A} {𝓣 : Tables 𝓤 H} where
-  pub rounds : K → (l : Loop A 𝓣) {b : Body} → ((x : l .State) → Seq K W (l .inv x) (runs (𝓣 .C) (𝓣 .Λ) (l .env) b (Turn l x))) → (x : l .State) → Seq K W (l .inv x) (runs (𝓣 .C) (𝓣 .Λ) (l .env) (seq (block (loop b)) (l .rest)) (l .end))
+  pub rounds : K → (l : Loop A 𝓣) {b : Body} → ((x : l .State) → Seq K W (l .inv x) (runs (𝓣 .C) (𝓣 .Λ) (l .env) b (Turn l x))) → (x : l .State)
+      → Seq K W (l .inv x) (runs (𝓣 .C) (𝓣 .Λ) (l .env) (seq (block (loop b)) (l .rest)) (l .end))
   rounds t l turn x = first t $ blocks t $ loops t 𝓣 (less l) (InvImage·wf (l .measure) (Nat·lt-wfRel .wf)) (l .inv) turn x
 
   pub whiles : K → (l : Loop A 𝓣) (x : l .State) {Γ : List (Item 𝓤)} {c : Operand} {b : Body} {y : Bool} → Opd K W Γ (l .env) c (vbool y)

@@ -61,7 +61,9 @@ module _ (words : List ℕ) (count slots : ℕ) (fs : List Function) (counted : 
     from-here (suc k) i e =
         let h : i + 1 < n = omega arith in let l : suc i < length frames = omega arith in
         rw (lt-ltb (i + 1) n, drop-cons frames (suc i) noFrame)
-        (ap (λ (x : Bool). frameGood count slots (at i) && firstGood i (at i) && (leb 1 (at i .position) && leb (at i .position) (size (codeWord words (at i .function)))) && x) (from-here k (suc i) (omega arith) ∙ not-first i (at (suc i)) _)
+        (ap (λ (x : Bool). frameGood count slots (at i) && firstGood i (at i) &&
+        (leb 1 (at i .position) && leb (at i .position) (size (codeWord words (at i .function)))) && x)
+        (from-here k (suc i) (omega arith) ∙ not-first i (at (suc i)) _)
         ∙ in-front (frameGood count slots (at i)) (firstGood i (at i)) _ (framesFrom fs slots (at (suc i)) (take k (drop (suc (suc i)) frames)))
         ∙ ap (λ (b : Bool). firstGood i (at i) && (b && framesFrom fs slots (at (suc i)) (take k (drop (suc (suc i)) frames)))) (by-known (at i) (ltb (at i .function) count) refl))
 
@@ -109,4 +111,7 @@ module _ (words : List ℕ) (count : ℕ) (fs : List Function) (sizes : (i : ℕ
     unfolding traceWords entryWords traceOf traceGood insideGood
     trace-is [] k g = refl
     trace-is (r ∷ rs) k g =
-        rw (place-is r (k .0) (ltb-true (r .position - 1) (size (codeWord words (r .function))) (and-elim-left _ (traceGood words rs) g)), trace-is rs (k .1) (and-elim-right (ltb (r .position - 1) (size (codeWord words (r .function)))) (traceGood words rs) g))
+        rw (
+          place-is r (k .0) (ltb-true (r .position - 1) (size (codeWord words (r .function))) (and-elim-left _ (traceGood words rs) g)),
+          trace-is rs (k .1) (and-elim-right (ltb (r .position - 1) (size (codeWord words (r .function)))) (traceGood words rs) g),
+        )

@@ -35,7 +35,8 @@ module _ (count slots : ℕ) (r : Frame) where
 
   pub function-known : frameGood count slots r ≡ true → r .function < count
   unfolding frameGood
-  function-known h = ltb-true (r .function) count (and-elim-left (ltb (r .function) count) (leb (r .base) slots) (and-elim-left (ltb (r .function) count && leb (r .base) slots) (leb (r .position) 131070) h))
+  function-known h = ltb-true (r .function) count (and-elim-left (ltb (r .function) count) (leb (r .base) slots)
+      (and-elim-left (ltb (r .function) count && leb (r .base) slots) (leb (r .position) 131070) h))
 
 module _ (i : ℕ) (r : Frame) where
   pub not-first : (i ≡ 0 → ⊥) → true ≡ firstGood i r
@@ -145,7 +146,8 @@ module _ (test : ℕ → Bool) (n : ℕ) where
   by-room room true false e f = refl
   by-room room false c e f = refl
 
-  in-room : (room : ℕ) (b c : Bool) → leb 1 n ≡ b → leb n (min room mostPlaces) ≡ c → (if b && c then scan 0 true true else scan 0 false false) .more ≡ true → ((if b && c then scan 0 true true else scan 0 false false) .at < n) × (n ≤ room)
+  in-room : (room : ℕ) (b c : Bool) → leb 1 n ≡ b → leb n (min room mostPlaces) ≡ c → (if b && c then scan 0 true true else scan 0 false false) .more ≡ true
+      → ((if b && c then scan 0 true true else scan 0 false false) .at < n) × (n ≤ room)
   in-room room true true e f g = (omega (arith, leb-true 1 n e), omega (arith, leb-true n (min room mostPlaces) f))
   in-room room true false e f g = absurd (false≢true g)
   in-room room false c e f g = absurd (false≢true g)

@@ -57,9 +57,11 @@ module _ {M : Type 1} {𝓤 : URA M} {H : Heap 𝓤} {A : Atoms 𝓤} {K : Type 
   unpicks t (true ∷ bs) (ref m R s ys ∷ xs) k = fsplit t $ move t (1 ∷ 2 ∷ []) $ unpicks t bs xs (move t (1 ∷ []) $ fjoin t $ k)
   unpicks t (false ∷ bs) (ref m R s ys ∷ xs) k = move t (1 ∷ []) $ fsplit t $ move t (2 ∷ 1 ∷ []) $ unpicks t bs xs (move t (1 ∷ []) $ fjoin t $ k)
 
-module _ {M : Type 1} {𝓤 : URA M} {H : Heap 𝓤} {A : Atoms 𝓤} {K : Type 0} {W : Given 𝓤 H A} {L : List Local} {ls : Blocks L} {vs : List (Option Val)} {Γ : List (Item 𝓤)} {C : Calls 𝓤 H} {Λ : Loops 𝓤 H} {q : Post 𝓤 H} {d : Place} {f : Name} where
+module _ {M : Type 1} {𝓤 : URA M} {H : Heap 𝓤} {A : Atoms 𝓤} {K : Type 0} {W : Given 𝓤 H A} {L : List Local} {ls : Blocks L} {vs : List (Option Val)} {Γ : List
+    (Item 𝓤)} {C : Calls 𝓤 H} {Λ : Loops 𝓤 H} {q : Post 𝓤 H} {d : Place} {f : Name} where
   -- bs names the slices among ws; behind the call the group is new
-  pub calls-on : K → (bs : List Bool) (ws : List Arg) {xs : List Arg} {c : Contract 𝓤} {Q : RattleType} {qval : Q .Denot → Val} {φ : Q .Denot → Lists xs → Type 0} → Rule 𝓤 H A W xs c Q qval φ → (new : Lists xs → List Arg)
+  pub calls-on : K → (bs : List Bool) (ws : List Arg) {xs : List Arg} {c : Contract 𝓤} {Q : RattleType} {qval : Q .Denot → Val} {φ : Q .Denot → Lists xs
+      → Type 0} → Rule 𝓤 H A W xs c Q qval φ → (new : Lists xs → List Arg)
       → Holds (chosen bs ws) ≡ Holds xs → ((zs : Lists xs) → Holds (after xs zs) ≡ Holds (chosen bs (new zs))) → ((zs : Lists xs) → Holds (left bs ws) ≡ Holds (left bs (new zs)))
       → FmC 𝓤 H (W .laws) C → Triple 𝓤 (C f) c → {os : List Operand} {rest : Body} → operands L vs os ≡ some (values xs)
       → ((r : Q .Denot) (zs : Lists xs) → φ r zs → Lens xs zs → Is Q r (qval r ∷ []) → Seq K W (‵ (Locals L ls vs) ∷ ‵ (Holds (new zs)) ∷ Γ) (lands C Λ (envAt L ls) d (qval r) rest q))

@@ -247,7 +247,8 @@ module _ {M : Type 1} {𝓤 : URA M} {H : Heap 𝓤} {A : Atoms 𝓤} {K : Type 
   lends t z (ref peeks R s ys ∷ xs) f k = fsplit t $ lend-shr t z R (s .block) (s .offset) (s .count) ys (f .0 .0) (f .0 .1) (λ ν δ.
       move t (2 ∷ []) $ lends t z xs (f .1) (λ ns. move t (2 ∷ 0 ∷ []) $ fjoin t $ move t (2 ∷ 1 ∷ []) $ fjoin t $ move t (1 ∷ 0 ∷ []) $ k ((ν, δ), ns)))
 
-  pub backs : K → Soaks G → (xs : List Arg) → Fits xs → (ns : Names xs) (zs : Lists xs) {Γ : List (Item 𝓤)} → (Lens xs zs → Seq K W (‵ (Holds (after xs zs)) ∷ Γ) G) → Seq K W (‵ (Toks (lent xs ns)) ∷ ‵ (Ends xs ns zs) ∷ ‵ (Kept xs ns) ∷ Γ) G
+  pub backs : K → Soaks G → (xs : List Arg) → Fits xs → (ns : Names xs) (zs : Lists xs) {Γ : List (Item 𝓤)}
+      → (Lens xs zs → Seq K W (‵ (Holds (after xs zs)) ∷ Γ) G) → Seq K W (‵ (Toks (lent xs ns)) ∷ ‵ (Ends xs ns zs) ∷ ‵ (Kept xs ns) ∷ Γ) G
   backs t z [] f ns zs k = drop t $ drop t $ k tt
   backs t z (val R x v ∷ xs) f ns zs k = move t (1 ∷ []) $ fsplit t $ drop t $ move t (1 ∷ 0 ∷ []) $ backs t z xs f ns (zs .1) k
   backs t z (ref looks R s ys ∷ xs) f ns zs k = fsplit t $ move t (2 ∷ []) $ fsplit t $ drop t $ move t (3 ∷ []) $ fsplit t $

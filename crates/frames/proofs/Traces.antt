@@ -161,13 +161,15 @@ module _ (words main other : List ℕ) (callers : ℕ) (frames : List Frame) whe
   Puts i r out out′ s = Put words main other callers i r out out′ s
 
   spelled : (i : ℕ) (r : Frame) (out : List ℕ) → i ≤ callers
-      → ahead-of (set (set out (2 * (callers - i)) (r .function)) (2 * (callers - i) + 1) (placeOf words main other r)) (leftOf i) ≡ written out (2 * (callers - i)) (traceWords words main other (r ∷ callersOf i frames))
+      → ahead-of (set (set out (2 * (callers - i)) (r .function)) (2 * (callers - i) + 1) (placeOf words main other r)) (leftOf i) ≡ written out
+      (2 * (callers - i)) (traceWords words main other (r ∷ callersOf i frames))
   unfolding leftOf callersOf traceWords written
   spelled zero r out h = ap (λ (k : ℕ). set (set out (2 * (callers - 0)) (r .function)) k (placeOf words main other r)) (add-one (2 * (callers - 0)))
   spelled (suc m) r out h =
       let e : 2 * (callers - m) ≡ suc (suc (2 * (callers - suc m))) = omega arith in rw (e, add-one (2 * (callers - suc m)))
 
-  wrote : (i : ℕ) (r : Frame) (out out′ : List ℕ) (s : Left) → i ≤ callers → Puts i r out out′ s → ahead-of out′ s ≡ written out (2 * (callers - i)) (traceWords words main other (r ∷ callersOf i frames))
+  wrote : (i : ℕ) (r : Frame) (out out′ : List ℕ) (s : Left) → i ≤ callers → Puts i r out out′ s
+      → ahead-of out′ s ≡ written out (2 * (callers - i)) (traceWords words main other (r ∷ callersOf i frames))
   wrote i r out out′ s h p = rw (p .is, p .goes) (spelled i r out h)
 
   next-below : (i : ℕ) → leftOf i .more ≡ true → leftOf i .at < i

@@ -40,7 +40,33 @@ pub use denote.Triple.Table.{cited}
 pub use denote.Triple.Walked.{says, needs, walkOf, ends-at}
 -- ---- this crate's laws
 pub use Rattle.frames.proofs.Locals.{Blocks, envAt, Locals, here, of, ofs, behind, sets, sets-last, lands-in, enters, leaves, trims}
-pub use Rattle.frames.proofs.Slices.{Sl, sl, sval, Arg, val, shr, mut, peek, Holds, Toks, Owns, Lists, Lens, lfts, shares, denots, valss, values, passing, lent, after, takes, gives, splits, joins}
+pub use Rattle.frames.proofs.Slices.{
+  Sl,
+  sl,
+  sval,
+  Arg,
+  val,
+  shr,
+  mut,
+  peek,
+  Holds,
+  Toks,
+  Owns,
+  Lists,
+  Lens,
+  lfts,
+  shares,
+  denots,
+  valss,
+  values,
+  passing,
+  lent,
+  after,
+  takes,
+  gives,
+  splits,
+  joins,
+}
 pub use Rattle.frames.proofs.Calls.{Rule, call-with, asked, unasked}
 pub use Rattle.frames.proofs.Picks.{unneeded, calls-on}
 pub use Rattle.frames.proofs.Elements.{bytes-known}

@@ -199,7 +199,9 @@ module _ (s : List ℕ) (at : ℕ) (cs₀ tx₀ : List ℕ) (fit : ConstantsFit 
                 along = along-step readConstant always k tt s first i tt next (h .done) (h .along) l (constantAt s y) (y .next) (g .good);
                 sized = omega arith;
                 words = more-written cs₀ cs cs′ 0 (2 * i) (constantsLaid 0 (h .done)) (y .kind ∷ w ∷ []) (h .words) (omega arith) (ec ∙ written-two cs i (y .kind) w)
-                    ∙ ap (λ (z : List ℕ). written cs₀ 0 (constantsLaid 0 (h .done) ++ z)) (ap (λ (v : ℕ). y .kind ∷ v ∷ []) ew ∙ sym (g .words t) ∙ ap (λ (v : ℕ). constantWords v (constantAt s y)) (let z0 : t ≡ 0 + length (joined constantText (h .done)) = omega arith in z0))
+                    ∙ ap (λ (z : List ℕ). written cs₀ 0 (constantsLaid 0 (h .done) ++ z))
+                    (ap (λ (v : ℕ). y .kind ∷ v ∷ []) ew ∙ sym (g .words t) ∙ ap (λ (v : ℕ). constantWords v (constantAt s y))
+                    (let z0 : t ≡ 0 + length (joined constantText (h .done)) = omega arith in z0))
                     ∙ ap (written cs₀ 0) (sym (laid-more 0 (h .done) (constantAt s y)));
                 texts = more-joined constantText (h .done) (constantAt s y) tx₀ tx tx′ 0 t (h .texts) (omega arith)
                     (et ∙ ap (written tx t) (part-slice s (y .from) (y .len) ∙ sym (g .text)));

@@ -83,8 +83,11 @@ others-fine c (f ∷ l) fs i o j w e h s k m =
     let a = length-append (f .name) (joined (λ f. f .name) l) in let b = length-append (f .code) (joined (λ f. f .code) l) in
     let k2 = both-true _ _ k in let kl = leb-true _ _ (k2 .0) in
     let g = function-fine c f fs (suc i) o j (w .0) e (omega arith) s kl (omega arith) in
-    let r = others-fine c l fs (suc i) (o + length (f .name)) (j + length (f .code)) (w .1) (g .1) (omega arith) s (k2 .1) (omega arith) in
-    (and-both _ _ (g .0) (r .0), ap (codeStart fs) (let z : suc i + suc (length l) ≡ suc (suc i) + length l = omega arith in z) ∙ r .1 ∙ (let z : j + length (f .code) + length (joined (λ f. f .code) l) ≡ j + length (f .code ++ joined (λ f. f .code) l) = omega arith in z))
+    let r = others-fine c l fs (suc i) (o + length (f .name)) (j + length (f .code)) (w .1) (g .1) (omega arith) s (k2 .1) (omega arith) in (
+      and-both _ _ (g .0) (r .0),
+      ap (codeStart fs) (let z : suc i + suc (length l) ≡ suc (suc i) + length l = omega arith in z) ∙ r .1
+          ∙ (let z : j + length (f .code) + length (joined (λ f. f .code) l) ≡ j + length (f .code ++ joined (λ f. f .code) l) = omega arith in z),
+    )
 
 -- ---- names all different, whichever way they are compared
 
@@ -324,7 +327,8 @@ module _ (cs : List Constant) (ss : List (List ℕ)) (f : Function) (l : List Fu
   unfolding c countsFor program S
   structs-ok =
       let t = text-sum in let u = text-small in
-      let e : structsFrom (length ss) 0 (y .structs) (y .text) ≡ ss = structs-held ss (y .structs) (y .text) 0 (length C) (structs-at .0) struct-pieces (let z : length C + length S < 2 ^ 32 = omega arith in z) in
+      let e : structsFrom (length ss) 0 (y .structs) (y .text) ≡ ss = structs-held ss (y .structs) (y .text) 0 (length C) (structs-at .0) struct-pieces
+      (let z : length C + length S < 2 ^ 32 = omega arith in z) in
       structs-good c (y .structs) (y .text) (record {
         within = rw (same-places .1 .0) (room .structs);
         inside = λ k g.
@@ -362,7 +366,8 @@ module _ (cs : List Constant) (ss : List (List ℕ)) (f : Function) (l : List Fu
   codes-ok a b h g =
       let m : codeEnd (y .functions) 0 ≡ length (f .code) = main-fine .1 ∙ (let z : 0 + length (f .code) ≡ length (f .code) = omega arith in z) in
       let o : codeStart (y .functions) (suc (length l)) ≡ length (joined (λ f. f .code) l) =
-      ap (codeStart (y .functions)) (let z : suc (length l) ≡ 1 + length l = omega arith in z) ∙ rest-fine .1 ∙ (let z : 0 + length (joined (λ f. f .code) l) ≡ length (joined (λ f. f .code) l) = omega arith in z) in
+      ap (codeStart (y .functions)) (let z : suc (length l) ≡ 1 + length l = omega arith in z) ∙ rest-fine .1
+      ∙ (let z : 0 + length (joined (λ f. f .code) l) ≡ length (joined (λ f. f .code) l) = omega arith in z) in
       let a′ : leb (codeEnd (y .functions) 0) (places 1 a) ≡ true = rw m (le-leb _ _ h) in
       let b′ : leb (codeStart (y .functions) (suc (length l))) (places 1 b) ≡ true = rw o (le-leb _ _ g) in
       and-both _ _ a′ b′
@@ -385,7 +390,9 @@ laid-one cs ss f l x {q} e = subst
 pub laid-again : (p : Program) (x : Stores) → Sound p → withinLimits p ≡ true → roomFor p x ≡ true → (programOk (countsFor p) (laid p x) ≡ true) × (programIn (countsFor p) (laid p x) ≡ p)
 laid-again p x s h r = by (p .constants) (p .structs) (p .functions) refl s h r
   where
-    by : (cs : List Constant) (ss : List (List ℕ)) (fs : List Function) → {q : Program} → record { constants = cs; structs = ss; functions = fs } ≡ q → Sound q → withinLimits q ≡ true → roomFor q x ≡ true
+    by : (cs : List Constant) (ss : List (List ℕ)) (fs : List Function) → {q : Program} → record { constants = cs; structs = ss; functions = fs } ≡ q → Sound q
+        → withinLimits q ≡ true → roomFor q x ≡ true
         → (programOk (countsFor q) (laid q x) ≡ true) × (programIn (countsFor q) (laid q x) ≡ q)
-    by cs ss [] {q} e s h r = absurd (let z : 0 < length (q .functions) = s .functions .0 .1 in let k : q .functions ≡ [] = ap (λ (v : Program). v .functions) (sym e) in let j = ap length k in let w : ⊥ = omega arith in w)
+    by cs ss [] {q} e s h r = absurd (let z : 0 < length (q .functions) = s .functions .0 .1 in let k : q .functions ≡ [] = ap (λ (v : Program). v .functions)
+        (sym e) in let j = ap length k in let w : ⊥ = omega arith in w)
     by cs ss (f ∷ l) {q} e s h r = laid-one cs ss f l x e s h r

@@ -152,7 +152,8 @@ module _ (s : List ℕ) (cs ss fs tx mn mp ot op : List ℕ) (fit : Fits s (lent
       same-structs = got-one (d .good .means) structs-here
 
       s-text : y .text ≡ length (joined constantText (p .constants)) + length (joined (λ n. n) (p .structs))
-      s-text = d .text ∙ ap (λ (j : ℕ). j + length (joined (λ n. n) (d .held))) c-text ∙ ap (λ (v : List (List ℕ)). length (joined constantText (p .constants)) + length (joined (λ n. n) v)) same-structs
+      s-text = d .text ∙ ap (λ (j : ℕ). j + length (joined (λ n. n) (d .held))) c-text
+          ∙ ap (λ (v : List (List ℕ)). length (joined constantText (p .constants)) + length (joined (λ n. n) v)) same-structs
 
       functions-here : readFunctions (drop (y .next) s) ≡ got (p .functions) (q .rest₃)
       functions-here = ap readFunctions (got-end (d .good .means) structs-here) ∙ q .functions
@@ -191,7 +192,8 @@ module _ (s : List ℕ) (cs ss fs tx mn mp ot op : List ℕ) (fit : Fits s (lent
         unfolding laid constantTexts structTexts mainOf othersOf
         here = stores-same
             (c .words ∙ ap (λ (v : List Constant). written cs 0 (constantsLaid 0 v)) same-constants)
-            (d .words ∙ ap (λ (v : List (List ℕ)). written ss 0 (structsLaid (z .text) v (orderOf (length v) v))) same-structs ∙ ap (λ (v : ℕ). written ss 0 (structsLaid v (p .structs) (orderOf (length (p .structs)) (p .structs)))) c-text)
+            (d .words ∙ ap (λ (v : List (List ℕ)). written ss 0 (structsLaid (z .text) v (orderOf (length v) v))) same-structs
+            ∙ ap (λ (v : ℕ). written ss 0 (structsLaid v (p .structs) (orderOf (length (p .structs)) (p .structs)))) c-text)
             (f .words ∙ ap (λ (v : List Function). written fs 0 (functionsLaid (y .text) v)) same-functions ∙ ap (λ (v : ℕ). written fs 0 (functionsLaid v (p .functions))) s-text)
             texts-laid
             (f .main ∙ ap (λ (v : List Function). written mn 0 (functionAt v 0 .code)) same-functions)
@@ -248,15 +250,18 @@ module _ (s : List ℕ) (x : Stores) (r : Judgement) (h : JudgePost s r) where
       within : withinLimits (g .program) ≡ true
       within = sym limits ∙ not-false _ a
 
-      roomy : (leb (z .constants) r1 && leb (z .structs) r2 && leb (z .functions) r3 && leb (z .text) r4 && leb (z .main) r5 && leb (z .main) r6 && leb (z .other) r7 && leb (z .other) r8) ≡ roomFor (g .program) x
+      roomy : (leb (z .constants) r1 && leb (z .structs) r2 && leb (z .functions) r3 && leb (z .text) r4 && leb (z .main) r5 && leb (z .main) r6 && leb
+          (z .other) r7 && leb (z .other) r8) ≡ roomFor (g .program) x
       roomy = room-by (g .program) z x r1 r2 r3 r4 r5 r6 r7 r8 (g .sizes) e1 e2 e3 e4 e5 e6 e7 e8
 
-      pub load-21 : not (leb (z .constants) r1 && leb (z .structs) r2 && leb (z .functions) r3 && leb (z .text) r4 && leb (z .main) r5 && leb (z .main) r6 && leb (z .other) r7 && leb (z .other) r8) ≡ true
+      pub load-21 : not (leb (z .constants) r1 && leb (z .structs) r2 && leb (z .functions) r3 && leb (z .text) r4 && leb (z .main) r5 && leb
+          (z .main) r6 && leb (z .other) r7 && leb (z .other) r8) ≡ true
           → record { answer = l.Refused 21; stores = x } ≡ loadOf s x
       unfolding loadOf loadJudged
       load-21 b = rw (g .judged, within, sym roomy ∙ not-true _ b)
 
-      module _ (b : not (leb (z .constants) r1 && leb (z .structs) r2 && leb (z .functions) r3 && leb (z .text) r4 && leb (z .main) r5 && leb (z .main) r6 && leb (z .other) r7 && leb (z .other) r8) ≡ false) where
+      module _ (b : not (leb (z .constants) r1 && leb (z .structs) r2 && leb (z .functions) r3 && leb (z .text) r4 && leb (z .main) r5 && leb
+          (z .main) r6 && leb (z .other) r7 && leb (z .other) r8) ≡ false) where
         pub load-fits : Fits s x
         load-fits = record { program = g .program; judged = g .judged; room = sym roomy ∙ not-false _ b }
 

@@ -33,7 +33,8 @@ use Rattle.image.proofs.Putting.{put-as, Split, front, back, both, Putt
 groups-most : (f v : ℕ) → length (groupsOf f v) ≤ suc f
 unfolding groupsOf
 groups-most zero v = omega arith
-groups-most (suc f) v = either-way (ltb v 128) (λ t. rw t (let z : 1 ≤ suc (suc f) = omega arith in z)) (λ t. rw t (let z = groups-most f (v / 128) in let y : suc (length (groupsOf f (v / 128))) ≤ suc (suc f) = omega arith in y))
+groups-most (suc f) v = either-way (ltb v 128) (λ t. rw t (let z : 1 ≤ suc (suc f) = omega arith in z))
+    (λ t. rw t (let z = groups-most f (v / 128) in let y : suc (length (groupsOf f (v / 128))) ≤ suc (suc f) = omega arith in y))
 
 digits-most : (v : ℕ) → length (digits v) ≤ 5
 unfolding digits
@@ -50,7 +51,8 @@ part-most t w = let a = length-take (size w) (drop (start w) t) in let b : min (
 runs-count : (p : ℕ) (l : List Run) → length (joinRun p l) ≤ suc (length l)
 unfolding joinRun
 runs-count p [] = omega arith
-runs-count p (r ∷ l) = either-way (eqb p (r .place)) (λ t. rw t (let z : suc (length l) ≤ suc (suc (length l)) = omega arith in z)) (λ t. rw t (let z : suc (suc (length l)) ≤ suc (suc (length l)) = omega arith in z))
+runs-count p (r ∷ l) = either-way (eqb p (r .place)) (λ t. rw t (let z : suc (length l) ≤ suc (suc (length l)) = omega arith in z))
+    (λ t. rw t (let z : suc (suc (length l)) ≤ suc (suc (length l)) = omega arith in z))
 
 runs-fewer : (ps : List ℕ) → length (runsOf ps) ≤ length ps
 unfolding runsOf
@@ -204,7 +206,8 @@ module _ (c : Counts) (cs ss fs tx mn mp ot op : List ℕ) (ok : programOk c (le
       (function-most c fs (suc i) tx ot op (function-at (suc i) l) text-small)
 
   bound-3 : length (counted functionImage (functionsHere (c .functions) 0 fs tx mn mp ot op)) ≤ 5 + 8589934592 * c .functions
-  bound-3 = counted-most functionImage (λ a b. functionsHere a b fs tx mn mp ot op) (λ j. functionIn (lent [] [] fs tx mn mp ot op) j) (here-open fs tx mn mp ot op) (here-shut fs tx mn mp ot op) (c .functions)
+  bound-3 = counted-most functionImage (λ a b. functionsHere a b fs tx mn mp ot op) (λ j. functionIn (lent [] [] fs tx mn mp ot op) j)
+      (here-open fs tx mn mp ot op) (here-shut fs tx mn mp ot op) (c .functions)
       function-image-most
 
   C : List ℕ
@@ -279,7 +282,8 @@ module _ (at₀ n : ℕ) (fs t mn mp ot op : List ℕ) (h : FunctionsPut at₀ n
   count = count-split functionImage all one (here-open fs t mn mp ot op) (here-shut fs t mn mp ot op) n
 
   main : Split (joined functionImage (functionsHere (n - 0) 0 fs t mn mp ot op)) (functionImage (functionHere fs 0 t mn mp)) (joined functionImage (functionsHere (n - 1) 1 fs t mn mp ot op))
-  main = subst (λ (f : Function). Split (joined functionImage (functionsHere (n - 0) 0 fs t mn mp ot op)) (functionImage f) (joined functionImage (functionsHere (n - 1) 1 fs t mn mp ot op))) (first-is fs t mn mp ot op)
+  main = subst (λ (f : Function). Split (joined functionImage (functionsHere (n - 0) 0 fs t mn mp ot op)) (functionImage f)
+      (joined functionImage (functionsHere (n - 1) 1 fs t mn mp ot op))) (first-is fs t mn mp ot op)
       (one-split functionImage all one (here-open fs t mn mp ot op) (here-shut fs t mn mp ot op) n 0 (h .some))
 
   pub functions-near : Near at₀ (digits n)

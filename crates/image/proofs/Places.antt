@@ -101,7 +101,13 @@ runs-good (p ∷ (p′ ∷ ps)) q s d = more (runsOf (p′ ∷ ps)) (λ q′ d�
         ))
         (λ t. let n : p ≡ r .place → ⊥ = eqb-false p (r .place) t in
         let h = f p (λ e. n (e ∙ sym (same (r .bytes) (g .1 .0 .0) (g .0)))) in
-        rw t (ap (λ (x : List ℕ). p ∷ x) (h .0), ((let y : 0 < 1 = omega arith in y, (let y : 1 ≤ suc (suc (length ps)) = omega arith in y, (s .0, d))), subst (λ (k : ℕ). Runs k p (r ∷ l)) (let y : suc (length ps) ≡ suc (suc (length ps)) - 1 = omega arith in y) (h .1))))
+        rw t (
+          ap (λ (x : List ℕ). p ∷ x) (h .0),
+          (
+            (let y : 0 < 1 = omega arith in y, (let y : 1 ≤ suc (suc (length ps)) = omega arith in y, (s .0, d))),
+            subst (λ (k : ℕ). Runs k p (r ∷ l)) (let y : suc (length ps) ≡ suc (suc (length ps)) - 1 = omega arith in y) (h .1),
+          ),
+        ))
       where
         first : (n : ℕ) → 0 < n → replicate n (r .place) ++ spread l ≡ p′ ∷ ps → r .place ≡ p′
         first zero z e = absurd (let w : ⊥ = omega arith in w)

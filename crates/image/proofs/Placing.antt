@@ -112,7 +112,8 @@ others-more o j (x ∷ l) f =
     let z2 : j + length (x .code) + length (joined (λ f. f .code) l) ≡ j + length (x .code ++ joined (λ f. f .code) l) =
     (let a = length-append (x .code) (joined (λ f. f .code) l) in omega arith) in
     ap (λ (w : List ℕ). pack o (length (x .name)) ∷ pack j (length (x .code)) ∷ w) (others-more (o + length (x .name)) (j + length (x .code)) l f
-    ∙ ap (λ (k : ℕ). othersLaid (o + length (x .name)) (j + length (x .code)) l ++ (pack k (length (f .name)) ∷ pack (j + length (x .code) + length (joined (λ f. f .code) l)) (length (f .code)) ∷ [])) z1
+    ∙ ap (λ (k : ℕ). othersLaid (o + length (x .name)) (j + length (x .code)) l ++
+    (pack k (length (f .name)) ∷ pack (j + length (x .code) + length (joined (λ f. f .code) l)) (length (f .code)) ∷ [])) z1
     ∙ ap (λ (k : ℕ). othersLaid (o + length (x .name)) (j + length (x .code)) l ++ (pack (o + length (x .name ++ joined (λ f. f .name) l)) (length (f .name)) ∷ pack k (length (f .code)) ∷ [])) z2)
 
 pub others-length : (o j : ℕ) (l : List Function) → length (othersLaid o j l) ≡ 2 * length l

@@ -148,7 +148,8 @@ module _ (c : Counts) (cs ss fs tx mn mp ot op : List ℕ) (ok : programOk c (le
 
   main-sound : 0 < c .functions → SoundFunction true (functionIn (lent cs ss fs tx mn mp ot op) 0)
   unfolding functionIn mainFirst mainOk
-  main-sound l = function-sound c true fs tx mn mp 0 (function-at c cs ss fs tx mn mp ot op ok 0 l) (text-small c cs ss fs tx mn mp ot op ok) (code-ends .0) (place-ends .0) mains (good c cs ss fs tx mn mp ot op ok .main)
+  main-sound l = function-sound c true fs tx mn mp 0 (function-at c cs ss fs tx mn mp ot op ok 0 l) (text-small c cs ss fs tx mn mp ot op ok) (code-ends .0)
+      (place-ends .0) mains (good c cs ss fs tx mn mp ot op ok .main)
 
   other-sound : (i : ℕ) → 0 < i → i < c .functions → SoundFunction false (functionIn (lent cs ss fs tx mn mp ot op) i)
   unfolding functionIn mainFirst

@@ -67,7 +67,8 @@ module _ (c : Counts) (fs t m o : List ℕ) {b : Bool} (ok : (rest : Stores) →
         limited c (and-left b₁ b₂ (and-left (b₁ && b₂) b₃ (and-left (b₁ && b₂ && b₃) b₄ (and-left (b₁ && b₂ && b₃ && b₄) b₅ (sym (ok rest) ∙ e))))) .functions
 
     module _ {k : ℕ} {s x : List ℕ} (z : length x ≡ 0) where
-      pub refused : (told : Told) → OneOf (1 ∷ []) (tagOf the-type told) → ((rest : Stores) → Listing k (whole rest) s 0 x told) → (rest : Stores) → record { answer = told; out = x ++ out } ≡ listOf c (lent rest fs t m o) out
+      pub refused : (told : Told) → OneOf (1 ∷ []) (tagOf the-type told) → ((rest : Stores) → Listing k (whole rest) s 0 x told) → (rest : Stores)
+          → record { answer = told; out = x ++ out } ≡ listOf c (lent rest fs t m o) out
       refused (Number n) d h rest = absurd (miss (1 ∷ []) 0 tt d)
       refused (Refused n) d h rest = rw (empty x out z) (refuses (not-wrote _ (h rest)) out ∙ in-order rest)
 
@@ -79,7 +80,8 @@ module _ (c : Counts) (fs t m o : List ℕ) {b : Bool} (ok : (rest : Stores) →
             let v = rw (empty x out z) at f in
             rw (empty x out z) (too-long (p .is-text) out (omega arith) ∙ in-order rest)
 
-        pub room-for : n ≤ r → {out' : List ℕ} {told' : Told} → ((rest : Stores) → Listing k (whole rest) (x ++ out) 0 out' told') → (rest : Stores) → record { answer = told'; out = out' } ≡ listOf c (lent rest fs t m o) out
+        pub room-for : n ≤ r → {out' : List ℕ} {told' : Told} → ((rest : Stores) → Listing k (whole rest) (x ++ out) 0 out' told') → (rest : Stores)
+            → record { answer = told'; out = out' } ≡ listOf c (lent rest fs t m o) out
         room-for g q rest =
             let p = wrote _ (rw d at (h rest)) in
             let y = p .put .next in

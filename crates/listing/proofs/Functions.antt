@@ -46,7 +46,8 @@ module _ (fs t m o : List ℕ) where
       unfolding listingFrom functionsFrom functionIn nameWord lent
       ahead rest = let z : n - i ≡ suc (n - suc i) = omega arith in rw z (front-and _ _ _ ∙ rw (a, e, b rest t))
 
-      pub one-stops : {k : ℕ} {u : List ℕ} (told : Told) → OneOf (1 ∷ []) (tagOf the-type told) → Listing k (one i name code) s' r u told → (rest : Stores) → Listing (65536 * 2 ^ 40) (from n 0 rest) s 0 u told
+      pub one-stops : {k : ℕ} {u : List ℕ} (told : Told) → OneOf (1 ∷ []) (tagOf the-type told) → Listing k (one i name code) s' r u told → (rest : Stores)
+          → Listing (65536 * 2 ^ 40) (from n 0 rest) s 0 u told
       unfolding andListed
       one-stops (Number q) x l rest = absurd (miss (1 ∷ []) 0 tt x)
       one-stops (Refused q) x l rest = stops (h .so-far rest) (ahead rest ∙ ap (λ (y : Listed). andListed y (from (n - suc i) (suc i) rest)) (not-wrote _ l))

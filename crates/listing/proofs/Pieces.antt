@@ -35,7 +35,8 @@ module _ (code : List ℕ) (i : ℕ) where
     one-operand (suc zero) f = within number 21 (omega arith)
     one-operand (suc (suc n)) f = absurd (let z : ⊥ = omega arith in z)
 
-    pub more-operands : (n : ℕ) → (n ≡ 0 → ⊥) → (n ≡ 1 → ⊥) → {u : List ℕ} {k : ℕ} → Put 1 (32 ∷ []) s' j u k → {v : List ℕ} {r : ℕ} → Put (21 * (n - 1)) (operandsFrom (n - 1) code (i + 2)) u k v r → Put (21 * n) (operandsFrom n code i) s at v r
+    pub more-operands : (n : ℕ) → (n ≡ 0 → ⊥) → (n ≡ 1 → ⊥) → {u : List ℕ} {k : ℕ} → Put 1 (32 ∷ []) s' j u k → {v : List ℕ} {r : ℕ}
+        → Put (21 * (n - 1)) (operandsFrom (n - 1) code (i + 2)) u k v r → Put (21 * n) (operandsFrom n code i) s at v r
     unfolding operandsFrom
     more-operands zero f g q o = absurd (f refl)
     more-operands (suc zero) f g q o = absurd (g refl)

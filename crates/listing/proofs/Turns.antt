@@ -80,7 +80,8 @@ module _ {code s : List ℕ} {at : ℕ} {s' : List ℕ} {i r : ℕ} (h : Turn co
           let z : length code < behind i n = omega arith in
           stops (h .so-far) (known ∙ rw (← w, lt-leb _ _ z))
 
-      pub next-turn : n ≤ (length code - i - 1) / 2 → {t : List ℕ} {q : ℕ} → Put (64 + 21 * opcodeAt (getD code i 0) .listed) (lineOf code i (opcodeAt (getD code i 0))) s' r t q → Turn code s at t (i + 1 + 2 * n) q
+      pub next-turn : n ≤ (length code - i - 1) / 2 → {t : List ℕ} {q : ℕ}
+          → Put (64 + 21 * opcodeAt (getD code i 0) .listed) (lineOf code i (opcodeAt (getD code i 0))) s' r t q → Turn code s at t (i + 1 + 2 * n) q
       unfolding knownThen
       next-turn f p =
           let b = behind-is i n in

@@ -48,7 +48,18 @@ module _ (m : Vm) (s : Stores) (l : Lent) (u : ℕ) (k : Fixed) (g : Going) (h :
   start-is =
       let b = h .begun in
       let n = lengths-of m s l (h .granted) in
-      rw (callers-are (m .frames) (l .frames) refl (let z = n .current in omega arith), innermost-is (m .frames) (l .frames) refl, b .sp, b .function, b .position, b .base, b .callers, b .used, b .units, b .last)
+      rw (
+        callers-are (m .frames) (l .frames) refl (let z = n .current in omega arith),
+        innermost-is (m .frames) (l .frames) refl,
+        b .sp,
+        b .function,
+        b .position,
+        b .base,
+        b .callers,
+        b .used,
+        b .units,
+        b .last,
+      )
 
   same-progress : progressIn g (l .cells) ≡ atStart start
   unfolding answerIn

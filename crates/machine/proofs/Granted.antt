@@ -69,7 +69,8 @@ module _ (m : Vm) (s : Stores) (l : Lent) where
   rest-frames : restOrder m s (l .stack) (l .cells) ≡ true → runOrder m s l ≡ framesGood (s .functions) (m .program .functions) (places 2 (l .stack)) (m .frames) (l .frames)
   rest-frames e =
       rest-order ∙ rw e
-      (sym (frames-are-good (s .functions) (m .program .functions) (places 2 (l .stack)) (functionsFrom (m .program .functions) 0 s) (length-functions s (m .program .functions) 0) (code-size (m .program) s (parts-of (m .program) s (rest-program e))) (m .frames) (l .frames)))
+      (sym (frames-are-good (s .functions) (m .program .functions) (places 2 (l .stack)) (functionsFrom (m .program .functions) 0 s)
+      (length-functions s (m .program .functions) 0) (code-size (m .program) s (parts-of (m .program) s (rest-program e))) (m .frames) (l .frames)))
 
   refused-19 : (u : ℕ) → runOrder m s l ≡ false → RunPost m s l u (Refused 19) l
   refused-19 u e = refuses m s l u 19 (unfold runAnswer in rw e)
@@ -117,7 +118,9 @@ lengths-of m s l g =
     let long = or-eq-false-eq-eq-false-and-eq-false short few .0 (g .long) in
     let copy : places 2 (l .stack) ≤ places 2 (l .copy) = ltb-false _ _ (long .0) in
     let some = some-frame (functionsFrom (m .program .functions) 0 s) (places 2 (l .stack)) (m .frames) (l .frames) (o .frames) in
-    let frames : m .frames ≤ frameRoom (l .frames) = unfold frameRoom in leb-true _ _ (and-left (leb (m .frames) (min (length (l .frames)) mostPlaces)) (framesOk (functionsFrom (m .program .functions) 0 s) (places 2 (l .stack)) (take (m .frames) (l .frames))) (o .frames)) in
+    let frames : m .frames ≤ frameRoom (l .frames) = unfold frameRoom in leb-true _ _
+    (and-left (leb (m .frames) (min (length (l .frames)) mostPlaces))
+    (framesOk (functionsFrom (m .program .functions) 0 s) (places 2 (l .stack)) (take (m .frames) (l .frames))) (o .frames)) in
     record {
       slots = slots;
       stack = unfold places in omega arith;

@@ -98,7 +98,8 @@ NotDone (l.Broken i) = Unit {0}
 NotDone (l.Refused n) = Unit {0}
 
 -- what is refused is not written
-kept-by : (a b : Bool) (c : Counts) (y x : Stores) {r : Loaded} {x' : Stores} → NotDone r → loaded r x' ≡ (if a then (if b then loaded (l.Done c) y else loaded (l.Refused 21) x) else loaded (l.Refused 22) x) → x' ≡ x
+kept-by : (a b : Bool) (c : Counts) (y x : Stores) {r : Loaded} {x' : Stores} → NotDone r
+    → loaded r x' ≡ (if a then (if b then loaded (l.Done c) y else loaded (l.Refused 21) x) else loaded (l.Refused 22) x) → x' ≡ x
 kept-by true true c y x f h = absurd (subst NotDone (ap (λ (w : LoadRes). w .answer) h) f)
 kept-by true false c y x f h = ap (λ (w : LoadRes). w .stores) h
 kept-by false b c y x f h = ap (λ (w : LoadRes). w .stores) h
@@ -146,7 +147,8 @@ module _ (image : List ℕ) (x : Stores) (r : Judgement) (h : JudgePost image r)
     place-21 e = let g = judged-is image r h z q in on (roomFor (g .program) x) refl
       where
         on : (b : Bool) → roomFor (judged-is image r h z q .program) x ≡ b → Makes (loadMachineOf image x) 0 (st.Refused 21) x
-        on true f = let g = judged-is image r h z q in by-load image x (loaded (l.Done (countsFor (g .program))) (laid (g .program) x)) (rw (g .judged, sym (limits-by (g .program) z (g .sizes)) ∙ e, f)) (none-done (laid (g .program) x) x (countsFor (g .program)))
+        on true f = let g = judged-is image r h z q in by-load image x (loaded (l.Done (countsFor (g .program))) (laid (g .program) x))
+            (rw (g .judged, sym (limits-by (g .program) z (g .sizes)) ∙ e, f)) (none-done (laid (g .program) x) x (countsFor (g .program)))
         on false f = let g = judged-is image r h z q in by-load image x (loaded (l.Refused 21) x) (rw (g .judged, sym (limits-by (g .program) z (g .sizes)) ∙ e, f)) (by-refused x x 21 0)
 
 pub without-place : {w : List Frame → StartRes} {n : ℕ} → n ≡ 0 → {r : Started} {y : Stores} → Makes w 0 r y → Makes w n r y
@@ -185,7 +187,8 @@ module _ (x : Stores) where
     unfolding asLoaded newOf
     not-new i q =
         let g : emitted (e.Refused i) x' ≡ newOf x = ap (λ (a : Emitted). emitted a x') (sym q) ∙ h .means in
-        by-new (emitted (e.Refused i) x') g (subst (λ (y : Stores). Makes (startWith (l.Refused i) x' x) n (st.Refused i) y) (sym (kept-new (leb 6 (places 1 (x .text)) && leb 1 (places 2 (x .functions))) _ _ _ g)) (by-refused x' x i n))
+        by-new (emitted (e.Refused i) x') g (subst (λ (y : Stores). Makes (startWith (l.Refused i) x' x) n (st.Refused i) y)
+        (sym (kept-new (leb 6 (places 1 (x .text)) && leb 1 (places 2 (x .functions))) _ _ _ g)) (by-refused x' x i n))
 
 -- ---- the frame
 

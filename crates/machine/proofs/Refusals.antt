@@ -61,7 +61,8 @@ module _ (m : Vm) (structs constants functions text main mainPlaces other otherP
   functions-counted true e = gr.functions-fit m stores lent (sym e)
   functions-counted false e = omega arith
 
-  pub run-judged : (good fine short : Bool) → good ≡ restOrder m stores stack cells → fine ≡ framesGood functions (if good then m .program .functions else 0) (places 2 stack) (m .frames) frames → short ≡ tooShort lent
+  pub run-judged : (good fine short : Bool) → good ≡ restOrder m stores stack cells
+      → fine ≡ framesGood functions (if good then m .program .functions else 0) (places 2 stack) (m .frames) frames → short ≡ tooShort lent
       → RunJudged m stores lent (refusalBy good fine short)
   unfolding refusalBy programLent runLent
   run-judged true true true g f s = record { grants = λ e. absurd (not-none 16 e); refuses = λ some u. gr.short-refused m stores lent u (sym g) (sym f) (sym s) }

@@ -180,7 +180,12 @@ module _ (m : Vm) (s : Stores) (l : Lent) (u : ℕ) (k : Fixed) (g : Going) (c :
     machine-ended =
         let there = callers-there in
         let n : suc (now .callers) - 1 ≡ now .callers = omega arith in
-        rw (innermost-is (suc (now .callers)) framesEnded n, getD-set-same frames (now .callers) (frameIn now) noFrame there, callers-are (suc (now .callers)) framesEnded n (omega (arith, length-set frames (now .callers) (frameIn now))), callers-kept (now .callers) (now .callers) frames (frameIn now) (omega arith))
+        rw (
+          innermost-is (suc (now .callers)) framesEnded n,
+          getD-set-same frames (now .callers) (frameIn now) noFrame there,
+          callers-are (suc (now .callers)) framesEnded n (omega (arith, length-set frames (now .callers) (frameIn now))),
+          callers-kept (now .callers) (now .callers) frames (frameIn now) (omega arith),
+        )
 
     rooms-ended : SameRooms l lentEnded
     unfolding runLent
@@ -259,7 +264,13 @@ module _ (m : Vm) (s : Stores) (l : Lent) (u : ℕ) (k : Fixed) (g : Going) (c :
     machine-stopped =
         let there : 0 < length frames = let z = callers-there in omega arith in
         let n : 1 - 1 ≡ 0 = omega arith in
-        rw (innermost-is 1 framesStopped n, getD-set-same frames 0 (root (size (codeWord (s .functions) 0))) noFrame there, callers-are 1 framesStopped n (omega arith), same-vals (m .stack) stackStopped (l .stack) same-words, main-length)
+        rw (
+          innermost-is 1 framesStopped n,
+          getD-set-same frames 0 (root (size (codeWord (s .functions) 0))) noFrame there,
+          callers-are 1 framesStopped n (omega arith),
+          same-vals (m .stack) stackStopped (l .stack) same-words,
+          main-length,
+        )
         (unfold callersOf in refl)
 
     rooms-stopped : SameRooms l lentStopped

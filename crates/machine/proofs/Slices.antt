@@ -45,10 +45,17 @@ module _ (p : Passing) where
 
     module _ (k : Fixed) (g : Going) where
       pub begins : ((j : ℕ) → j < length (main p) → getD (main p) j 0 < 256) → ((j : ℕ) → j < length (other p) → getD (other p) j 0 < 256)
-          → units p < 2 ^ 64 → k .constants ≡ m p .program .constants → k .structs ≡ m p .program .structs → k .functions ≡ m p .program .functions → k .slots ≡ places 2 (stack p) → k .frames ≡ frameRoom (frames p)
+          → units p < 2 ^ 64 → k .constants ≡ m p .program .constants → k .structs ≡ m p .program .structs → k .functions ≡ m p .program .functions
+          → k .slots ≡ places 2 (stack p) → k .frames ≡ frameRoom (frames p)
           → Begun (m p) (getD (frames p) (m p .frames - 1) noFrame) (units p) g → Begins (m p) (stores p) (lent₀ p) (units p) k g
       unfolding programLent runLent
-      begins a b u c s f n r h = record { granted = allowed; bytes = record { main = a; other = b }; fits = u; fixed = record { constants = c; structs = s; functions = f; slots = n; frames = r }; begun = h }
+      begins a b u c s f n r h = record {
+        granted = allowed;
+        bytes = record { main = a; other = b };
+        fits = u;
+        fixed = record { constants = c; structs = s; functions = f; slots = n; frames = r };
+        begun = h;
+      }
 
   -- ---- the loop
 
@@ -84,9 +91,13 @@ module _ (p : Passing) where
       ended e f a = rw (f, a, copied) (unfold runLent in se.run-ended (m p) (stores p) (lent₀ p) (units p) k g c stack' cells' frames' h e)
 
       pub back-ready : (2 * m p .stack ≤ length copy') × (2 * m p .stack ≤ length stack')
-      back-ready = rw copied (unfold runLent in (se.copy-there (m p) (stores p) (lent₀ p) (units p) k g c stack' cells' frames' h, se.stack-there (m p) (stores p) (lent₀ p) (units p) k g c stack' cells' frames' h))
+      back-ready = rw copied (unfold runLent in (
+        se.copy-there (m p) (stores p) (lent₀ p) (units p) k g c stack' cells' frames' h,
+        se.stack-there (m p) (stores p) (lent₀ p) (units p) k g c stack' cells' frames' h,
+      ))
 
-      pub faulted : (c .fault ≡ 0 → ⊥) → {backtrace' : List ℕ} → backtrace' ≡ written (backtrace p) 0 (traceWords (functions p) (mainPlaces p) (otherPlaces p) (frameIn (c .going) ∷ callersOf (c .going .callers) frames'))
+      pub faulted : (c .fault ≡ 0 → ⊥) → {backtrace' : List ℕ} → backtrace' ≡ written (backtrace p) 0
+          (traceWords (functions p) (mainPlaces p) (otherPlaces p) (frameIn (c .going) ∷ callersOf (c .going .callers) frames'))
           → {stack″ : List ℕ} → stack″ ≡ written stack' 0 (take (2 * m p .stack) copy')
           → {frames″ : List Frame} → frames″ ≡ set frames' 0 (root (size (codeWord (functions p) 0)))
           → {r : RunResult} → r ≡ faultedWith (m p) (units p) (c .going) (c .fault)

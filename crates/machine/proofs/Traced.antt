@@ -93,7 +93,8 @@ module _ (c : Counts) (s : Stores) (p : Parts c s) where
   pub trace-told : (rs : List Frame) → traceable functions rs ≡ true → traceWords (s .functions) (s .mainPlaces) (s .otherPlaces) rs ≡ entryWords (traceOf functions rs)
   trace-told rs e =
       let k : AllKnown (c .functions) rs = rw (length-functions s (c .functions) 0) at (all-known functions rs e) in
-      trace-is (s .functions) (c .functions) functions (code-size c s p) (s .mainPlaces) (s .otherPlaces) its-places rs k (trace-is-good (s .functions) (c .functions) functions (code-size c s p) rs k ∙ e)
+      trace-is (s .functions) (c .functions) functions (code-size c s p) (s .mainPlaces) (s .otherPlaces) its-places rs k
+      (trace-is-good (s .functions) (c .functions) functions (code-size c s p) rs k ∙ e)
 
 -- ---- entries in numbers
 

@@ -61,16 +61,19 @@ module _ (words main other : List ℕ) (n : ℕ) (frames : List Frame) {k : ℕ}
   unfolding framesIn
   judged ek ef eb = sym (eb ∙ rw (ef, ek))
 
-  pub trace-can : k ≡ n - 1 → f ≡ getD frames k noFrame → b ≡ traceGood words (f ∷ callersOf k frames) → b ≡ true → {room : ℕ} → Traceable words main other n frames room → TraceFits words main other f k frames room
+  pub trace-can : k ≡ n - 1 → f ≡ getD frames k noFrame → b ≡ traceGood words (f ∷ callersOf k frames) → b ≡ true → {room : ℕ}
+      → Traceable words main other n frames room → TraceFits words main other f k frames room
   trace-can ek ef eb on can = rw (ef, ek) (can .fits (judged ek ef eb ∙ on))
 
   module _ (out : List ℕ) {r : Told} where
-    pub trace-wrote : k ≡ n - 1 → f ≡ getD frames k noFrame → b ≡ traceGood words (f ∷ callersOf k frames) → b ≡ true → {out' : List ℕ} → out' ≡ written out 0 (traceWords words main other (f ∷ callersOf k frames)) → r ≡ t.Number n
+    pub trace-wrote : k ≡ n - 1 → f ≡ getD frames k noFrame → b ≡ traceGood words (f ∷ callersOf k frames) → b ≡ true → {out' : List ℕ}
+        → out' ≡ written out 0 (traceWords words main other (f ∷ callersOf k frames)) → r ≡ t.Number n
         → record { answer = r; out = out' } ≡ traceInto words main other n frames out
     unfolding traceInto framesIn
     trace-wrote ek ef eb on ew er = rw (judged ek ef eb, on, ew, er, ef, ek)
 
-    pub trace-none : k ≡ n - 1 → f ≡ getD frames k noFrame → b ≡ traceGood words (f ∷ callersOf k frames) → b ≡ false → r ≡ t.Refused 16 → record { answer = r; out = out } ≡ traceInto words main other n frames out
+    pub trace-none : k ≡ n - 1 → f ≡ getD frames k noFrame → b ≡ traceGood words (f ∷ callersOf k frames) → b ≡ false → r ≡ t.Refused 16
+        → record { answer = r; out = out } ≡ traceInto words main other n frames out
     unfolding traceInto
     trace-none ek ef eb off er = rw (judged ek ef eb, off, er)
 
@@ -103,7 +106,8 @@ without false a b c d e h = absurd (true≢false (sym h))
 
 bare-counts : (c : Counts) → countsOk c ≡ true → countsOk (bare c) ≡ true
 unfolding countsOk
-bare-counts c h = without (leb (c .constants) constantLimit) (leb (c .structs) nameLimit) (leb 1 (c .functions)) (leb (c .functions) nameLimit) (leb (c .text) mostPlaces) (eqb (c .current) 0 || eqb (suc (c .current)) (c .functions)) h
+bare-counts c h = without (leb (c .constants) constantLimit) (leb (c .structs) nameLimit) (leb 1 (c .functions)) (leb (c .functions) nameLimit)
+    (leb (c .text) mostPlaces) (eqb (c .current) 0 || eqb (suc (c .current)) (c .functions)) h
 
 module _ (m : Vm) (structs constants functions text main mainPlaces other otherPlaces : List ℕ) where
   abbrev c : Counts
@@ -121,7 +125,8 @@ module _ (m : Vm) (structs constants functions text main mainPlaces other otherP
   abbrev fs : List Function
   fs = functionsFrom (c .functions) 0 stores
 
-  pub program-judged : {b₁ b₂ b₃ b₄ b₅ b₆ : Bool} → b₁ ≡ countsOk c → b₂ ≡ textOk c text → b₃ ≡ functionsOk c functions → b₄ ≡ mainOk functions text → b₅ ≡ insideCodes c functions main other → b₆ ≡ insideCodes c functions mainPlaces otherPlaces
+  pub program-judged : {b₁ b₂ b₃ b₄ b₅ b₆ : Bool} → b₁ ≡ countsOk c → b₂ ≡ textOk c text → b₃ ≡ functionsOk c functions → b₄ ≡ mainOk functions text
+      → b₅ ≡ insideCodes c functions main other → b₆ ≡ insideCodes c functions mainPlaces otherPlaces
       → (b₁ && b₂ && b₃ && b₄ && b₅ && b₆) ≡ traceProgram c stores
   unfolding traceProgram listOrder programLent
   program-judged e₁ e₂ e₃ e₄ e₅ e₆ = rw (e₁, e₂, e₃, e₄, e₅, e₆)
@@ -156,7 +161,8 @@ module _ (m : Vm) (structs constants functions text main mainPlaces other otherP
 
     sizes : (i : ℕ) → i < c .functions → length (functionAt fs i .code) ≡ size (codeWord functions i)
     unfolding programLent
-    sizes = subst (λ (gs : List Function). (i : ℕ) → i < c .functions → length (functionAt gs i .code) ≡ size (codeWord functions i)) (same-functions (c .functions) 0) (code-size (bare c) without-constants parts)
+    sizes = subst (λ (gs : List Function). (i : ℕ) → i < c .functions → length (functionAt gs i .code) ≡ size (codeWord functions i))
+        (same-functions (c .functions) 0) (code-size (bare c) without-constants parts)
 
     enough : 2 * c .functions ≤ length functions
     unfolding programLent places
@@ -181,7 +187,8 @@ module _ (m : Vm) (structs constants functions text main mainPlaces other otherP
             let at : ℕ → Bool = (λ j. placeGood functions (c .functions) slots n j (getD frames j noFrame)) in
             let r = getD frames i noFrame in
             let e = every-of at n 0 (and-right room (everyFrom n 0 at) (by-words ∙ good)) i (omega arith) (omega arith) in
-            function-known (c .functions) slots r (and-left (frameGood (c .functions) slots r) (firstGood i r) (and-left (frameGood (c .functions) slots r && firstGood i r) (callerGood functions n i r) e))
+            function-known (c .functions) slots r (and-left (frameGood (c .functions) slots r) (firstGood i r)
+            (and-left (frameGood (c .functions) slots r && firstGood i r) (callerGood functions n i r) e))
 
         all-known : AllKnown (c .functions) (framesIn n frames)
         unfolding framesIn
@@ -211,10 +218,13 @@ module _ (m : Vm) (structs constants functions text main mainPlaces other otherP
         counted = omega (arith, length-callers (n - 1) frames, some)
 
         -- the rules' backtrace and the code's
-        written-is : (b : Bool) → traceGood functions (framesIn n frames) ≡ b → (out : List ℕ) → traceInto functions mainPlaces otherPlaces n frames out ≡ putTrace (backtraceOf fs (framesIn n frames)) out
+        written-is : (b : Bool) → traceGood functions (framesIn n frames) ≡ b → (out : List ℕ)
+            → traceInto functions mainPlaces otherPlaces n frames out ≡ putTrace (backtraceOf fs (framesIn n frames)) out
         unfolding traceInto putTrace backtraceOf
         written-is true e out =
-            let told : traceWords functions mainPlaces otherPlaces (framesIn n frames) ≡ entryWords (traceOf (functionsFrom (c .functions) 0 without-constants) (framesIn n frames)) = unfold programLent in trace-told (bare c) without-constants parts (framesIn n frames) (sym good-is ∙ e) in
+            let told : traceWords functions mainPlaces otherPlaces (framesIn n frames) ≡ entryWords
+            (traceOf (functionsFrom (c .functions) 0 without-constants) (framesIn n frames)) = unfold programLent in trace-told
+            (bare c) without-constants parts (framesIn n frames) (sym good-is ∙ e) in
             let same = same-functions (c .functions) 0 in
             rw (e, ← same, ← good-is, e, told, length-trace (functionsFrom (c .functions) 0 without-constants) (framesIn n frames), counted)
         written-is false e out = rw (e, ← same-functions (c .functions) 0, ← good-is, e)
@@ -229,7 +239,8 @@ module _ (m : Vm) (structs constants functions text main mainPlaces other otherP
   functions-counted true e = enough (sym e)
   functions-counted false e = omega arith
 
-  pub frames-judged : (stack : List ℕ) (frames : List Frame) (b f : Bool) → b ≡ traceProgram c stores → f ≡ framesGood functions (if b then c .functions else 0) (places 2 stack) n frames → (b && f) ≡ traceOrder m stores stack frames
+  pub frames-judged : (stack : List ℕ) (frames : List Frame) (b f : Bool) → b ≡ traceProgram c stores
+      → f ≡ framesGood functions (if b then c .functions else 0) (places 2 stack) n frames → (b && f) ≡ traceOrder m stores stack frames
   frames-judged stack frames true f e g = g ∙ by-words (sym e) (places 2 stack) frames ∙ sym (by-parts stack frames ∙ ap (λ (b : Bool). b && frameStoreOk fs (places 2 stack) n frames) (sym e))
   frames-judged stack frames false f e g = sym (by-parts stack frames ∙ ap (λ (b : Bool). b && frameStoreOk fs (places 2 stack) n frames) (sym e))
 

@@ -173,7 +173,8 @@ module _ (c : Counts) (name fs t : List ℕ) (b : Bool) (e : (rest : Stores) →
   unfolding functionIdxOf
   index-19 h rest = rw (← (e rest), h)
 
-  pub index-told : b ≡ true → (r : Told) → ((rest : Stores) → r ≡ toldName (newestFrom 0 name (namesFrom (c .functions) 0 (namesLent rest fs t)))) → (rest : Stores) → r ≡ functionIdxOf c name (namesLent rest fs t)
+  pub index-told : b ≡ true → (r : Told) → ((rest : Stores) → r ≡ toldName (newestFrom 0 name (namesFrom (c .functions) 0 (namesLent rest fs t))))
+      → (rest : Stores) → r ≡ functionIdxOf c name (namesLent rest fs t)
   unfolding functionIdxOf
   index-told h r er rest = rw (← (e rest), h) (er rest)
 

@@ -36,7 +36,8 @@ module _ (c : Counts) (rest : Stores) (fs m mp o op : List ℕ) (a b r : ℕ) wh
 pub current-known : (c : Counts) (s : Stores) (b : Bool) → b ≡ codeOrder c s → not b ≡ false → Known c (s .functions) (c .current)
 unfolding codeOrder
 current-known c s b e h =
-    let b1 = countsOk c in let b2 = functionsOk c (s .functions) in let b3 = insideCodes c (s .functions) (s .main) (s .other) in let b4 = insideCodes c (s .functions) (s .mainPlaces) (s .otherPlaces) in
+    let b1 = countsOk c in let b2 = functionsOk c (s .functions) in let b3 = insideCodes c (s .functions) (s .main) (s .other) in let b4 = insideCodes c
+    (s .functions) (s .mainPlaces) (s .otherPlaces) in
     let e2 = and-left (b1 && b2) b3 (and-left (b1 && b2 && b3) b4 (sym e ∙ not-false b h)) in
     function-known c (s .functions) (and-right b1 b2 e2) (c .current) (limited c (and-left b1 b2 e2) .current)
 

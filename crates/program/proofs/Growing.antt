@@ -48,7 +48,8 @@ module _ (t : List ℕ) (a : ℕ) (l : List ℕ) (h : a + length l ≤ length t)
   unfolding part textAt
   part-kept w k =
       let b = below in
-      let e : take (size w) (drop (start w) t) ≡ take (size w) (drop (start w) (take a t)) = ap (λ (q : List ℕ). take (size w) (drop (start w) q)) (sym (take-append-drop a t)) ∙ front (take a t) (drop a t) (start w) (size w) (omega arith) in
+      let e : take (size w) (drop (start w) t) ≡ take (size w) (drop (start w) (take a t)) = ap (λ (q : List ℕ). take (size w) (drop (start w) q))
+      (sym (take-append-drop a t)) ∙ front (take a t) (drop a t) (start w) (size w) (omega arith) in
       rw split (front (take a t) (l ++ drop (a + length l) t) (start w) (size w) (omega arith) ∙ sym e)
 
   -- and the new one is the text
@@ -64,7 +65,8 @@ module _ (c d : Counts) (more : c .text ≤ d .text) where
   pub inside-more : (w : ℕ) → insideText c w ≡ true → insideText d w ≡ true
   inside-more w e = let h = text-inside c w e in inside-back d w (omega arith)
 
-  kind-more : (b0 b1 b3 x y z : Bool) → (if b0 then true else (if b1 then x else (if b3 then y else false))) ≡ true → (y ≡ true → z ≡ true) → (if b0 then true else (if b1 then x else (if b3 then z else false))) ≡ true
+  kind-more : (b0 b1 b3 x y z : Bool) → (if b0 then true else (if b1 then x else (if b3 then y else false))) ≡ true → (y ≡ true → z ≡ true)
+      → (if b0 then true else (if b1 then x else (if b3 then z else false))) ≡ true
   kind-more true b1 b3 x y z e h = refl
   kind-more false true b3 x y z e h = e
   kind-more false false true x y z e h = h e
@@ -136,7 +138,8 @@ module _ (cs : List ℕ) (i a b : ℕ) (h : 2 * i + 2 ≤ length cs) where
     getD-set-other (set cs (2 * i) a) (2 * i + 1) (2 * j + 1) b 0 (λ (e : 2 * j + 1 ≡ 2 * i + 1). d (omega arith)) ∙ getD-set-other cs (2 * i) (2 * j + 1) a 0 (λ (e : 2 * j + 1 ≡ 2 * i). omega arith),
   )
 
-pub counts-good : (c : Counts) → c .constants ≤ 65535 → c .structs ≤ 65536 → 1 ≤ c .functions → c .functions ≤ 65536 → c .text ≤ 0xFFFF_FFFF → (eqb (c .current) 0 || eqb (suc (c .current)) (c .functions)) ≡ true → countsOk c ≡ true
+pub counts-good : (c : Counts) → c .constants ≤ 65535 → c .structs ≤ 65536 → 1 ≤ c .functions → c .functions ≤ 65536 → c .text ≤ 0xFFFF_FFFF
+    → (eqb (c .current) 0 || eqb (suc (c .current)) (c .functions)) ≡ true → countsOk c ≡ true
 unfolding countsOk
 counts-good c a b d e f g = rw (le-leb _ _ a, le-leb _ _ b, le-leb _ _ d, le-leb _ _ e, le-leb _ _ f) g
 
@@ -163,7 +166,8 @@ module _ (c : Counts) (n : ℕ) (cs : List ℕ) (g : constantsOk c cs ≡ true) 
   unfolding constantsOk
   constants-added =
       let a : suc (c .constants) ≤ places 2 (putWords cs (c .constants) kind w) = rw (places-same 2 (putWords cs (c .constants) kind w) cs (length-words cs (c .constants) kind w)) (omega arith) in
-      and-both _ _ (le-leb _ _ a) (pass-all (suc (c .constants)) 0 (λ i. constantOk (oneConstant n c) (kindAt (putWords cs (c .constants) kind w) i) (payloadAt (putWords cs (c .constants) kind w) i)) each)
+      and-both _ _ (le-leb _ _ a) (pass-all (suc (c .constants)) 0 (λ i. constantOk (oneConstant n c) (kindAt (putWords cs (c .constants) kind w) i)
+      (payloadAt (putWords cs (c .constants) kind w) i)) each)
 
 module _ (c : Counts) (s : Stores) (g : Good c s) (few : c .constants < 65535) (fits : c .constants < places 2 (s .constants)) where
   lim : Limited c
@@ -398,7 +402,8 @@ module _ (c : Counts) (s : Stores) (g : Good c s) (few : c .functions < 65536) (
   function-begun =
       let x = room-1 u in
       record {
-        counts = counts-good (oneFunction n c) (limits .constants) (limits .structs) (omega arith) (omega arith) (omega arith) (or-inr (eqb (c .functions) 0) (eqb (suc (c .functions)) (suc (c .functions))) (eq-eqb (suc (c .functions)) (suc (c .functions)) refl));
+        counts = counts-good (oneFunction n c) (limits .constants) (limits .structs) (omega arith) (omega arith) (omega arith)
+            (or-inr (eqb (c .functions) 0) (eqb (suc (c .functions)) (suc (c .functions))) (eq-eqb (suc (c .functions)) (suc (c .functions)) refl));
         text = le-leb (c .text + n) (places 1 u) room;
         constants = constants-more c (oneFunction n c) (omega arith) (s .constants) refl (g .constants);
         structs = structs-more c (oneFunction n c) (omega arith) (s .structs) (s .text) u same refl (g .structs);

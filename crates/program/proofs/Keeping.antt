@@ -71,7 +71,8 @@ functions-room : (c : Counts) (fs : List ℕ) → functionsOk c fs ≡ true → 
 unfolding functionsOk
 functions-room c fs e = and-left (leb (c .functions) (places 2 fs)) (everyFrom (c .functions) 0 (functionOk c fs)) e
 
-pub function-good : (c : Counts) (fs : List ℕ) (i : ℕ) → insideText c (nameWord fs i) ≡ true → start (codeWord fs i) ≡ codeStart fs i → size (codeWord fs i) ≤ 65535 → codeEnd fs i ≤ 0xFFFF_FFFF → functionOk c fs i ≡ true
+pub function-good : (c : Counts) (fs : List ℕ) (i : ℕ) → insideText c (nameWord fs i) ≡ true → start (codeWord fs i) ≡ codeStart fs i
+    → size (codeWord fs i) ≤ 65535 → codeEnd fs i ≤ 0xFFFF_FFFF → functionOk c fs i ≡ true
 unfolding functionOk
 function-good c fs i a b d e = rw (a, eq-eqb _ _ b, le-leb _ _ d, le-leb _ _ e)
 
@@ -233,7 +234,8 @@ module _ (c : Counts) (s : Stores) (g : Good c s) (n : ℕ) (short : sizeHere c 
           functions = longer-good;
           main = main-here;
           codes = codes-longer _ _ _ _ now-longer c (g .functions) lim refl n word-here short-here ends-below (s .main) (s .other) code (s .other) (g .codes) ec refl (λ q. a) (λ q. absurd (q z));
-          places = codes-longer _ _ _ _ now-longer c (g .functions) lim refl n word-here short-here ends-below (s .mainPlaces) (s .otherPlaces) places' (s .otherPlaces) (g .places) el refl (λ q. b) (λ q. absurd (q z));
+          places = codes-longer _ _ _ _ now-longer c (g .functions) lim refl n word-here short-here ends-below (s .mainPlaces) (s .otherPlaces) places'
+              (s .otherPlaces) (g .places) el refl (λ q. b) (λ q. absurd (q z));
         }
 
     other-longer : length code ≡ length (s .other) → length places' ≡ length (s .otherPlaces) → (c .current ≡ 0 → ⊥) → Good c (withFunctions (longer c n s) (withOther code places' s))
@@ -249,7 +251,8 @@ module _ (c : Counts) (s : Stores) (g : Good c s) (n : ℕ) (short : sizeHere c 
           functions = longer-good;
           main = main-here;
           codes = codes-longer _ _ _ _ now-longer c (g .functions) lim refl n word-here short-here ends-below (s .main) (s .other) (s .main) code (g .codes) refl ec (λ q. absurd (z q)) (λ q. a);
-          places = codes-longer _ _ _ _ now-longer c (g .functions) lim refl n word-here short-here ends-below (s .mainPlaces) (s .otherPlaces) (s .mainPlaces) places' (g .places) refl el (λ q. absurd (z q)) (λ q. b);
+          places = codes-longer _ _ _ _ now-longer c (g .functions) lim refl n word-here short-here ends-below (s .mainPlaces) (s .otherPlaces)
+              (s .mainPlaces) places' (g .places) refl el (λ q. absurd (z q)) (λ q. b);
         }
 
 module _ (c : Counts) (bytes : List ℕ) (place : ℕ) (s : Stores) (g : Good c s) (short : sizeHere c s + length bytes ≤ 65535) (fits : endHere c s + length bytes ≤ codeRoom c s) where

@@ -184,6 +184,7 @@ module _ (c : Counts) (fs m o : List ℕ) (l : Limited c) (e : insideCodes c fs 
   pub code-in-other : (c .current ≡ 0 → ⊥) → codeEnd fs (c .current) ≤ length o
   unfolding insideCodes otherTaken
   code-in-other z =
-      let h : codeStart fs (c .functions) ≤ places 1 o = leb-true (codeStart fs (c .functions)) (places 1 o) (and-right (leb (mainTaken fs) (places 1 m)) (leb (codeStart fs (c .functions)) (places 1 o)) e) in
+      let h : codeStart fs (c .functions) ≤ places 1 o = leb-true (codeStart fs (c .functions)) (places 1 o)
+      (and-right (leb (mainTaken fs) (places 1 m)) (leb (codeStart fs (c .functions)) (places 1 o)) e) in
       let k : codeStart fs (c .functions) ≡ codeEnd fs (c .current) = codes-behind fs (c .current) (c .functions) z (l .newest z) in
       let x = room-1 o in omega arith

@@ -209,7 +209,8 @@ module _ (c : Counts) (lent : List ℕ) (s : Stores) (e : programOk c s ≡ true
       made-if want (leb nameLimit (c .structs)) _ _ (λ _. made-refused want 22 s) (λ few.
       made-if want (leb (places 2 (s .structs)) (c .structs)) _ _ (λ _. made-refused want 21 s) (λ fits.
       made-if want (leb (c .text + length lent) (places 1 (s .text))) _ _ (λ r.
-      made-done _ (c .structs) _ (named-good c s good lent (leb-true _ _ r) (leb-false _ _ few) (leb-false _ _ fits) fresh) (named-reads c s good lent (leb-true _ _ r) (leb-false _ _ few) (leb-false _ _ fits) fresh))
+      made-done _ (c .structs) _ (named-good c s good lent (leb-true _ _ r) (leb-false _ _ few) (leb-false _ _ fits) fresh)
+      (named-reads c s good lent (leb-true _ _ r) (leb-false _ _ few) (leb-false _ _ fits) fresh))
       (λ _. made-refused want 21 s)))
 
   found-made : (o : Option ℕ) → firstFrom 0 lent (structsFrom (c .structs) 0 (s .structs) (s .text)) ≡ o → Made (withName (programIn c s) lent) (structFound c lent s o)
@@ -332,7 +333,13 @@ module _ (c : Counts) (s : Stores) (g : Good c s) (lent : List ℕ) (room : c .t
   new-function =
       let x = words-here (s .functions) (c .functions) (pack (c .text) (length lent)) (pack behind 0) pair in
       let b : behind < 2 ^ 32 = (let y = start-below c (s .functions) (g .functions) (c .functions) (omega arith) in omega arith) in
-      rw (x .0, x .1, new-part c s g lent room, nothing (if eqb (c .functions) 0 then s .main else s .other) behind b, nothing (if eqb (c .functions) 0 then s .mainPlaces else s .otherPlaces) behind b)
+      rw (
+        x .0,
+        x .1,
+        new-part c s g lent room,
+        nothing (if eqb (c .functions) 0 then s .main else s .other) behind b,
+        nothing (if eqb (c .functions) 0 then s .mainPlaces else s .otherPlaces) behind b,
+      )
 
   begun-reads : programIn (oneFunction (length lent) c) s' ≡ withFunction (programIn c s) lent
   unfolding programIn withFunction
@@ -352,7 +359,8 @@ begin-made c name s e =
     made-if want (leb (places 2 (s .functions)) (c .functions)) _ _ (λ _. made-refused want 21 s) (λ fits.
     made-if want (leb (c .text + length name) (places 1 (s .text))) _ _ (λ t.
     let room = leb-true _ _ t in
-    made-done _ (c .functions) _ (function-begun c s g (leb-false _ _ few) (leb-false _ _ fits) (length name) _ (text-room c s g name room) (same c s g name room)) (begun-reads c s g name room (leb-false _ _ fits)))
+    made-done _ (c .functions) _ (function-begun c s g (leb-false _ _ few) (leb-false _ _ fits) (length name) _ (text-room c s g name room)
+    (same c s g name room)) (begun-reads c s g name room (leb-false _ _ fits)))
     (λ _. made-refused want 21 s))))
     (λ _. made-refused want 19 s)
 

@@ -130,7 +130,8 @@ module _ (c : Counts) (bytes : List ℕ) (place : ℕ) (s : Stores) (g : Good c 
   in-store : (m : List ℕ) → endHere c s + length bytes ≤ places 1 m → start word + size word + length bytes ≤ length m
   in-store m h = let x = room-1 m in let e = end-here in omega arith
 
-  more-code : (m l : List ℕ) → length l ≡ length bytes → endHere c s + length bytes ≤ places 1 m → part (written m (endHere c s) l) (codeWord (longer c (length bytes) s) (c .current)) ≡ part m (codeWord (s .functions) (c .current)) ++ l
+  more-code : (m l : List ℕ) → length l ≡ length bytes → endHere c s + length bytes ≤ places 1 m
+      → part (written m (endHere c s) l) (codeWord (longer c (length bytes) s) (c .current)) ≡ part m (codeWord (s .functions) (c .current)) ++ l
   unfolding word
   more-code m l e h = rw (words .here, end-here) (part-more m l word (length bytes) e (in-store m h))
 
@@ -149,7 +150,9 @@ module _ (c : Counts) (bytes : List ℕ) (place : ℕ) (s : Stores) (g : Good c 
   unfolding ps
   length-ps = length-replicate (length bytes) place
 
-  reads-main : c .current ≡ 0 → programIn c (withFunctions (longer c (length bytes) s) (withMain (written (s .main) (endHere c s) bytes) (written (s .mainPlaces) (endHere c s) ps) s)) ≡ changed (programIn c s) (c .current) (longerBy bytes ps)
+  reads-main : c .current ≡ 0 → programIn c (withFunctions (longer c (length bytes) s)
+      (withMain (written (s .main) (endHere c s) bytes) (written (s .mainPlaces) (endHere c s) ps) s)) ≡ changed (programIn c s) (c .current)
+      (longerBy bytes ps)
   unfolding functionIn codeHere placesHere
   reads-main z =
       let a : endHere c s + length bytes ≤ places 1 (s .main) = rw (eq-eqb (c .current) 0 z) at (in-code c s g (length bytes) short fits) in
@@ -158,7 +161,9 @@ module _ (c : Counts) (bytes : List ℕ) (place : ℕ) (s : Stores) (g : Good c 
       (rw (eq-eqb (c .current) 0 z, words .names (c .current), more-code (s .main) bytes refl a, more-code (s .mainPlaces) ps length-ps b))
       (λ j h d. rw (ne-eqb j 0 (λ (q : j ≡ 0). d (q ∙ sym z)), words .names j, words .others j d))
 
-  reads-other : (c .current ≡ 0 → ⊥) → programIn c (withFunctions (longer c (length bytes) s) (withOther (written (s .other) (endHere c s) bytes) (written (s .otherPlaces) (endHere c s) ps) s)) ≡ changed (programIn c s) (c .current) (longerBy bytes ps)
+  reads-other : (c .current ≡ 0 → ⊥) → programIn c (withFunctions (longer c (length bytes) s)
+      (withOther (written (s .other) (endHere c s) bytes) (written (s .otherPlaces) (endHere c s) ps) s)) ≡ changed (programIn c s) (c .current)
+      (longerBy bytes ps)
   unfolding functionIn codeHere placesHere
   reads-other z =
       let a : endHere c s + length bytes ≤ places 1 (s .other) = rw (ne-eqb (c .current) 0 z) at (in-code c s g (length bytes) short fits) in
@@ -206,7 +211,8 @@ module _ (c : Counts) (at a : ℕ) (s : Stores) (g : Good c s) (within : at + 2 
   unfolding codeEnd
   in-other z = code-in-other c (s .functions) (s .main) (s .other) bounded (g .codes) z
 
-  other-part : (j : ℕ) → j < c .functions → (j ≡ c .current → ⊥) → 1 ≤ j → (c .current ≡ 0 → ⊥) → part (written (s .other) (start here + at) (u16 a)) (codeWord (s .functions) j) ≡ part (s .other) (codeWord (s .functions) j)
+  other-part : (j : ℕ) → j < c .functions → (j ≡ c .current → ⊥) → 1 ≤ j → (c .current ≡ 0 → ⊥)
+      → part (written (s .other) (start here + at) (u16 a)) (codeWord (s .functions) j) ≡ part (s .other) (codeWord (s .functions) j)
   unfolding codeEnd u16
   other-part j h d one z =
       let n = bounded .newest z in
@@ -241,7 +247,8 @@ unfolding constantsFrom
 constants-snoc zero i cs t = let z : i + 0 ≡ i = omega arith in rw z
 constants-snoc (suc n) i cs t = let z : i + suc n ≡ suc i + n = omega arith in ap (λ (q : List p.Constant). constantIn t (kindAt cs i) (payloadAt cs i) ∷ q) (rw z (constants-snoc n (suc i) cs t))
 
-pub constants-alike : (n i : ℕ) (cs ds t u : List ℕ) → ((j : ℕ) → j < i + n → constantIn u (kindAt ds j) (payloadAt ds j) ≡ constantIn t (kindAt cs j) (payloadAt cs j)) → constantsFrom n i ds u ≡ constantsFrom n i cs t
+pub constants-alike : (n i : ℕ) (cs ds t u : List ℕ) → ((j : ℕ) → j < i + n
+    → constantIn u (kindAt ds j) (payloadAt ds j) ≡ constantIn t (kindAt cs j) (payloadAt cs j)) → constantsFrom n i ds u ≡ constantsFrom n i cs t
 unfolding constantsFrom
 constants-alike zero i cs ds t u h = refl
 constants-alike (suc n) i cs ds t u h = rw (h i (omega arith), constants-alike n (suc i) cs ds t u (λ j l. h j (omega arith)))
@@ -255,7 +262,8 @@ kinds-alike false false b2 false x y A B v w e h = apart false e refl
 
 pub constant-alike : (c : Counts) (t u : List ℕ) → ((v : ℕ) → start v + size v ≤ c .text → part u v ≡ part t v) → (k a : ℕ) → constantOk c k a ≡ true → constantIn u k a ≡ constantIn t k a
 unfolding constantOk constantIn
-constant-alike c t u same k a e = kinds-alike (eqb k 0) (eqb k 1) (eqb k 2) (leb k 3) (ltb a 2) (insideText c a) (scalar a) (boolean (not (eqb a 0))) (part u a) (part t a) e (λ y. same a (text-inside c a y))
+constant-alike c t u same k a e = kinds-alike (eqb k 0) (eqb k 1) (eqb k 2) (leb k 3) (ltb a 2) (insideText c a) (scalar a) (boolean (not (eqb a 0))) (part u a)
+    (part t a) e (λ y. same a (text-inside c a y))
 
 -- a program with one constant more
 unfoldable pub withOne : Program → p.Constant → Program
@@ -275,10 +283,13 @@ module _ (c : Counts) (s : Stores) (g : Good c s) (fits : c .constants < places 
       constants-alike k 0 cs (putWords cs k kind w) (s .text) u (λ j l.
       let x = words-other cs k kind w two j (λ (q : j ≡ k). omega arith) in
       rw (x .0, x .1) (constant-alike c (s .text) u same (kindAt cs j) (payloadAt cs j) (constants-known c cs (g .constants) .each j (omega arith)))) in
-      let e1 : constantsFrom (suc k) 0 (putWords cs k kind w) u ≡ constantsFrom k 0 cs (s .text) ++ (constantIn u kind w ∷ []) = constants-snoc k 0 (putWords cs k kind w) u ∙ rw (z, h .0, h .1, old) in
-      let e2 : structsFrom (c .structs) 0 (s .structs) u ≡ structsFrom (c .structs) 0 (s .structs) (s .text) = names-same c c (omega arith) (s .structs) (s .text) u same (c .structs) 0 (λ j l. structs-known c (s .structs) (s .text) (g .structs) .inside j (omega arith)) in
+      let e1 : constantsFrom (suc k) 0 (putWords cs k kind w) u ≡ constantsFrom k 0 cs (s .text) ++ (constantIn u kind w ∷ []) = constants-snoc k 0
+      (putWords cs k kind w) u ∙ rw (z, h .0, h .1, old) in
+      let e2 : structsFrom (c .structs) 0 (s .structs) u ≡ structsFrom (c .structs) 0 (s .structs) (s .text) = names-same c c (omega arith) (s .structs)
+      (s .text) u same (c .structs) 0 (λ j l. structs-known c (s .structs) (s .text) (g .structs) .inside j (omega arith)) in
       let e3 : functionsFrom (c .functions) 0 (withConstants (putWords cs k kind w) (withText u s)) ≡ functionsFrom (c .functions) 0 s =
-      all-same s (withConstants (putWords cs k kind w) (withText u s)) (c .functions) 0 (λ j a b. rw (same (nameWord (s .functions) j) (function-known c (s .functions) (g .functions) j (omega arith) .name))) in
+      all-same s (withConstants (putWords cs k kind w) (withText u s)) (c .functions) 0
+      (λ j a b. rw (same (nameWord (s .functions) j) (function-known c (s .functions) (g .functions) j (omega arith) .name))) in
       rw (e1, e2, e3)
 
 -- the constant that is meant
@@ -304,7 +315,8 @@ module _ (c : Counts) (s : Stores) (g : Good c s) (fits : c .constants < places 
   unfolding withConstant
   plain-reads kind w = record { reads = λ d i e. let z : oneConstant 0 c ≡ d = cc in rw (← z) (constant-reads c s g fits 0 kind w (s .text) (λ v q. refl)) }
 
-  text-reads : (kind : ℕ) (lent : List ℕ) (x : p.Constant) → ((t : List ℕ) → part t (pack (c .text) (length lent)) ≡ lent → constantIn t kind (pack (c .text) (length lent)) ≡ x) → Reads (withOne (programIn c s) x) (withTextConstant c kind lent s)
+  text-reads : (kind : ℕ) (lent : List ℕ) (x : p.Constant) → ((t : List ℕ) → part t (pack (c .text) (length lent)) ≡ lent
+      → constantIn t kind (pack (c .text) (length lent)) ≡ x) → Reads (withOne (programIn c s) x) (withTextConstant c kind lent s)
   unfolding withTextConstant textRoom
   text-reads kind lent x is =
       reads-if (withOne (programIn c s) x) (leb (c .text + length lent) (places 1 (s .text))) _ _
@@ -316,7 +328,8 @@ module _ (c : Counts) (s : Stores) (g : Good c s) (fits : c .constants < places 
             let b : c .text < 2 ^ 32 = omega arith in
             let f : c .text + length lent ≤ length (s .text) = omega arith in
             let o = is (written (s .text) (c .text) lent) (part-new (s .text) (c .text) lent f b) in
-            rw (← z) (constant-reads c s g fits (length lent) kind (pack (c .text) (length lent)) (written (s .text) (c .text) lent) (part-kept (s .text) (c .text) lent f) ∙ ap (λ (q : p.Constant). withOne (programIn c s) q) o);
+            rw (← z) (constant-reads c s g fits (length lent) kind (pack (c .text) (length lent)) (written (s .text) (c .text) lent)
+            (part-kept (s .text) (c .text) lent f) ∙ ap (λ (q : p.Constant). withOne (programIn c s) q) o);
       })
       (λ _. reads-refused (withOne (programIn c s) x) 21 s)
 
@@ -335,7 +348,8 @@ appended-done : (c : Counts) (bytes : List ℕ) (place : ℕ) (s : Stores) {want
 unfolding appended
 appended-done c bytes place s {want} e = record { reads = λ d i q. let z : c ≡ d = cc in rw (← z) e }
 
-pub emit-reads : (c : Counts) (op : ℕ) (bytes : List ℕ) (place : ℕ) (s : Stores) → programOk c s ≡ true → Reads (changed (programIn c s) (c .current) (longerBy bytes (replicate (length bytes) place))) (emitOf c op bytes place s)
+pub emit-reads : (c : Counts) (op : ℕ) (bytes : List ℕ) (place : ℕ) (s : Stores) → programOk c s ≡ true
+    → Reads (changed (programIn c s) (c .current) (longerBy bytes (replicate (length bytes) place))) (emitOf c op bytes place s)
 unfolding emitOf emitIn
 emit-reads c op bytes place s e =
     let want = changed (programIn c s) (c .current) (longerBy bytes (replicate (length bytes) place)) in

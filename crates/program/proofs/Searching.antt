@@ -42,7 +42,8 @@ newest-more i n (y ∷ ns) x =
     let z : i + suc (length ns) ≡ suc i + length ns = omega arith in
     rw (newest-more (suc i) n ns x, z) (or-else-if (sameBytes n x) (suc i + length ns) (newestFrom (suc i) n ns) (if sameBytes n y then some i else none))
 
-newest-step : (n : List ℕ) (k : ℕ) (s : Stores) → newestFrom 0 n (namesFrom (suc k) 0 s) ≡ (if sameBytes n (part (s .text) (nameWord (s .functions) k)) then some k else newestFrom 0 n (namesFrom k 0 s))
+newest-step : (n : List ℕ) (k : ℕ) (s : Stores) → newestFrom 0 n (namesFrom (suc k) 0 s) ≡
+    (if sameBytes n (part (s .text) (nameWord (s .functions) k)) then some k else newestFrom 0 n (namesFrom k 0 s))
 newest-step n k s = let z : 0 + k ≡ k = omega arith in rw (names-more k 0 s, newest-more 0 n (namesFrom k 0 s) (part (s .text) (nameWord (s .functions) (0 + k))), length-names k 0 s, z)
 
 -- the functions from number left on do not have the name
@@ -63,7 +64,8 @@ module _ (n : ℕ) (name fs t : List ℕ) (left : ℕ) (h : Newest n name fs t l
     unfolding nameWord namesLent
     here rest =
         let z : left ≡ suc (left - 1) = omega arith in
-        let q : newestFrom 0 name (namesFrom left 0 (namesLent rest fs t)) ≡ newestFrom 0 name (namesFrom (suc (left - 1)) 0 (namesLent rest fs t)) = ap (λ (k : ℕ). newestFrom 0 name (namesFrom k 0 (namesLent rest fs t))) z in
+        let q : newestFrom 0 name (namesFrom left 0 (namesLent rest fs t)) ≡ newestFrom 0 name (namesFrom (suc (left - 1)) 0 (namesLent rest fs t)) = ap
+        (λ (k : ℕ). newestFrom 0 name (namesFrom k 0 (namesLent rest fs t))) z in
         h .means rest ∙ q ∙ newest-step name (left - 1) (namesLent rest fs t) ∙ rw (eb, ep, ew)
 
     pub newest-here : b ≡ true → (rest : Stores) → tl.Number (left - 1) ≡ toldName (newestFrom 0 name (namesFrom n 0 (namesLent rest fs t)))

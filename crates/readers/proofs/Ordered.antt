@@ -69,7 +69,8 @@ module _ (m : Vm) (x : Value) (cells : List ℕ) (e : cellsOk (m .program .text)
         let below : suc p + i < m .cells = omega arith in
         let is : itemIn H (suc p + i) ≡ valueAt cells (suc p + i) = item-is cells (m .cells) (suc p + i) below (one .plain) in
         let k : eqb (kindAt cells (suc p + i)) 6 ≡ false = kind-is cells (m .cells) (suc p + i) below ∙ one .plain in
-        let c : exactCell (kindAt cells (suc p + i)) (payloadAt cells (suc p + i)) ≡ true = exact-at (m .cells) cells (and-right room exact (and-left (room && exact) (heapOk text H) e)) (suc p + i) below in
+        let c : exactCell (kindAt cells (suc p + i)) (payloadAt cells (suc p + i)) ≡ true = exact-at (m .cells) cells
+        (and-right room exact (and-left (room && exact) (heapOk text H) e)) (suc p + i) below in
         let words : exactValue (kindAt cells (suc p + i)) (payloadAt cells (suc p + i)) ≡ true = rw k at c in
         let b : placedBelow text (heapOf p cells) p (valueAt cells (suc p + i)) ≡ true = placed-cut text cells (m .cells) p (omega arith) (valueAt cells (suc p + i)) ∙ (rw is at (one .placed)) in
         rw (in-cells placed, at, lt-ltb _ _ l, b, words, is)

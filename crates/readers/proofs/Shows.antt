@@ -146,7 +146,8 @@ module _ (m : Vm) (x : Value) (cells : List ℕ) where
   unfolding blockHeaderOf blockAt headerShown
   header-by = on (reads m x cells) (headerAt x)
     where
-      on : (b : Bool) (o : Option ℕ) → (if b then headerShown (heapOf (m .cells) cells) o else h.Refused 19) ≡ onTold (if b then toldHeader o else t.Refused 19) (λ p. h.Is (headIn (heapOf (m .cells) cells) p)) h.Refused
+      on : (b : Bool) (o : Option ℕ) → (if b then headerShown (heapOf (m .cells) cells) o else h.Refused 19) ≡ onTold (if b then toldHeader o else t.Refused 19)
+          (λ p. h.Is (headIn (heapOf (m .cells) cells) p)) h.Refused
       on false o = refl
       on true none = refl
       on true (some p) = refl
@@ -255,7 +256,8 @@ module _ (m : Vm) (x : Value) (text out : List ℕ) {b : Bool} (e : b ≡ textOk
     unfolding textBytesOf readsText textShown ifString ifReference
     no-bytes g = rw (← e, q) (on x g)
       where
-        on : (y : Value) → OneOf (0 ∷ 1 ∷ 4 ∷ 5 ∷ []) (tagOf the-type y) → record { answer = t.Refused 5; out = out } ≡ (if readsText m y then textShown text out y else record { answer = t.Refused 19; out = out })
+        on : (y : Value) → OneOf (0 ∷ 1 ∷ 4 ∷ 5 ∷ []) (tagOf the-type y)
+            → record { answer = t.Refused 5; out = out } ≡ (if readsText m y then textShown text out y else record { answer = t.Refused 19; out = out })
         on (v.Scalar _) _ = refl
         on (v.Boolean _) _ = refl
         on (v.String _ _) n = absurd (miss (0 ∷ 1 ∷ 4 ∷ 5 ∷ []) 2 tt n)

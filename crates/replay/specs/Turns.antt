@@ -11,7 +11,8 @@ use Rattle.replay.specs.declared.Turn.the-variants.{Same, Differs}
 
 -- the parts stand one behind the other
 unfoldable pub wanted : List ℕ → Ends → Verdict
-wanted body e = verdictOf (take (e .image) body) (take (e .loading - e .image) (drop (e .image) body)) (take (e .running - e .loading) (drop (e .loading) body)) (take (e .listing - e .running) (drop (e .running) body))
+wanted body e = verdictOf (take (e .image) body) (take (e .loading - e .image) (drop (e .image) body)) (take (e .running - e .loading) (drop (e .loading) body))
+    (take (e .listing - e .running) (drop (e .running) body))
 
 unfoldable pub turnIf : Bool → Turn
 turnIf true = Same

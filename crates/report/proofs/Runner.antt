@@ -30,7 +30,8 @@ use Rattle.report.proofs.Shown.{run-shows}
 -- ---- the run
 
 module _ (ss cs fs tx mn mp ot op : List ℕ) (m : Vm) (c : Counts) (f : m ≡ fresh c) (x : RunResult) (st ce co ba : List ℕ)
-    (p : PlayPost m 1000000 (programLent ss cs fs tx mn mp ot op) (λ frames. runLent (replicate 2048 0) (replicate 4096 0) frames (replicate 2048 0) (replicate 512 0)) x (λ frames. runLent st ce frames co ba)) where
+    (p : PlayPost m 1000000 (programLent ss cs fs tx mn mp ot op)
+    (λ frames. runLent (replicate 2048 0) (replicate 4096 0) frames (replicate 2048 0) (replicate 512 0)) x (λ frames. runLent st ce frames co ba)) where
   post : RunPost (fresh c) (programLent ss cs fs tx mn mp ot op) (emptyLent (replicate 256 (root 0))) 1000000 x (runLent st ce (p .frames) co ba)
   unfolding emptyLent runLent
   post = rw f at (p .post)
@@ -39,10 +40,12 @@ module _ (ss cs fs tx mn mp ot op : List ℕ) (m : Vm) (c : Counts) (f : m ≡ f
   unfolding programLent runLent emptyLent
   can-print a b =
       let few : length {A = ℕ} (replicate 512 0) < 2 ^ 32 = omega (arith, length-replicate {A = ℕ} 512 0) in
-      run-shows (fresh c) (programLent ss cs fs tx mn mp ot op) (emptyLent (replicate 256 (root 0))) 1000000 (record { main = λ j l. a j; other = λ j l. b j }) (runLent st ce (p .frames) co ba) few x post
+      run-shows (fresh c) (programLent ss cs fs tx mn mp ot op) (emptyLent (replicate 256 (root 0))) 1000000 (record { main = λ j l. a j; other = λ j l. b j })
+      (runLent st ce (p .frames) co ba) few x post
 
   pub report-printed : (out : List ℕ) {r : ℕ} {out' : List ℕ}
-      → ((stack : List ℕ) (frames : List Frame) (copy : List ℕ) → record { count = r; out = out' } ≡ printed (reportOf (answerIn (record { stack = stack; cells = ce; frames = frames; copy = copy; backtrace = ba }) x)) out)
+      → ((stack : List ℕ) (frames : List Frame) (copy : List ℕ) → record { count = r; out = out' } ≡ printed
+      (reportOf (answerIn (record { stack = stack; cells = ce; frames = frames; copy = copy; backtrace = ba }) x)) out)
       → record { count = r; out = out' } ≡ printed (reportOf (runAnswer (fresh c) (programLent ss cs fs tx mn mp ot op) (emptyLent (replicate 256 (root 0))) 1000000)) out
   unfolding runLent
   report-printed out q = q st (p .frames) co ∙ ap (λ (b : List ℕ). printed b out) (ap reportOf (post .answer))

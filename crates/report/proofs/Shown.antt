@@ -64,7 +64,8 @@ module _ (m : Vm) (s : Stores) (l : Lent) (u : ℕ) (bytes : CodeBytes s) where
       let z : frameRoom (l .frames) ≤ places 2 (l .backtrace) = ltb-false _ _ (or-false (ltb (places 2 (l .copy)) (places 2 (l .stack))) (ltb (places 2 (l .backtrace)) (frameRoom (l .frames))) e) in
       omega arith
 
-  granted-trace : runOrder m s l ≡ true → tooShort l ≡ false → (n : ℕ) (k : Tally) (es : List Entry) → runOf (worldOf m s l) (machineIn m l) u .reply ≡ fault n k es → 2 * length es ≤ length (l .backtrace)
+  granted-trace : runOrder m s l ≡ true → tooShort l ≡ false → (n : ℕ) (k : Tally) (es : List Entry)
+      → runOf (worldOf m s l) (machineIn m l) u .reply ≡ fault n k es → 2 * length es ≤ length (l .backtrace)
   granted-trace ok long n k es e =
       let a = trace-short (worldOf m s l) (order-world m s l ok bytes) (machineIn m l) u (order-sane m s l ok u) n k es e in
       let b : worldOf m s l .frameRoom ≡ frameRoom (l .frames) = unfold worldOf worldIn in refl in
@@ -98,7 +99,8 @@ module _ (m : Vm) (s : Stores) (l : Lent) (u : ℕ) (bytes : CodeBytes s) where
       let t = m' .program .text in
       let n = m' .cells in
       let first = leb n (places 2 (l' .cells)) in
-      let z = leb-true n (places 2 (l' .cells)) (and-left first (exactCells n 0 (l' .cells)) (and-left (first && exactCells n 0 (l' .cells)) (heapOk t (heapOf n (l' .cells))) (order-of m' s l' ok .cells))) in
+      let z = leb-true n (places 2 (l' .cells)) (and-left first (exactCells n 0 (l' .cells))
+      (and-left (first && exactCells n 0 (l' .cells)) (heapOk t (heapOf n (l' .cells))) (order-of m' s l' ok .cells))) in
       omega arith
 
   module _ (l' : Lent) (few : length (l .backtrace) < 2 ^ 32) where

@@ -44,7 +44,8 @@ module _ (w : World) where
   no-fault (Is y) x n did trace e = let z : _≡_ {A = ℕ} 0 1 = cc in omega arith
 
   module _ (m : Machine) (u n : ℕ) (did : Tally) (trace : List Entry) where
-    stopped-recovered : (i : Fault) (t : State) (k : Progress) → endOf w (begin m u) ≡ stopped i t k → fault (faultNumber i) (tally (u - t .units) k) (traceOf (w .functions) (t .frame ∷ t .callers)) ≡ fault n did trace
+    stopped-recovered : (i : Fault) (t : State) (k : Progress) → endOf w (begin m u) ≡ stopped i t k
+        → fault (faultNumber i) (tally (u - t .units) k) (traceOf (w .functions) (t .frame ∷ t .callers)) ≡ fault n did trace
         → Recovered w m u n did trace
     stopped-recovered i t k q e =
         let s = begin m u in

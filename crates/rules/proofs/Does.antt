@@ -163,7 +163,8 @@ module _ (w : World) (a : ℕ) (s : State) (u : ℕ) (h : s .units ≤ u) where
   return-does [] b e = home b e
   return-does (c ∷ cs) b e = back b e
 
-  unless-does : {r : List Value} (x : Bool) → Below r (s .stack) → D (went (withStack r (if x then s else at (position s + a) s))) (went (withStack r (if x then withUnits u s else at (position s + a) (withUnits u s))))
+  unless-does : {r : List Value} (x : Bool) → Below r (s .stack)
+      → D (went (withStack r (if x then s else at (position s + a) s))) (went (withStack r (if x then withUnits u s else at (position s + a) (withUnits u s))))
   unless-does true b = fall b
   unless-does false b = leap b
 
@@ -188,7 +189,8 @@ module _ (w : World) (a : ℕ) (s : State) (u : ℕ) (h : s .units ≤ u) where
   exec-does o.GetUpvalue b = found-does _ (slot-held a)
   exec-does o.GetLastResult b = found-does _ (last-held (s .last) refl)
   exec-does o.Negate b = poppingScalar-each D _ fault (λ x r e. answer (top e) (number _))
-  exec-does (o.Arithmetic x) b = poppingScalar-each D _ fault (λ j r e. poppingScalar-each D _ fault (λ i q e'. if-each D (zeroDivisor x j) (λ z. fault f.ZeroDivisor) (λ z. answer (second e e') (number _))))
+  exec-does (o.Arithmetic x) b = poppingScalar-each D _ fault (λ j r e. poppingScalar-each D _ fault
+      (λ i q e'. if-each D (zeroDivisor x j) (λ z. fault f.ZeroDivisor) (λ z. answer (second e e') (number _))))
   exec-does (o.Ordering x) b = poppingScalar-each D _ fault (λ j r e. poppingScalar-each D _ fault (λ i q e'. answer (second e e') (truth _)))
   exec-does o.Equal b = popping-each D _ fault (λ y r e. popping-each D _ fault (λ x q e'. same-does _ _ (second e e')))
   exec-does o.NotEqual b = popping-each D _ fault (λ y r e. popping-each D _ fault (λ x q e'. same-does _ _ (second e e')))

@@ -111,7 +111,8 @@ module _ (t : ℕ) (H : List Cell) where
     unfolding stackOk slotOk
     stack-to h f a =
         rw (le-leb n (places 2 stack) h)
-        (every-to slotOk n 0 (λ i l g. and-both (exactValue (kindAt stack i) (payloadAt stack i)) (placedBelow t H (length H) (valueAt stack i)) (f i (omega arith)) (vals-all n stack a i (omega arith))))
+        (every-to slotOk n 0 (λ i l g. and-both (exactValue (kindAt stack i) (payloadAt stack i)) (placedBelow t H (length H) (valueAt stack i))
+        (f i (omega arith)) (vals-all n stack a i (omega arith))))
 
   last-of : (x : Last) → lastOk t H x ≡ true → LastPlaced t H x
   unfolding lastOk LastPlaced

@@ -44,7 +44,8 @@ module _ (functions main other : List ℕ) (i : ℕ) {v : ℕ} {code : List ℕ}
   unfolding codeIn codeWord
   in-other e h = sym (h ∙ rw (word, ne-eqb i 0 e))
 
-pub coded-as : {w : World} {cs : List Frame} {k : Fixed} {g : Going} {c d constants functions text s x : List ℕ} → c ≡ d → Ready w cs k g c constants functions text s x → Ready w cs k g d constants functions text s x
+pub coded-as : {w : World} {cs : List Frame} {k : Fixed} {g : Going} {c d constants functions text s x : List ℕ} → c ≡ d
+    → Ready w cs k g c constants functions text s x → Ready w cs k g d constants functions text s x
 coded-as {w} {cs} {k} {g} {constants = constants} {functions} {text} {s} {x} e r = subst (λ (c : List ℕ). Ready w cs k g c constants functions text s x) e r
 
 -- the text that is taken
@@ -120,7 +121,8 @@ module _ (k : Fixed) (n : ℕ) (constants functions text main other : List ℕ) 
     }
 
     module _ {s' x' : List ℕ} (e : length x' ≡ length x) where
-      enters : {m : Going} {i b : ℕ} → ExecPost w (callersOf (g .callers) frames) k g s x (Call m i b) s' x' → Gone w g s x frames (inFrame m (m .callers + 1) (entered i b)) s' x' (set frames (m .callers) (frameIn m))
+      enters : {m : Going} {i b : ℕ} → ExecPost w (callersOf (g .callers) frames) k g s x (Call m i b) s' x'
+          → Gone w g s x frames (inFrame m (m .callers + 1) (entered i b)) s' x' (set frames (m .callers) (frameIn m))
       unfolding afterEvent answerIn
       enters {m} {i} {b} p = record {
         under = record {
@@ -143,7 +145,9 @@ module _ (k : Fixed) (n : ℕ) (constants functions text main other : List ℕ) 
       }
         where
           callers : callersOf (m .callers + 1) (set frames (m .callers) (frameIn m)) ≡ frameIn m ∷ callersOf (g .callers) frames
-          callers = ap (λ (j : ℕ). callersOf j (set frames (m .callers) (frameIn m))) (add-one (m .callers)) ∙ callers-more (m .callers) frames (frameIn m) (let a = p .fits .stack .callers in let b = at .room in omega arith) ∙ ap (λ (j : ℕ). frameIn m ∷ callersOf j frames) (p .callers)
+          callers = ap (λ (j : ℕ). callersOf j (set frames (m .callers) (frameIn m))) (add-one (m .callers))
+              ∙ callers-more (m .callers) frames (frameIn m) (let a = p .fits .stack .callers in let b = at .room in omega arith)
+              ∙ ap (λ (j : ℕ). frameIn m ∷ callersOf j frames) (p .callers)
 
           more : m .callers + 1 < k .frames
           more = let a = p .sane .1 .frames in let b = length-callers (g .callers) frames in let c = at .lent .suits .frameRoom in let d = p .callers in omega arith
@@ -176,7 +180,8 @@ module _ (k : Fixed) (n : ℕ) (constants functions text main other : List ℕ) 
       ends-over : {m : Going} → ExecPost w (callersOf (g .callers) frames) k g s x (Over m) s' x' → TurnsPost w k g s x frames (isOver m) s' x' frames
       unfolding afterEvent
       ends-over {m} p = record {
-        ends = ends.over refl (p .means ∙ ap (λ (i : ℕ). ended (progressIn m x') (stateOf m s' x' (callersOf i frames))) (sym (p .callers))) (subst (λ (i : ℕ). Sane w (stateOf m s' x' (callersOf i frames))) (sym (p .callers)) (p .sane));
+        ends = ends.over refl (p .means ∙ ap (λ (i : ℕ). ended (progressIn m x') (stateOf m s' x' (callersOf i frames))) (sym (p .callers)))
+            (subst (λ (i : ℕ). Sane w (stateOf m s' x' (callersOf i frames))) (sym (p .callers)) (p .sane));
         fits = p .fits;
         units = p .units;
         mark = p .mark;
@@ -186,7 +191,8 @@ module _ (k : Fixed) (n : ℕ) (constants functions text main other : List ℕ) 
       ends-stopped : {m : Going} {f : Fault} → ExecPost w (callersOf (g .callers) frames) k g s x (Stopped m f) s' x' → TurnsPost w k g s x frames (isStopped m f) s' x' frames
       unfolding afterEvent
       ends-stopped {m} {f} p = record {
-        ends = ends.stop f refl (p .means ∙ ap (λ (i : ℕ). stopped f (stateOf m s' x' (callersOf i frames)) (progressIn m x')) (sym (p .callers))) (subst (λ (i : ℕ). traceable (w .functions) (frameIn m ∷ callersOf i frames) ≡ true) (sym (p .callers)) (p .sane));
+        ends = ends.stop f refl (p .means ∙ ap (λ (i : ℕ). stopped f (stateOf m s' x' (callersOf i frames)) (progressIn m x')) (sym (p .callers)))
+            (subst (λ (i : ℕ). traceable (w .functions) (frameIn m ∷ callersOf i frames) ≡ true) (sym (p .callers)) (p .sane));
         fits = p .fits;
         units = p .units;
         mark = p .mark;
@@ -233,12 +239,15 @@ module _ (k : Fixed) (n : ℕ) (constants functions text main other : List ℕ) 
 
       module _ {s' x' : List ℕ} (e : length x' ≡ length x) {r : Course} where
         pub over-on : {m : Going} → Said (c .going) s x (Over m) s' x' → r ≡ isOver m → Ways (r .on) g₀ s₀ x₀ frames₀ r s' x' frames
-        over-on {m} said is = subst (λ (r : Course). Ways (r .on) g₀ s₀ x₀ frames₀ r s' x' frames) (sym is) (λ w at. let z = ways w at in ended-on z (ends-over (z .under) e (said w _ (ready (z .under)))))
+        over-on {m} said is = subst (λ (r : Course). Ways (r .on) g₀ s₀ x₀ frames₀ r s' x' frames) (sym is)
+            (λ w at. let z = ways w at in ended-on z (ends-over (z .under) e (said w _ (ready (z .under)))))
 
         pub stopped-on : {m : Going} {f : Fault} → Said (c .going) s x (Stopped m f) s' x' → r ≡ isStopped m f → Ways (r .on) g₀ s₀ x₀ frames₀ r s' x' frames
-        stopped-on {m} {f} said is = subst (λ (r : Course). Ways (r .on) g₀ s₀ x₀ frames₀ r s' x' frames) (sym is) (λ w at. let z = ways w at in ended-on z (ends-stopped (z .under) e (said w _ (ready (z .under)))))
+        stopped-on {m} {f} said is = subst (λ (r : Course). Ways (r .on) g₀ s₀ x₀ frames₀ r s' x' frames) (sym is)
+            (λ w at. let z = ways w at in ended-on z (ends-stopped (z .under) e (said w _ (ready (z .under)))))
 
-        pub call-on : {m : Going} {i b : ℕ} {f : Frame} {rows : List Frame} → Said (c .going) s x (Call m i b) s' x' → f ≡ frameIn m → rows ≡ set frames (m .callers) f → r ≡ goesOn (inFrame m (m .callers + 1) (entered i b))
+        pub call-on : {m : Going} {i b : ℕ} {f : Frame} {rows : List Frame} → Said (c .going) s x (Call m i b) s' x' → f ≡ frameIn m
+            → rows ≡ set frames (m .callers) f → r ≡ goesOn (inFrame m (m .callers + 1) (entered i b))
             → Ways (r .on) g₀ s₀ x₀ frames₀ r s' x' rows
         call-on {m} {i} {b} {f} {rows} said here put is =
             subst (λ (r : Course). Ways (r .on) g₀ s₀ x₀ frames₀ r s' x' rows) (sym is)

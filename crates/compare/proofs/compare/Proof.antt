@@ -14,7 +14,9 @@ saves-requires : tie.Need-saves-requires
 saves-requires c κs = search needs
 
 same-length : tie.Need-same-length
-same-length c = c .before .before .before .before .before .before .before .before .before .before .before .before .before .before .before .before .before .before .before .before .before .before .before .before .before .before .before .before .constants .given
+same-length c =
+    c .before .before .before .before .before .before .before .before .before .before .before .before .before .before .before
+    .before .before .before .before .before .before .before .before .before .before .before .before .before .constants .given
 
 same-length-2 : tie.Need-same-length-2
 same-length-2 c = search needs
@@ -41,7 +43,11 @@ same-length-9 : tie.Need-same-length-9
 same-length-9 c = search needs
 
 returns : tie.Need-returns
-returns c = all _ _ _ _ (c .before .before .before .before .before .before .before .before .before .before .before .before .before .before .before .before .before .before .before .before .before .before .before .before .before .before .before .before .before .read .ensures) (c .before .before .before .before .before .before .before .before .before .before .before .before .same-line .ensures) (c .before .before .saves .ensures)
+returns c =
+    let at-same-line = c .before .before .before .before .before .before .before .before .before .before .before .before in
+    let at-read = at-same-line .before .before .before .before .before .before .before .before .before .before .before .before
+    .before .before .before .before .before in
+    all _ _ _ _ (at-read .read .ensures) (at-same-line .same-line .ensures) (c .before .before .saves .ensures)
 
 pub compare-spec : {M : Type 1} → statement M
 compare-spec =

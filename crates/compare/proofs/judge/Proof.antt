@@ -41,7 +41,9 @@ lists-requires : tie.Need-lists-requires
 lists-requires c κs = search needs
 
 returns : tie.Need-returns
-returns c = judged _ _ _ _ (c .before .before .before .before .before .before .before .before .before .before .before .compare .ensures) (c .before .runs .ensures) (c .lists .ensures)
+returns c =
+    judged _ _ _ _ (c .before .before .before .before .before .before .before .before .before .before .before .compare .ensures)
+    (c .before .runs .ensures) (c .lists .ensures)
 
 pub judge-spec : {M : Type 1} → statement M
 judge-spec =

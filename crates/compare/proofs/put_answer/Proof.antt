@@ -43,14 +43,16 @@ same-length-2 c = search needs
 
 returns-2 : tie.Need-returns-2
 unfolding ascii
-returns-2 c = line-broken (c .before .before .before .before .before .before .answer2 .given .1) (c .before .before .put-line .ensures)
+returns-2 c =
+    line-broken (c .before .before .before .before .before .before .answer2 .given .1) (c .before .before .put-line .ensures)
 
 same-length-3 : tie.Need-same-length-3
 same-length-3 c = search needs
 
 returns-3 : tie.Need-returns-3
 unfolding ascii
-returns-3 c = line-refused (c .before .before .before .before .before .before .answer3 .given .1) (c .before .before .put-line2 .ensures)
+returns-3 c =
+    line-refused (c .before .before .before .before .before .before .answer3 .given .1) (c .before .before .put-line2 .ensures)
 
 pub put-answer-spec : {M : Type 1} → statement M
 put-answer-spec =

@@ -34,7 +34,12 @@ same-length c = search needs
 
 returns : tie.Need-returns
 unfolding ascii
-returns c = loaded-is _ (c .before .before .before .before .before .before .before .before .before .before .before .before .before .before .before .before .before .put-count .ensures) (c .before .before .before .before .before .before .before .before .before .before .before .before .put-count2 .ensures) (c .before .before .before .before .before .before .before .put-count3 .ensures) (c .before .before .put-line .ensures)
+returns c =
+    let at-put-count3 = c .before .before .before .before .before .before .before in
+    let at-put-count2 = at-put-count3 .before .before .before .before .before in
+    let at-put-count = at-put-count2 .before .before .before .before .before in
+    loaded-is _ (at-put-count .put-count .ensures) (at-put-count2 .put-count2 .ensures) (at-put-count3 .put-count3 .ensures)
+    (c .before .before .put-line .ensures)
 
 pub put-loaded-spec : {M : Type 1} → statement M
 put-loaded-spec =

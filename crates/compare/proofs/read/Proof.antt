@@ -35,7 +35,11 @@ same-length-8 : tie.Need-same-length-8
 same-length-8 c = search needs
 
 returns-2 : tie.Need-returns-2
-returns-2 c = loads _ _ (c .before .before .before .before .before .before .before .before .before .before .before .before .before .before .before .before .before .before .before .before .before .before .before .before .before .if1 .left) (c .before .before .before .before .before .before .before .before .before .before .before .before .before .before .before .before .load .ensures)
+returns-2 c =
+    let at-load = c .before .before .before .before .before .before .before .before .before .before .before .before .before
+    .before .before .before in
+    let at-if1 = at-load .before .before .before .before .before .before .before .before .before in
+    loads _ _ (at-if1 .if1 .left) (at-load .load .ensures)
 
 pub read-spec : {M : Type 1} → statement M
 read-spec =

@@ -23,7 +23,10 @@ same-length : tie.Need-same-length
 same-length c = search needs
 
 returns-2 : tie.Need-returns-2
-returns-2 c = not-saved _ _ _ (c .before .before .before .before .before .before .before .answer .given .1) (c .before .before .before .before .save .ensures) (c .before .match2 .keys2)
+returns-2 c =
+    let at-save = c .before .before .before .before in
+    let at-answer = at-save .before .before .before in
+    not-saved _ _ _ (at-answer .answer .given .1) (at-save .save .ensures) (c .before .match2 .keys2)
 
 same-front-requires : tie.Need-same-front-requires
 same-front-requires c κs = search needs
@@ -32,7 +35,11 @@ same-length-2 : tie.Need-same-length-2
 same-length-2 c = search needs
 
 returns-3 : tie.Need-returns-3
-returns-3 c = saved-as _ _ _ (c .before .before .before .before .before .before .before .before .before .before .answer .given .1) (c .before .before .before .before .before .before .before .save .ensures) (c .before .before .before .told .given .1) _ (c .same-front .ensures)
+returns-3 c =
+    let at-told = c .before .before .before in
+    let at-save = at-told .before .before .before .before in
+    let at-answer = at-save .before .before .before in
+    saved-as _ _ _ (at-answer .answer .given .1) (at-save .save .ensures) (at-told .told .given .1) _ (c .same-front .ensures)
 
 pub saves-spec : {M : Type 1} → statement M
 saves-spec =

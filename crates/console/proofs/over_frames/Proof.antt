@@ -15,13 +15,17 @@ slice-relend-prefix-lent-copy : tie.Need-slice-relend-prefix-lent-copy
 slice-relend-prefix-lent-copy c = search needs
 
 slice-aggregate-lent-copy : tie.Need-slice-aggregate-lent-copy
-slice-aggregate-lent-copy c = sym (length-take-le _ (c .before .before .before .before .before .args .copy .now) (c .before .before .two-each .ensures .1))
+slice-aggregate-lent-copy c =
+    sym (length-take-le _ (c .before .before .before .before .before .args .copy .now) (c .before .before .two-each .ensures .1))
 
 slice-relend-prefix-lent-trace : tie.Need-slice-relend-prefix-lent-trace
 slice-relend-prefix-lent-trace c = search needs
 
 slice-aggregate-lent-trace : tie.Need-slice-aggregate-lent-trace
-slice-aggregate-lent-trace c = sym (length-take-le _ (c .before .before .before .before .before .before .args .trace .now) (c .before .before .two-each2 .ensures .1))
+slice-aggregate-lent-trace c =
+    sym
+    (length-take-le _ (c .before .before .before .before .before .before .args .trace .now)
+    (c .before .before .two-each2 .ensures .1))
 
 cut-requires : tie.Need-cut-requires
 cut-requires c κs = search needs
@@ -42,4 +46,8 @@ returns : tie.Need-returns
 returns c = search needs
 
 pub over-frames-spec : {M : Type 1} → statement M
-over-frames-spec = tie.close (tie.spec two-each-requires two-each-requires-2 slice-relend-prefix-lent-copy slice-aggregate-lent-copy slice-relend-prefix-lent-trace slice-aggregate-lent-trace cut-requires with-frames-requires say-answer-requires same-length same-length-2 returns)
+over-frames-spec =
+    tie.close
+    (tie.spec two-each-requires two-each-requires-2 slice-relend-prefix-lent-copy slice-aggregate-lent-copy
+    slice-relend-prefix-lent-trace slice-aggregate-lent-trace cut-requires with-frames-requires say-answer-requires same-length
+    same-length-2 returns)

@@ -29,7 +29,10 @@ next-line-requires : tie.Need-next-line-requires Inv-loop μ-loop
 next-line-requires c κs = search needs
 
 loop-less : tie.Need-loop-less Inv-loop μ-loop
-loop-less c = falls-on _ _ _ _ (c .before .before .before .before .before .before .before .before .before .before .before .before .before .before .before .before .loop-test .taken) (c .next-line .ensures)
+loop-less c =
+    falls-on _ _ _ _
+    (c .before .before .before .before .before .before .before .before .before .before .before .before .before .before .before
+    .before .loop-test .taken) (c .next-line .ensures)
 
 loop-again : tie.Need-loop-again Inv-loop μ-loop
 loop-again c = tt

@@ -169,7 +169,11 @@ module _ {M : Type 1} (𝓤 : URA M) (H : Heap 𝓤) (A : Atoms 𝓤) (W : Given
     abbrev Post : Val → SProp 𝓤
     Post = walkOf 𝓤 H A me.ended (stays kinds) (me.clauses 𝓤 H A mem run) .post (passing (xs out answer))
 
-    exits : (r : ℕ) (out′ : List ℕ) (answer′ : List ℕ) → Is u32 r (vint w32 r ∷ []) → length out′ ≡ out-at .count → length answer′ ≡ answer-at .count → ((structs constants : List ℕ) → record { coded = record { number = r; vm = vm; answer = answer′ }; out = out′ } ≡ outThrough (slicesRefusal vm 1 answer) vm answer out (λ (m : Vm). backtraceIn m (programLent structs constants functions text main mainPlaces other otherPlaces) stack frames out)) → ent 𝓤 (⋆ 𝓤 H A (‵ (Holds (slices out′ answer′)) ∷ [])) (Post (vint w32 r))
+    exits : (r : ℕ) (out′ : List ℕ) (answer′ : List ℕ) → Is u32 r (vint w32 r ∷ []) → length out′ ≡ out-at .count → length answer′ ≡ answer-at .count
+        → ((structs constants : List ℕ) → record { coded = record { number = r; vm = vm; answer = answer′ }; out = out′ } ≡ outThrough
+        (slicesRefusal vm 1 answer) vm answer out (λ (m : Vm). backtraceIn m
+        (programLent structs constants functions text main mainPlaces other otherPlaces) stack frames out))
+        → ent 𝓤 (⋆ 𝓤 H A (‵ (Holds (slices out′ answer′)) ∷ [])) (Post (vint w32 r))
     exits r out′ answer′ isr len-out len-answer said =
         qed W (‵ (Holds (slices out′ answer′)) ∷ []) ∵ suffices ! _
         (ends-at 𝓤 H A me.ended (stays kinds) (me.clauses 𝓤 H A mem run) W (passing (xs out answer)) (vint w32 r) r
@@ -201,7 +205,9 @@ module _ {M : Type 1} (𝓤 : URA M) (H : Heap 𝓤) (A : Atoms 𝓤) (W : Given
         main-places-at mainPlaces ∷ shr u8 other-at other ∷ shr u32 other-places-at otherPlaces ∷ shr u64 stack-at stack ∷ shr R
         frames-at frames ∷ mut u32 out-at out ∷ []
 
-    call-entry : (m : Vm) → IsVm m → Rule 𝓤 H A W (to-entry m) Entry ToldRow toldVal (λ x zs. ((structs constants : List ℕ) → record { answer = x; out = (zs .1 .1 .1 .1 .1 .1 .1 .1 .1 .0) } ≡ backtraceIn m (programLent structs constants functions text main mainPlaces other otherPlaces) stack frames out))
+    call-entry : (m : Vm) → IsVm m → Rule 𝓤 H A W (to-entry m) Entry ToldRow toldVal
+        (λ x zs. ((structs constants : List ℕ) → record { answer = x; out = (zs .1 .1 .1 .1 .1 .1 .1 .1 .1 .0) } ≡ backtraceIn m
+        (programLent structs constants functions text main mainPlaces other otherPlaces) stack frames out))
     call-entry m ism =
         call-with 𝓤 H A W (to-entry m) Entry ToldRow toldVal
         (λ x zs. ((structs constants : List ℕ) → record { answer = x; out = (zs .1 .1 .1 .1 .1 .1 .1 .1 .1 .0) } ≡ backtraceIn m
@@ -234,18 +240,60 @@ module _ {M : Type 1} (𝓤 : URA M) (H : Heap 𝓤) (A : Atoms 𝓤) (W : Given
         (λ ns. passing (lent (to-tells x) ns)) (λ ns. refl) (λ ns. unasked W (lent (to-tells x) ns)) (λ ns w. id⊢ 𝓤 _)
         (told-makes 𝓤 H A W x _ isx, tt) ((refl, answer-room), tt)
 
-    walk : ent 𝓤 (onEntry 𝓤 H A me.signature (lfts (xs out answer)) (shares (xs out answer)) (denots (xs out answer)) (valss (xs out answer))) (WpFn 𝓤 H (𝓣 .C) (𝓣 .Λ) code.function (values (xs out answer)) Post)
+    walk : ent 𝓤 (onEntry 𝓤 H A me.signature (lfts (xs out answer)) (shares (xs out answer)) (denots (xs out answer)) (valss (xs out answer)))
+        (WpFn 𝓤 H (𝓣 .C) (𝓣 .Λ) code.function (values (xs out answer)) Post)
     walk =
-        qed W (‵ (Toks (xs out answer)) ∷ ‵ (Owns (xs out answer)) ∷ []) ∵ takes ! (xs out answer) (enters ! (𝓣 .C) (𝓣 .Λ) code.function (values (xs out answer)) Post
-        ((tt, (tt, (record { fits = vm-room .0 }, tt))), ((tt, (tt, (record { fits = functions-room .0 }, tt))), ((tt, (tt, (record { fits = text-room .0 }, tt))), ((tt, (tt, (record { fits = main-room .0 }, tt))), ((tt, (tt, (record { fits = main-places-room .0 }, tt))), ((tt, (tt, (record { fits = other-room .0 }, tt))), ((tt, (tt, (record { fits = other-places-room .0 }, tt))), ((tt, (tt, (record { fits = stack-room .0 }, tt))), ((tt, (tt, (record { fits = frames-room .0 }, tt))), ((tt, (tt, (record { fits = out-room .0 }, tt))), ((tt, (tt, (record { fits = answer-room .0 }, tt))), tt))))))))))) (λ ls.
+        qed W (‵ (Toks (xs out answer)) ∷ ‵ (Owns (xs out answer)) ∷ []) ∵ takes ! (xs out answer) (enters ! (𝓣 .C) (𝓣 .Λ) code.function (values (xs out answer)) Post (
+          (tt, (tt, (record { fits = vm-room .0 }, tt))),
+          (
+            (tt, (tt, (record { fits = functions-room .0 }, tt))),
+            (
+              (tt, (tt, (record { fits = text-room .0 }, tt))),
+              (
+                (tt, (tt, (record { fits = main-room .0 }, tt))),
+                (
+                  (tt, (tt, (record { fits = main-places-room .0 }, tt))),
+                  (
+                    (tt, (tt, (record { fits = other-room .0 }, tt))),
+                    (
+                      (tt, (tt, (record { fits = other-places-room .0 }, tt))),
+                      (
+                        (tt, (tt, (record { fits = stack-room .0 }, tt))),
+                        (
+                          (tt, (tt, (record { fits = frames-room .0 }, tt))),
+                          ((tt, (tt, (record { fits = out-room .0 }, tt))), ((tt, (tt, (record { fits = answer-room .0 }, tt))), tt)),
+                        ),
+                      ),
+                    ),
+                  ),
+                ),
+              ),
+            ),
+          ),
+        ) (λ ls.
         sets ! (addr ! (behind ! refl refl)) (tt, tt) $ sets ! (agg ! (ofs ! refl)) (tt, (tt, (record { fits = answer-room .0 }, tt))) $
-        calls-on ! (true ∷ false ∷ false ∷ false ∷ false ∷ false ∷ false ∷ false ∷ false ∷ false ∷ true ∷ []) (slices out answer) (call-why) (λ zs. slices out answer) refl (λ zs. refl) (λ zs. refl) fm known-why refl (λ n zs ew lens isn. lands-in ! (tt, record { fits = isn .1 }) $
+        calls-on ! (true ∷ false ∷ false ∷ false ∷ false ∷ false ∷ false ∷ false ∷ false ∷ false ∷ true ∷ []) (slices out answer) (call-why)
+        (λ zs. slices out answer) refl (λ zs. refl) (λ zs. refl) fm known-why refl (λ n zs ew lens isn. lands-in ! (tt, record { fits = isn .1 }) $
         sets ! (bin ! (of ! refl) (of ! refl) tt) (tt, tt) $ returns-if ! 𝓣 (of ! refl)
-        (λ on. calls-on ! (true ∷ []) (slices out answer) (call-rec) (λ zs. slices out answer) refl (λ zs. refl) (λ zs. refl) fm known-rec refl (λ m zs₁ em lens₁ ism. lands-in ! (vm-typed 𝓤 H A W m ism) $
-        sets ! (addr ! (behind ! refl refl)) (tt, tt) $ sets ! (agg ! (ofs ! refl)) (tt, (tt, (record { fits = out-room .0 }, tt))) $ calls-on ! (false ∷ true ∷ true ∷ true ∷ true ∷ true ∷ true ∷ true ∷ true ∷ true ∷ []) (slices out answer) (call-entry m ism) (λ zs. slices (zs .1 .1 .1 .1 .1 .1 .1 .1 .1 .0) answer) refl (λ zs. refl) (λ zs. refl) fm known-entry refl (λ x zs₂ ex lens₂ isx. lands-in ! (told-typed 𝓤 H A W x isx) $
-        sets ! (addr ! (behind ! refl refl)) (tt, tt) $ sets ! (agg ! (ofs ! refl)) (tt, (tt, (record { fits = answer-room .0 }, tt))) $ calls-on ! (false ∷ false ∷ false ∷ false ∷ false ∷ false ∷ false ∷ false ∷ false ∷ false ∷ true ∷ []) (slices (zs₂ .1 .1 .1 .1 .1 .1 .1 .1 .1 .0) answer) (call-tells x isx) (λ zs. slices (zs₂ .1 .1 .1 .1 .1 .1 .1 .1 .1 .0) (zs .1 .0)) refl (λ zs. refl) (λ zs. refl) fm known-tells refl (λ k zs₃ ek lens₃ isk. lands-in ! (tt, record { fits = isk .1 }) $
-        sets ! (of-opd ! (of ! refl)) (tt, record { fits = isk .1 }) $ leaves ! refl $ by ! (exits k (zs₂ .1 .1 .1 .1 .1 .1 .1 .1 .1 .0) (zs₃ .1 .0) isk (lens₂ .0) (lens₃ .0) (λ structs constants. out-through vm answer out (λ (m : Vm). backtraceIn m (programLent structs constants functions text main mainPlaces other otherPlaces) stack frames out) n ew (is-zero n on) m em x (zs₂ .1 .1 .1 .1 .1 .1 .1 .1 .1 .0) (ex structs constants) (record { number = k; vm = vm; answer = (zs₃ .1 .0) }) (ek vm)))))))
-        (λ off. sets ! (of-opd ! (of ! refl)) (tt, record { fits = isn .1 }) $ leaves ! refl $ by ! (exits n out answer isn refl refl (λ structs constants. out-refused vm answer out (λ (m : Vm). backtraceIn m (programLent structs constants functions text main mainPlaces other otherPlaces) stack frames out) n ew (not-zero n off)))))))
+        (λ on. calls-on ! (true ∷ []) (slices out answer) (call-rec) (λ zs. slices out answer) refl (λ zs. refl) (λ zs. refl) fm known-rec refl
+        (λ m zs₁ em lens₁ ism. lands-in ! (vm-typed 𝓤 H A W m ism) $
+        sets ! (addr ! (behind ! refl refl)) (tt, tt) $ sets ! (agg ! (ofs ! refl)) (tt, (tt, (record { fits = out-room .0 }, tt))) $
+        calls-on ! (false ∷ true ∷ true ∷ true ∷ true ∷ true ∷ true ∷ true ∷ true ∷ true ∷ []) (slices out answer) (call-entry m ism)
+        (λ zs. slices (zs .1 .1 .1 .1 .1 .1 .1 .1 .1 .0) answer) refl (λ zs. refl) (λ zs. refl) fm known-entry refl
+        (λ x zs₂ ex lens₂ isx. lands-in ! (told-typed 𝓤 H A W x isx) $
+        sets ! (addr ! (behind ! refl refl)) (tt, tt) $ sets ! (agg ! (ofs ! refl)) (tt, (tt, (record { fits = answer-room .0 }, tt))) $
+        calls-on ! (false ∷ false ∷ false ∷ false ∷ false ∷ false ∷ false ∷ false ∷ false ∷ false ∷ true ∷ [])
+        (slices (zs₂ .1 .1 .1 .1 .1 .1 .1 .1 .1 .0) answer) (call-tells x isx) (λ zs. slices (zs₂ .1 .1 .1 .1 .1 .1 .1 .1 .1 .0) (zs .1 .0)) refl
+        (λ zs. refl) (λ zs. refl) fm known-tells refl (λ k zs₃ ek lens₃ isk. lands-in ! (tt, record { fits = isk .1 }) $
+        sets ! (of-opd ! (of ! refl)) (tt, record { fits = isk .1 }) $ leaves ! refl $
+        by ! (exits k (zs₂ .1 .1 .1 .1 .1 .1 .1 .1 .1 .0) (zs₃ .1 .0) isk (lens₂ .0) (lens₃ .0)
+        (λ structs constants. out-through vm answer out (λ (m : Vm). backtraceIn m
+        (programLent structs constants functions text main mainPlaces other otherPlaces) stack frames out) n ew (is-zero n on) m em x
+        (zs₂ .1 .1 .1 .1 .1 .1 .1 .1 .1 .0) (ex structs constants) (record { number = k; vm = vm; answer = (zs₃ .1 .0) }) (ek vm)))))))
+        (λ off. sets ! (of-opd ! (of ! refl)) (tt, record { fits = isn .1 }) $ leaves ! refl $
+        by ! (exits n out answer isn refl refl (λ structs constants. out-refused vm answer out
+        (λ (m : Vm). backtraceIn m (programLent structs constants functions text main mainPlaces other otherPlaces) stack frames out) n ew
+        (not-zero n off)))))))
       where
         fm : FmC 𝓤 H (W .laws) (𝓣 .C)
         fm = fmOf 𝓤 H (W .laws) 𝓣

@@ -174,7 +174,19 @@ module _ {M : Type 1} (𝓤 : URA M) (H : Heap 𝓤) (A : Atoms 𝓤) (W : Given
         walkOf 𝓤 H A me.ended (stays kinds) (me.clauses 𝓤 H A mem run) .post
         (passing (xs vm constants structs functions text main mainPlaces other otherPlaces frames answer))
 
-    exits : (r : ℕ) (vm′ : List ℕ) (constants′ : List ℕ) (structs′ : List ℕ) (functions′ : List ℕ) (text′ : List ℕ) (main′ : List ℕ) (mainPlaces′ : List ℕ) (other′ : List ℕ) (otherPlaces′ : List ℕ) (frames′ : List Frame) (answer′ : List ℕ) → Is u32 r (vint w32 r ∷ []) → length vm′ ≡ s1 .count → length constants′ ≡ s2 .count → length structs′ ≡ s3 .count → length functions′ ≡ s4 .count → length text′ ≡ s5 .count → length main′ ≡ s6 .count → length mainPlaces′ ≡ s7 .count → length other′ ≡ s8 .count → length otherPlaces′ ≡ s9 .count → length frames′ ≡ s10 .count → length answer′ ≡ s11 .count → record { coded = record { number = r; vm = vm′; answer = answer′ }; stores = (stored constants′ structs′ functions′ text′ main′ mainPlaces′ other′ otherPlaces′); frames = frames′ } ≡ startThrough vm answer (stored constants structs functions text main mainPlaces other otherPlaces) frames (loadMachineOf image (stored constants structs functions text main mainPlaces other otherPlaces) frames) → ent 𝓤 (⋆ 𝓤 H A (‵ (Holds (slices vm′ constants′ structs′ functions′ text′ main′ mainPlaces′ other′ otherPlaces′ frames′ answer′)) ∷ [])) (Post (vint w32 r))
+    exits : (r : ℕ) (vm′ : List ℕ) (constants′ : List ℕ) (structs′ : List ℕ) (functions′ : List ℕ) (text′ : List ℕ) (main′ : List ℕ) (mainPlaces′ : List ℕ)
+        (other′ : List ℕ) (otherPlaces′ : List ℕ) (frames′ : List Frame) (answer′ : List ℕ) → Is u32 r (vint w32 r ∷ []) → length vm′ ≡ s1 .count
+        → length constants′ ≡ s2 .count → length structs′ ≡ s3 .count → length functions′ ≡ s4 .count → length text′ ≡ s5 .count → length main′ ≡ s6 .count
+        → length mainPlaces′ ≡ s7 .count → length other′ ≡ s8 .count → length otherPlaces′ ≡ s9 .count → length frames′ ≡ s10 .count
+        → length answer′ ≡ s11 .count → record {
+          coded = record { number = r; vm = vm′; answer = answer′ };
+          stores = (stored constants′ structs′ functions′ text′ main′ mainPlaces′ other′ otherPlaces′);
+          frames = frames′;
+        } ≡ startThrough vm answer
+        (stored constants structs functions text main mainPlaces other otherPlaces) frames
+        (loadMachineOf image (stored constants structs functions text main mainPlaces other otherPlaces) frames)
+        → ent 𝓤 (⋆ 𝓤 H A (‵ (Holds (slices vm′ constants′ structs′ functions′ text′ main′ mainPlaces′ other′ otherPlaces′ frames′ answer′)) ∷ []))
+        (Post (vint w32 r))
     exits r vm′ constants′ structs′ functions′ text′ main′ mainPlaces′ other′ otherPlaces′ frames′ answer′ isr len-vm len-constants len-structs len-functions len-text len-main len-mainPlaces len-other len-otherPlaces len-frames len-answer said =
         qed W
         (‵ (Holds (slices vm′ constants′ structs′ functions′ text′ main′ mainPlaces′ other′ otherPlaces′ frames′ answer′)) ∷ []) ∵
@@ -223,7 +235,13 @@ module _ {M : Type 1} (𝓤 : URA M) (H : Heap 𝓤) (A : Atoms 𝓤) (W : Given
         shr u8 s0 image ∷ mut u64 s2 constants ∷ mut u64 s3 structs ∷ mut u64 s4 functions ∷ mut u8 s5 text ∷ mut u8 s6 main ∷ mut
         u32 s7 mainPlaces ∷ mut u8 s8 other ∷ mut u32 s9 otherPlaces ∷ mut R s10 frames ∷ []
 
-    call-entry : Rule 𝓤 H A W to-entry Entry StartedRow startedVal (λ x zs. record { answer = x; stores = (stored (zs .1 .0) (zs .1 .1 .0) (zs .1 .1 .1 .0) (zs .1 .1 .1 .1 .0) (zs .1 .1 .1 .1 .1 .0) (zs .1 .1 .1 .1 .1 .1 .0) (zs .1 .1 .1 .1 .1 .1 .1 .0) (zs .1 .1 .1 .1 .1 .1 .1 .1 .0)); frames = (zs .1 .1 .1 .1 .1 .1 .1 .1 .1 .0) } ≡ loadMachineOf image (stored constants structs functions text main mainPlaces other otherPlaces) frames)
+    call-entry : Rule 𝓤 H A W to-entry Entry StartedRow startedVal
+        (λ x zs. record {
+          answer = x;
+          stores = (stored (zs .1 .0) (zs .1 .1 .0) (zs .1 .1 .1 .0) (zs .1 .1 .1 .1 .0) (zs .1 .1 .1 .1 .1 .0)
+              (zs .1 .1 .1 .1 .1 .1 .0) (zs .1 .1 .1 .1 .1 .1 .1 .0) (zs .1 .1 .1 .1 .1 .1 .1 .1 .0));
+          frames = (zs .1 .1 .1 .1 .1 .1 .1 .1 .1 .0);
+        } ≡ loadMachineOf image (stored constants structs functions text main mainPlaces other otherPlaces) frames)
     call-entry =
         call-with 𝓤 H A W to-entry Entry StartedRow startedVal
         (λ x zs. record {
@@ -257,17 +275,89 @@ module _ {M : Type 1} (𝓤 : URA M) (H : Heap 𝓤) (A : Atoms 𝓤) (W : Given
         (λ ns. passing (lent (to-tells x) ns)) (λ ns. refl) (λ ns. unasked W (lent (to-tells x) ns)) (λ ns w. id⊢ 𝓤 _)
         (started-makes 𝓤 H A W x _ isx, tt) ((refl, room1), ((refl, room11), tt))
 
-    walk : ent 𝓤 (onEntry 𝓤 H A me.signature (lfts (xs vm constants structs functions text main mainPlaces other otherPlaces frames answer)) (shares (xs vm constants structs functions text main mainPlaces other otherPlaces frames answer)) (denots (xs vm constants structs functions text main mainPlaces other otherPlaces frames answer)) (valss (xs vm constants structs functions text main mainPlaces other otherPlaces frames answer))) (WpFn 𝓤 H (𝓣 .C) (𝓣 .Λ) code.function (values (xs vm constants structs functions text main mainPlaces other otherPlaces frames answer)) Post)
+    walk : ent 𝓤 (onEntry 𝓤 H A me.signature (lfts (xs vm constants structs functions text main mainPlaces other otherPlaces frames answer))
+        (shares (xs vm constants structs functions text main mainPlaces other otherPlaces frames answer))
+        (denots (xs vm constants structs functions text main mainPlaces other otherPlaces frames answer))
+        (valss (xs vm constants structs functions text main mainPlaces other otherPlaces frames answer)))
+        (WpFn 𝓤 H (𝓣 .C) (𝓣 .Λ) code.function (values (xs vm constants structs functions text main mainPlaces other otherPlaces frames answer)) Post)
     walk =
-        qed W (‵ (Toks (xs vm constants structs functions text main mainPlaces other otherPlaces frames answer)) ∷ ‵ (Owns (xs vm constants structs functions text main mainPlaces other otherPlaces frames answer)) ∷ []) ∵ takes ! (xs vm constants structs functions text main mainPlaces other otherPlaces frames answer) (enters ! (𝓣 .C) (𝓣 .Λ) code.function (values (xs vm constants structs functions text main mainPlaces other otherPlaces frames answer)) Post
-        ((tt, (tt, (record { fits = room0 .0 }, tt))), ((tt, (tt, (record { fits = room1 .0 }, tt))), ((tt, (tt, (record { fits = room2 .0 }, tt))), ((tt, (tt, (record { fits = room3 .0 }, tt))), ((tt, (tt, (record { fits = room4 .0 }, tt))), ((tt, (tt, (record { fits = room5 .0 }, tt))), ((tt, (tt, (record { fits = room6 .0 }, tt))), ((tt, (tt, (record { fits = room7 .0 }, tt))), ((tt, (tt, (record { fits = room8 .0 }, tt))), ((tt, (tt, (record { fits = room9 .0 }, tt))), ((tt, (tt, (record { fits = room10 .0 }, tt))), ((tt, (tt, (record { fits = room11 .0 }, tt))), tt)))))))))))) (λ ls.
-        sets ! (addr ! (behind ! refl refl)) (tt, tt) $ sets ! (agg ! (ofs ! refl)) (tt, (tt, (record { fits = room1 .0 }, tt))) $ sets ! (addr ! (behind ! refl refl)) (tt, tt) $ sets ! (agg ! (ofs ! refl)) (tt, (tt, (record { fits = room11 .0 }, tt))) $
-        calls-on ! (false ∷ true ∷ false ∷ false ∷ false ∷ false ∷ false ∷ false ∷ false ∷ false ∷ false ∷ true ∷ []) (slices vm constants structs functions text main mainPlaces other otherPlaces frames answer) (call-why) (λ zs. slices vm constants structs functions text main mainPlaces other otherPlaces frames answer) refl (λ zs. refl) (λ zs. refl) fm known-why refl (λ n zs ew lens isn. lands-in ! (tt, record { fits = isn .1 }) $
+        qed W (‵ (Toks (xs vm constants structs functions text main mainPlaces other otherPlaces frames answer))
+        ∷ ‵ (Owns (xs vm constants structs functions text main mainPlaces other otherPlaces frames answer)) ∷ []) ∵
+        takes ! (xs vm constants structs functions text main mainPlaces other otherPlaces frames answer)
+        (enters ! (𝓣 .C) (𝓣 .Λ) code.function (values (xs vm constants structs functions text main mainPlaces other otherPlaces frames answer)) Post (
+          (tt, (tt, (record { fits = room0 .0 }, tt))),
+          (
+            (tt, (tt, (record { fits = room1 .0 }, tt))),
+            (
+              (tt, (tt, (record { fits = room2 .0 }, tt))),
+              (
+                (tt, (tt, (record { fits = room3 .0 }, tt))),
+                (
+                  (tt, (tt, (record { fits = room4 .0 }, tt))),
+                  (
+                    (tt, (tt, (record { fits = room5 .0 }, tt))),
+                    (
+                      (tt, (tt, (record { fits = room6 .0 }, tt))),
+                      (
+                        (tt, (tt, (record { fits = room7 .0 }, tt))),
+                        (
+                          (tt, (tt, (record { fits = room8 .0 }, tt))),
+                          (
+                            (tt, (tt, (record { fits = room9 .0 }, tt))),
+                            ((tt, (tt, (record { fits = room10 .0 }, tt))), ((tt, (tt, (record { fits = room11 .0 }, tt))), tt)),
+                          ),
+                        ),
+                      ),
+                    ),
+                  ),
+                ),
+              ),
+            ),
+          ),
+        ) (λ ls.
+        sets ! (addr ! (behind ! refl refl)) (tt, tt) $ sets ! (agg ! (ofs ! refl)) (tt, (tt, (record { fits = room1 .0 }, tt))) $
+        sets ! (addr ! (behind ! refl refl)) (tt, tt) $ sets ! (agg ! (ofs ! refl)) (tt, (tt, (record { fits = room11 .0 }, tt))) $
+        calls-on ! (false ∷ true ∷ false ∷ false ∷ false ∷ false ∷ false ∷ false ∷ false ∷ false ∷ false ∷ true ∷ [])
+        (slices vm constants structs functions text main mainPlaces other otherPlaces frames answer) (call-why)
+        (λ zs. slices vm constants structs functions text main mainPlaces other otherPlaces frames answer) refl (λ zs. refl) (λ zs. refl) fm known-why refl
+        (λ n zs ew lens isn. lands-in ! (tt, record { fits = isn .1 }) $
         sets ! (bin ! (of ! refl) (of ! refl) tt) (tt, tt) $ returns-if ! 𝓣 (of ! refl)
-        (λ on. sets ! (addr ! (behind ! refl refl)) (tt, tt) $ sets ! (agg ! (ofs ! refl)) (tt, (tt, (record { fits = room2 .0 }, tt))) $ sets ! (addr ! (behind ! refl refl)) (tt, tt) $ sets ! (agg ! (ofs ! refl)) (tt, (tt, (record { fits = room3 .0 }, tt))) $ sets ! (addr ! (behind ! refl refl)) (tt, tt) $ sets ! (agg ! (ofs ! refl)) (tt, (tt, (record { fits = room4 .0 }, tt))) $ sets ! (addr ! (behind ! refl refl)) (tt, tt) $ sets ! (agg ! (ofs ! refl)) (tt, (tt, (record { fits = room5 .0 }, tt))) $ sets ! (addr ! (behind ! refl refl)) (tt, tt) $ sets ! (agg ! (ofs ! refl)) (tt, (tt, (record { fits = room6 .0 }, tt))) $ sets ! (addr ! (behind ! refl refl)) (tt, tt) $ sets ! (agg ! (ofs ! refl)) (tt, (tt, (record { fits = room7 .0 }, tt))) $ sets ! (addr ! (behind ! refl refl)) (tt, tt) $ sets ! (agg ! (ofs ! refl)) (tt, (tt, (record { fits = room8 .0 }, tt))) $ sets ! (addr ! (behind ! refl refl)) (tt, tt) $ sets ! (agg ! (ofs ! refl)) (tt, (tt, (record { fits = room9 .0 }, tt))) $ sets ! (addr ! (behind ! refl refl)) (tt, tt) $ sets ! (agg ! (ofs ! refl)) (tt, (tt, (record { fits = room10 .0 }, tt))) $ calls-on ! (true ∷ false ∷ true ∷ true ∷ true ∷ true ∷ true ∷ true ∷ true ∷ true ∷ true ∷ []) (slices vm constants structs functions text main mainPlaces other otherPlaces frames answer) (call-entry) (λ zs. slices vm (zs .1 .0) (zs .1 .1 .0) (zs .1 .1 .1 .0) (zs .1 .1 .1 .1 .0) (zs .1 .1 .1 .1 .1 .0) (zs .1 .1 .1 .1 .1 .1 .0) (zs .1 .1 .1 .1 .1 .1 .1 .0) (zs .1 .1 .1 .1 .1 .1 .1 .1 .0) (zs .1 .1 .1 .1 .1 .1 .1 .1 .1 .0) answer) refl (λ zs. refl) (λ zs. refl) fm known-entry refl (λ x zs₂ ex lens₂ isx. lands-in ! (started-typed 𝓤 H A W x isx) $
-        sets ! (addr ! (behind ! refl refl)) (tt, tt) $ sets ! (agg ! (ofs ! refl)) (tt, (tt, (record { fits = room1 .0 }, tt))) $ sets ! (addr ! (behind ! refl refl)) (tt, tt) $ sets ! (agg ! (ofs ! refl)) (tt, (tt, (record { fits = room11 .0 }, tt))) $ calls-on ! (false ∷ true ∷ false ∷ false ∷ false ∷ false ∷ false ∷ false ∷ false ∷ false ∷ false ∷ true ∷ []) (slices vm (zs₂ .1 .0) (zs₂ .1 .1 .0) (zs₂ .1 .1 .1 .0) (zs₂ .1 .1 .1 .1 .0) (zs₂ .1 .1 .1 .1 .1 .0) (zs₂ .1 .1 .1 .1 .1 .1 .0) (zs₂ .1 .1 .1 .1 .1 .1 .1 .0) (zs₂ .1 .1 .1 .1 .1 .1 .1 .1 .0) (zs₂ .1 .1 .1 .1 .1 .1 .1 .1 .1 .0) answer) (call-tells x isx) (λ zs. slices (zs .1 .0) (zs₂ .1 .0) (zs₂ .1 .1 .0) (zs₂ .1 .1 .1 .0) (zs₂ .1 .1 .1 .1 .0) (zs₂ .1 .1 .1 .1 .1 .0) (zs₂ .1 .1 .1 .1 .1 .1 .0) (zs₂ .1 .1 .1 .1 .1 .1 .1 .0) (zs₂ .1 .1 .1 .1 .1 .1 .1 .1 .0) (zs₂ .1 .1 .1 .1 .1 .1 .1 .1 .1 .0) (zs .1 .1 .0)) refl (λ zs. refl) (λ zs. refl) fm known-tells refl (λ k zs₃ ek lens₃ isk. lands-in ! (tt, record { fits = isk .1 }) $
-        sets ! (of-opd ! (of ! refl)) (tt, record { fits = isk .1 }) $ leaves ! refl $ by ! (exits k (zs₃ .1 .0) (zs₂ .1 .0) (zs₂ .1 .1 .0) (zs₂ .1 .1 .1 .0) (zs₂ .1 .1 .1 .1 .0) (zs₂ .1 .1 .1 .1 .1 .0) (zs₂ .1 .1 .1 .1 .1 .1 .0) (zs₂ .1 .1 .1 .1 .1 .1 .1 .0) (zs₂ .1 .1 .1 .1 .1 .1 .1 .1 .0) (zs₂ .1 .1 .1 .1 .1 .1 .1 .1 .1 .0) (zs₃ .1 .1 .0) isk (lens₃ .0) (lens₂ .0) (lens₂ .1 .0) (lens₂ .1 .1 .0) (lens₂ .1 .1 .1 .0) (lens₂ .1 .1 .1 .1 .0) (lens₂ .1 .1 .1 .1 .1 .0) (lens₂ .1 .1 .1 .1 .1 .1 .0) (lens₂ .1 .1 .1 .1 .1 .1 .1 .0) (lens₂ .1 .1 .1 .1 .1 .1 .1 .1 .0) (lens₃ .1 .0) (start-through vm answer (stored constants structs functions text main mainPlaces other otherPlaces) frames (loadMachineOf image (stored constants structs functions text main mainPlaces other otherPlaces) frames) n ew (is-zero n on) x (stored (zs₂ .1 .0) (zs₂ .1 .1 .0) (zs₂ .1 .1 .1 .0) (zs₂ .1 .1 .1 .1 .0) (zs₂ .1 .1 .1 .1 .1 .0) (zs₂ .1 .1 .1 .1 .1 .1 .0) (zs₂ .1 .1 .1 .1 .1 .1 .1 .0) (zs₂ .1 .1 .1 .1 .1 .1 .1 .1 .0)) (zs₂ .1 .1 .1 .1 .1 .1 .1 .1 .1 .0) ex (record { number = k; vm = (zs₃ .1 .0); answer = (zs₃ .1 .1 .0) }) ek)))))
-        (λ off. sets ! (of-opd ! (of ! refl)) (tt, record { fits = isn .1 }) $ leaves ! refl $ by ! (exits n vm constants structs functions text main mainPlaces other otherPlaces frames answer isn refl refl refl refl refl refl refl refl refl refl refl (start-refused vm answer (stored constants structs functions text main mainPlaces other otherPlaces) frames (loadMachineOf image (stored constants structs functions text main mainPlaces other otherPlaces) frames) n ew (not-zero n off)))))))
+        (λ on. sets ! (addr ! (behind ! refl refl)) (tt, tt) $ sets ! (agg ! (ofs ! refl)) (tt, (tt, (record { fits = room2 .0 }, tt))) $
+        sets ! (addr ! (behind ! refl refl)) (tt, tt) $ sets ! (agg ! (ofs ! refl)) (tt, (tt, (record { fits = room3 .0 }, tt))) $
+        sets ! (addr ! (behind ! refl refl)) (tt, tt) $ sets ! (agg ! (ofs ! refl)) (tt, (tt, (record { fits = room4 .0 }, tt))) $
+        sets ! (addr ! (behind ! refl refl)) (tt, tt) $ sets ! (agg ! (ofs ! refl)) (tt, (tt, (record { fits = room5 .0 }, tt))) $
+        sets ! (addr ! (behind ! refl refl)) (tt, tt) $ sets ! (agg ! (ofs ! refl)) (tt, (tt, (record { fits = room6 .0 }, tt))) $
+        sets ! (addr ! (behind ! refl refl)) (tt, tt) $ sets ! (agg ! (ofs ! refl)) (tt, (tt, (record { fits = room7 .0 }, tt))) $
+        sets ! (addr ! (behind ! refl refl)) (tt, tt) $ sets ! (agg ! (ofs ! refl)) (tt, (tt, (record { fits = room8 .0 }, tt))) $
+        sets ! (addr ! (behind ! refl refl)) (tt, tt) $ sets ! (agg ! (ofs ! refl)) (tt, (tt, (record { fits = room9 .0 }, tt))) $
+        sets ! (addr ! (behind ! refl refl)) (tt, tt) $ sets ! (agg ! (ofs ! refl)) (tt, (tt, (record { fits = room10 .0 }, tt))) $
+        calls-on ! (true ∷ false ∷ true ∷ true ∷ true ∷ true ∷ true ∷ true ∷ true ∷ true ∷ true ∷ [])
+        (slices vm constants structs functions text main mainPlaces other otherPlaces frames answer) (call-entry)
+        (λ zs. slices vm (zs .1 .0) (zs .1 .1 .0) (zs .1 .1 .1 .0) (zs .1 .1 .1 .1 .0) (zs .1 .1 .1 .1 .1 .0) (zs .1 .1 .1 .1 .1 .1 .0)
+        (zs .1 .1 .1 .1 .1 .1 .1 .0) (zs .1 .1 .1 .1 .1 .1 .1 .1 .0) (zs .1 .1 .1 .1 .1 .1 .1 .1 .1 .0) answer) refl (λ zs. refl)
+        (λ zs. refl) fm known-entry refl (λ x zs₂ ex lens₂ isx. lands-in ! (started-typed 𝓤 H A W x isx) $
+        sets ! (addr ! (behind ! refl refl)) (tt, tt) $ sets ! (agg ! (ofs ! refl)) (tt, (tt, (record { fits = room1 .0 }, tt))) $
+        sets ! (addr ! (behind ! refl refl)) (tt, tt) $ sets ! (agg ! (ofs ! refl)) (tt, (tt, (record { fits = room11 .0 }, tt))) $
+        calls-on ! (false ∷ true ∷ false ∷ false ∷ false ∷ false ∷ false ∷ false ∷ false ∷ false ∷ false ∷ true ∷ [])
+        (slices vm (zs₂ .1 .0) (zs₂ .1 .1 .0) (zs₂ .1 .1 .1 .0) (zs₂ .1 .1 .1 .1 .0) (zs₂ .1 .1 .1 .1 .1 .0) (zs₂ .1 .1 .1 .1 .1 .1 .0)
+        (zs₂ .1 .1 .1 .1 .1 .1 .1 .0) (zs₂ .1 .1 .1 .1 .1 .1 .1 .1 .0) (zs₂ .1 .1 .1 .1 .1 .1 .1 .1 .1 .0) answer) (call-tells x isx)
+        (λ zs. slices (zs .1 .0) (zs₂ .1 .0) (zs₂ .1 .1 .0) (zs₂ .1 .1 .1 .0) (zs₂ .1 .1 .1 .1 .0) (zs₂ .1 .1 .1 .1 .1 .0) (zs₂ .1 .1 .1 .1 .1 .1 .0)
+        (zs₂ .1 .1 .1 .1 .1 .1 .1 .0) (zs₂ .1 .1 .1 .1 .1 .1 .1 .1 .0) (zs₂ .1 .1 .1 .1 .1 .1 .1 .1 .1 .0) (zs .1 .1 .0)) refl (λ zs. refl)
+        (λ zs. refl) fm known-tells refl (λ k zs₃ ek lens₃ isk. lands-in ! (tt, record { fits = isk .1 }) $
+        sets ! (of-opd ! (of ! refl)) (tt, record { fits = isk .1 }) $ leaves ! refl $
+        by ! (exits k (zs₃ .1 .0) (zs₂ .1 .0) (zs₂ .1 .1 .0) (zs₂ .1 .1 .1 .0) (zs₂ .1 .1 .1 .1 .0) (zs₂ .1 .1 .1 .1 .1 .0) (zs₂ .1 .1 .1 .1 .1 .1 .0)
+        (zs₂ .1 .1 .1 .1 .1 .1 .1 .0) (zs₂ .1 .1 .1 .1 .1 .1 .1 .1 .0) (zs₂ .1 .1 .1 .1 .1 .1 .1 .1 .1 .0) (zs₃ .1 .1 .0) isk (lens₃ .0) (lens₂ .0)
+        (lens₂ .1 .0) (lens₂ .1 .1 .0) (lens₂ .1 .1 .1 .0) (lens₂ .1 .1 .1 .1 .0) (lens₂ .1 .1 .1 .1 .1 .0) (lens₂ .1 .1 .1 .1 .1 .1 .0)
+        (lens₂ .1 .1 .1 .1 .1 .1 .1 .0) (lens₂ .1 .1 .1 .1 .1 .1 .1 .1 .0) (lens₃ .1 .0)
+        (start-through vm answer (stored constants structs functions text main mainPlaces other otherPlaces) frames
+        (loadMachineOf image (stored constants structs functions text main mainPlaces other otherPlaces) frames) n ew (is-zero n on) x
+        (stored (zs₂ .1 .0) (zs₂ .1 .1 .0) (zs₂ .1 .1 .1 .0) (zs₂ .1 .1 .1 .1 .0) (zs₂ .1 .1 .1 .1 .1 .0) (zs₂ .1 .1 .1 .1 .1 .1 .0)
+        (zs₂ .1 .1 .1 .1 .1 .1 .1 .0) (zs₂ .1 .1 .1 .1 .1 .1 .1 .1 .0)) (zs₂ .1 .1 .1 .1 .1 .1 .1 .1 .1 .0) ex
+        (record { number = k; vm = (zs₃ .1 .0); answer = (zs₃ .1 .1 .0) }) ek)))))
+        (λ off. sets ! (of-opd ! (of ! refl)) (tt, record { fits = isn .1 }) $ leaves ! refl $
+        by ! (exits n vm constants structs functions text main mainPlaces other otherPlaces frames answer isn refl refl refl refl refl refl refl refl refl refl refl
+        (start-refused vm answer (stored constants structs functions text main mainPlaces other otherPlaces) frames
+        (loadMachineOf image (stored constants structs functions text main mainPlaces other otherPlaces) frames) n ew (not-zero n off)))))))
       where
         fm : FmC 𝓤 H (W .laws) (𝓣 .C)
         fm = fmOf 𝓤 H (W .laws) 𝓣

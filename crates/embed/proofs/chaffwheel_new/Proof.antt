@@ -103,7 +103,14 @@ module _ {M : Type 1} (𝓤 : URA M) (H : Heap 𝓤) (A : Atoms 𝓤) (W : Given
     abbrev Post : Val → SProp 𝓤
     Post = walkOf 𝓤 H A me.ended (stays kinds) (me.clauses 𝓤 H A mem run) .post (passing (xs vm functions text frames answer))
 
-    exits : (r : ℕ) (vm′ : List ℕ) (functions′ : List ℕ) (text′ : List ℕ) (frames′ : List Frame) (answer′ : List ℕ) → Is u32 r (vint w32 r ∷ []) → length vm′ ≡ s0 .count → length functions′ ≡ s1 .count → length text′ ≡ s2 .count → length frames′ ≡ s3 .count → length answer′ ≡ s4 .count → ((rest : Stores) → record { coded = record { number = r; vm = vm′; answer = answer′ }; stores = (namesLent rest functions′ text′); frames = frames′ } ≡ startThrough vm answer (namesLent rest functions text) frames (newMachineOf (namesLent rest functions text) frames)) → ent 𝓤 (⋆ 𝓤 H A (‵ (Holds (slices vm′ functions′ text′ frames′ answer′)) ∷ [])) (Post (vint w32 r))
+    exits : (r : ℕ) (vm′ : List ℕ) (functions′ : List ℕ) (text′ : List ℕ) (frames′ : List Frame) (answer′ : List ℕ) → Is u32 r (vint w32 r ∷ [])
+        → length vm′ ≡ s0 .count → length functions′ ≡ s1 .count → length text′ ≡ s2 .count → length frames′ ≡ s3 .count → length answer′ ≡ s4 .count
+        → ((rest : Stores) → record {
+          coded = record { number = r; vm = vm′; answer = answer′ };
+          stores = (namesLent rest functions′ text′);
+          frames = frames′;
+        } ≡ startThrough vm answer (namesLent rest functions text) frames (newMachineOf (namesLent rest functions text) frames))
+        → ent 𝓤 (⋆ 𝓤 H A (‵ (Holds (slices vm′ functions′ text′ frames′ answer′)) ∷ [])) (Post (vint w32 r))
     exits r vm′ functions′ text′ frames′ answer′ isr len-vm len-functions len-text len-frames len-answer said =
         qed W (‵ (Holds (slices vm′ functions′ text′ frames′ answer′)) ∷ []) ∵ suffices ! _
         (ends-at 𝓤 H A me.ended (stays kinds) (me.clauses 𝓤 H A mem run) W (passing (xs vm functions text frames answer))
@@ -125,7 +132,9 @@ module _ {M : Type 1} (𝓤 : URA M) (H : Heap 𝓤) (A : Atoms 𝓤) (W : Given
     abbrev to-entry : List Arg
     to-entry = mut u64 s1 functions ∷ mut u8 s2 text ∷ mut R s3 frames ∷ []
 
-    call-entry : Rule 𝓤 H A W to-entry Entry StartedRow startedVal (λ x zs. ((rest : Stores) → record { answer = x; stores = (namesLent rest (zs .0) (zs .1 .0)); frames = (zs .1 .1 .0) } ≡ newMachineOf (namesLent rest functions text) frames))
+    call-entry : Rule 𝓤 H A W to-entry Entry StartedRow startedVal
+        (λ x zs. ((rest : Stores) → record { answer = x; stores = (namesLent rest (zs .0) (zs .1 .0)); frames = (zs .1 .1 .0) } ≡ newMachineOf
+        (namesLent rest functions text) frames))
     call-entry =
         call-with 𝓤 H A W to-entry Entry StartedRow startedVal
         (λ x zs. ((rest : Stores) → record { answer = x; stores = (namesLent rest (zs .0) (zs .1 .0)); frames = (zs .1 .1 .0) } ≡
@@ -142,17 +151,44 @@ module _ {M : Type 1} (𝓤 : URA M) (H : Heap 𝓤) (A : Atoms 𝓤) (W : Given
         (λ ns. passing (lent (to-tells x) ns)) (λ ns. refl) (λ ns. unasked W (lent (to-tells x) ns)) (λ ns w. id⊢ 𝓤 _)
         (started-makes 𝓤 H A W x _ isx, tt) ((refl, room0), ((refl, room4), tt))
 
-    walk : ent 𝓤 (onEntry 𝓤 H A me.signature (lfts (xs vm functions text frames answer)) (shares (xs vm functions text frames answer)) (denots (xs vm functions text frames answer)) (valss (xs vm functions text frames answer))) (WpFn 𝓤 H (𝓣 .C) (𝓣 .Λ) code.function (values (xs vm functions text frames answer)) Post)
+    walk : ent 𝓤 (onEntry 𝓤 H A me.signature (lfts (xs vm functions text frames answer)) (shares (xs vm functions text frames answer))
+        (denots (xs vm functions text frames answer)) (valss (xs vm functions text frames answer)))
+        (WpFn 𝓤 H (𝓣 .C) (𝓣 .Λ) code.function (values (xs vm functions text frames answer)) Post)
     walk =
-        qed W (‵ (Toks (xs vm functions text frames answer)) ∷ ‵ (Owns (xs vm functions text frames answer)) ∷ []) ∵ takes ! (xs vm functions text frames answer) (enters ! (𝓣 .C) (𝓣 .Λ) code.function (values (xs vm functions text frames answer)) Post
-        ((tt, (tt, (record { fits = room0 .0 }, tt))), ((tt, (tt, (record { fits = room1 .0 }, tt))), ((tt, (tt, (record { fits = room2 .0 }, tt))), ((tt, (tt, (record { fits = room3 .0 }, tt))), ((tt, (tt, (record { fits = room4 .0 }, tt))), tt))))) (λ ls.
-        sets ! (addr ! (behind ! refl refl)) (tt, tt) $ sets ! (agg ! (ofs ! refl)) (tt, (tt, (record { fits = room0 .0 }, tt))) $ sets ! (addr ! (behind ! refl refl)) (tt, tt) $ sets ! (agg ! (ofs ! refl)) (tt, (tt, (record { fits = room4 .0 }, tt))) $
-        calls-on ! (true ∷ false ∷ false ∷ false ∷ true ∷ []) (slices vm functions text frames answer) (call-why) (λ zs. slices vm functions text frames answer) refl (λ zs. refl) (λ zs. refl) fm known-why refl (λ n zs ew lens isn. lands-in ! (tt, record { fits = isn .1 }) $
+        qed W (‵ (Toks (xs vm functions text frames answer)) ∷ ‵ (Owns (xs vm functions text frames answer)) ∷ []) ∵
+        takes ! (xs vm functions text frames answer) (enters ! (𝓣 .C) (𝓣 .Λ) code.function (values (xs vm functions text frames answer)) Post (
+          (tt, (tt, (record { fits = room0 .0 }, tt))),
+          (
+            (tt, (tt, (record { fits = room1 .0 }, tt))),
+            ((tt, (tt, (record { fits = room2 .0 }, tt))), ((tt, (tt, (record { fits = room3 .0 }, tt))), ((tt, (tt, (record { fits = room4 .0 }, tt))), tt))),
+          ),
+        )
+        (λ ls.
+        sets ! (addr ! (behind ! refl refl)) (tt, tt) $ sets ! (agg ! (ofs ! refl)) (tt, (tt, (record { fits = room0 .0 }, tt))) $
+        sets ! (addr ! (behind ! refl refl)) (tt, tt) $ sets ! (agg ! (ofs ! refl)) (tt, (tt, (record { fits = room4 .0 }, tt))) $
+        calls-on ! (true ∷ false ∷ false ∷ false ∷ true ∷ []) (slices vm functions text frames answer) (call-why)
+        (λ zs. slices vm functions text frames answer) refl (λ zs. refl) (λ zs. refl) fm known-why refl
+        (λ n zs ew lens isn. lands-in ! (tt, record { fits = isn .1 }) $
         sets ! (bin ! (of ! refl) (of ! refl) tt) (tt, tt) $ returns-if ! 𝓣 (of ! refl)
-        (λ on. sets ! (addr ! (behind ! refl refl)) (tt, tt) $ sets ! (agg ! (ofs ! refl)) (tt, (tt, (record { fits = room1 .0 }, tt))) $ sets ! (addr ! (behind ! refl refl)) (tt, tt) $ sets ! (agg ! (ofs ! refl)) (tt, (tt, (record { fits = room2 .0 }, tt))) $ sets ! (addr ! (behind ! refl refl)) (tt, tt) $ sets ! (agg ! (ofs ! refl)) (tt, (tt, (record { fits = room3 .0 }, tt))) $ calls-on ! (false ∷ true ∷ true ∷ true ∷ []) (slices vm functions text frames answer) (call-entry) (λ zs. slices vm (zs .0) (zs .1 .0) (zs .1 .1 .0) answer) refl (λ zs. refl) (λ zs. refl) fm known-entry refl (λ x zs₂ ex lens₂ isx. lands-in ! (started-typed 𝓤 H A W x isx) $
-        sets ! (addr ! (behind ! refl refl)) (tt, tt) $ sets ! (agg ! (ofs ! refl)) (tt, (tt, (record { fits = room0 .0 }, tt))) $ sets ! (addr ! (behind ! refl refl)) (tt, tt) $ sets ! (agg ! (ofs ! refl)) (tt, (tt, (record { fits = room4 .0 }, tt))) $ calls-on ! (true ∷ false ∷ false ∷ false ∷ true ∷ []) (slices vm (zs₂ .0) (zs₂ .1 .0) (zs₂ .1 .1 .0) answer) (call-tells x isx) (λ zs. slices (zs .1 .0) (zs₂ .0) (zs₂ .1 .0) (zs₂ .1 .1 .0) (zs .1 .1 .0)) refl (λ zs. refl) (λ zs. refl) fm known-tells refl (λ k zs₃ ek lens₃ isk. lands-in ! (tt, record { fits = isk .1 }) $
-        sets ! (of-opd ! (of ! refl)) (tt, record { fits = isk .1 }) $ leaves ! refl $ by ! (exits k (zs₃ .1 .0) (zs₂ .0) (zs₂ .1 .0) (zs₂ .1 .1 .0) (zs₃ .1 .1 .0) isk (lens₃ .0) (lens₂ .0) (lens₂ .1 .0) (lens₂ .1 .1 .0) (lens₃ .1 .0) (λ rest. start-through vm answer (namesLent rest functions text) frames (newMachineOf (namesLent rest functions text) frames) n ew (is-zero n on) x (namesLent rest (zs₂ .0) (zs₂ .1 .0)) (zs₂ .1 .1 .0) (ex rest) (record { number = k; vm = (zs₃ .1 .0); answer = (zs₃ .1 .1 .0) }) ek)))))
-        (λ off. sets ! (of-opd ! (of ! refl)) (tt, record { fits = isn .1 }) $ leaves ! refl $ by ! (exits n vm functions text frames answer isn refl refl refl refl refl (λ rest. start-refused vm answer (namesLent rest functions text) frames (newMachineOf (namesLent rest functions text) frames) n ew (not-zero n off)))))))
+        (λ on. sets ! (addr ! (behind ! refl refl)) (tt, tt) $ sets ! (agg ! (ofs ! refl)) (tt, (tt, (record { fits = room1 .0 }, tt))) $
+        sets ! (addr ! (behind ! refl refl)) (tt, tt) $ sets ! (agg ! (ofs ! refl)) (tt, (tt, (record { fits = room2 .0 }, tt))) $
+        sets ! (addr ! (behind ! refl refl)) (tt, tt) $ sets ! (agg ! (ofs ! refl)) (tt, (tt, (record { fits = room3 .0 }, tt))) $
+        calls-on ! (false ∷ true ∷ true ∷ true ∷ []) (slices vm functions text frames answer) (call-entry)
+        (λ zs. slices vm (zs .0) (zs .1 .0) (zs .1 .1 .0) answer) refl (λ zs. refl) (λ zs. refl) fm known-entry refl
+        (λ x zs₂ ex lens₂ isx. lands-in ! (started-typed 𝓤 H A W x isx) $
+        sets ! (addr ! (behind ! refl refl)) (tt, tt) $ sets ! (agg ! (ofs ! refl)) (tt, (tt, (record { fits = room0 .0 }, tt))) $
+        sets ! (addr ! (behind ! refl refl)) (tt, tt) $ sets ! (agg ! (ofs ! refl)) (tt, (tt, (record { fits = room4 .0 }, tt))) $
+        calls-on ! (true ∷ false ∷ false ∷ false ∷ true ∷ []) (slices vm (zs₂ .0) (zs₂ .1 .0) (zs₂ .1 .1 .0) answer) (call-tells x isx)
+        (λ zs. slices (zs .1 .0) (zs₂ .0) (zs₂ .1 .0) (zs₂ .1 .1 .0) (zs .1 .1 .0)) refl (λ zs. refl) (λ zs. refl) fm known-tells refl
+        (λ k zs₃ ek lens₃ isk. lands-in ! (tt, record { fits = isk .1 }) $
+        sets ! (of-opd ! (of ! refl)) (tt, record { fits = isk .1 }) $ leaves ! refl $
+        by ! (exits k (zs₃ .1 .0) (zs₂ .0) (zs₂ .1 .0) (zs₂ .1 .1 .0) (zs₃ .1 .1 .0) isk (lens₃ .0) (lens₂ .0) (lens₂ .1 .0) (lens₂ .1 .1 .0) (lens₃ .1 .0)
+        (λ rest. start-through vm answer (namesLent rest functions text) frames (newMachineOf (namesLent rest functions text) frames) n ew (is-zero n on) x
+        (namesLent rest (zs₂ .0) (zs₂ .1 .0)) (zs₂ .1 .1 .0) (ex rest) (record { number = k; vm = (zs₃ .1 .0); answer = (zs₃ .1 .1 .0) }) ek)))))
+        (λ off. sets ! (of-opd ! (of ! refl)) (tt, record { fits = isn .1 }) $ leaves ! refl $
+        by ! (exits n vm functions text frames answer isn refl refl refl refl refl
+        (λ rest. start-refused vm answer (namesLent rest functions text) frames (newMachineOf (namesLent rest functions text) frames) n ew
+        (not-zero n off)))))))
       where
         fm : FmC 𝓤 H (W .laws) (𝓣 .C)
         fm = fmOf 𝓤 H (W .laws) 𝓣

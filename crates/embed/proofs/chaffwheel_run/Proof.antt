@@ -222,7 +222,12 @@ module _ {M : Type 1} (𝓤 : URA M) (H : Heap 𝓤) (A : Atoms 𝓤) (W : Given
         walkOf 𝓤 H A me.ended (stays kinds) (me.clauses 𝓤 H A mem run) .post
         (passing (xs vm stack cells frames copy trace answer))
 
-    exits : (r : ℕ) (vm′ : List ℕ) (stack′ : List ℕ) (cells′ : List ℕ) (frames′ : List Frame) (copy′ : List ℕ) (trace′ : List ℕ) (answer′ : List ℕ) → Is u32 r (vint w32 r ∷ []) → length vm′ ≡ vm-at .count → length stack′ ≡ stack-at .count → length cells′ ≡ cells-at .count → length frames′ ≡ frames-at .count → length copy′ ≡ copy-at .count → length trace′ ≡ trace-at .count → length answer′ ≡ answer-at .count → RunThrough vm answer (programLent structs constants functions text main mainPlaces other otherPlaces) (runLent stack cells frames copy trace) units (record { number = r; vm = vm′; answer = answer′ }) (runLent stack′ cells′ frames′ copy′ trace′) → ent 𝓤 (⋆ 𝓤 H A (‵ (Holds (slices vm′ stack′ cells′ frames′ copy′ trace′ answer′)) ∷ [])) (Post (vint w32 r))
+    exits : (r : ℕ) (vm′ : List ℕ) (stack′ : List ℕ) (cells′ : List ℕ) (frames′ : List Frame) (copy′ : List ℕ) (trace′ : List ℕ) (answer′ : List ℕ)
+        → Is u32 r (vint w32 r ∷ []) → length vm′ ≡ vm-at .count → length stack′ ≡ stack-at .count → length cells′ ≡ cells-at .count
+        → length frames′ ≡ frames-at .count → length copy′ ≡ copy-at .count → length trace′ ≡ trace-at .count → length answer′ ≡ answer-at .count
+        → RunThrough vm answer (programLent structs constants functions text main mainPlaces other otherPlaces) (runLent stack cells frames copy trace) units
+        (record { number = r; vm = vm′; answer = answer′ }) (runLent stack′ cells′ frames′ copy′ trace′)
+        → ent 𝓤 (⋆ 𝓤 H A (‵ (Holds (slices vm′ stack′ cells′ frames′ copy′ trace′ answer′)) ∷ [])) (Post (vint w32 r))
     exits r vm′ stack′ cells′ frames′ copy′ trace′ answer′ isr len-vm len-stack len-cells len-frames len-copy len-trace len-answer said =
         qed W (‵ (Holds (slices vm′ stack′ cells′ frames′ copy′ trace′ answer′)) ∷ []) ∵ suffices ! _
         (ends-at 𝓤 H A me.ended (stays kinds) (me.clauses 𝓤 H A mem run) W (passing (xs vm stack cells frames copy trace answer))
@@ -273,7 +278,10 @@ module _ {M : Type 1} (𝓤 : URA M) (H : Heap 𝓤) (A : Atoms 𝓤) (W : Given
         other-at other ∷ shr u32 other-places-at otherPlaces ∷ mut u64 stack-at stack ∷ mut u64 cells-at cells ∷ mut R frames-at
         frames ∷ mut u64 copy-at copy ∷ mut u32 trace-at trace ∷ []
 
-    call-entry : (m : Vm) → IsVm m → Rule 𝓤 H A W (to-entry m) Entry ResultRow resultVal (λ x zs. (RunPost m (programLent structs constants functions text main mainPlaces other otherPlaces) (runLent stack cells frames copy trace) units x (runLent (zs .1 .1 .1 .1 .1 .1 .1 .1 .1 .1 .0) (zs .1 .1 .1 .1 .1 .1 .1 .1 .1 .1 .1 .0) (zs .1 .1 .1 .1 .1 .1 .1 .1 .1 .1 .1 .1 .0) (zs .1 .1 .1 .1 .1 .1 .1 .1 .1 .1 .1 .1 .1 .0) (zs .1 .1 .1 .1 .1 .1 .1 .1 .1 .1 .1 .1 .1 .1 .0))))
+    call-entry : (m : Vm) → IsVm m → Rule 𝓤 H A W (to-entry m) Entry ResultRow resultVal
+        (λ x zs. (RunPost m (programLent structs constants functions text main mainPlaces other otherPlaces) (runLent stack cells frames copy trace) units x
+        (runLent (zs .1 .1 .1 .1 .1 .1 .1 .1 .1 .1 .0) (zs .1 .1 .1 .1 .1 .1 .1 .1 .1 .1 .1 .0) (zs .1 .1 .1 .1 .1 .1 .1 .1 .1 .1 .1 .1 .0)
+        (zs .1 .1 .1 .1 .1 .1 .1 .1 .1 .1 .1 .1 .1 .0) (zs .1 .1 .1 .1 .1 .1 .1 .1 .1 .1 .1 .1 .1 .1 .0))))
     call-entry m ism =
         call-with 𝓤 H A W (to-entry m) Entry ResultRow resultVal
         (λ x zs. (RunPost m (programLent structs constants functions text main mainPlaces other otherPlaces)
@@ -321,18 +329,95 @@ module _ {M : Type 1} (𝓤 : URA M) (H : Heap 𝓤) (A : Atoms 𝓤) (W : Given
         (λ ns. passing (lent (to-tells x) ns)) (λ ns. refl) (λ ns. unasked W (lent (to-tells x) ns)) (λ ns w. id⊢ 𝓤 _)
         (result-makes 𝓤 H A W x _ isx, tt) ((refl, vm-room), ((refl, answer-room), tt))
 
-    walk : ent 𝓤 (onEntry 𝓤 H A me.signature (lfts (xs vm stack cells frames copy trace answer)) (shares (xs vm stack cells frames copy trace answer)) (denots (xs vm stack cells frames copy trace answer)) (valss (xs vm stack cells frames copy trace answer))) (WpFn 𝓤 H (𝓣 .C) (𝓣 .Λ) code.function (values (xs vm stack cells frames copy trace answer)) Post)
+    walk : ent 𝓤 (onEntry 𝓤 H A me.signature (lfts (xs vm stack cells frames copy trace answer)) (shares (xs vm stack cells frames copy trace answer))
+        (denots (xs vm stack cells frames copy trace answer)) (valss (xs vm stack cells frames copy trace answer)))
+        (WpFn 𝓤 H (𝓣 .C) (𝓣 .Λ) code.function (values (xs vm stack cells frames copy trace answer)) Post)
     walk =
-        qed W (‵ (Toks (xs vm stack cells frames copy trace answer)) ∷ ‵ (Owns (xs vm stack cells frames copy trace answer)) ∷ []) ∵ takes ! (xs vm stack cells frames copy trace answer) (enters ! (𝓣 .C) (𝓣 .Λ) code.function (values (xs vm stack cells frames copy trace answer)) Post
-        ((tt, record { fits = (is .0) .1 }), ((tt, (tt, (record { fits = vm-room .0 }, tt))), ((tt, (tt, (record { fits = constants-room .0 }, tt))), ((tt, (tt, (record { fits = structs-room .0 }, tt))), ((tt, (tt, (record { fits = functions-room .0 }, tt))), ((tt, (tt, (record { fits = text-room .0 }, tt))), ((tt, (tt, (record { fits = main-room .0 }, tt))), ((tt, (tt, (record { fits = main-places-room .0 }, tt))), ((tt, (tt, (record { fits = other-room .0 }, tt))), ((tt, (tt, (record { fits = other-places-room .0 }, tt))), ((tt, (tt, (record { fits = stack-room .0 }, tt))), ((tt, (tt, (record { fits = cells-room .0 }, tt))), ((tt, (tt, (record { fits = frames-room .0 }, tt))), ((tt, (tt, (record { fits = copy-room .0 }, tt))), ((tt, (tt, (record { fits = trace-room .0 }, tt))), ((tt, (tt, (record { fits = answer-room .0 }, tt))), tt)))))))))))))))) (λ ls.
-        sets ! (addr ! (behind ! refl refl)) (tt, tt) $ sets ! (agg ! (ofs ! refl)) (tt, (tt, (record { fits = vm-room .0 }, tt))) $ sets ! (addr ! (behind ! refl refl)) (tt, tt) $ sets ! (agg ! (ofs ! refl)) (tt, (tt, (record { fits = answer-room .0 }, tt))) $
-        calls-on ! (true ∷ false ∷ false ∷ false ∷ false ∷ false ∷ false ∷ false ∷ false ∷ false ∷ false ∷ false ∷ false ∷ false ∷ true ∷ []) (slices vm stack cells frames copy trace answer) (call-why) (λ zs. slices vm stack cells frames copy trace answer) refl (λ zs. refl) (λ zs. refl) fm known-why refl (λ n zs ew lens isn. lands-in ! (tt, record { fits = isn .1 }) $
+        qed W (‵ (Toks (xs vm stack cells frames copy trace answer)) ∷ ‵ (Owns (xs vm stack cells frames copy trace answer)) ∷ []) ∵
+        takes ! (xs vm stack cells frames copy trace answer) (enters ! (𝓣 .C) (𝓣 .Λ) code.function
+        (values (xs vm stack cells frames copy trace answer)) Post (
+          (tt, record { fits = (is .0) .1 }),
+          (
+            (tt, (tt, (record { fits = vm-room .0 }, tt))),
+            (
+              (tt, (tt, (record { fits = constants-room .0 }, tt))),
+              (
+                (tt, (tt, (record { fits = structs-room .0 }, tt))),
+                (
+                  (tt, (tt, (record { fits = functions-room .0 }, tt))),
+                  (
+                    (tt, (tt, (record { fits = text-room .0 }, tt))),
+                    (
+                      (tt, (tt, (record { fits = main-room .0 }, tt))),
+                      (
+                        (tt, (tt, (record { fits = main-places-room .0 }, tt))),
+                        (
+                          (tt, (tt, (record { fits = other-room .0 }, tt))),
+                          (
+                            (tt, (tt, (record { fits = other-places-room .0 }, tt))),
+                            (
+                              (tt, (tt, (record { fits = stack-room .0 }, tt))),
+                              (
+                                (tt, (tt, (record { fits = cells-room .0 }, tt))),
+                                (
+                                  (tt, (tt, (record { fits = frames-room .0 }, tt))),
+                                  (
+                                    (tt, (tt, (record { fits = copy-room .0 }, tt))),
+                                    ((tt, (tt, (record { fits = trace-room .0 }, tt))), ((tt, (tt, (record { fits = answer-room .0 }, tt))), tt)),
+                                  ),
+                                ),
+                              ),
+                            ),
+                          ),
+                        ),
+                      ),
+                    ),
+                  ),
+                ),
+              ),
+            ),
+          ),
+        ) (λ ls.
+        sets ! (addr ! (behind ! refl refl)) (tt, tt) $ sets ! (agg ! (ofs ! refl)) (tt, (tt, (record { fits = vm-room .0 }, tt))) $
+        sets ! (addr ! (behind ! refl refl)) (tt, tt) $ sets ! (agg ! (ofs ! refl)) (tt, (tt, (record { fits = answer-room .0 }, tt))) $
+        calls-on ! (true ∷ false ∷ false ∷ false ∷ false ∷ false ∷ false ∷ false ∷ false ∷ false ∷ false ∷ false ∷ false ∷ false ∷ true ∷ [])
+        (slices vm stack cells frames copy trace answer) (call-why) (λ zs. slices vm stack cells frames copy trace answer) refl (λ zs. refl)
+        (λ zs. refl) fm known-why refl (λ n zs ew lens isn. lands-in ! (tt, record { fits = isn .1 }) $
         sets ! (bin ! (of ! refl) (of ! refl) tt) (tt, tt) $ returns-if ! 𝓣 (of ! refl)
-        (λ on. sets ! (addr ! (behind ! refl refl)) (tt, tt) $ sets ! (agg ! (ofs ! refl)) (tt, (tt, (record { fits = vm-room .0 }, tt))) $ calls-on ! (true ∷ []) (slices vm stack cells frames copy trace answer) (call-rec) (λ zs. slices vm stack cells frames copy trace answer) refl (λ zs. refl) (λ zs. refl) fm known-rec refl (λ m zs₁ em lens₁ ism. lands-in ! (vm-typed 𝓤 H A W m ism) $
-        sets ! (addr ! (behind ! refl refl)) (tt, tt) $ sets ! (agg ! (ofs ! refl)) (tt, (tt, (record { fits = stack-room .0 }, tt))) $ sets ! (addr ! (behind ! refl refl)) (tt, tt) $ sets ! (agg ! (ofs ! refl)) (tt, (tt, (record { fits = cells-room .0 }, tt))) $ sets ! (addr ! (behind ! refl refl)) (tt, tt) $ sets ! (agg ! (ofs ! refl)) (tt, (tt, (record { fits = frames-room .0 }, tt))) $ sets ! (addr ! (behind ! refl refl)) (tt, tt) $ sets ! (agg ! (ofs ! refl)) (tt, (tt, (record { fits = copy-room .0 }, tt))) $ sets ! (addr ! (behind ! refl refl)) (tt, tt) $ sets ! (agg ! (ofs ! refl)) (tt, (tt, (record { fits = trace-room .0 }, tt))) $ calls-on ! (false ∷ true ∷ true ∷ true ∷ true ∷ true ∷ true ∷ true ∷ true ∷ true ∷ true ∷ true ∷ true ∷ true ∷ []) (slices vm stack cells frames copy trace answer) (call-entry m ism) (λ zs. slices vm (zs .1 .1 .1 .1 .1 .1 .1 .1 .1 .1 .0) (zs .1 .1 .1 .1 .1 .1 .1 .1 .1 .1 .1 .0) (zs .1 .1 .1 .1 .1 .1 .1 .1 .1 .1 .1 .1 .0) (zs .1 .1 .1 .1 .1 .1 .1 .1 .1 .1 .1 .1 .1 .0) (zs .1 .1 .1 .1 .1 .1 .1 .1 .1 .1 .1 .1 .1 .1 .0) answer) refl (λ zs. refl) (λ zs. refl) fm known-entry refl (λ x zs₂ ex lens₂ isx. lands-in ! (result-typed 𝓤 H A W x isx) $
-        sets ! (addr ! (behind ! refl refl)) (tt, tt) $ sets ! (agg ! (ofs ! refl)) (tt, (tt, (record { fits = vm-room .0 }, tt))) $ sets ! (addr ! (behind ! refl refl)) (tt, tt) $ sets ! (agg ! (ofs ! refl)) (tt, (tt, (record { fits = answer-room .0 }, tt))) $ calls-on ! (true ∷ false ∷ false ∷ false ∷ false ∷ false ∷ false ∷ false ∷ false ∷ false ∷ false ∷ false ∷ false ∷ false ∷ true ∷ []) (slices vm (zs₂ .1 .1 .1 .1 .1 .1 .1 .1 .1 .1 .0) (zs₂ .1 .1 .1 .1 .1 .1 .1 .1 .1 .1 .1 .0) (zs₂ .1 .1 .1 .1 .1 .1 .1 .1 .1 .1 .1 .1 .0) (zs₂ .1 .1 .1 .1 .1 .1 .1 .1 .1 .1 .1 .1 .1 .0) (zs₂ .1 .1 .1 .1 .1 .1 .1 .1 .1 .1 .1 .1 .1 .1 .0) answer) (call-tells x isx) (λ zs. slices (zs .1 .0) (zs₂ .1 .1 .1 .1 .1 .1 .1 .1 .1 .1 .0) (zs₂ .1 .1 .1 .1 .1 .1 .1 .1 .1 .1 .1 .0) (zs₂ .1 .1 .1 .1 .1 .1 .1 .1 .1 .1 .1 .1 .0) (zs₂ .1 .1 .1 .1 .1 .1 .1 .1 .1 .1 .1 .1 .1 .0) (zs₂ .1 .1 .1 .1 .1 .1 .1 .1 .1 .1 .1 .1 .1 .1 .0) (zs .1 .1 .0)) refl (λ zs. refl) (λ zs. refl) fm known-tells refl (λ k zs₃ ek lens₃ isk. lands-in ! (tt, record { fits = isk .1 }) $
-        sets ! (of-opd ! (of ! refl)) (tt, record { fits = isk .1 }) $ leaves ! refl $ by ! (exits k (zs₃ .1 .0) (zs₂ .1 .1 .1 .1 .1 .1 .1 .1 .1 .1 .0) (zs₂ .1 .1 .1 .1 .1 .1 .1 .1 .1 .1 .1 .0) (zs₂ .1 .1 .1 .1 .1 .1 .1 .1 .1 .1 .1 .1 .0) (zs₂ .1 .1 .1 .1 .1 .1 .1 .1 .1 .1 .1 .1 .1 .0) (zs₂ .1 .1 .1 .1 .1 .1 .1 .1 .1 .1 .1 .1 .1 .1 .0) (zs₃ .1 .1 .0) isk (lens₃ .0) (lens₂ .0) (lens₂ .1 .0) (lens₂ .1 .1 .0) (lens₂ .1 .1 .1 .0) (lens₂ .1 .1 .1 .1 .0) (lens₃ .1 .0) (run-through vm answer (programLent structs constants functions text main mainPlaces other otherPlaces) (runLent stack cells frames copy trace) units n ew (is-zero n on) m em x (runLent (zs₂ .1 .1 .1 .1 .1 .1 .1 .1 .1 .1 .0) (zs₂ .1 .1 .1 .1 .1 .1 .1 .1 .1 .1 .1 .0) (zs₂ .1 .1 .1 .1 .1 .1 .1 .1 .1 .1 .1 .1 .0) (zs₂ .1 .1 .1 .1 .1 .1 .1 .1 .1 .1 .1 .1 .1 .0) (zs₂ .1 .1 .1 .1 .1 .1 .1 .1 .1 .1 .1 .1 .1 .1 .0)) ex (record { number = k; vm = (zs₃ .1 .0); answer = (zs₃ .1 .1 .0) }) ek))))))
-        (λ off. sets ! (of-opd ! (of ! refl)) (tt, record { fits = isn .1 }) $ leaves ! refl $ by ! (exits n vm stack cells frames copy trace answer isn refl refl refl refl refl refl refl (run-refused vm answer (programLent structs constants functions text main mainPlaces other otherPlaces) (runLent stack cells frames copy trace) units n ew (not-zero n off)))))))
+        (λ on. sets ! (addr ! (behind ! refl refl)) (tt, tt) $ sets ! (agg ! (ofs ! refl)) (tt, (tt, (record { fits = vm-room .0 }, tt))) $
+        calls-on ! (true ∷ []) (slices vm stack cells frames copy trace answer) (call-rec) (λ zs. slices vm stack cells frames copy trace answer) refl
+        (λ zs. refl) (λ zs. refl) fm known-rec refl (λ m zs₁ em lens₁ ism. lands-in ! (vm-typed 𝓤 H A W m ism) $
+        sets ! (addr ! (behind ! refl refl)) (tt, tt) $ sets ! (agg ! (ofs ! refl)) (tt, (tt, (record { fits = stack-room .0 }, tt))) $
+        sets ! (addr ! (behind ! refl refl)) (tt, tt) $ sets ! (agg ! (ofs ! refl)) (tt, (tt, (record { fits = cells-room .0 }, tt))) $
+        sets ! (addr ! (behind ! refl refl)) (tt, tt) $ sets ! (agg ! (ofs ! refl)) (tt, (tt, (record { fits = frames-room .0 }, tt))) $
+        sets ! (addr ! (behind ! refl refl)) (tt, tt) $ sets ! (agg ! (ofs ! refl)) (tt, (tt, (record { fits = copy-room .0 }, tt))) $
+        sets ! (addr ! (behind ! refl refl)) (tt, tt) $ sets ! (agg ! (ofs ! refl)) (tt, (tt, (record { fits = trace-room .0 }, tt))) $
+        calls-on ! (false ∷ true ∷ true ∷ true ∷ true ∷ true ∷ true ∷ true ∷ true ∷ true ∷ true ∷ true ∷ true ∷ true ∷ [])
+        (slices vm stack cells frames copy trace answer) (call-entry m ism)
+        (λ zs. slices vm (zs .1 .1 .1 .1 .1 .1 .1 .1 .1 .1 .0) (zs .1 .1 .1 .1 .1 .1 .1 .1 .1 .1 .1 .0) (zs .1 .1 .1 .1 .1 .1 .1 .1 .1 .1 .1 .1 .0)
+        (zs .1 .1 .1 .1 .1 .1 .1 .1 .1 .1 .1 .1 .1 .0) (zs .1 .1 .1 .1 .1 .1 .1 .1 .1 .1 .1 .1 .1 .1 .0) answer) refl (λ zs. refl)
+        (λ zs. refl) fm known-entry refl (λ x zs₂ ex lens₂ isx. lands-in ! (result-typed 𝓤 H A W x isx) $
+        sets ! (addr ! (behind ! refl refl)) (tt, tt) $ sets ! (agg ! (ofs ! refl)) (tt, (tt, (record { fits = vm-room .0 }, tt))) $
+        sets ! (addr ! (behind ! refl refl)) (tt, tt) $ sets ! (agg ! (ofs ! refl)) (tt, (tt, (record { fits = answer-room .0 }, tt))) $
+        calls-on ! (true ∷ false ∷ false ∷ false ∷ false ∷ false ∷ false ∷ false ∷ false ∷ false ∷ false ∷ false ∷ false ∷ false ∷ true ∷ [])
+        (slices vm (zs₂ .1 .1 .1 .1 .1 .1 .1 .1 .1 .1 .0) (zs₂ .1 .1 .1 .1 .1 .1 .1 .1 .1 .1 .1 .0) (zs₂ .1 .1 .1 .1 .1 .1 .1 .1 .1 .1 .1 .1 .0)
+        (zs₂ .1 .1 .1 .1 .1 .1 .1 .1 .1 .1 .1 .1 .1 .0) (zs₂ .1 .1 .1 .1 .1 .1 .1 .1 .1 .1 .1 .1 .1 .1 .0) answer) (call-tells x isx)
+        (λ zs. slices (zs .1 .0) (zs₂ .1 .1 .1 .1 .1 .1 .1 .1 .1 .1 .0) (zs₂ .1 .1 .1 .1 .1 .1 .1 .1 .1 .1 .1 .0)
+        (zs₂ .1 .1 .1 .1 .1 .1 .1 .1 .1 .1 .1 .1 .0) (zs₂ .1 .1 .1 .1 .1 .1 .1 .1 .1 .1 .1 .1 .1 .0) (zs₂ .1 .1 .1 .1 .1 .1 .1 .1 .1 .1 .1 .1 .1 .1 .0)
+        (zs .1 .1 .0)) refl (λ zs. refl) (λ zs. refl) fm known-tells refl (λ k zs₃ ek lens₃ isk. lands-in ! (tt, record { fits = isk .1 }) $
+        sets ! (of-opd ! (of ! refl)) (tt, record { fits = isk .1 }) $ leaves ! refl $
+        by ! (exits k (zs₃ .1 .0) (zs₂ .1 .1 .1 .1 .1 .1 .1 .1 .1 .1 .0) (zs₂ .1 .1 .1 .1 .1 .1 .1 .1 .1 .1 .1 .0)
+        (zs₂ .1 .1 .1 .1 .1 .1 .1 .1 .1 .1 .1 .1 .0) (zs₂ .1 .1 .1 .1 .1 .1 .1 .1 .1 .1 .1 .1 .1 .0) (zs₂ .1 .1 .1 .1 .1 .1 .1 .1 .1 .1 .1 .1 .1 .1 .0)
+        (zs₃ .1 .1 .0) isk (lens₃ .0) (lens₂ .0) (lens₂ .1 .0) (lens₂ .1 .1 .0) (lens₂ .1 .1 .1 .0) (lens₂ .1 .1 .1 .1 .0) (lens₃ .1 .0)
+        (run-through vm answer (programLent structs constants functions text main mainPlaces other otherPlaces)
+        (runLent stack cells frames copy trace) units n ew (is-zero n on) m em x
+        (runLent (zs₂ .1 .1 .1 .1 .1 .1 .1 .1 .1 .1 .0) (zs₂ .1 .1 .1 .1 .1 .1 .1 .1 .1 .1 .1 .0) (zs₂ .1 .1 .1 .1 .1 .1 .1 .1 .1 .1 .1 .1 .0)
+        (zs₂ .1 .1 .1 .1 .1 .1 .1 .1 .1 .1 .1 .1 .1 .0) (zs₂ .1 .1 .1 .1 .1 .1 .1 .1 .1 .1 .1 .1 .1 .1 .0)) ex
+        (record { number = k; vm = (zs₃ .1 .0); answer = (zs₃ .1 .1 .0) }) ek))))))
+        (λ off. sets ! (of-opd ! (of ! refl)) (tt, record { fits = isn .1 }) $ leaves ! refl $
+        by ! (exits n vm stack cells frames copy trace answer isn refl refl refl refl refl refl refl
+        (run-refused vm answer (programLent structs constants functions text main mainPlaces other otherPlaces)
+        (runLent stack cells frames copy trace) units n ew (not-zero n off)))))))
       where
         fm : FmC 𝓤 H (W .laws) (𝓣 .C)
         fm = fmOf 𝓤 H (W .laws) 𝓣

@@ -17,7 +17,8 @@ use Rattle.frames.proofs.push_frame.Code as code
 abbrev kinds : List (Kind 1)
 kinds = unique 0 tt R ∷ number ∷ own R fval tells (λ x f. refl) ∷ []
 
-module _ {M : Type 1} (𝓤 : URA M) (H : Heap 𝓤) (A : Atoms 𝓤) (W : Given 𝓤 H A) (mem : Memory → SProp 𝓤) (run : Routine → Fun 𝓤) (𝓣 : Tables 𝓤 H) (κs : Lfts 1) (qs : Shares 1) (a : Passed kinds Nothing κs) (is : Known kinds Nothing κs a) where
+module _ {M : Type 1} (𝓤 : URA M) (H : Heap 𝓤) (A : Atoms 𝓤) (W : Given 𝓤 H A) (mem : Memory → SProp 𝓤) (run : Routine → Fun 𝓤) (𝓣 : Tables 𝓤 H) (κs : Lfts 1)
+    (qs : Shares 1) (a : Passed kinds Nothing κs) (is : Known kinds Nothing κs a) where
   abbrev s : Sl
   s = sl (κs .0) (qs .0) (a .0)
 
@@ -52,11 +53,15 @@ module _ {M : Type 1} (𝓤 : URA M) (H : Heap 𝓤) (A : Atoms 𝓤) (W : Given
 
   walk : i < length ys → ent 𝓤 (onEntry 𝓤 H A me.signature (lfts (xs ys)) (shares (xs ys)) (denots (xs ys)) (valss (xs ys))) (WpFn 𝓤 H (𝓣 .C) (𝓣 .Λ) code.function (values (xs ys)) Post)
   walk l =
-      qed W (‵ (Toks (xs ys)) ∷ ‵ (Owns (xs ys)) ∷ []) ∵ takes ! (xs ys) (enters ! (𝓣 .C) (𝓣 .Λ) code.function (values (xs ys)) Post ((tt, (tt, (record { fits = room .0 }, tt))), ((tt, record { fits = is .1 .0 .1 }), (frame-typed 𝓤 H A W f (is .1 .1 .0), tt))) (λ ls.
+      qed W (‵ (Toks (xs ys)) ∷ ‵ (Owns (xs ys)) ∷ []) ∵ takes ! (xs ys)
+      (enters ! (𝓣 .C) (𝓣 .Λ) code.function (values (xs ys)) Post
+      ((tt, (tt, (record { fits = room .0 }, tt))), ((tt, record { fits = is .1 .0 .1 }), (frame-typed 𝓤 H A W f (is .1 .1 .0), tt))) (λ ls.
       sets ! (bin ! (of ! refl) (of ! refl) (record { fits = times-fits i (length ys) l room })) (tt, record { fits = times-fits i (length ys) l room }) $
       sets ! (bin ! (of ! refl) (of ! refl) tt) (tt, tt) $
-      rewrite ! 0 (λ (p : ℕ). ‵ (Locals (code.function .locals) ls (none ∷ some (sval s) ∷ some (vint w64 i) ∷ some (fval f) ∷ some (vint w64 (i * 24)) ∷ some (vptr (s .block) p) ∷ []))) (place-frame (s .offset) i) refl $
-      move ! (1 ∷ []) $ fsplit ! $ opens ! tt R (s .block) (s .offset) (s .count) ys $ elem-out ! R (Is R) (shows 𝓤 H A R) (λ g. fval g ∷ []) tells fullShare ys i noFrame (s .block) (s .offset) l (λ _.
+      rewrite ! 0 (λ (p : ℕ). ‵ (Locals (code.function .locals) ls (none ∷ some (sval s) ∷ some (vint w64 i) ∷ some (fval f) ∷ some (vint w64 (i * 24))
+      ∷ some (vptr (s .block) p) ∷ []))) (place-frame (s .offset) i) refl $
+      move ! (1 ∷ []) $ fsplit ! $ opens ! tt R (s .block) (s .offset) (s .count) ys $
+      elem-out ! R (Is R) (shows 𝓤 H A R) (λ g. fval g ∷ []) tells fullShare ys i noFrame (s .block) (s .offset) l (λ _.
       -- [the element; what it owns; the others; the rest of the slice; the values' part; the locals]
       move ! (5 ∷ []) $ assigns ! (of-opd ! (of ! refl)) (from ! (hop ! (look-in ! 0 (here ! 5 refl)) (stop !))) (store-raw ! 1 refl (frame-typed 𝓤 H A W f (is .1 .1 .0))) $
       move ! (2 ∷ []) $ drop ! $ owned ! R (Is R) (frame-makes 𝓤 H A W) f _ (is .1 .1 .0) $ move ! (2 ∷ 0 ∷ 3 ∷ []) $ elem-put ! R fullShare ys i f (fval f ∷ []) (s .block) (s .offset) l $

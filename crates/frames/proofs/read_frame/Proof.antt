@@ -15,7 +15,8 @@ use Rattle.frames.proofs.read_frame.Code as code
 abbrev kinds : List (Kind 1)
 kinds = shared 0 tt R ∷ number ∷ []
 
-module _ {M : Type 1} (𝓤 : URA M) (H : Heap 𝓤) (A : Atoms 𝓤) (W : Given 𝓤 H A) (mem : Memory → SProp 𝓤) (run : Routine → Fun 𝓤) (𝓣 : Tables 𝓤 H) (κs : Lfts 1) (qs : Shares 1) (a : Passed kinds R κs) (is : Known kinds R κs a) where
+module _ {M : Type 1} (𝓤 : URA M) (H : Heap 𝓤) (A : Atoms 𝓤) (W : Given 𝓤 H A) (mem : Memory → SProp 𝓤) (run : Routine → Fun 𝓤) (𝓣 : Tables 𝓤 H) (κs : Lfts 1)
+    (qs : Shares 1) (a : Passed kinds R κs) (is : Known kinds R κs a) where
   abbrev s : Sl
   s = sl (κs .0) (qs .0) (a .0)
 
@@ -46,12 +47,15 @@ module _ {M : Type 1} (𝓤 : URA M) (H : Heap 𝓤) (A : Atoms 𝓤) (W : Given
 
   walk : i < length ys → ent 𝓤 (onEntry 𝓤 H A me.signature (lfts xs) (shares xs) (denots xs) (valss xs)) (WpFn 𝓤 H (𝓣 .C) (𝓣 .Λ) code.function (values xs) Post)
   walk l =
-      qed W (‵ (Toks xs) ∷ ‵ (Owns xs) ∷ []) ∵ takes ! xs (enters ! (𝓣 .C) (𝓣 .Λ) code.function (values xs) Post ((tt, (tt, (record { fits = room .0 }, tt))), ((tt, record { fits = is .1 .0 .1 }), tt)) (λ ls.
+      qed W (‵ (Toks xs) ∷ ‵ (Owns xs) ∷ []) ∵ takes ! xs (enters ! (𝓣 .C) (𝓣 .Λ) code.function (values xs) Post
+      ((tt, (tt, (record { fits = room .0 }, tt))), ((tt, record { fits = is .1 .0 .1 }), tt)) (λ ls.
       sets ! (bin ! (of ! refl) (of ! refl) (record { fits = times-fits i (length ys) l room })) (tt, record { fits = times-fits i (length ys) l room }) $
       sets ! (bin ! (of ! refl) (of ! refl) tt) (tt, tt) $
-      rewrite ! 0 (λ (p : ℕ). ‵ (Locals (code.function .locals) ls (none ∷ some (sval s) ∷ some (vint w64 i) ∷ some (vint w64 (i * 24)) ∷ some (vptr (s .block) p) ∷ []))) (place-frame (s .offset) i) refl $
+      rewrite ! 0 (λ (p : ℕ). ‵ (Locals (code.function .locals) ls (none ∷ some (sval s) ∷ some (vint w64 i) ∷ some (vint w64 (i * 24))
+      ∷ some (vptr (s .block) p) ∷ []))) (place-frame (s .offset) i) refl $
       move ! (1 ∷ []) $ fsplit ! $ fsplit ! $ fsplit ! $ move ! (1 ∷ []) $ fsplit ! $ move ! (1 ∷ 3 ∷ []) $
-      looks-slice ! tt R (Is R) (shows 𝓤 H A R) (λ f. fval f ∷ []) tells (frame-copy 𝓤 H A W) ys (s .block) (s .offset) (λ q. elem-out ! R (Is R) (shows 𝓤 H A R) (λ f. fval f ∷ []) tells q ys i noFrame (s .block) (s .offset) l (λ isf.
+      looks-slice ! tt R (Is R) (shows 𝓤 H A R) (λ f. fval f ∷ []) tells (frame-copy 𝓤 H A W) ys (s .block) (s .offset)
+      (λ q. elem-out ! R (Is R) (shows 𝓤 H A R) (λ f. fval f ∷ []) tells q ys i noFrame (s .block) (s .offset) l (λ isf.
       -- [the element; what it owns; the others; the open borrow; the fractured borrow; the name; the slice's fact; the values' part; the locals]
       move ! (8 ∷ []) $ sets ! (of-opd ! (load ! (from ! (hop ! (look-in ! 0 (here ! 4 refl)) (stop !))) (look-raw ! 1 refl))) (frame-typed 𝓤 H A W f isf) $
       sets ! (of-opd ! (of ! refl)) (frame-typed 𝓤 H A W f isf) $

@@ -23,7 +23,8 @@ slice-reshare-prefix-write-all : tie.Need-slice-reshare-prefix-write-all
 slice-reshare-prefix-write-all c = omega (arith, inside _ _ (c .before .before .list-image .ensures))
 
 slice-aggregate-write-all : tie.Need-slice-aggregate-write-all
-slice-aggregate-write-all c = sym (length-take-le _ _ (omega (arith, inside _ _ (c .before .before .before .list-image .ensures))))
+slice-aggregate-write-all c =
+    sym (length-take-le _ _ (omega (arith, inside _ _ (c .before .before .before .list-image .ensures))))
 
 write-all-requires : tie.Need-write-all-requires
 write-all-requires c κs = search needs

@@ -154,7 +154,10 @@ module _ {M : Type 1} (𝓤 : URA M) (H : Heap 𝓤) (A : Atoms 𝓤) (W : Given
     abbrev Post : Val → SProp 𝓤
     Post = walkOf 𝓤 H A me.ended (stays kinds) (me.clauses 𝓤 H A mem run) .post (passing (xs out))
 
-    exits : (r : Told) (out′ : List ℕ) → Is ToldRow r (toldVal r ∷ []) → length out′ ≡ out-at .count → ((structs constants : List ℕ) → record { answer = r; out = out′ } ≡ backtraceIn m (programLent structs constants functions text main mainPlaces other otherPlaces) stack frames out) → ent 𝓤 (⋆ 𝓤 H A (‵ (Holds (slices out′)) ∷ [])) (Post (toldVal r))
+    exits : (r : Told) (out′ : List ℕ) → Is ToldRow r (toldVal r ∷ []) → length out′ ≡ out-at .count
+        → ((structs constants : List ℕ) → record { answer = r; out = out′ } ≡ backtraceIn m
+        (programLent structs constants functions text main mainPlaces other otherPlaces) stack frames out)
+        → ent 𝓤 (⋆ 𝓤 H A (‵ (Holds (slices out′)) ∷ [])) (Post (toldVal r))
     exits r out′ isr len-out said =
         qed W (‵ (Holds (slices out′)) ∷ []) ∵ suffices ! _
         (ends-at 𝓤 H A me.ended (stays kinds) (me.clauses 𝓤 H A mem run) W (passing (xs out)) (toldVal r) r
@@ -170,7 +173,8 @@ module _ {M : Type 1} (𝓤 : URA M) (H : Heap 𝓤) (A : Atoms 𝓤) (W : Given
         main-places-at mainPlaces ∷ shr u8 other-at other ∷ shr u32 other-places-at otherPlaces ∷ shr u64 stack-at stack ∷ shr R
         frames-at frames ∷ []
 
-    call-judge : Rule 𝓤 H A W to-judge Judge Boolean vbool (λ b zs. ((structs constants : List ℕ) → b ≡ traceOrder m (programLent structs constants functions text main mainPlaces other otherPlaces) stack frames))
+    call-judge : Rule 𝓤 H A W to-judge Judge Boolean vbool (λ b zs.
+        ((structs constants : List ℕ) → b ≡ traceOrder m (programLent structs constants functions text main mainPlaces other otherPlaces) stack frames))
     call-judge =
         call-with 𝓤 H A W to-judge Judge Boolean vbool
         (λ b zs. ((structs constants : List ℕ) → b ≡ traceOrder m
@@ -212,7 +216,9 @@ module _ {M : Type 1} (𝓤 : URA M) (H : Heap 𝓤) (A : Atoms 𝓤) (W : Given
         val usize (m .frames) (vint w64 (m .frames)) ∷ shr u64 functions-at functions ∷ shr u32 main-places-at mainPlaces ∷ shr
         u32 other-places-at otherPlaces ∷ shr R frames-at frames ∷ mut u32 out-at out ∷ []
 
-    call-put : Traceable functions mainPlaces otherPlaces (m .frames) frames (length out) → Rule 𝓤 H A W to-put Put ToldRow toldVal (λ r zs. record { answer = r; out = zs .1 .1 .1 .1 .1 .0 } ≡ traceInto functions mainPlaces otherPlaces (m .frames) frames out)
+    call-put : Traceable functions mainPlaces otherPlaces (m .frames) frames (length out)
+        → Rule 𝓤 H A W to-put Put ToldRow toldVal (λ r zs. record { answer = r; out = zs .1 .1 .1 .1 .1 .0 } ≡ traceInto functions mainPlaces otherPlaces
+        (m .frames) frames out)
     call-put can =
         call-with 𝓤 H A W to-put Put ToldRow toldVal
         (λ r zs. record { answer = r; out = zs .1 .1 .1 .1 .1 .0 } ≡ traceInto functions mainPlaces otherPlaces (m .frames) frames
@@ -232,36 +238,82 @@ module _ {M : Type 1} (𝓤 : URA M) (H : Heap 𝓤) (A : Atoms 𝓤) (W : Given
 
     walk : ent 𝓤 (onEntry 𝓤 H A me.signature (lfts (xs out)) (shares (xs out)) (denots (xs out)) (valss (xs out))) (WpFn 𝓤 H (𝓣 .C) (𝓣 .Λ) code.function (values (xs out)) Post)
     walk =
-        qed W (‵ (Toks (xs out)) ∷ ‵ (Owns (xs out)) ∷ []) ∵ takes ! (xs out) (enters ! (𝓣 .C) (𝓣 .Λ) code.function (values (xs out)) Post
-        (vm-typed 𝓤 H A W m (is .0), ((tt, (tt, (record { fits = functions-room .0 }, tt))), ((tt, (tt, (record { fits = text-room .0 }, tt))), ((tt, (tt, (record { fits = main-room .0 }, tt))), ((tt, (tt, (record { fits = main-places-room .0 }, tt))), ((tt, (tt, (record { fits = other-room .0 }, tt))), ((tt, (tt, (record { fits = other-places-room .0 }, tt))), ((tt, (tt, (record { fits = stack-room .0 }, tt))), ((tt, (tt, (record { fits = frames-room .0 }, tt))), ((tt, (tt, (record { fits = out-room .0 }, tt))), tt)))))))))) (λ ls.
+        qed W (‵ (Toks (xs out)) ∷ ‵ (Owns (xs out)) ∷ []) ∵ takes ! (xs out) (enters ! (𝓣 .C) (𝓣 .Λ) code.function (values (xs out)) Post (
+          vm-typed 𝓤 H A W m (is .0),
+          (
+            (tt, (tt, (record { fits = functions-room .0 }, tt))),
+            (
+              (tt, (tt, (record { fits = text-room .0 }, tt))),
+              (
+                (tt, (tt, (record { fits = main-room .0 }, tt))),
+                (
+                  (tt, (tt, (record { fits = main-places-room .0 }, tt))),
+                  (
+                    (tt, (tt, (record { fits = other-room .0 }, tt))),
+                    (
+                      (tt, (tt, (record { fits = other-places-room .0 }, tt))),
+                      (
+                        (tt, (tt, (record { fits = stack-room .0 }, tt))),
+                        (
+                          (tt, (tt, (record { fits = frames-room .0 }, tt))),
+                          ((tt, (tt, (record { fits = out-room .0 }, tt))), tt),
+                        ),
+                      ),
+                    ),
+                  ),
+                ),
+              ),
+            ),
+          ),
+        ) (λ ls.
         sets ! (of-opd ! (of ! refl)) (tt, record { fits = frames-fit m (is .0) }) $
-        calls-on ! (true ∷ true ∷ true ∷ true ∷ true ∷ true ∷ true ∷ true ∷ []) (slices out) (call-judge) (λ zs. slices out) refl (λ zs. refl) (λ zs. refl) fm known-judge refl (λ b zs eb lens isb. lands-in ! (tt, tt) $
+        calls-on ! (true ∷ true ∷ true ∷ true ∷ true ∷ true ∷ true ∷ true ∷ []) (slices out) (call-judge) (λ zs. slices out) refl (λ zs. refl)
+        (λ zs. refl) fm known-judge refl (λ b zs eb lens isb. lands-in ! (tt, tt) $
         sets ! (of-opd ! (of ! refl)) (tt, record { fits = out-room .0 }) $
         calls-on ! [] (slices out) (call-why b isb) (λ zs. slices out) refl (λ zs. refl) (λ zs. refl) fm known-why refl (λ w zs₁ ew lens₁ isw. lands-in ! (tt, record { fits = isw .1 }) $
         sets ! (bin ! (of ! refl) (of ! refl) tt) (tt, tt) $ returns-if ! 𝓣 (of ! refl)
         (λ on. sets ! (addr ! (behind ! refl refl)) (tt, tt) $ sets ! (agg ! (ofs ! refl)) (tt, (tt, (record { fits = out-room .0 }, tt))) $
-        calls-on ! (true ∷ false ∷ false ∷ true ∷ false ∷ true ∷ false ∷ true ∷ true ∷ []) (slices out) (call-put (ready b w eb ew (is-zero w on))) (λ zs. slices (zs .1 .1 .1 .1 .1 .0)) refl (λ zs. refl) (λ zs. refl) fm known-put refl (λ r zs₂ er lens₂ isr. lands-in ! (told-typed 𝓤 H A W r isr) $
-        sets ! (of-opd ! (of ! refl)) (told-typed 𝓤 H A W r isr) $ leaves ! refl $ by ! (exits r (zs₂ .1 .1 .1 .1 .1 .0) isr (lens₂ .0) (λ structs constants. er ∙ traced b w eb ew (is-zero w on) structs constants))))
+        calls-on ! (true ∷ false ∷ false ∷ true ∷ false ∷ true ∷ false ∷ true ∷ true ∷ []) (slices out) (call-put (ready b w eb ew (is-zero w on)))
+        (λ zs. slices (zs .1 .1 .1 .1 .1 .0)) refl (λ zs. refl) (λ zs. refl) fm known-put refl
+        (λ r zs₂ er lens₂ isr. lands-in ! (told-typed 𝓤 H A W r isr) $
+        sets ! (of-opd ! (of ! refl)) (told-typed 𝓤 H A W r isr) $ leaves ! refl $
+        by ! (exits r (zs₂ .1 .1 .1 .1 .1 .0) isr (lens₂ .0) (λ structs constants. er ∙ traced b w eb ew (is-zero w on) structs constants))))
         (λ off. calls-on ! [] (slices out) (call-not w isw) (λ zs. slices out) refl (λ zs. refl) (λ zs. refl) fm known-not refl (λ r zs₂ er lens₂ isr. lands-in ! (told-typed 𝓤 H A W r isr) $
-        sets ! (of-opd ! (of ! refl)) (told-typed 𝓤 H A W r isr) $ leaves ! refl $ by ! (exits r out isr refl (λ structs constants. ap (λ (x : Told). record { answer = x; out = out }) er ∙ not-traced b w eb ew (not-zero w off) structs constants))))))))
+        sets ! (of-opd ! (of ! refl)) (told-typed 𝓤 H A W r isr) $ leaves ! refl $
+        by ! (exits r out isr refl (λ structs constants. ap (λ (x : Told). record { answer = x; out = out }) er
+        ∙ not-traced b w eb ew (not-zero w off) structs constants))))))))
       where
         fm : FmC 𝓤 H (W .laws) (𝓣 .C)
         fm = fmOf 𝓤 H (W .laws) 𝓣
 
-        why-is : (b : Bool) (w : ℕ) → ((structs constants : List ℕ) → b ≡ traceOrder m (programLent structs constants functions text main mainPlaces other otherPlaces) stack frames) → ((os : List ℕ) → length os ≡ out-at .count → w ≡ traceRefusal b (m .frames) os) → (structs constants : List ℕ) → w ≡ traceRefusal (traceOrder m (programLent structs constants functions text main mainPlaces other otherPlaces) stack frames) (m .frames) out
+        why-is : (b : Bool) (w : ℕ) → ((structs constants : List ℕ) → b ≡ traceOrder m
+            (programLent structs constants functions text main mainPlaces other otherPlaces) stack frames)
+            → ((os : List ℕ) → length os ≡ out-at .count → w ≡ traceRefusal b (m .frames) os) → (structs constants : List ℕ)
+            → w ≡ traceRefusal (traceOrder m (programLent structs constants functions text main mainPlaces other otherPlaces) stack frames) (m .frames) out
         why-is b w eb ew structs constants =
             ew out refl ∙ ap (λ (x : Bool). traceRefusal x (m .frames) out) (eb structs constants)
 
-        ready : (b : Bool) (w : ℕ) → ((structs constants : List ℕ) → b ≡ traceOrder m (programLent structs constants functions text main mainPlaces other otherPlaces) stack frames) → ((os : List ℕ) → length os ≡ out-at .count → w ≡ traceRefusal b (m .frames) os) → w ≡ 0 → Traceable functions mainPlaces otherPlaces (m .frames) frames (length out)
+        ready : (b : Bool) (w : ℕ) → ((structs constants : List ℕ) → b ≡ traceOrder m
+            (programLent structs constants functions text main mainPlaces other otherPlaces) stack frames)
+            → ((os : List ℕ) → length os ≡ out-at .count → w ≡ traceRefusal b (m .frames) os) → w ≡ 0
+            → Traceable functions mainPlaces otherPlaces (m .frames) frames (length out)
         ready b w eb ew z =
             trace-ready m [] [] functions text main mainPlaces other otherPlaces stack frames out (why-is b w eb ew [] []) z
 
-        traced : (b : Bool) (w : ℕ) → ((structs constants : List ℕ) → b ≡ traceOrder m (programLent structs constants functions text main mainPlaces other otherPlaces) stack frames) → ((os : List ℕ) → length os ≡ out-at .count → w ≡ traceRefusal b (m .frames) os) → w ≡ 0 → (structs constants : List ℕ) → traceInto functions mainPlaces otherPlaces (m .frames) frames out ≡ backtraceIn m (programLent structs constants functions text main mainPlaces other otherPlaces) stack frames out
+        traced : (b : Bool) (w : ℕ) → ((structs constants : List ℕ) → b ≡ traceOrder m
+            (programLent structs constants functions text main mainPlaces other otherPlaces) stack frames)
+            → ((os : List ℕ) → length os ≡ out-at .count → w ≡ traceRefusal b (m .frames) os) → w ≡ 0 → (structs constants : List ℕ)
+            → traceInto functions mainPlaces otherPlaces (m .frames) frames out ≡ backtraceIn m
+            (programLent structs constants functions text main mainPlaces other otherPlaces) stack frames out
         traced b w eb ew z structs constants =
             trace-is m structs constants functions text main mainPlaces other otherPlaces stack frames out
             (why-is b w eb ew structs constants) z
 
-        not-traced : (b : Bool) (w : ℕ) → ((structs constants : List ℕ) → b ≡ traceOrder m (programLent structs constants functions text main mainPlaces other otherPlaces) stack frames) → ((os : List ℕ) → length os ≡ out-at .count → w ≡ traceRefusal b (m .frames) os) → (w ≡ 0 → ⊥) → (structs constants : List ℕ) → record { answer = t.Refused w; out = out } ≡ backtraceIn m (programLent structs constants functions text main mainPlaces other otherPlaces) stack frames out
+        not-traced : (b : Bool) (w : ℕ) → ((structs constants : List ℕ)
+            → b ≡ traceOrder m (programLent structs constants functions text main mainPlaces other otherPlaces) stack frames)
+            → ((os : List ℕ) → length os ≡ out-at .count → w ≡ traceRefusal b (m .frames) os) → (w ≡ 0 → ⊥) → (structs constants : List ℕ)
+            → record { answer = t.Refused w; out = out } ≡ backtraceIn m
+            (programLent structs constants functions text main mainPlaces other otherPlaces) stack frames out
         not-traced b w eb ew z structs constants =
             trace-refused m structs constants functions text main mainPlaces other otherPlaces stack frames out
             (why-is b w eb ew structs constants) z

@@ -50,7 +50,8 @@ module _ {M : Type 1} (𝓤 : URA M) (H : Heap 𝓤) (A : Atoms 𝓤) (W : Given
   abbrev First : Contract 𝓤
   First = tripleOf 𝓤 H A first.signature (first.spec 𝓤 H A mem run)
 
-  module _ (𝓣 : Tables 𝓤 H) (known-made : Triple 𝓤 (𝓣 .C #made) Made) (known-done : Triple 𝓤 (𝓣 .C #done) Done) (known-first : Triple 𝓤 (𝓣 .C #first) First) (known-writef : Triple 𝓤 (𝓣 .C #writef) (Write 𝓤 H A W mem run))
+  module _ (𝓣 : Tables 𝓤 H) (known-made : Triple 𝓤 (𝓣 .C #made) Made) (known-done : Triple 𝓤 (𝓣 .C #done) Done) (known-first : Triple 𝓤 (𝓣 .C #first) First)
+      (known-writef : Triple 𝓤 (𝓣 .C #writef) (Write 𝓤 H A W mem run))
       (κs : Lfts 10) (qs : Shares 10) (a : Passed kinds StartedRow κs) (is : Known kinds StartedRow κs a) where
     -- the parameters
     abbrev s0 : Sl
@@ -157,7 +158,16 @@ module _ {M : Type 1} (𝓤 : URA M) (H : Heap 𝓤) (A : Atoms 𝓤) (W : Given
         walkOf 𝓤 H A me.ended (stays kinds) (me.clauses 𝓤 H A mem run) .post
         (passing (xs constants structs functions text main mainPlaces other otherPlaces frames))
 
-    exits : (r : Started) (constants′ : List ℕ) (structs′ : List ℕ) (functions′ : List ℕ) (text′ : List ℕ) (main′ : List ℕ) (mainPlaces′ : List ℕ) (other′ : List ℕ) (otherPlaces′ : List ℕ) (frames′ : List Frame) → Is StartedRow r (startedVal r ∷ []) → length constants′ ≡ s1 .count → length structs′ ≡ s2 .count → length functions′ ≡ s3 .count → length text′ ≡ s4 .count → length main′ ≡ s5 .count → length mainPlaces′ ≡ s6 .count → length other′ ≡ s7 .count → length otherPlaces′ ≡ s8 .count → length frames′ ≡ s9 .count → (record { answer = r; stores = stored constants′ structs′ functions′ text′ main′ mainPlaces′ other′ otherPlaces′; frames = frames′ } ≡ loadMachineOf image (stored constants structs functions text main mainPlaces other otherPlaces) frames) → ent 𝓤 (⋆ 𝓤 H A (‵ (Holds (slices constants′ structs′ functions′ text′ main′ mainPlaces′ other′ otherPlaces′ frames′)) ∷ [])) (Post (startedVal r))
+    exits : (r : Started) (constants′ : List ℕ) (structs′ : List ℕ) (functions′ : List ℕ) (text′ : List ℕ) (main′ : List ℕ) (mainPlaces′ : List ℕ)
+        (other′ : List ℕ) (otherPlaces′ : List ℕ) (frames′ : List Frame) → Is StartedRow r (startedVal r ∷ []) → length constants′ ≡ s1 .count
+        → length structs′ ≡ s2 .count → length functions′ ≡ s3 .count → length text′ ≡ s4 .count → length main′ ≡ s5 .count → length mainPlaces′ ≡ s6 .count
+        → length other′ ≡ s7 .count → length otherPlaces′ ≡ s8 .count → length frames′ ≡ s9 .count
+        → (record {
+          answer = r;
+          stores = stored constants′ structs′ functions′ text′ main′ mainPlaces′ other′ otherPlaces′;
+          frames = frames′;
+        } ≡ loadMachineOf image (stored constants structs functions text main mainPlaces other otherPlaces) frames)
+        → ent 𝓤 (⋆ 𝓤 H A (‵ (Holds (slices constants′ structs′ functions′ text′ main′ mainPlaces′ other′ otherPlaces′ frames′)) ∷ [])) (Post (startedVal r))
     exits r constants′ structs′ functions′ text′ main′ mainPlaces′ other′ otherPlaces′ frames′ isr len-constants len-structs len-functions len-text len-main len-mainPlaces len-other len-otherPlaces len-frames said =
         qed W (‵ (Holds (slices constants′ structs′ functions′ text′ main′ mainPlaces′ other′ otherPlaces′ frames′)) ∷ []) ∵
         suffices ! _
@@ -181,7 +191,10 @@ module _ {M : Type 1} (𝓤 : URA M) (H : Heap 𝓤) (A : Atoms 𝓤) (W : Given
         shr u8 s0 image ∷ mut u64 s1 constants ∷ mut u64 s2 structs ∷ mut u64 s3 functions ∷ mut u8 s4 text ∷ mut u8 s5 main ∷ mut
         u32 s6 mainPlaces ∷ mut u8 s7 other ∷ mut u32 s8 otherPlaces ∷ val usize (s9 .count) (vint w64 (s9 .count)) ∷ []
 
-    call-made : Rule 𝓤 H A W to-made Made StartedRow startedVal (λ r zs. Makes (loadMachineOf image (stored constants structs functions text main mainPlaces other otherPlaces)) (s9 .count) r (stored (zs .1 .0) (zs .1 .1 .0) (zs .1 .1 .1 .0) (zs .1 .1 .1 .1 .0) (zs .1 .1 .1 .1 .1 .0) (zs .1 .1 .1 .1 .1 .1 .0) (zs .1 .1 .1 .1 .1 .1 .1 .0) (zs .1 .1 .1 .1 .1 .1 .1 .1 .0)))
+    call-made : Rule 𝓤 H A W to-made Made StartedRow startedVal (λ r zs. Makes
+        (loadMachineOf image (stored constants structs functions text main mainPlaces other otherPlaces)) (s9 .count) r
+        (stored (zs .1 .0) (zs .1 .1 .0) (zs .1 .1 .1 .0) (zs .1 .1 .1 .1 .0) (zs .1 .1 .1 .1 .1 .0) (zs .1 .1 .1 .1 .1 .1 .0) (zs .1 .1 .1 .1 .1 .1 .1 .0)
+        (zs .1 .1 .1 .1 .1 .1 .1 .1 .0)))
     call-made =
         call-with 𝓤 H A W to-made Made StartedRow startedVal
         (λ r zs. Makes (loadMachineOf image (stored constants structs functions text main mainPlaces other otherPlaces))
@@ -216,35 +229,117 @@ module _ {M : Type 1} (𝓤 : URA M) (H : Heap 𝓤) (A : Atoms 𝓤) (W : Given
         call-with 𝓤 H A W to-first First R fval (λ f zs. f ≡ root 0) tells (λ ns. passing (lent to-first ns)) (λ ns. refl)
         (λ ns. unasked W (lent to-first ns)) (λ ns w. id⊢ 𝓤 _) tt tt
 
-    walk : ent 𝓤 (onEntry 𝓤 H A me.signature (lfts (xs constants structs functions text main mainPlaces other otherPlaces frames)) (shares (xs constants structs functions text main mainPlaces other otherPlaces frames)) (denots (xs constants structs functions text main mainPlaces other otherPlaces frames)) (valss (xs constants structs functions text main mainPlaces other otherPlaces frames))) (WpFn 𝓤 H (𝓣 .C) (𝓣 .Λ) code.function (values (xs constants structs functions text main mainPlaces other otherPlaces frames)) Post)
+    walk : ent 𝓤 (onEntry 𝓤 H A me.signature (lfts (xs constants structs functions text main mainPlaces other otherPlaces frames))
+        (shares (xs constants structs functions text main mainPlaces other otherPlaces frames))
+        (denots (xs constants structs functions text main mainPlaces other otherPlaces frames))
+        (valss (xs constants structs functions text main mainPlaces other otherPlaces frames)))
+        (WpFn 𝓤 H (𝓣 .C) (𝓣 .Λ) code.function (values (xs constants structs functions text main mainPlaces other otherPlaces frames)) Post)
     walk =
-        qed W (‵ (Toks (xs constants structs functions text main mainPlaces other otherPlaces frames)) ∷ ‵ (Owns (xs constants structs functions text main mainPlaces other otherPlaces frames)) ∷ []) ∵ takes ! (xs constants structs functions text main mainPlaces other otherPlaces frames) (enters ! (𝓣 .C) (𝓣 .Λ) code.function (values (xs constants structs functions text main mainPlaces other otherPlaces frames)) Post
-        ((tt, (tt, (record { fits = room0 .0 }, tt))), ((tt, (tt, (record { fits = room1 .0 }, tt))), ((tt, (tt, (record { fits = room2 .0 }, tt))), ((tt, (tt, (record { fits = room3 .0 }, tt))), ((tt, (tt, (record { fits = room4 .0 }, tt))), ((tt, (tt, (record { fits = room5 .0 }, tt))), ((tt, (tt, (record { fits = room6 .0 }, tt))), ((tt, (tt, (record { fits = room7 .0 }, tt))), ((tt, (tt, (record { fits = room8 .0 }, tt))), ((tt, (tt, (record { fits = room9 .0 }, tt))), tt)))))))))) (λ ls.
-        sets ! (addr ! (behind ! refl refl)) (tt, tt) $ sets ! (agg ! (ofs ! refl)) (tt, (tt, (record { fits = room1 .0 }, tt))) $ sets ! (addr ! (behind ! refl refl)) (tt, tt) $ sets ! (agg ! (ofs ! refl)) (tt, (tt, (record { fits = room2 .0 }, tt))) $ sets ! (addr ! (behind ! refl refl)) (tt, tt) $ sets ! (agg ! (ofs ! refl)) (tt, (tt, (record { fits = room3 .0 }, tt))) $ sets ! (addr ! (behind ! refl refl)) (tt, tt) $ sets ! (agg ! (ofs ! refl)) (tt, (tt, (record { fits = room4 .0 }, tt))) $ sets ! (addr ! (behind ! refl refl)) (tt, tt) $ sets ! (agg ! (ofs ! refl)) (tt, (tt, (record { fits = room5 .0 }, tt))) $ sets ! (addr ! (behind ! refl refl)) (tt, tt) $ sets ! (agg ! (ofs ! refl)) (tt, (tt, (record { fits = room6 .0 }, tt))) $ sets ! (addr ! (behind ! refl refl)) (tt, tt) $ sets ! (agg ! (ofs ! refl)) (tt, (tt, (record { fits = room7 .0 }, tt))) $ sets ! (addr ! (behind ! refl refl)) (tt, tt) $ sets ! (agg ! (ofs ! refl)) (tt, (tt, (record { fits = room8 .0 }, tt))) $
+        qed W (‵ (Toks (xs constants structs functions text main mainPlaces other otherPlaces frames))
+        ∷ ‵ (Owns (xs constants structs functions text main mainPlaces other otherPlaces frames)) ∷ []) ∵
+        takes ! (xs constants structs functions text main mainPlaces other otherPlaces frames)
+        (enters ! (𝓣 .C) (𝓣 .Λ) code.function (values (xs constants structs functions text main mainPlaces other otherPlaces frames)) Post (
+          (tt, (tt, (record { fits = room0 .0 }, tt))),
+          (
+            (tt, (tt, (record { fits = room1 .0 }, tt))),
+            (
+              (tt, (tt, (record { fits = room2 .0 }, tt))),
+              (
+                (tt, (tt, (record { fits = room3 .0 }, tt))),
+                (
+                  (tt, (tt, (record { fits = room4 .0 }, tt))),
+                  (
+                    (tt, (tt, (record { fits = room5 .0 }, tt))),
+                    (
+                      (tt, (tt, (record { fits = room6 .0 }, tt))),
+                      (
+                        (tt, (tt, (record { fits = room7 .0 }, tt))),
+                        ((tt, (tt, (record { fits = room8 .0 }, tt))), ((tt, (tt, (record { fits = room9 .0 }, tt))), tt)),
+                      ),
+                    ),
+                  ),
+                ),
+              ),
+            ),
+          ),
+        ) (λ ls.
+        sets ! (addr ! (behind ! refl refl)) (tt, tt) $ sets ! (agg ! (ofs ! refl)) (tt, (tt, (record { fits = room1 .0 }, tt))) $
+        sets ! (addr ! (behind ! refl refl)) (tt, tt) $ sets ! (agg ! (ofs ! refl)) (tt, (tt, (record { fits = room2 .0 }, tt))) $
+        sets ! (addr ! (behind ! refl refl)) (tt, tt) $ sets ! (agg ! (ofs ! refl)) (tt, (tt, (record { fits = room3 .0 }, tt))) $
+        sets ! (addr ! (behind ! refl refl)) (tt, tt) $ sets ! (agg ! (ofs ! refl)) (tt, (tt, (record { fits = room4 .0 }, tt))) $
+        sets ! (addr ! (behind ! refl refl)) (tt, tt) $ sets ! (agg ! (ofs ! refl)) (tt, (tt, (record { fits = room5 .0 }, tt))) $
+        sets ! (addr ! (behind ! refl refl)) (tt, tt) $ sets ! (agg ! (ofs ! refl)) (tt, (tt, (record { fits = room6 .0 }, tt))) $
+        sets ! (addr ! (behind ! refl refl)) (tt, tt) $ sets ! (agg ! (ofs ! refl)) (tt, (tt, (record { fits = room7 .0 }, tt))) $
+        sets ! (addr ! (behind ! refl refl)) (tt, tt) $ sets ! (agg ! (ofs ! refl)) (tt, (tt, (record { fits = room8 .0 }, tt))) $
         sets ! (of-opd ! (of ! refl)) (tt, record { fits = room9 .0 }) $
-        calls-on ! (true ∷ true ∷ true ∷ true ∷ true ∷ true ∷ true ∷ true ∷ true ∷ []) (slices constants structs functions text main mainPlaces other otherPlaces frames) (call-made) (λ zs. slices (zs .1 .0) (zs .1 .1 .0) (zs .1 .1 .1 .0) (zs .1 .1 .1 .1 .0) (zs .1 .1 .1 .1 .1 .0) (zs .1 .1 .1 .1 .1 .1 .0) (zs .1 .1 .1 .1 .1 .1 .1 .0) (zs .1 .1 .1 .1 .1 .1 .1 .1 .0) frames) refl (λ zs. refl) (λ zs. refl) fm known-made refl (λ r zs er lens isr. lands-in ! (started-typed 𝓤 H A W r isr) $
-        calls-on ! [] (slices (zs .1 .0) (zs .1 .1 .0) (zs .1 .1 .1 .0) (zs .1 .1 .1 .1 .0) (zs .1 .1 .1 .1 .1 .0) (zs .1 .1 .1 .1 .1 .1 .0) (zs .1 .1 .1 .1 .1 .1 .1 .0) (zs .1 .1 .1 .1 .1 .1 .1 .1 .0) frames) (call-done r isr) (λ zs′. slices (zs .1 .0) (zs .1 .1 .0) (zs .1 .1 .1 .0) (zs .1 .1 .1 .1 .0) (zs .1 .1 .1 .1 .1 .0) (zs .1 .1 .1 .1 .1 .1 .0) (zs .1 .1 .1 .1 .1 .1 .1 .0) (zs .1 .1 .1 .1 .1 .1 .1 .1 .0) frames) refl (λ zs. refl) (λ zs. refl) fm known-done refl (λ b zs₁ eb lens₁ isb. lands-in ! (tt, tt) $
+        calls-on ! (true ∷ true ∷ true ∷ true ∷ true ∷ true ∷ true ∷ true ∷ true ∷ [])
+        (slices constants structs functions text main mainPlaces other otherPlaces frames) (call-made)
+        (λ zs. slices (zs .1 .0) (zs .1 .1 .0) (zs .1 .1 .1 .0) (zs .1 .1 .1 .1 .0) (zs .1 .1 .1 .1 .1 .0) (zs .1 .1 .1 .1 .1 .1 .0)
+        (zs .1 .1 .1 .1 .1 .1 .1 .0) (zs .1 .1 .1 .1 .1 .1 .1 .1 .0) frames) refl (λ zs. refl) (λ zs. refl) fm known-made refl
+        (λ r zs er lens isr. lands-in ! (started-typed 𝓤 H A W r isr) $
+        calls-on ! [] (slices (zs .1 .0) (zs .1 .1 .0) (zs .1 .1 .1 .0) (zs .1 .1 .1 .1 .0) (zs .1 .1 .1 .1 .1 .0) (zs .1 .1 .1 .1 .1 .1 .0)
+        (zs .1 .1 .1 .1 .1 .1 .1 .0) (zs .1 .1 .1 .1 .1 .1 .1 .1 .0) frames) (call-done r isr)
+        (λ zs′. slices (zs .1 .0) (zs .1 .1 .0) (zs .1 .1 .1 .0) (zs .1 .1 .1 .1 .0) (zs .1 .1 .1 .1 .1 .0) (zs .1 .1 .1 .1 .1 .1 .0)
+        (zs .1 .1 .1 .1 .1 .1 .1 .0) (zs .1 .1 .1 .1 .1 .1 .1 .1 .0) frames) refl (λ zs. refl) (λ zs. refl) fm known-done refl
+        (λ b zs₁ eb lens₁ isb. lands-in ! (tt, tt) $
         sets ! (of-opd ! (of ! refl)) (tt, tt) $ returns-if ! 𝓣 (of ! refl)
-        (λ on. calls-on ! [] (slices (zs .1 .0) (zs .1 .1 .0) (zs .1 .1 .1 .0) (zs .1 .1 .1 .1 .0) (zs .1 .1 .1 .1 .1 .0) (zs .1 .1 .1 .1 .1 .1 .0) (zs .1 .1 .1 .1 .1 .1 .1 .0) (zs .1 .1 .1 .1 .1 .1 .1 .1 .0) frames) (call-first) (λ zs′. slices (zs .1 .0) (zs .1 .1 .0) (zs .1 .1 .1 .0) (zs .1 .1 .1 .1 .0) (zs .1 .1 .1 .1 .1 .0) (zs .1 .1 .1 .1 .1 .1 .0) (zs .1 .1 .1 .1 .1 .1 .1 .0) (zs .1 .1 .1 .1 .1 .1 .1 .1 .0) frames) refl (λ zs. refl) (λ zs. refl) fm known-first refl (λ f zs₂ ef lens₂ isf. lands-in ! (frame-typed 𝓤 H A W f isf) $
+        (λ on. calls-on ! [] (slices (zs .1 .0) (zs .1 .1 .0) (zs .1 .1 .1 .0) (zs .1 .1 .1 .1 .0) (zs .1 .1 .1 .1 .1 .0) (zs .1 .1 .1 .1 .1 .1 .0)
+        (zs .1 .1 .1 .1 .1 .1 .1 .0) (zs .1 .1 .1 .1 .1 .1 .1 .1 .0) frames) (call-first)
+        (λ zs′. slices (zs .1 .0) (zs .1 .1 .0) (zs .1 .1 .1 .0) (zs .1 .1 .1 .1 .0) (zs .1 .1 .1 .1 .1 .0) (zs .1 .1 .1 .1 .1 .1 .0)
+        (zs .1 .1 .1 .1 .1 .1 .1 .0) (zs .1 .1 .1 .1 .1 .1 .1 .1 .0) frames) refl (λ zs. refl) (λ zs. refl) fm known-first refl
+        (λ f zs₂ ef lens₂ isf. lands-in ! (frame-typed 𝓤 H A W f isf) $
         sets ! (addr ! (behind ! refl refl)) (tt, tt) $ sets ! (agg ! (ofs ! refl)) (tt, (tt, (record { fits = room9 .0 }, tt))) $
-        calls-on ! (false ∷ false ∷ false ∷ false ∷ false ∷ false ∷ false ∷ false ∷ false ∷ true ∷ []) (slices (zs .1 .0) (zs .1 .1 .0) (zs .1 .1 .1 .0) (zs .1 .1 .1 .1 .0) (zs .1 .1 .1 .1 .1 .0) (zs .1 .1 .1 .1 .1 .1 .0) (zs .1 .1 .1 .1 .1 .1 .1 .0) (zs .1 .1 .1 .1 .1 .1 .1 .1 .0) frames) (call-write 𝓤 H A W mem run s9 frames refl room9 0 (omega arith) (place r b (zs .1 .0) (zs .1 .1 .0) (zs .1 .1 .1 .0) (zs .1 .1 .1 .1 .0) (zs .1 .1 .1 .1 .1 .0) (zs .1 .1 .1 .1 .1 .1 .0) (zs .1 .1 .1 .1 .1 .1 .1 .0) (zs .1 .1 .1 .1 .1 .1 .1 .1 .0) er eb (is-true b on)) f isf) (λ zs′. slices (zs .1 .0) (zs .1 .1 .0) (zs .1 .1 .1 .0) (zs .1 .1 .1 .1 .0) (zs .1 .1 .1 .1 .1 .0) (zs .1 .1 .1 .1 .1 .1 .0) (zs .1 .1 .1 .1 .1 .1 .1 .0) (zs .1 .1 .1 .1 .1 .1 .1 .1 .0) (zs′ .0)) refl (λ zs. refl) (λ zs. refl) fm known-writef refl (λ u zs₃ ew lens₃ isu. lands-in ! (tt, tt) $
-        sets ! (of-opd ! (of ! refl)) (started-typed 𝓤 H A W r isr) $ leaves ! refl $ by ! (exits r (zs .1 .0) (zs .1 .1 .0) (zs .1 .1 .1 .0) (zs .1 .1 .1 .1 .0) (zs .1 .1 .1 .1 .1 .0) (zs .1 .1 .1 .1 .1 .1 .0) (zs .1 .1 .1 .1 .1 .1 .1 .0) (zs .1 .1 .1 .1 .1 .1 .1 .1 .0) (zs₃ .0) isr (lens .0) (lens .1 .0) (lens .1 .1 .0) (lens .1 .1 .1 .0) (lens .1 .1 .1 .1 .0) (lens .1 .1 .1 .1 .1 .0) (lens .1 .1 .1 .1 .1 .1 .0) (lens .1 .1 .1 .1 .1 .1 .1 .0) (lens₃ .0) (laid-all r b (zs .1 .0) (zs .1 .1 .0) (zs .1 .1 .1 .0) (zs .1 .1 .1 .1 .0) (zs .1 .1 .1 .1 .1 .0) (zs .1 .1 .1 .1 .1 .1 .0) (zs .1 .1 .1 .1 .1 .1 .1 .0) (zs .1 .1 .1 .1 .1 .1 .1 .1 .0) (zs₃ .0) er eb (is-true b on) (ew ∙ ap (set frames 0) ef))))))
-        (λ off. sets ! (of-opd ! (of ! refl)) (started-typed 𝓤 H A W r isr) $ leaves ! refl $ by ! (exits r (zs .1 .0) (zs .1 .1 .0) (zs .1 .1 .1 .0) (zs .1 .1 .1 .1 .0) (zs .1 .1 .1 .1 .1 .0) (zs .1 .1 .1 .1 .1 .1 .0) (zs .1 .1 .1 .1 .1 .1 .1 .0) (zs .1 .1 .1 .1 .1 .1 .1 .1 .0) frames isr (lens .0) (lens .1 .0) (lens .1 .1 .0) (lens .1 .1 .1 .0) (lens .1 .1 .1 .1 .0) (lens .1 .1 .1 .1 .1 .0) (lens .1 .1 .1 .1 .1 .1 .0) (lens .1 .1 .1 .1 .1 .1 .1 .0) refl (kept-all r b (zs .1 .0) (zs .1 .1 .0) (zs .1 .1 .1 .0) (zs .1 .1 .1 .1 .0) (zs .1 .1 .1 .1 .1 .0) (zs .1 .1 .1 .1 .1 .1 .0) (zs .1 .1 .1 .1 .1 .1 .1 .0) (zs .1 .1 .1 .1 .1 .1 .1 .1 .0) er eb (is-false b off))))))))
+        calls-on ! (false ∷ false ∷ false ∷ false ∷ false ∷ false ∷ false ∷ false ∷ false ∷ true ∷ [])
+        (slices (zs .1 .0) (zs .1 .1 .0) (zs .1 .1 .1 .0) (zs .1 .1 .1 .1 .0) (zs .1 .1 .1 .1 .1 .0) (zs .1 .1 .1 .1 .1 .1 .0) (zs .1 .1 .1 .1 .1 .1 .1 .0)
+        (zs .1 .1 .1 .1 .1 .1 .1 .1 .0) frames) (call-write 𝓤 H A W mem run s9 frames refl room9 0 (omega arith)
+        (place r b (zs .1 .0) (zs .1 .1 .0) (zs .1 .1 .1 .0) (zs .1 .1 .1 .1 .0) (zs .1 .1 .1 .1 .1 .0) (zs .1 .1 .1 .1 .1 .1 .0)
+        (zs .1 .1 .1 .1 .1 .1 .1 .0) (zs .1 .1 .1 .1 .1 .1 .1 .1 .0) er eb (is-true b on)) f isf)
+        (λ zs′. slices (zs .1 .0) (zs .1 .1 .0) (zs .1 .1 .1 .0) (zs .1 .1 .1 .1 .0) (zs .1 .1 .1 .1 .1 .0) (zs .1 .1 .1 .1 .1 .1 .0)
+        (zs .1 .1 .1 .1 .1 .1 .1 .0) (zs .1 .1 .1 .1 .1 .1 .1 .1 .0) (zs′ .0)) refl (λ zs. refl) (λ zs. refl) fm known-writef refl
+        (λ u zs₃ ew lens₃ isu. lands-in ! (tt, tt) $
+        sets ! (of-opd ! (of ! refl)) (started-typed 𝓤 H A W r isr) $ leaves ! refl $
+        by ! (exits r (zs .1 .0) (zs .1 .1 .0) (zs .1 .1 .1 .0) (zs .1 .1 .1 .1 .0) (zs .1 .1 .1 .1 .1 .0) (zs .1 .1 .1 .1 .1 .1 .0)
+        (zs .1 .1 .1 .1 .1 .1 .1 .0) (zs .1 .1 .1 .1 .1 .1 .1 .1 .0) (zs₃ .0) isr (lens .0) (lens .1 .0) (lens .1 .1 .0) (lens .1 .1 .1 .0)
+        (lens .1 .1 .1 .1 .0) (lens .1 .1 .1 .1 .1 .0) (lens .1 .1 .1 .1 .1 .1 .0) (lens .1 .1 .1 .1 .1 .1 .1 .0) (lens₃ .0)
+        (laid-all r b (zs .1 .0) (zs .1 .1 .0) (zs .1 .1 .1 .0) (zs .1 .1 .1 .1 .0) (zs .1 .1 .1 .1 .1 .0) (zs .1 .1 .1 .1 .1 .1 .0)
+        (zs .1 .1 .1 .1 .1 .1 .1 .0) (zs .1 .1 .1 .1 .1 .1 .1 .1 .0) (zs₃ .0) er eb (is-true b on) (ew ∙ ap (set frames 0) ef))))))
+        (λ off. sets ! (of-opd ! (of ! refl)) (started-typed 𝓤 H A W r isr) $ leaves ! refl $
+        by ! (exits r (zs .1 .0) (zs .1 .1 .0) (zs .1 .1 .1 .0) (zs .1 .1 .1 .1 .0) (zs .1 .1 .1 .1 .1 .0) (zs .1 .1 .1 .1 .1 .1 .0)
+        (zs .1 .1 .1 .1 .1 .1 .1 .0) (zs .1 .1 .1 .1 .1 .1 .1 .1 .0) frames isr (lens .0) (lens .1 .0) (lens .1 .1 .0) (lens .1 .1 .1 .0)
+        (lens .1 .1 .1 .1 .0) (lens .1 .1 .1 .1 .1 .0) (lens .1 .1 .1 .1 .1 .1 .0) (lens .1 .1 .1 .1 .1 .1 .1 .0) refl
+        (kept-all r b (zs .1 .0) (zs .1 .1 .0) (zs .1 .1 .1 .0) (zs .1 .1 .1 .1 .0) (zs .1 .1 .1 .1 .1 .0) (zs .1 .1 .1 .1 .1 .1 .0)
+        (zs .1 .1 .1 .1 .1 .1 .1 .0) (zs .1 .1 .1 .1 .1 .1 .1 .1 .0) er eb (is-false b off))))))))
       where
         fm : FmC 𝓤 H (W .laws) (𝓣 .C)
         fm = fmOf 𝓤 H (W .laws) 𝓣
 
-        place : (r : Started) (b : Bool) (constants′ structs′ functions′ text′ main′ mainPlaces′ other′ otherPlaces′ : List ℕ) → (Makes (loadMachineOf image (stored constants structs functions text main mainPlaces other otherPlaces)) (s9 .count) r (stored constants′ structs′ functions′ text′ main′ mainPlaces′ other′ otherPlaces′)) → b ≡ isDone r → b ≡ true → 0 < length frames
+        place : (r : Started) (b : Bool) (constants′ structs′ functions′ text′ main′ mainPlaces′ other′ otherPlaces′ : List ℕ)
+            → (Makes (loadMachineOf image (stored constants structs functions text main mainPlaces other otherPlaces)) (s9 .count) r
+            (stored constants′ structs′ functions′ text′ main′ mainPlaces′ other′ otherPlaces′)) → b ≡ isDone r → b ≡ true → 0 < length frames
         place r b constants′ structs′ functions′ text′ main′ mainPlaces′ other′ otherPlaces′ er eb on =
             place-there (sym eb ∙ on)
             (load-starts image (stored constants structs functions text main mainPlaces other otherPlaces) frames er)
 
-        laid-all : (r : Started) (b : Bool) (constants′ structs′ functions′ text′ main′ mainPlaces′ other′ otherPlaces′ : List ℕ) (fs : List Frame) → (Makes (loadMachineOf image (stored constants structs functions text main mainPlaces other otherPlaces)) (s9 .count) r (stored constants′ structs′ functions′ text′ main′ mainPlaces′ other′ otherPlaces′)) → b ≡ isDone r → b ≡ true → fs ≡ set frames 0 (root 0) → record { answer = r; stores = stored constants′ structs′ functions′ text′ main′ mainPlaces′ other′ otherPlaces′; frames = fs } ≡ loadMachineOf image (stored constants structs functions text main mainPlaces other otherPlaces) frames
+        laid-all : (r : Started) (b : Bool) (constants′ structs′ functions′ text′ main′ mainPlaces′ other′ otherPlaces′ : List ℕ) (fs : List Frame)
+            → (Makes (loadMachineOf image (stored constants structs functions text main mainPlaces other otherPlaces)) (s9 .count) r
+            (stored constants′ structs′ functions′ text′ main′ mainPlaces′ other′ otherPlaces′)) → b ≡ isDone r → b ≡ true → fs ≡ set frames 0 (root 0)
+            → record {
+              answer = r;
+              stores = stored constants′ structs′ functions′ text′ main′ mainPlaces′ other′ otherPlaces′;
+              frames = fs;
+            } ≡ loadMachineOf image (stored constants structs functions text main mainPlaces other otherPlaces) frames
         laid-all r b constants′ structs′ functions′ text′ main′ mainPlaces′ other′ otherPlaces′ fs er eb on ef =
             frame-laid (sym eb ∙ on) ef
             (load-starts image (stored constants structs functions text main mainPlaces other otherPlaces) frames er)
 
-        kept-all : (r : Started) (b : Bool) (constants′ structs′ functions′ text′ main′ mainPlaces′ other′ otherPlaces′ : List ℕ) → (Makes (loadMachineOf image (stored constants structs functions text main mainPlaces other otherPlaces)) (s9 .count) r (stored constants′ structs′ functions′ text′ main′ mainPlaces′ other′ otherPlaces′)) → b ≡ isDone r → b ≡ false → record { answer = r; stores = stored constants′ structs′ functions′ text′ main′ mainPlaces′ other′ otherPlaces′; frames = frames } ≡ loadMachineOf image (stored constants structs functions text main mainPlaces other otherPlaces) frames
+        kept-all : (r : Started) (b : Bool) (constants′ structs′ functions′ text′ main′ mainPlaces′ other′ otherPlaces′ : List ℕ)
+            → (Makes (loadMachineOf image (stored constants structs functions text main mainPlaces other otherPlaces)) (s9 .count) r
+            (stored constants′ structs′ functions′ text′ main′ mainPlaces′ other′ otherPlaces′)) → b ≡ isDone r → b ≡ false
+            → record {
+              answer = r;
+              stores = stored constants′ structs′ functions′ text′ main′ mainPlaces′ other′ otherPlaces′;
+              frames = frames;
+            } ≡ loadMachineOf image (stored constants structs functions text main mainPlaces other otherPlaces) frames
         kept-all r b constants′ structs′ functions′ text′ main′ mainPlaces′ other′ otherPlaces′ er eb off =
             frame-not (sym eb ∙ off)
             (load-starts image (stored constants structs functions text main mainPlaces other otherPlaces) frames er)

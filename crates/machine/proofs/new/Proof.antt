@@ -49,7 +49,8 @@ module _ {M : Type 1} (𝓤 : URA M) (H : Heap 𝓤) (A : Atoms 𝓤) (W : Given
   abbrev First : Contract 𝓤
   First = tripleOf 𝓤 H A first.signature (first.spec 𝓤 H A mem run)
 
-  module _ (𝓣 : Tables 𝓤 H) (known-made : Triple 𝓤 (𝓣 .C #made) Made) (known-done : Triple 𝓤 (𝓣 .C #done) Done) (known-first : Triple 𝓤 (𝓣 .C #first) First) (known-writef : Triple 𝓤 (𝓣 .C #writef) (Write 𝓤 H A W mem run))
+  module _ (𝓣 : Tables 𝓤 H) (known-made : Triple 𝓤 (𝓣 .C #made) Made) (known-done : Triple 𝓤 (𝓣 .C #done) Done) (known-first : Triple 𝓤 (𝓣 .C #first) First)
+      (known-writef : Triple 𝓤 (𝓣 .C #writef) (Write 𝓤 H A W mem run))
       (κs : Lfts 3) (qs : Shares 3) (a : Passed kinds StartedRow κs) (is : Known kinds StartedRow κs a) where
     -- the parameters
     abbrev s0 : Sl
@@ -88,7 +89,10 @@ module _ {M : Type 1} (𝓤 : URA M) (H : Heap 𝓤) (A : Atoms 𝓤) (W : Given
     abbrev Post : Val → SProp 𝓤
     Post = walkOf 𝓤 H A me.ended (stays kinds) (me.clauses 𝓤 H A mem run) .post (passing (xs functions text frames))
 
-    exits : (r : Started) (functions′ : List ℕ) (text′ : List ℕ) (frames′ : List Frame) → Is StartedRow r (startedVal r ∷ []) → length functions′ ≡ s0 .count → length text′ ≡ s1 .count → length frames′ ≡ s2 .count → (((rest : Stores) → record { answer = r; stores = namesLent rest functions′ text′; frames = frames′ } ≡ newMachineOf (namesLent rest functions text) frames)) → ent 𝓤 (⋆ 𝓤 H A (‵ (Holds (slices functions′ text′ frames′)) ∷ [])) (Post (startedVal r))
+    exits : (r : Started) (functions′ : List ℕ) (text′ : List ℕ) (frames′ : List Frame) → Is StartedRow r (startedVal r ∷ []) → length functions′ ≡ s0 .count
+        → length text′ ≡ s1 .count → length frames′ ≡ s2 .count →
+        (((rest : Stores) → record { answer = r; stores = namesLent rest functions′ text′; frames = frames′ } ≡ newMachineOf
+        (namesLent rest functions text) frames)) → ent 𝓤 (⋆ 𝓤 H A (‵ (Holds (slices functions′ text′ frames′)) ∷ [])) (Post (startedVal r))
     exits r functions′ text′ frames′ isr len-functions len-text len-frames said =
         qed W (‵ (Holds (slices functions′ text′ frames′)) ∷ []) ∵ suffices ! _
         (ends-at 𝓤 H A me.ended (stays kinds) (me.clauses 𝓤 H A mem run) W (passing (xs functions text frames)) (startedVal r) r
@@ -124,33 +128,52 @@ module _ {M : Type 1} (𝓤 : URA M) (H : Heap 𝓤) (A : Atoms 𝓤) (W : Given
         call-with 𝓤 H A W to-first First R fval (λ f zs. f ≡ root 0) tells (λ ns. passing (lent to-first ns)) (λ ns. refl)
         (λ ns. unasked W (lent to-first ns)) (λ ns w. id⊢ 𝓤 _) tt tt
 
-    walk : ent 𝓤 (onEntry 𝓤 H A me.signature (lfts (xs functions text frames)) (shares (xs functions text frames)) (denots (xs functions text frames)) (valss (xs functions text frames))) (WpFn 𝓤 H (𝓣 .C) (𝓣 .Λ) code.function (values (xs functions text frames)) Post)
+    walk : ent 𝓤 (onEntry 𝓤 H A me.signature (lfts (xs functions text frames)) (shares (xs functions text frames)) (denots (xs functions text frames))
+        (valss (xs functions text frames))) (WpFn 𝓤 H (𝓣 .C) (𝓣 .Λ) code.function (values (xs functions text frames)) Post)
     walk =
-        qed W (‵ (Toks (xs functions text frames)) ∷ ‵ (Owns (xs functions text frames)) ∷ []) ∵ takes ! (xs functions text frames) (enters ! (𝓣 .C) (𝓣 .Λ) code.function (values (xs functions text frames)) Post
+        qed W (‵ (Toks (xs functions text frames)) ∷ ‵ (Owns (xs functions text frames)) ∷ []) ∵
+        takes ! (xs functions text frames) (enters ! (𝓣 .C) (𝓣 .Λ) code.function (values (xs functions text frames)) Post
         ((tt, (tt, (record { fits = room0 .0 }, tt))), ((tt, (tt, (record { fits = room1 .0 }, tt))), ((tt, (tt, (record { fits = room2 .0 }, tt))), tt))) (λ ls.
-        sets ! (addr ! (behind ! refl refl)) (tt, tt) $ sets ! (agg ! (ofs ! refl)) (tt, (tt, (record { fits = room0 .0 }, tt))) $ sets ! (addr ! (behind ! refl refl)) (tt, tt) $ sets ! (agg ! (ofs ! refl)) (tt, (tt, (record { fits = room1 .0 }, tt))) $
+        sets ! (addr ! (behind ! refl refl)) (tt, tt) $ sets ! (agg ! (ofs ! refl)) (tt, (tt, (record { fits = room0 .0 }, tt))) $
+        sets ! (addr ! (behind ! refl refl)) (tt, tt) $ sets ! (agg ! (ofs ! refl)) (tt, (tt, (record { fits = room1 .0 }, tt))) $
         sets ! (of-opd ! (of ! refl)) (tt, record { fits = room2 .0 }) $
-        calls-on ! (true ∷ true ∷ []) (slices functions text frames) (call-made) (λ zs. slices (zs .0) (zs .1 .0) frames) refl (λ zs. refl) (λ zs. refl) fm known-made refl (λ r zs er lens isr. lands-in ! (started-typed 𝓤 H A W r isr) $
-        calls-on ! [] (slices (zs .0) (zs .1 .0) frames) (call-done r isr) (λ zs′. slices (zs .0) (zs .1 .0) frames) refl (λ zs. refl) (λ zs. refl) fm known-done refl (λ b zs₁ eb lens₁ isb. lands-in ! (tt, tt) $
+        calls-on ! (true ∷ true ∷ []) (slices functions text frames) (call-made) (λ zs. slices (zs .0) (zs .1 .0) frames) refl (λ zs. refl)
+        (λ zs. refl) fm known-made refl (λ r zs er lens isr. lands-in ! (started-typed 𝓤 H A W r isr) $
+        calls-on ! [] (slices (zs .0) (zs .1 .0) frames) (call-done r isr) (λ zs′. slices (zs .0) (zs .1 .0) frames) refl (λ zs. refl)
+        (λ zs. refl) fm known-done refl (λ b zs₁ eb lens₁ isb. lands-in ! (tt, tt) $
         sets ! (of-opd ! (of ! refl)) (tt, tt) $ returns-if ! 𝓣 (of ! refl)
-        (λ on. calls-on ! [] (slices (zs .0) (zs .1 .0) frames) (call-first) (λ zs′. slices (zs .0) (zs .1 .0) frames) refl (λ zs. refl) (λ zs. refl) fm known-first refl (λ f zs₂ ef lens₂ isf. lands-in ! (frame-typed 𝓤 H A W f isf) $
+        (λ on. calls-on ! [] (slices (zs .0) (zs .1 .0) frames) (call-first) (λ zs′. slices (zs .0) (zs .1 .0) frames) refl (λ zs. refl)
+        (λ zs. refl) fm known-first refl (λ f zs₂ ef lens₂ isf. lands-in ! (frame-typed 𝓤 H A W f isf) $
         sets ! (addr ! (behind ! refl refl)) (tt, tt) $ sets ! (agg ! (ofs ! refl)) (tt, (tt, (record { fits = room2 .0 }, tt))) $
-        calls-on ! (false ∷ false ∷ true ∷ []) (slices (zs .0) (zs .1 .0) frames) (call-write 𝓤 H A W mem run s2 frames refl room2 0 (omega arith) (place r b (zs .0) (zs .1 .0) er eb (is-true b on)) f isf) (λ zs′. slices (zs .0) (zs .1 .0) (zs′ .0)) refl (λ zs. refl) (λ zs. refl) fm known-writef refl (λ u zs₃ ew lens₃ isu. lands-in ! (tt, tt) $
-        sets ! (of-opd ! (of ! refl)) (started-typed 𝓤 H A W r isr) $ leaves ! refl $ by ! (exits r (zs .0) (zs .1 .0) (zs₃ .0) isr (lens .0) (lens .1 .0) (lens₃ .0) (laid-all r b (zs .0) (zs .1 .0) (zs₃ .0) er eb (is-true b on) (ew ∙ ap (set frames 0) ef))))))
-        (λ off. sets ! (of-opd ! (of ! refl)) (started-typed 𝓤 H A W r isr) $ leaves ! refl $ by ! (exits r (zs .0) (zs .1 .0) frames isr (lens .0) (lens .1 .0) refl (kept-all r b (zs .0) (zs .1 .0) er eb (is-false b off))))))))
+        calls-on ! (false ∷ false ∷ true ∷ []) (slices (zs .0) (zs .1 .0) frames)
+        (call-write 𝓤 H A W mem run s2 frames refl room2 0 (omega arith) (place r b (zs .0) (zs .1 .0) er eb (is-true b on)) f isf)
+        (λ zs′. slices (zs .0) (zs .1 .0) (zs′ .0)) refl (λ zs. refl) (λ zs. refl) fm known-writef refl (λ u zs₃ ew lens₃ isu. lands-in ! (tt, tt) $
+        sets ! (of-opd ! (of ! refl)) (started-typed 𝓤 H A W r isr) $ leaves ! refl $
+        by ! (exits r (zs .0) (zs .1 .0) (zs₃ .0) isr (lens .0) (lens .1 .0) (lens₃ .0)
+        (laid-all r b (zs .0) (zs .1 .0) (zs₃ .0) er eb (is-true b on) (ew ∙ ap (set frames 0) ef))))))
+        (λ off. sets ! (of-opd ! (of ! refl)) (started-typed 𝓤 H A W r isr) $ leaves ! refl $
+        by ! (exits r (zs .0) (zs .1 .0) frames isr (lens .0) (lens .1 .0) refl (kept-all r b (zs .0) (zs .1 .0) er eb (is-false b off))))))))
       where
         fm : FmC 𝓤 H (W .laws) (𝓣 .C)
         fm = fmOf 𝓤 H (W .laws) 𝓣
 
-        place : (r : Started) (b : Bool) (functions′ text′ : List ℕ) → (((rest : Stores) → Makes (newMachineOf (namesLent rest functions text)) (s2 .count) r (namesLent rest functions′ text′))) → b ≡ isDone r → b ≡ true → 0 < length frames
+        place : (r : Started) (b : Bool) (functions′ text′ : List ℕ) →
+            (((rest : Stores) → Makes (newMachineOf (namesLent rest functions text)) (s2 .count) r (namesLent rest functions′ text′))) → b ≡ isDone r → b ≡ true
+            → 0 < length frames
         place r b functions′ text′ er eb on =
             place-there (sym eb ∙ on) (new-starts (namesLent no-stores functions text) frames (er no-stores))
 
-        laid-all : (r : Started) (b : Bool) (functions′ text′ : List ℕ) (fs : List Frame) → (((rest : Stores) → Makes (newMachineOf (namesLent rest functions text)) (s2 .count) r (namesLent rest functions′ text′))) → b ≡ isDone r → b ≡ true → fs ≡ set frames 0 (root 0) → ((rest : Stores) → record { answer = r; stores = namesLent rest functions′ text′; frames = fs } ≡ newMachineOf (namesLent rest functions text) frames)
+        laid-all : (r : Started) (b : Bool) (functions′ text′ : List ℕ) (fs : List Frame)
+            → (((rest : Stores) → Makes (newMachineOf (namesLent rest functions text)) (s2 .count) r (namesLent rest functions′ text′))) → b ≡ isDone r
+            → b ≡ true → fs ≡ set frames 0 (root 0) → ((rest : Stores)
+            → record { answer = r; stores = namesLent rest functions′ text′; frames = fs } ≡ newMachineOf (namesLent rest functions text) frames)
         laid-all r b functions′ text′ fs er eb on ef =
             λ rest. frame-laid (sym eb ∙ on) ef (new-starts (namesLent rest functions text) frames (er rest))
 
-        kept-all : (r : Started) (b : Bool) (functions′ text′ : List ℕ) → (((rest : Stores) → Makes (newMachineOf (namesLent rest functions text)) (s2 .count) r (namesLent rest functions′ text′))) → b ≡ isDone r → b ≡ false → ((rest : Stores) → record { answer = r; stores = namesLent rest functions′ text′; frames = frames } ≡ newMachineOf (namesLent rest functions text) frames)
+        kept-all : (r : Started) (b : Bool) (functions′ text′ : List ℕ)
+            → (((rest : Stores) → Makes (newMachineOf (namesLent rest functions text)) (s2 .count) r (namesLent rest functions′ text′))) → b ≡ isDone r
+            → b ≡ false → ((rest : Stores) → record { answer = r; stores = namesLent rest functions′ text′; frames = frames } ≡ newMachineOf
+            (namesLent rest functions text) frames)
         kept-all r b functions′ text′ er eb off =
             λ rest. frame-not (sym eb ∙ off) (new-starts (namesLent rest functions text) frames (er rest))
 

@@ -46,7 +46,11 @@ module _ {M : Type 1} (𝓤 : URA M) (H : Heap 𝓤) (A : Atoms 𝓤) (W : Given
     abbrev Post : Val → SProp 𝓤
     Post = walkOf 𝓤 H A me.ended (stays kinds) (me.clauses 𝓤 H A mem run) .post (passing (xs₀ p))
 
-    exits : (r : RunResult) (stack′ : List ℕ) (cells′ : List ℕ) (frames′ : List Frame) (copy′ : List ℕ) (backtrace′ : List ℕ) → Is ResultRow r (resultVal r ∷ []) → length stack′ ≡ stack-at p .count → length cells′ ≡ cells-at p .count → length frames′ ≡ frames-at p .count → length copy′ ≡ copy-at p .count → length backtrace′ ≡ backtrace-at p .count → RunPost (m p) (stores p) (lent₀ p) (units p) r (runLent stack′ cells′ frames′ copy′ backtrace′) → ent 𝓤 (⋆ 𝓤 H A (‵ (Holds (slices p stack′ cells′ frames′ copy′ backtrace′)) ∷ [])) (Post (resultVal r))
+    exits : (r : RunResult) (stack′ : List ℕ) (cells′ : List ℕ) (frames′ : List Frame) (copy′ : List ℕ) (backtrace′ : List ℕ)
+        → Is ResultRow r (resultVal r ∷ []) → length stack′ ≡ stack-at p .count → length cells′ ≡ cells-at p .count → length frames′ ≡ frames-at p .count
+        → length copy′ ≡ copy-at p .count → length backtrace′ ≡ backtrace-at p .count
+        → RunPost (m p) (stores p) (lent₀ p) (units p) r (runLent stack′ cells′ frames′ copy′ backtrace′)
+        → ent 𝓤 (⋆ 𝓤 H A (‵ (Holds (slices p stack′ cells′ frames′ copy′ backtrace′)) ∷ [])) (Post (resultVal r))
     exits r stack′ cells′ frames′ copy′ backtrace′ isr len-stack len-cells len-frames len-copy len-backtrace said =
         qed W (‵ (Holds (slices p stack′ cells′ frames′ copy′ backtrace′)) ∷ []) ∵ suffices ! _
         (ends-at 𝓤 H A me.ended (stays kinds) (me.clauses 𝓤 H A mem run) W (passing (xs₀ p)) (resultVal r) r
@@ -72,7 +76,8 @@ module _ {M : Type 1} (𝓤 : URA M) (H : Heap 𝓤) (A : Atoms 𝓤) (W : Given
         (main p) ∷ shr u32 (main-places-at p) (mainPlaces p) ∷ shr u8 (other-at p) (other p) ∷ shr u32 (other-places-at p)
         (otherPlaces p) ∷ peek u64 (stack-at p) (stack p) ∷ peek u64 (cells-at p) (cells p) ∷ peek R (frames-at p) (frames p) ∷ []
 
-    call-why : Rule 𝓤 H A W to-why Why u8 (vint w8) (λ n zs. ((cs bs : List ℕ) → length cs ≡ copy-at p .count → length bs ≡ backtrace-at p .count → RunJudged (m p) (stores p) (runLent (stack p) (cells p) (frames p) cs bs) n))
+    call-why : Rule 𝓤 H A W to-why Why u8 (vint w8) (λ n zs. ((cs bs : List ℕ) → length cs ≡ copy-at p .count → length bs ≡ backtrace-at p .count
+        → RunJudged (m p) (stores p) (runLent (stack p) (cells p) (frames p) cs bs) n))
     call-why =
         call-with 𝓤 H A W to-why Why u8 (vint w8)
         (λ n zs. ((cs bs : List ℕ) → length cs ≡ copy-at p .count → length bs ≡ backtrace-at p .count → RunJudged (m p) (stores p)
@@ -114,7 +119,9 @@ module _ {M : Type 1} (𝓤 : URA M) (H : Heap 𝓤) (A : Atoms 𝓤) (W : Given
         (otherPlaces p) ∷ mut u64 (stack-at p) (stack p) ∷ mut u64 (cells-at p) (cells p) ∷ mut R (frames-at p) (frames p) ∷ mut
         u64 (copy-at p) (copy p) ∷ mut u32 (backtrace-at p) (backtrace p) ∷ []
 
-    call-go : Granted (m p) (stores p) (lent₀ p) → Rule 𝓤 H A W to-go Go ResultRow resultVal (λ r zs. RunPost (m p) (stores p) (lent₀ p) (units p) r (runLent (zs .1 .1 .1 .1 .1 .1 .1 .1 .1 .1 .0) (zs .1 .1 .1 .1 .1 .1 .1 .1 .1 .1 .1 .0) (zs .1 .1 .1 .1 .1 .1 .1 .1 .1 .1 .1 .1 .0) (zs .1 .1 .1 .1 .1 .1 .1 .1 .1 .1 .1 .1 .1 .0) (zs .1 .1 .1 .1 .1 .1 .1 .1 .1 .1 .1 .1 .1 .1 .0)))
+    call-go : Granted (m p) (stores p) (lent₀ p) → Rule 𝓤 H A W to-go Go ResultRow resultVal
+        (λ r zs. RunPost (m p) (stores p) (lent₀ p) (units p) r (runLent (zs .1 .1 .1 .1 .1 .1 .1 .1 .1 .1 .0) (zs .1 .1 .1 .1 .1 .1 .1 .1 .1 .1 .1 .0)
+        (zs .1 .1 .1 .1 .1 .1 .1 .1 .1 .1 .1 .1 .0) (zs .1 .1 .1 .1 .1 .1 .1 .1 .1 .1 .1 .1 .1 .0) (zs .1 .1 .1 .1 .1 .1 .1 .1 .1 .1 .1 .1 .1 .1 .0)))
     call-go can =
         call-with 𝓤 H A W to-go Go ResultRow resultVal
         (λ r zs. RunPost (m p) (stores p) (lent₀ p) (units p) r
@@ -162,14 +169,70 @@ module _ {M : Type 1} (𝓤 : URA M) (H : Heap 𝓤) (A : Atoms 𝓤) (W : Given
 
     walk : ent 𝓤 (onEntry 𝓤 H A me.signature (lfts (xs₀ p)) (shares (xs₀ p)) (denots (xs₀ p)) (valss (xs₀ p))) (WpFn 𝓤 H (𝓣 .C) (𝓣 .Λ) code.function (values (xs₀ p)) Post)
     walk =
-        qed W (‵ (Toks (xs₀ p)) ∷ ‵ (Owns (xs₀ p)) ∷ []) ∵ takes ! (xs₀ p) (enters ! (𝓣 .C) (𝓣 .Λ) code.function (values (xs₀ p)) Post
-        (vm-typed 𝓤 H A W (m p) (p .is .0), ((tt, record { fits = (p .is .1 .0) .1 }), ((tt, (tt, (record { fits = constants-room p .0 }, tt))), ((tt, (tt, (record { fits = structs-room p .0 }, tt))), ((tt, (tt, (record { fits = functions-room p .0 }, tt))), ((tt, (tt, (record { fits = text-room p .0 }, tt))), ((tt, (tt, (record { fits = main-room p .0 }, tt))), ((tt, (tt, (record { fits = main-places-room p .0 }, tt))), ((tt, (tt, (record { fits = other-room p .0 }, tt))), ((tt, (tt, (record { fits = other-places-room p .0 }, tt))), ((tt, (tt, (record { fits = stack-room p .0 }, tt))), ((tt, (tt, (record { fits = cells-room p .0 }, tt))), ((tt, (tt, (record { fits = frames-room p .0 }, tt))), ((tt, (tt, (record { fits = copy-room p .0 }, tt))), ((tt, (tt, (record { fits = backtrace-room p .0 }, tt))), tt))))))))))))))) (λ ls.
-        sets ! (of-opd ! (of ! refl)) (tt, record { fits = copy-room p .0 }) $ sets ! (of-opd ! (of ! refl)) (tt, record { fits = backtrace-room p .0 }) $ sets ! (addr ! (behind ! refl refl)) (tt, tt) $ sets ! (agg ! (ofs ! refl)) (tt, (tt, (record { fits = stack-room p .0 }, tt))) $ sets ! (addr ! (behind ! refl refl)) (tt, tt) $ sets ! (agg ! (ofs ! refl)) (tt, (tt, (record { fits = cells-room p .0 }, tt))) $ sets ! (addr ! (behind ! refl refl)) (tt, tt) $ sets ! (agg ! (ofs ! refl)) (tt, (tt, (record { fits = frames-room p .0 }, tt))) $
-        calls-on ! (true ∷ true ∷ true ∷ true ∷ true ∷ true ∷ true ∷ true ∷ true ∷ true ∷ true ∷ []) (slices₀ p) (call-why) (λ zs. slices₀ p) refl (λ zs. refl) (λ zs. refl) fm known-why refl (λ n zs en lens isn. lands-in ! (tt, record { fits = isn .1 }) $
+        qed W (‵ (Toks (xs₀ p)) ∷ ‵ (Owns (xs₀ p)) ∷ []) ∵ takes ! (xs₀ p) (enters ! (𝓣 .C) (𝓣 .Λ) code.function (values (xs₀ p)) Post (
+          vm-typed 𝓤 H A W (m p) (p .is .0),
+          (
+            (tt, record { fits = (p .is .1 .0) .1 }),
+            (
+              (tt, (tt, (record { fits = constants-room p .0 }, tt))),
+              (
+                (tt, (tt, (record { fits = structs-room p .0 }, tt))),
+                (
+                  (tt, (tt, (record { fits = functions-room p .0 }, tt))),
+                  (
+                    (tt, (tt, (record { fits = text-room p .0 }, tt))),
+                    (
+                      (tt, (tt, (record { fits = main-room p .0 }, tt))),
+                      (
+                        (tt, (tt, (record { fits = main-places-room p .0 }, tt))),
+                        (
+                          (tt, (tt, (record { fits = other-room p .0 }, tt))),
+                          (
+                            (tt, (tt, (record { fits = other-places-room p .0 }, tt))),
+                            (
+                              (tt, (tt, (record { fits = stack-room p .0 }, tt))),
+                              (
+                                (tt, (tt, (record { fits = cells-room p .0 }, tt))),
+                                (
+                                  (tt, (tt, (record { fits = frames-room p .0 }, tt))),
+                                  (
+                                    (tt, (tt, (record { fits = copy-room p .0 }, tt))),
+                                    ((tt, (tt, (record { fits = backtrace-room p .0 }, tt))), tt),
+                                  ),
+                                ),
+                              ),
+                            ),
+                          ),
+                        ),
+                      ),
+                    ),
+                  ),
+                ),
+              ),
+            ),
+          ),
+        ) (λ ls.
+        sets ! (of-opd ! (of ! refl)) (tt, record { fits = copy-room p .0 }) $ sets ! (of-opd ! (of ! refl)) (tt, record { fits = backtrace-room p .0 }) $
+        sets ! (addr ! (behind ! refl refl)) (tt, tt) $ sets ! (agg ! (ofs ! refl)) (tt, (tt, (record { fits = stack-room p .0 }, tt))) $
+        sets ! (addr ! (behind ! refl refl)) (tt, tt) $ sets ! (agg ! (ofs ! refl)) (tt, (tt, (record { fits = cells-room p .0 }, tt))) $
+        sets ! (addr ! (behind ! refl refl)) (tt, tt) $ sets ! (agg ! (ofs ! refl)) (tt, (tt, (record { fits = frames-room p .0 }, tt))) $
+        calls-on ! (true ∷ true ∷ true ∷ true ∷ true ∷ true ∷ true ∷ true ∷ true ∷ true ∷ true ∷ []) (slices₀ p) (call-why) (λ zs. slices₀ p) refl (λ zs. refl)
+        (λ zs. refl) fm known-why refl (λ n zs en lens isn. lands-in ! (tt, record { fits = isn .1 }) $
         sets ! (bin ! (of ! refl) (of ! refl) tt) (tt, tt) $ returns-if ! 𝓣 (of ! refl)
-        (λ on. sets ! (addr ! (behind ! refl refl)) (tt, tt) $ sets ! (agg ! (ofs ! refl)) (tt, (tt, (record { fits = stack-room p .0 }, tt))) $ sets ! (addr ! (behind ! refl refl)) (tt, tt) $ sets ! (agg ! (ofs ! refl)) (tt, (tt, (record { fits = cells-room p .0 }, tt))) $ sets ! (addr ! (behind ! refl refl)) (tt, tt) $ sets ! (agg ! (ofs ! refl)) (tt, (tt, (record { fits = frames-room p .0 }, tt))) $ sets ! (addr ! (behind ! refl refl)) (tt, tt) $ sets ! (agg ! (ofs ! refl)) (tt, (tt, (record { fits = copy-room p .0 }, tt))) $ sets ! (addr ! (behind ! refl refl)) (tt, tt) $ sets ! (agg ! (ofs ! refl)) (tt, (tt, (record { fits = backtrace-room p .0 }, tt))) $
-        calls-on ! (true ∷ true ∷ true ∷ true ∷ true ∷ true ∷ true ∷ true ∷ true ∷ true ∷ true ∷ true ∷ true ∷ []) (slices₀ p) (call-go (en (copy p) (backtrace p) refl refl .grants (is-zero n on))) (λ zs. slices p (zs .1 .1 .1 .1 .1 .1 .1 .1 .1 .1 .0) (zs .1 .1 .1 .1 .1 .1 .1 .1 .1 .1 .1 .0) (zs .1 .1 .1 .1 .1 .1 .1 .1 .1 .1 .1 .1 .0) (zs .1 .1 .1 .1 .1 .1 .1 .1 .1 .1 .1 .1 .1 .0) (zs .1 .1 .1 .1 .1 .1 .1 .1 .1 .1 .1 .1 .1 .1 .0)) refl (λ zs. refl) (λ zs. refl) fm known-go refl (λ r zs₁ er lens₁ isr. lands-in ! (result-typed 𝓤 H A W r isr) $
-        sets ! (of-opd ! (of ! refl)) (result-typed 𝓤 H A W r isr) $ leaves ! refl $ by ! (exits r (zs₁ .1 .1 .1 .1 .1 .1 .1 .1 .1 .1 .0) (zs₁ .1 .1 .1 .1 .1 .1 .1 .1 .1 .1 .1 .0) (zs₁ .1 .1 .1 .1 .1 .1 .1 .1 .1 .1 .1 .1 .0) (zs₁ .1 .1 .1 .1 .1 .1 .1 .1 .1 .1 .1 .1 .1 .0) (zs₁ .1 .1 .1 .1 .1 .1 .1 .1 .1 .1 .1 .1 .1 .1 .0) isr (lens₁ .0) (lens₁ .1 .0) (lens₁ .1 .1 .0) (lens₁ .1 .1 .1 .0) (lens₁ .1 .1 .1 .1 .0) er)))
+        (λ on. sets ! (addr ! (behind ! refl refl)) (tt, tt) $ sets ! (agg ! (ofs ! refl)) (tt, (tt, (record { fits = stack-room p .0 }, tt))) $
+        sets ! (addr ! (behind ! refl refl)) (tt, tt) $ sets ! (agg ! (ofs ! refl)) (tt, (tt, (record { fits = cells-room p .0 }, tt))) $
+        sets ! (addr ! (behind ! refl refl)) (tt, tt) $ sets ! (agg ! (ofs ! refl)) (tt, (tt, (record { fits = frames-room p .0 }, tt))) $
+        sets ! (addr ! (behind ! refl refl)) (tt, tt) $ sets ! (agg ! (ofs ! refl)) (tt, (tt, (record { fits = copy-room p .0 }, tt))) $
+        sets ! (addr ! (behind ! refl refl)) (tt, tt) $ sets ! (agg ! (ofs ! refl)) (tt, (tt, (record { fits = backtrace-room p .0 }, tt))) $
+        calls-on ! (true ∷ true ∷ true ∷ true ∷ true ∷ true ∷ true ∷ true ∷ true ∷ true ∷ true ∷ true ∷ true ∷ []) (slices₀ p)
+        (call-go (en (copy p) (backtrace p) refl refl .grants (is-zero n on)))
+        (λ zs. slices p (zs .1 .1 .1 .1 .1 .1 .1 .1 .1 .1 .0) (zs .1 .1 .1 .1 .1 .1 .1 .1 .1 .1 .1 .0) (zs .1 .1 .1 .1 .1 .1 .1 .1 .1 .1 .1 .1 .0)
+        (zs .1 .1 .1 .1 .1 .1 .1 .1 .1 .1 .1 .1 .1 .0) (zs .1 .1 .1 .1 .1 .1 .1 .1 .1 .1 .1 .1 .1 .1 .0)) refl (λ zs. refl) (λ zs. refl) fm known-go refl
+        (λ r zs₁ er lens₁ isr. lands-in ! (result-typed 𝓤 H A W r isr) $
+        sets ! (of-opd ! (of ! refl)) (result-typed 𝓤 H A W r isr) $ leaves ! refl $
+        by ! (exits r (zs₁ .1 .1 .1 .1 .1 .1 .1 .1 .1 .1 .0) (zs₁ .1 .1 .1 .1 .1 .1 .1 .1 .1 .1 .1 .0) (zs₁ .1 .1 .1 .1 .1 .1 .1 .1 .1 .1 .1 .1 .0)
+        (zs₁ .1 .1 .1 .1 .1 .1 .1 .1 .1 .1 .1 .1 .1 .0) (zs₁ .1 .1 .1 .1 .1 .1 .1 .1 .1 .1 .1 .1 .1 .1 .0) isr (lens₁ .0) (lens₁ .1 .0) (lens₁ .1 .1 .0)
+        (lens₁ .1 .1 .1 .0) (lens₁ .1 .1 .1 .1 .0) er)))
         (λ off. calls-on ! [] (slices₀ p) (call-not n isn) (λ zs. slices₀ p) refl (λ zs. refl) (λ zs. refl) fm known-not refl (λ r zs₁ er lens₁ isr. lands-in ! (result-typed 𝓤 H A W r isr) $
         sets ! (of-opd ! (of ! refl)) (result-typed 𝓤 H A W r isr) $ leaves ! refl $ by ! (exits r (stack p) (cells p) (frames p) (copy p) (backtrace p) isr refl refl refl refl refl
         (subst (λ (x : RunResult). RunPost (m p) (stores p) (lent₀ p) (units p) x (lent₀ p)) (sym er) (en (copy p) (backtrace p) refl refl .refuses (not-zero n off) (units p)))))))))

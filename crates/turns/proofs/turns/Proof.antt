@@ -234,8 +234,11 @@ module _ {M : Type 1} (𝓤 : URA M) (H : Heap 𝓤) (A : Atoms 𝓤) (W : Given
           (λ ns. passing (lent to-stop ns)) (λ ns. refl) (λ ns. unasked W (lent to-stop ns)) (λ ns w. id⊢ 𝓤 _)
           (LL.makes TG.the-type TG′.the-plain 𝓤 H A g _ is, (EL.makes TN.the-type TN′.the-plain 𝓤 H A f _ isf, tt)) tt
 
-  module _ (𝓣 : Tables 𝓤 H) (k-read : Triple 𝓤 (𝓣 .C #read) (Read 𝓤 H A W mem run)) (k-write : Triple 𝓤 (𝓣 .C #write) (Write 𝓤 H A W mem run)) (k-begun : Triple 𝓤 (𝓣 .C #begun) Begun) (k-advance : Triple 𝓤 (𝓣 .C #advance) Advance) (k-over : Triple 𝓤 (𝓣 .C #over) Overs) (k-frame-of : Triple 𝓤 (𝓣 .C #frame-of) FrameOf)
-      (k-enter : Triple 𝓤 (𝓣 .C #enter) Enter) (k-drop-frame : Triple 𝓤 (𝓣 .C #drop-frame) DropFrame) (k-resume : Triple 𝓤 (𝓣 .C #resume) Resume) (k-stop : Triple 𝓤 (𝓣 .C #stop) Stop) (κs : Lfts 8) (qs : Shares 8) (a : Passed kinds TC.the-row κs) (is : Known kinds TC.the-row κs a) where
+  module _ (𝓣 : Tables 𝓤 H) (k-read : Triple 𝓤 (𝓣 .C #read) (Read 𝓤 H A W mem run)) (k-write : Triple 𝓤 (𝓣 .C #write) (Write 𝓤 H A W mem run))
+      (k-begun : Triple 𝓤 (𝓣 .C #begun) Begun) (k-advance : Triple 𝓤 (𝓣 .C #advance) Advance) (k-over : Triple 𝓤 (𝓣 .C #over) Overs)
+      (k-frame-of : Triple 𝓤 (𝓣 .C #frame-of) FrameOf)
+      (k-enter : Triple 𝓤 (𝓣 .C #enter) Enter) (k-drop-frame : Triple 𝓤 (𝓣 .C #drop-frame) DropFrame) (k-resume : Triple 𝓤 (𝓣 .C #resume) Resume)
+      (k-stop : Triple 𝓤 (𝓣 .C #stop) Stop) (κs : Lfts 8) (qs : Shares 8) (a : Passed kinds TC.the-row κs) (is : Known kinds TC.the-row κs a) where
     -- the parameters
     abbrev k : Fixed
     k = a .0
@@ -350,7 +353,8 @@ module _ {M : Type 1} (𝓤 : URA M) (H : Heap 𝓤) (A : Atoms 𝓤) (W : Given
     abbrev Came : Bool → Course → List ℕ → List ℕ → List Frame → Type 0
     Came b c st cs fs = Ways k n constants functions text main other b start stack₀ cells₀ frames₀ c st cs fs
 
-    exits : (c : Course) (st cs : List ℕ) (fs : List Frame) → IsCourse c → length st ≡ s5 .count → length cs ≡ s6 .count → length fs ≡ s7 .count → Came false c st cs fs → ent 𝓤 (⋆ 𝓤 H A (‵ (Holds (stores st cs)) ∷ ‵ (Holds (frames fs)) ∷ [])) (Post (cval c))
+    exits : (c : Course) (st cs : List ℕ) (fs : List Frame) → IsCourse c → length st ≡ s5 .count → length cs ≡ s6 .count → length fs ≡ s7 .count
+        → Came false c st cs fs → ent 𝓤 (⋆ 𝓤 H A (‵ (Holds (stores st cs)) ∷ ‵ (Holds (frames fs)) ∷ [])) (Post (cval c))
     exits c st cs fs isc e5 e6 e7 said =
         qed W (‵ (Holds (stores st cs)) ∷ ‵ (Holds (frames fs)) ∷ []) ∵ suffices ! _
         (ends-at 𝓤 H A me.ended (stays kinds) (me.clauses 𝓤 H A mem run) W (passing x0) (cval c) c
@@ -419,31 +423,82 @@ module _ {M : Type 1} (𝓤 : URA M) (H : Heap 𝓤) (A : Atoms 𝓤) (W : Given
                 sets ! (of-opd ! (payload-of ! refl refl refl refl refl refl)) (going-typed g (over-is g ise)) $
                 nothing ! $ move ! (1 ∷ []) $ call-over g (over-is g ise) .calls ! fm k-over refl (λ r us er lens′ isr. lands-in ! (course-typed r isr) $ move ! (1 ∷ []) $ drop ! $
                 sets-last ! (of-opd ! (of ! refl)) (course-typed r isr) $ trims ! 13 $
-                again ! loop (c, st, cs, fs, (isc, e5, e6, e7, came)) (r, ts .1 .1 .1 .1 .1 .1 .1 .1 .0, ts .1 .1 .1 .1 .1 .1 .1 .1 .1 .0, fs, (isr, lens .0, lens .1 .0, e7, over-on k n constants functions text main other c (way on) (lens .1 .0 ∙ sym e6) said er)) (over-less c er on))
+                again ! loop (c, st, cs, fs, (isc, e5, e6, e7, came)) (
+                  r,
+                  ts .1 .1 .1 .1 .1 .1 .1 .1 .0,
+                  ts .1 .1 .1 .1 .1 .1 .1 .1 .1 .0,
+                  fs,
+                  (isr, lens .0, lens .1 .0, e7, over-on k n constants functions text main other c (way on) (lens .1 .0 ∙ sym e6) said er),
+                )
+                (over-less c er on))
             | Call g i b ↦ λ ts said lens ise. lands-in ! (event-typed (Call g i b) ise) $ matches ! (tag-of ! refl refl refl refl) refl $
                 sets ! (of-opd ! (payload-of ! refl refl refl refl refl refl)) (going-typed g (call-is g i b ise .0)) $
                 sets ! (of-opd ! (payload-of ! refl refl refl refl refl refl)) (tt, record { fits = call-is g i b ise .1 }) $
                 sets ! (of-opd ! (payload-of ! refl refl refl refl refl refl)) (tt, record { fits = call-is g i b ise .2 }) $
-                nothing ! $ move ! (1 ∷ []) $ call-frame-of g (call-is g i b ise .0) .calls ! fm k-frame-of refl (λ f us ef lens′ isf. lands-in ! (frame-typed 𝓤 H A W f isf) $ move ! (1 ∷ []) $ drop ! $
+                nothing ! $ move ! (1 ∷ []) $ call-frame-of g (call-is g i b ise .0) .calls ! fm k-frame-of refl
+                (λ f us ef lens′ isf. lands-in ! (frame-typed 𝓤 H A W f isf) $ move ! (1 ∷ []) $ drop ! $
                 sets ! (addr ! (behind ! refl refl)) (tt, tt) $ sets ! (agg ! (ofs ! refl)) (tt, (tt, (record { fits = room7 .0 }, tt))) $
-                move ! (0 ∷ 2 ∷ []) $ call-write 𝓤 H A W mem run s7 fs e7 room7 (g .callers) (callers-fit g (call-is g i b ise .0)) (omega (arith, within k n constants functions text main other c (way on) under (Call g i b) said, roomy k n constants functions text main other c (way on) under)) f isf .calls ! fm k-write refl (λ u ws ew lens″ isu. lands-in ! (tt, tt) $
-                nothing ! $ move ! (1 ∷ []) $ call-enter g (call-is g i b ise .0) i b (call-is g i b ise .1) (call-is g i b ise .2) (omega (arith, within k n constants functions text main other c (way on) under (Call g i b) said, frames-fit k is-k)) .calls ! fm k-enter refl (λ r vs er lens‴ isr. lands-in ! (course-typed r isr) $ move ! (1 ∷ []) $ drop ! $ move ! (0 ∷ 2 ∷ []) $
+                move ! (0 ∷ 2 ∷ []) $ call-write 𝓤 H A W mem run s7 fs e7 room7 (g .callers) (callers-fit g (call-is g i b ise .0))
+                (omega (
+                  arith,
+                  within k n constants functions text main other c (way on) under (Call g i b) said,
+                  roomy k n constants functions text main other c (way on) under,
+                )) f isf .calls ! fm k-write refl (λ u ws ew lens″ isu. lands-in ! (tt, tt) $
+                nothing ! $ move ! (1 ∷ []) $ call-enter g (call-is g i b ise .0) i b (call-is g i b ise .1) (call-is g i b ise .2)
+                (omega (
+                  arith,
+                  within k n constants functions text main other c (way on) under (Call g i b) said,
+                  frames-fit k is-k,
+                )) .calls ! fm k-enter refl (λ r vs er lens‴ isr. lands-in ! (course-typed r isr) $ move ! (1 ∷ []) $ drop ! $
+                move ! (0 ∷ 2 ∷ []) $
                 sets-last ! (of-opd ! (of ! refl)) (course-typed r isr) $ trims ! 13 $
-                again ! loop (c, st, cs, fs, (isc, e5, e6, e7, came)) (r, ts .1 .1 .1 .1 .1 .1 .1 .1 .0, ts .1 .1 .1 .1 .1 .1 .1 .1 .1 .0, ws .0, (isr, lens .0, lens .1 .0, lens″ .0, call-on k n constants functions text main other c (way on) (lens .1 .0 ∙ sym e6) said ef ew er)) (call-less k n constants functions text main other c (way on) under said er on))))
+                again ! loop (c, st, cs, fs, (isc, e5, e6, e7, came)) (
+                  r,
+                  ts .1 .1 .1 .1 .1 .1 .1 .1 .0,
+                  ts .1 .1 .1 .1 .1 .1 .1 .1 .1 .0,
+                  ws .0,
+                  (isr, lens .0, lens .1 .0, lens″ .0, call-on k n constants functions text main other c (way on) (lens .1 .0 ∙ sym e6) said ef ew er),
+                )
+                (call-less k n constants functions text main other c (way on) under said er on))))
             | Back g ↦ λ ts said lens ise. lands-in ! (event-typed (Back g) ise) $ matches ! (tag-of ! refl refl refl refl) refl $
                 sets ! (of-opd ! (payload-of ! refl refl refl refl refl refl)) (going-typed g (back-is g ise)) $
-                nothing ! $ move ! (1 ∷ []) $ call-drop-frame g (back-is g ise) (some-back k n constants functions text main other c (way on) under said) .calls ! fm k-drop-frame refl (λ j us ej lens′ isj. lands-in ! (tt, record { fits = isj .1 }) $ move ! (1 ∷ []) $ drop ! $
+                nothing ! $ move ! (1 ∷ []) $ call-drop-frame g (back-is g ise)
+                (some-back k n constants functions text main other c (way on) under said) .calls ! fm k-drop-frame refl
+                (λ j us ej lens′ isj. lands-in ! (tt, record { fits = isj .1 }) $ move ! (1 ∷ []) $ drop ! $
                 sets ! (addr ! (behind ! refl refl)) (tt, tt) $ sets ! (agg ! (ofs ! refl)) (tt, (tt, (record { fits = room7 .0 }, tt))) $
-                move ! (0 ∷ 2 ∷ []) $ call-peek 𝓤 H A W mem run s7 fs e7 room7 j (isj .1) (omega (arith, ej, within k n constants functions text main other c (way on) under (Back g) said, roomy k n constants functions text main other c (way on) under)) .calls ! fm k-read refl (λ f ws ef lens″ isf. lands-in ! (frame-typed 𝓤 H A W f isf) $
-                nothing ! $ move ! (1 ∷ []) $ call-resume g (back-is g ise) j (isj .1) f isf .calls ! fm k-resume refl (λ r vs er lens‴ isr. lands-in ! (course-typed r isr) $ move ! (1 ∷ []) $ drop ! $ move ! (0 ∷ 2 ∷ []) $
+                move ! (0 ∷ 2 ∷ []) $ call-peek 𝓤 H A W mem run s7 fs e7 room7 j (isj .1)
+                (omega (
+                  arith,
+                  ej,
+                  within k n constants functions text main other c (way on) under (Back g) said,
+                  roomy k n constants functions text main other c (way on) under,
+                )) .calls ! fm k-read refl
+                (λ f ws ef lens″ isf. lands-in ! (frame-typed 𝓤 H A W f isf) $
+                nothing ! $ move ! (1 ∷ []) $ call-resume g (back-is g ise) j (isj .1) f isf .calls ! fm k-resume refl
+                (λ r vs er lens‴ isr. lands-in ! (course-typed r isr) $ move ! (1 ∷ []) $ drop ! $ move ! (0 ∷ 2 ∷ []) $
                 sets-last ! (of-opd ! (of ! refl)) (course-typed r isr) $ trims ! 13 $
-                again ! loop (c, st, cs, fs, (isc, e5, e6, e7, came)) (r, ts .1 .1 .1 .1 .1 .1 .1 .1 .0, ts .1 .1 .1 .1 .1 .1 .1 .1 .1 .0, fs, (isr, lens .0, lens .1 .0, e7, back-on k n constants functions text main other c (way on) (lens .1 .0 ∙ sym e6) said ej ef er)) (back-less k n constants functions text main other c (way on) under said er on))))
+                again ! loop (c, st, cs, fs, (isc, e5, e6, e7, came)) (
+                  r,
+                  ts .1 .1 .1 .1 .1 .1 .1 .1 .0,
+                  ts .1 .1 .1 .1 .1 .1 .1 .1 .1 .0,
+                  fs,
+                  (isr, lens .0, lens .1 .0, e7, back-on k n constants functions text main other c (way on) (lens .1 .0 ∙ sym e6) said ej ef er),
+                )
+                (back-less k n constants functions text main other c (way on) under said er on))))
             | Stopped g f ↦ λ ts said lens ise. lands-in ! (event-typed (Stopped g f) ise) $ matches ! (tag-of ! refl refl refl refl) refl $
                 sets ! (of-opd ! (payload-of ! refl refl refl refl refl refl)) (going-typed g (stopped-is g f ise .0)) $
                 sets ! (of-opd ! (payload-of ! refl refl refl refl refl refl)) (fault-typed f (stopped-is g f ise .1)) $
-                nothing ! $ move ! (1 ∷ []) $ call-stop g (stopped-is g f ise .0) f (stopped-is g f ise .1) .calls ! fm k-stop refl (λ r us er lens′ isr. lands-in ! (course-typed r isr) $ move ! (1 ∷ []) $ drop ! $
+                nothing ! $ move ! (1 ∷ []) $ call-stop g (stopped-is g f ise .0) f (stopped-is g f ise .1) .calls ! fm k-stop refl
+                (λ r us er lens′ isr. lands-in ! (course-typed r isr) $ move ! (1 ∷ []) $ drop ! $
                 sets-last ! (of-opd ! (of ! refl)) (course-typed r isr) $ trims ! 13 $
-                again ! loop (c, st, cs, fs, (isc, e5, e6, e7, came)) (r, ts .1 .1 .1 .1 .1 .1 .1 .1 .0, ts .1 .1 .1 .1 .1 .1 .1 .1 .1 .0, fs, (isr, lens .0, lens .1 .0, e7, stopped-on k n constants functions text main other c (way on) (lens .1 .0 ∙ sym e6) said er)) (stopped-less c f er on))
+                again ! loop (c, st, cs, fs, (isc, e5, e6, e7, came)) (
+                  r,
+                  ts .1 .1 .1 .1 .1 .1 .1 .1 .0,
+                  ts .1 .1 .1 .1 .1 .1 .1 .1 .1 .0,
+                  fs,
+                  (isr, lens .0, lens .1 .0, e7, stopped-on k n constants functions text main other c (way on) (lens .1 .0 ∙ sym e6) said er),
+                )
+                (stopped-less c f er on))
           ]))
           (λ off. sets ! (of-opd ! (of ! refl)) (course-typed c isc) $ leaves ! refl $ by ! (exits c st cs fs isc e5 e6 e7 (ends-so k n constants functions text main other c came off)))
         where
@@ -453,7 +508,8 @@ module _ {M : Type 1} (𝓤 : URA M) (H : Heap 𝓤) (A : Atoms 𝓤) (W : Given
           way : T (c .on) → Came true c st cs fs
           way on = goes k n constants functions text main other c came on
 
-    walk : (w : World) × Under w k start n constants functions text main other stack₀ cells₀ frames₀ → ent 𝓤 (onEntry 𝓤 H A me.signature (lfts x0) (shares x0) (denots x0) (valss x0)) (WpFn 𝓤 H (𝓣 .C) (𝓣 .Λ) code.function (values x0) Post)
+    walk : (w : World) × Under w k start n constants functions text main other stack₀ cells₀ frames₀
+        → ent 𝓤 (onEntry 𝓤 H A me.signature (lfts x0) (shares x0) (denots x0) (valss x0)) (WpFn 𝓤 H (𝓣 .C) (𝓣 .Λ) code.function (values x0) Post)
     walk can =
         qed W (‵ (Toks x0) ∷ ‵ (Owns x0) ∷ []) ∵ takes ! x0
         (splits ! (stores stack₀ cells₀) (frames frames₀)
@@ -526,8 +582,8 @@ turns-spec 𝓤 H 𝓜 𝓖 𝓡 =
     (frame-of-thm.met 𝓤 H 𝓜 𝓖 𝓡))
     (cited 𝓤 H (Enter 𝓤 H (𝓖 .A) W (𝓜 .mem) (𝓡 .run)) 𝓜 𝓡 code.env #enter enter-def.routine code.calls-turns·entered
     (enter-thm.met 𝓤 H 𝓜 𝓖 𝓡))
-    (cited 𝓤 H (DropFrame 𝓤 H (𝓖 .A) W (𝓜 .mem) (𝓡 .run)) 𝓜 𝓡 code.env #drop-frame drop-frame-def.routine code.calls-turns·drop-frame
-    (drop-frame-thm.met 𝓤 H 𝓜 𝓖 𝓡))
+    (cited 𝓤 H (DropFrame 𝓤 H (𝓖 .A) W (𝓜 .mem) (𝓡 .run)) 𝓜 𝓡 code.env #drop-frame drop-frame-def.routine
+    code.calls-turns·drop-frame (drop-frame-thm.met 𝓤 H 𝓜 𝓖 𝓡))
     (cited 𝓤 H (Resume 𝓤 H (𝓖 .A) W (𝓜 .mem) (𝓡 .run)) 𝓜 𝓡 code.env #resume resume-def.routine code.calls-turns·resumed
     (resume-thm.met 𝓤 H 𝓜 𝓖 𝓡))
     (cited 𝓤 H (Stop 𝓤 H (𝓖 .A) W (𝓜 .mem) (𝓡 .run)) 𝓜 𝓡 code.env #stop stop-def.routine code.calls-turns·stopped

@@ -65,7 +65,10 @@ use Rattle.console.proofs.bridge.act.Code as code
 use Rattle.console.proofs.bridge.act.Code.Mir as cm
 
 abbrev kinds : List (Kind 15)
-kinds = own VmRow vmVal vm-tells (λ x f. refl) ∷ own CallRow callVal call-tells (λ x f. refl) ∷ shared 0 tt u8 ∷ unique 1 tt u64 ∷ unique 2 tt u64 ∷ unique 3 tt u64 ∷ unique 4 tt u8 ∷ unique 5 tt u8 ∷ unique 6 tt u32 ∷ unique 7 tt u8 ∷ unique 8 tt u32 ∷ unique 9 tt u64 ∷ unique 10 tt u64 ∷ unique 11 tt R ∷ unique 12 tt u64 ∷ unique 13 tt u32 ∷ unique 14 tt u64 ∷ []
+kinds =
+    own VmRow vmVal vm-tells (λ x f. refl) ∷ own CallRow callVal call-tells (λ x f. refl) ∷ shared 0 tt u8 ∷ unique 1 tt u64 ∷
+    unique 2 tt u64 ∷ unique 3 tt u64 ∷ unique 4 tt u8 ∷ unique 5 tt u8 ∷ unique 6 tt u32 ∷ unique 7 tt u8 ∷ unique 8 tt u32 ∷
+    unique 9 tt u64 ∷ unique 10 tt u64 ∷ unique 11 tt R ∷ unique 12 tt u64 ∷ unique 13 tt u32 ∷ unique 14 tt u64 ∷ []
 
 module _ {M : Type 1} (𝓤 : URA M) (H : Heap 𝓤) (A : Atoms 𝓤) (W : Given 𝓤 H A) (mem : Memory → SProp 𝓤) (run : Routine → Fun 𝓤) where
   abbrev ToLay : Contract 𝓤
@@ -99,24 +102,32 @@ module _ {M : Type 1} (𝓤 : URA M) (H : Heap 𝓤) (A : Atoms 𝓤) (W : Given
   to-made x = val StartedRow x (startedVal x) ∷ []
 
   call-made : (x : Started) → IsStarted x → Rule 𝓤 H A W (to-made x) ToMade AnswerRow answerVal (λ r zs. r ≡ ans.Made x)
-  call-made x isx = call-with 𝓤 H A W (to-made x) ToMade AnswerRow answerVal (λ r zs. r ≡ ans.Made x) answer-tells (λ ns. passing (lent (to-made x) ns)) (λ ns. refl)
-      (λ ns. unasked W (lent (to-made x) ns)) (λ ns w. id⊢ 𝓤 _) (started-makes 𝓤 H A W x _ isx, tt) tt
+  call-made x isx =
+      call-with 𝓤 H A W (to-made x) ToMade AnswerRow answerVal (λ r zs. r ≡ ans.Made x) answer-tells
+      (λ ns. passing (lent (to-made x) ns)) (λ ns. refl) (λ ns. unasked W (lent (to-made x) ns)) (λ ns w. id⊢ 𝓤 _)
+      (started-makes 𝓤 H A W x _ isx, tt) tt
 
   abbrev to-ran : RunResult → List Arg
   to-ran x = val ResultRow x (resultVal x) ∷ []
 
   call-ran : (x : RunResult) → IsResult x → Rule 𝓤 H A W (to-ran x) ToRan AnswerRow answerVal (λ r zs. r ≡ ans.Ran x)
-  call-ran x isx = call-with 𝓤 H A W (to-ran x) ToRan AnswerRow answerVal (λ r zs. r ≡ ans.Ran x) answer-tells (λ ns. passing (lent (to-ran x) ns)) (λ ns. refl)
-      (λ ns. unasked W (lent (to-ran x) ns)) (λ ns w. id⊢ 𝓤 _) (result-makes 𝓤 H A W x _ isx, tt) tt
+  call-ran x isx =
+      call-with 𝓤 H A W (to-ran x) ToRan AnswerRow answerVal (λ r zs. r ≡ ans.Ran x) answer-tells
+      (λ ns. passing (lent (to-ran x) ns)) (λ ns. refl) (λ ns. unasked W (lent (to-ran x) ns)) (λ ns w. id⊢ 𝓤 _)
+      (result-makes 𝓤 H A W x _ isx, tt) tt
 
   abbrev to-traced : Told → List Arg
   to-traced x = val ToldRow x (toldVal x) ∷ []
 
   call-traced : (x : Told) → IsTold x → Rule 𝓤 H A W (to-traced x) ToTraced AnswerRow answerVal (λ r zs. r ≡ ans.Traced x)
-  call-traced x isx = call-with 𝓤 H A W (to-traced x) ToTraced AnswerRow answerVal (λ r zs. r ≡ ans.Traced x) answer-tells (λ ns. passing (lent (to-traced x) ns)) (λ ns. refl)
-      (λ ns. unasked W (lent (to-traced x) ns)) (λ ns w. id⊢ 𝓤 _) (told-makes 𝓤 H A W x _ isx, tt) tt
+  call-traced x isx =
+      call-with 𝓤 H A W (to-traced x) ToTraced AnswerRow answerVal (λ r zs. r ≡ ans.Traced x) answer-tells
+      (λ ns. passing (lent (to-traced x) ns)) (λ ns. refl) (λ ns. unasked W (lent (to-traced x) ns)) (λ ns w. id⊢ 𝓤 _)
+      (told-makes 𝓤 H A W x _ isx, tt) tt
 
-  module _ (𝓣 : Tables 𝓤 H) (known-lay : Triple 𝓤 (𝓣 .C #lay) ToLay) (known-keep : Triple 𝓤 (𝓣 .C #keep) ToKeep) (known-new : Triple 𝓤 (𝓣 .C #new) ToNew) (known-load : Triple 𝓤 (𝓣 .C #load) ToLoad) (known-go : Triple 𝓤 (𝓣 .C #go) ToGo) (known-back : Triple 𝓤 (𝓣 .C #back) ToBack) (known-made : Triple 𝓤 (𝓣 .C #made) ToMade) (known-ran : Triple 𝓤 (𝓣 .C #ran) ToRan) (known-traced : Triple 𝓤 (𝓣 .C #traced) ToTraced)
+  module _ (𝓣 : Tables 𝓤 H) (known-lay : Triple 𝓤 (𝓣 .C #lay) ToLay) (known-keep : Triple 𝓤 (𝓣 .C #keep) ToKeep) (known-new : Triple 𝓤 (𝓣 .C #new) ToNew)
+      (known-load : Triple 𝓤 (𝓣 .C #load) ToLoad) (known-go : Triple 𝓤 (𝓣 .C #go) ToGo) (known-back : Triple 𝓤 (𝓣 .C #back) ToBack)
+      (known-made : Triple 𝓤 (𝓣 .C #made) ToMade) (known-ran : Triple 𝓤 (𝓣 .C #ran) ToRan) (known-traced : Triple 𝓤 (𝓣 .C #traced) ToTraced)
       (κs : Lfts 15) (qs : Shares 15) (a : Passed kinds AnswerRow κs) (is : Known kinds AnswerRow κs a) where
     abbrev m : Vm
     m = a .0
@@ -158,19 +169,28 @@ module _ {M : Type 1} (𝓤 : URA M) (H : Heap 𝓤) (A : Atoms 𝓤) (W : Given
     s9 = sl (κs .1 .1 .1 .1 .1 .1 .1 .1 .1 .0) (qs .1 .1 .1 .1 .1 .1 .1 .1 .1 .0) (a .1 .1 .1 .1 .1 .1 .1 .1 .1 .1 .1 .0)
 
     abbrev s10 : Sl
-    s10 = sl (κs .1 .1 .1 .1 .1 .1 .1 .1 .1 .1 .0) (qs .1 .1 .1 .1 .1 .1 .1 .1 .1 .1 .0) (a .1 .1 .1 .1 .1 .1 .1 .1 .1 .1 .1 .1 .0)
+    s10 =
+        sl (κs .1 .1 .1 .1 .1 .1 .1 .1 .1 .1 .0) (qs .1 .1 .1 .1 .1 .1 .1 .1 .1 .1 .0) (a .1 .1 .1 .1 .1 .1 .1 .1 .1 .1 .1 .1 .0)
 
     abbrev s11 : Sl
-    s11 = sl (κs .1 .1 .1 .1 .1 .1 .1 .1 .1 .1 .1 .0) (qs .1 .1 .1 .1 .1 .1 .1 .1 .1 .1 .1 .0) (a .1 .1 .1 .1 .1 .1 .1 .1 .1 .1 .1 .1 .1 .0)
+    s11 =
+        sl (κs .1 .1 .1 .1 .1 .1 .1 .1 .1 .1 .1 .0) (qs .1 .1 .1 .1 .1 .1 .1 .1 .1 .1 .1 .0)
+        (a .1 .1 .1 .1 .1 .1 .1 .1 .1 .1 .1 .1 .1 .0)
 
     abbrev s12 : Sl
-    s12 = sl (κs .1 .1 .1 .1 .1 .1 .1 .1 .1 .1 .1 .1 .0) (qs .1 .1 .1 .1 .1 .1 .1 .1 .1 .1 .1 .1 .0) (a .1 .1 .1 .1 .1 .1 .1 .1 .1 .1 .1 .1 .1 .1 .0)
+    s12 =
+        sl (κs .1 .1 .1 .1 .1 .1 .1 .1 .1 .1 .1 .1 .0) (qs .1 .1 .1 .1 .1 .1 .1 .1 .1 .1 .1 .1 .0)
+        (a .1 .1 .1 .1 .1 .1 .1 .1 .1 .1 .1 .1 .1 .1 .0)
 
     abbrev s13 : Sl
-    s13 = sl (κs .1 .1 .1 .1 .1 .1 .1 .1 .1 .1 .1 .1 .1 .0) (qs .1 .1 .1 .1 .1 .1 .1 .1 .1 .1 .1 .1 .1 .0) (a .1 .1 .1 .1 .1 .1 .1 .1 .1 .1 .1 .1 .1 .1 .1 .0)
+    s13 =
+        sl (κs .1 .1 .1 .1 .1 .1 .1 .1 .1 .1 .1 .1 .1 .0) (qs .1 .1 .1 .1 .1 .1 .1 .1 .1 .1 .1 .1 .1 .0)
+        (a .1 .1 .1 .1 .1 .1 .1 .1 .1 .1 .1 .1 .1 .1 .1 .0)
 
     abbrev s14 : Sl
-    s14 = sl (κs .1 .1 .1 .1 .1 .1 .1 .1 .1 .1 .1 .1 .1 .1 .0) (qs .1 .1 .1 .1 .1 .1 .1 .1 .1 .1 .1 .1 .1 .1 .0) (a .1 .1 .1 .1 .1 .1 .1 .1 .1 .1 .1 .1 .1 .1 .1 .1 .0)
+    s14 =
+        sl (κs .1 .1 .1 .1 .1 .1 .1 .1 .1 .1 .1 .1 .1 .1 .0) (qs .1 .1 .1 .1 .1 .1 .1 .1 .1 .1 .1 .1 .1 .1 .0)
+        (a .1 .1 .1 .1 .1 .1 .1 .1 .1 .1 .1 .1 .1 .1 .1 .1 .0)
 
     abbrev image : List ℕ
     image = now (a .1 .1 .0)
@@ -263,10 +283,15 @@ module _ {M : Type 1} (𝓤 : URA M) (H : Heap 𝓤) (A : Atoms 𝓤) (W : Given
     room14 = is .1 .1 .1 .1 .1 .1 .1 .1 .1 .1 .1 .1 .1 .1 .1 .1 .0 .0 .1
 
     abbrev slices : List ℕ → List ℕ → List ℕ → List ℕ → List ℕ → List ℕ → List ℕ → List ℕ → List ℕ → List ℕ → List Frame → List ℕ → List ℕ → List ℕ → List Arg
-    slices constants′ structs′ functions′ text′ main′ mainPlaces′ other′ otherPlaces′ stack′ cells′ frames′ copy′ trace′ words′ = shr u8 s0 image ∷ mut u64 s1 constants′ ∷ mut u64 s2 structs′ ∷ mut u64 s3 functions′ ∷ mut u8 s4 text′ ∷ mut u8 s5 main′ ∷ mut u32 s6 mainPlaces′ ∷ mut u8 s7 other′ ∷ mut u32 s8 otherPlaces′ ∷ mut u64 s9 stack′ ∷ mut u64 s10 cells′ ∷ mut R s11 frames′ ∷ mut u64 s12 copy′ ∷ mut u32 s13 trace′ ∷ mut u64 s14 words′ ∷ []
+    slices constants′ structs′ functions′ text′ main′ mainPlaces′ other′ otherPlaces′ stack′ cells′ frames′ copy′ trace′ words′ =
+        shr u8 s0 image ∷ mut u64 s1 constants′ ∷ mut u64 s2 structs′ ∷ mut u64 s3 functions′ ∷ mut u8 s4 text′ ∷ mut u8 s5 main′
+        ∷ mut u32 s6 mainPlaces′ ∷ mut u8 s7 other′ ∷ mut u32 s8 otherPlaces′ ∷ mut u64 s9 stack′ ∷ mut u64 s10 cells′ ∷ mut R s11
+        frames′ ∷ mut u64 s12 copy′ ∷ mut u32 s13 trace′ ∷ mut u64 s14 words′ ∷ []
 
     abbrev xs : List ℕ → List ℕ → List ℕ → List ℕ → List ℕ → List ℕ → List ℕ → List ℕ → List ℕ → List ℕ → List Frame → List ℕ → List ℕ → List ℕ → List Arg
-    xs constants′ structs′ functions′ text′ main′ mainPlaces′ other′ otherPlaces′ stack′ cells′ frames′ copy′ trace′ words′ = val VmRow m (vmVal m) ∷ val CallRow call (callVal call) ∷ slices constants′ structs′ functions′ text′ main′ mainPlaces′ other′ otherPlaces′ stack′ cells′ frames′ copy′ trace′ words′
+    xs constants′ structs′ functions′ text′ main′ mainPlaces′ other′ otherPlaces′ stack′ cells′ frames′ copy′ trace′ words′ =
+        val VmRow m (vmVal m) ∷ val CallRow call (callVal call) ∷ slices constants′ structs′ functions′ text′ main′ mainPlaces′
+        other′ otherPlaces′ stack′ cells′ frames′ copy′ trace′ words′
 
     abbrev slices₀ : List Arg
     slices₀ = slices constants structs functions text main mainPlaces other otherPlaces stack cells frames copy trace words
@@ -277,52 +302,219 @@ module _ {M : Type 1} (𝓤 : URA M) (H : Heap 𝓤) (A : Atoms 𝓤) (W : Given
     abbrev Post : Val → SProp 𝓤
     Post = walkOf 𝓤 H A me.ended (stays kinds) (me.clauses 𝓤 H A mem run) .post (passing xs₀)
 
-    exits : (r : Answer) (constants′ : List ℕ) (structs′ : List ℕ) (functions′ : List ℕ) (text′ : List ℕ) (main′ : List ℕ) (mainPlaces′ : List ℕ) (other′ : List ℕ) (otherPlaces′ : List ℕ) (stack′ : List ℕ) (cells′ : List ℕ) (frames′ : List Frame) (copy′ : List ℕ) (trace′ : List ℕ) (words′ : List ℕ) → IsAnswer r → length constants′ ≡ s1 .count → length structs′ ≡ s2 .count → length functions′ ≡ s3 .count → length text′ ≡ s4 .count → length main′ ≡ s5 .count → length mainPlaces′ ≡ s6 .count → length other′ ≡ s7 .count → length otherPlaces′ ≡ s8 .count → length stack′ ≡ s9 .count → length cells′ ≡ s10 .count → length frames′ ≡ s11 .count → length copy′ ≡ s12 .count → length trace′ ≡ s13 .count → length words′ ≡ s14 .count → ent 𝓤 (⋆ 𝓤 H A (‵ (Holds (slices constants′ structs′ functions′ text′ main′ mainPlaces′ other′ otherPlaces′ stack′ cells′ frames′ copy′ trace′ words′)) ∷ [])) (Post (answerVal r))
+    exits : (r : Answer) (constants′ : List ℕ) (structs′ : List ℕ) (functions′ : List ℕ) (text′ : List ℕ) (main′ : List ℕ) (mainPlaces′ : List ℕ)
+        (other′ : List ℕ) (otherPlaces′ : List ℕ) (stack′ : List ℕ) (cells′ : List ℕ) (frames′ : List Frame) (copy′ : List ℕ) (trace′ : List ℕ)
+        (words′ : List ℕ) → IsAnswer r → length constants′ ≡ s1 .count → length structs′ ≡ s2 .count → length functions′ ≡ s3 .count → length text′ ≡ s4 .count
+        → length main′ ≡ s5 .count → length mainPlaces′ ≡ s6 .count → length other′ ≡ s7 .count → length otherPlaces′ ≡ s8 .count → length stack′ ≡ s9 .count
+        → length cells′ ≡ s10 .count → length frames′ ≡ s11 .count → length copy′ ≡ s12 .count → length trace′ ≡ s13 .count → length words′ ≡ s14 .count
+        → ent 𝓤 (⋆ 𝓤 H A (‵ (Holds (slices constants′ structs′ functions′ text′ main′ mainPlaces′ other′ otherPlaces′ stack′ cells′ frames′ copy′ trace′ words′)) ∷ []))
+        (Post (answerVal r))
     exits r constants′ structs′ functions′ text′ main′ mainPlaces′ other′ otherPlaces′ stack′ cells′ frames′ copy′ trace′ words′ isr len-constants len-structs len-functions len-text len-main len-mainPlaces len-other len-otherPlaces len-stack len-cells len-frames len-copy len-trace len-words =
-        qed W (‵ (Holds (slices constants′ structs′ functions′ text′ main′ mainPlaces′ other′ otherPlaces′ stack′ cells′ frames′ copy′ trace′ words′)) ∷ []) ∵ suffices ! _ (ends-at 𝓤 H A me.ended (stays kinds) (me.clauses 𝓤 H A mem run) W (passing xs₀) (answerVal r) r (tt, (tt, (tt, (constants′, (structs′, (functions′, (text′, (main′, (mainPlaces′, (other′, (otherPlaces′, (stack′, (cells′, (frames′, (copy′, (trace′, (words′, tt))))))))))))))))) (tt, (tt, (tt, (len-constants, (len-structs, (len-functions, (len-text, (len-main, (len-mainPlaces, (len-other, (len-otherPlaces, (len-stack, (len-cells, (len-frames, (len-copy, (len-trace, (len-words, tt)))))))))))))))))) $ says ! len-frames $
-        gives ! (xs constants′ structs′ functions′ text′ main′ mainPlaces′ other′ otherPlaces′ stack′ cells′ frames′ copy′ trace′ words′) (vm-makes 𝓤 H A W m _ is-m, (call-makes 𝓤 H A W call _ (is .1 .0), tt)) (frame ! $ owned ! AnswerRow (Is AnswerRow) (answer-makes 𝓤 H A W) r _ isr $ keep ! (1 ∷ 0 ∷ []) $ done !)
+        qed W
+        (‵
+        (Holds
+        (slices constants′ structs′ functions′ text′ main′ mainPlaces′ other′ otherPlaces′ stack′ cells′ frames′ copy′ trace′
+        words′)) ∷ []) ∵ suffices ! _
+        (ends-at 𝓤 H A me.ended (stays kinds) (me.clauses 𝓤 H A mem run) W (passing xs₀) (answerVal r) r (
+          tt,
+          (
+            tt,
+            (
+              tt,
+              (
+                constants′,
+                (
+                  structs′,
+                  (
+                    functions′,
+                    (
+                      text′,
+                      (
+                        main′,
+                        (mainPlaces′, (other′, (otherPlaces′, (stack′, (cells′, (frames′, (copy′, (trace′, (words′, tt))))))))),
+                      ),
+                    ),
+                  ),
+                ),
+              ),
+            ),
+          ),
+        ) (
+          tt,
+          (
+            tt,
+            (
+              tt,
+              (
+                len-constants,
+                (
+                  len-structs,
+                  (
+                    len-functions,
+                    (
+                      len-text,
+                      (
+                        len-main,
+                        (
+                          len-mainPlaces,
+                          (
+                            len-other,
+                            (len-otherPlaces, (len-stack, (len-cells, (len-frames, (len-copy, (len-trace, (len-words, tt))))))),
+                          ),
+                        ),
+                      ),
+                    ),
+                  ),
+                ),
+              ),
+            ),
+          ),
+        )) $ says ! len-frames $ gives !
+        (xs constants′ structs′ functions′ text′ main′ mainPlaces′ other′ otherPlaces′ stack′ cells′ frames′ copy′ trace′ words′)
+        (vm-makes 𝓤 H A W m _ is-m, (call-makes 𝓤 H A W call _ (is .1 .0), tt))
+        (frame ! $ owned ! AnswerRow (Is AnswerRow) (answer-makes 𝓤 H A W) r _ isr $ keep ! (1 ∷ 0 ∷ []) $ done !)
 
     abbrev to-lay : List Arg
     to-lay = mut R s11 frames ∷ peek u64 s14 words ∷ []
 
     call-lay : Rule 𝓤 H A W (to-lay) ToLay Nothing (λ _. vunit) (λ r zs. length (zs .0) ≡ length frames)
-    call-lay = call-with 𝓤 H A W (to-lay) ToLay Nothing (λ _. vunit) (λ r zs. length (zs .0) ≡ length frames) (λ r vs was. was) (λ ns. passing (lent (to-lay) ns)) (λ ns. refl)
-        (λ ns. unasked W (lent (to-lay) ns)) (λ ns w. id⊢ 𝓤 _) tt ((refl, room11), ((refl, room14), tt))
+    call-lay =
+        call-with 𝓤 H A W (to-lay) ToLay Nothing (λ _. vunit) (λ r zs. length (zs .0) ≡ length frames) (λ r vs was. was)
+        (λ ns. passing (lent (to-lay) ns)) (λ ns. refl) (λ ns. unasked W (lent (to-lay) ns)) (λ ns w. id⊢ 𝓤 _) tt
+        ((refl, room11), ((refl, room14), tt))
 
     abbrev to-keep : List Frame → List ℕ → List Arg
     to-keep frames′ words′ = peek R s11 frames′ ∷ mut u64 s14 words′ ∷ []
 
-    call-keep : (frames′ : List Frame) (words′ : List ℕ) → length frames′ ≡ s11 .count → length words′ ≡ s14 .count → Rule 𝓤 H A W (to-keep frames′ words′) ToKeep Nothing (λ _. vunit) (λ r zs. length (zs .1 .0) ≡ length words′)
-    call-keep frames′ words′ len-frames len-words = call-with 𝓤 H A W (to-keep frames′ words′) ToKeep Nothing (λ _. vunit) (λ r zs. length (zs .1 .0) ≡ length words′) (λ r vs was. was) (λ ns. passing (lent (to-keep frames′ words′) ns)) (λ ns. refl)
-        (λ ns. unasked W (lent (to-keep frames′ words′) ns)) (λ ns w. id⊢ 𝓤 _) tt ((len-frames, room11), ((len-words, room14), tt))
+    call-keep : (frames′ : List Frame) (words′ : List ℕ) → length frames′ ≡ s11 .count → length words′ ≡ s14 .count
+        → Rule 𝓤 H A W (to-keep frames′ words′) ToKeep Nothing (λ _. vunit) (λ r zs. length (zs .1 .0) ≡ length words′)
+    call-keep frames′ words′ len-frames len-words =
+        call-with 𝓤 H A W (to-keep frames′ words′) ToKeep Nothing (λ _. vunit) (λ r zs. length (zs .1 .0) ≡ length words′)
+        (λ r vs was. was) (λ ns. passing (lent (to-keep frames′ words′) ns)) (λ ns. refl)
+        (λ ns. unasked W (lent (to-keep frames′ words′) ns)) (λ ns w. id⊢ 𝓤 _) tt
+        ((len-frames, room11), ((len-words, room14), tt))
 
     abbrev to-new : List Frame → List Arg
     to-new frames′ = mut u64 s3 functions ∷ mut u8 s4 text ∷ mut R s11 frames′ ∷ []
 
-    call-new : (frames′ : List Frame) → length frames′ ≡ s11 .count → Rule 𝓤 H A W (to-new frames′) ToNew StartedRow startedVal (λ r zs. ((rest : Stores) → record { answer = r; stores = namesLent rest (zs .0) (zs .1 .0); frames = (zs .1 .1 .0) } ≡ newMachineOf (namesLent rest functions text) frames′))
-    call-new frames′ len-frames = call-with 𝓤 H A W (to-new frames′) ToNew StartedRow startedVal (λ r zs. ((rest : Stores) → record { answer = r; stores = namesLent rest (zs .0) (zs .1 .0); frames = (zs .1 .1 .0) } ≡ newMachineOf (namesLent rest functions text) frames′)) started-tells (λ ns. passing (lent (to-new frames′) ns)) (λ ns. refl)
-        (λ ns. unasked W (lent (to-new frames′) ns)) (λ ns w. id⊢ 𝓤 _) tt ((refl, room3), ((refl, room4), ((len-frames, room11), tt)))
+    call-new : (frames′ : List Frame) → length frames′ ≡ s11 .count
+        → Rule 𝓤 H A W (to-new frames′) ToNew StartedRow startedVal
+        (λ r zs. ((rest : Stores) → record { answer = r; stores = namesLent rest (zs .0) (zs .1 .0); frames = (zs .1 .1 .0) } ≡ newMachineOf
+        (namesLent rest functions text) frames′))
+    call-new frames′ len-frames =
+        call-with 𝓤 H A W (to-new frames′) ToNew StartedRow startedVal
+        (λ r zs. ((rest : Stores) → record { answer = r; stores = namesLent rest (zs .0) (zs .1 .0); frames = (zs .1 .1 .0) } ≡
+        newMachineOf (namesLent rest functions text) frames′)) started-tells (λ ns. passing (lent (to-new frames′) ns))
+        (λ ns. refl) (λ ns. unasked W (lent (to-new frames′) ns)) (λ ns w. id⊢ 𝓤 _) tt
+        ((refl, room3), ((refl, room4), ((len-frames, room11), tt)))
 
     abbrev to-load : List Frame → List Arg
-    to-load frames′ = shr u8 s0 image ∷ mut u64 s1 constants ∷ mut u64 s2 structs ∷ mut u64 s3 functions ∷ mut u8 s4 text ∷ mut u8 s5 main ∷ mut u32 s6 mainPlaces ∷ mut u8 s7 other ∷ mut u32 s8 otherPlaces ∷ mut R s11 frames′ ∷ []
+    to-load frames′ =
+        shr u8 s0 image ∷ mut u64 s1 constants ∷ mut u64 s2 structs ∷ mut u64 s3 functions ∷ mut u8 s4 text ∷ mut u8 s5 main ∷ mut
+        u32 s6 mainPlaces ∷ mut u8 s7 other ∷ mut u32 s8 otherPlaces ∷ mut R s11 frames′ ∷ []
 
-    call-load : (frames′ : List Frame) → length frames′ ≡ s11 .count → Rule 𝓤 H A W (to-load frames′) ToLoad StartedRow startedVal (λ r zs. record { answer = r; stores = (imageLent (zs .1 .0) (zs .1 .1 .0) (zs .1 .1 .1 .0) (zs .1 .1 .1 .1 .0) (zs .1 .1 .1 .1 .1 .0) (zs .1 .1 .1 .1 .1 .1 .0) (zs .1 .1 .1 .1 .1 .1 .1 .0) (zs .1 .1 .1 .1 .1 .1 .1 .1 .0)); frames = (zs .1 .1 .1 .1 .1 .1 .1 .1 .1 .0) } ≡ loadMachineOf image (imageLent constants structs functions text main mainPlaces other otherPlaces) frames′)
-    call-load frames′ len-frames = call-with 𝓤 H A W (to-load frames′) ToLoad StartedRow startedVal (λ r zs. record { answer = r; stores = (imageLent (zs .1 .0) (zs .1 .1 .0) (zs .1 .1 .1 .0) (zs .1 .1 .1 .1 .0) (zs .1 .1 .1 .1 .1 .0) (zs .1 .1 .1 .1 .1 .1 .0) (zs .1 .1 .1 .1 .1 .1 .1 .0) (zs .1 .1 .1 .1 .1 .1 .1 .1 .0)); frames = (zs .1 .1 .1 .1 .1 .1 .1 .1 .1 .0) } ≡ loadMachineOf image (imageLent constants structs functions text main mainPlaces other otherPlaces) frames′) started-tells (λ ns. passing (lent (to-load frames′) ns)) (λ ns. refl)
-        (λ ns. unasked W (lent (to-load frames′) ns)) (λ ns w. id⊢ 𝓤 _) tt ((refl, room0), ((refl, room1), ((refl, room2), ((refl, room3), ((refl, room4), ((refl, room5), ((refl, room6), ((refl, room7), ((refl, room8), ((len-frames, room11), tt))))))))))
+    call-load : (frames′ : List Frame) → length frames′ ≡ s11 .count
+        → Rule 𝓤 H A W (to-load frames′) ToLoad StartedRow startedVal
+        (λ r zs. record {
+          answer = r;
+          stores = (imageLent (zs .1 .0) (zs .1 .1 .0) (zs .1 .1 .1 .0) (zs .1 .1 .1 .1 .0) (zs .1 .1 .1 .1 .1 .0)
+              (zs .1 .1 .1 .1 .1 .1 .0) (zs .1 .1 .1 .1 .1 .1 .1 .0) (zs .1 .1 .1 .1 .1 .1 .1 .1 .0));
+          frames = (zs .1 .1 .1 .1 .1 .1 .1 .1 .1 .0);
+        } ≡ loadMachineOf image
+        (imageLent constants structs functions text main mainPlaces other otherPlaces) frames′)
+    call-load frames′ len-frames =
+        call-with 𝓤 H A W (to-load frames′) ToLoad StartedRow startedVal
+        (λ r zs. record {
+          answer = r;
+          stores =
+              (imageLent (zs .1 .0) (zs .1 .1 .0) (zs .1 .1 .1 .0) (zs .1 .1 .1 .1 .0) (zs .1 .1 .1 .1 .1 .0)
+              (zs .1 .1 .1 .1 .1 .1 .0) (zs .1 .1 .1 .1 .1 .1 .1 .0) (zs .1 .1 .1 .1 .1 .1 .1 .1 .0));
+          frames = (zs .1 .1 .1 .1 .1 .1 .1 .1 .1 .0);
+        } ≡ loadMachineOf image (imageLent constants structs functions text main mainPlaces other otherPlaces) frames′)
+        started-tells (λ ns. passing (lent (to-load frames′) ns)) (λ ns. refl) (λ ns. unasked W (lent (to-load frames′) ns))
+        (λ ns w. id⊢ 𝓤 _) tt (
+          (refl, room0),
+          (
+            (refl, room1),
+            (
+              (refl, room2),
+              (
+                (refl, room3),
+                ((refl, room4), ((refl, room5), ((refl, room6), ((refl, room7), ((refl, room8), ((len-frames, room11), tt)))))),
+              ),
+            ),
+          ),
+        )
 
     abbrev to-go : ℕ → List Frame → List Arg
-    to-go units frames′ = val VmRow m (vmVal m) ∷ val u64 units (vint w64 units) ∷ peek u64 s1 constants ∷ peek u64 s2 structs ∷ peek u64 s3 functions ∷ peek u8 s4 text ∷ peek u8 s5 main ∷ peek u32 s6 mainPlaces ∷ peek u8 s7 other ∷ peek u32 s8 otherPlaces ∷ mut u64 s9 stack ∷ mut u64 s10 cells ∷ mut R s11 frames′ ∷ mut u64 s12 copy ∷ mut u32 s13 trace ∷ []
+    to-go units frames′ =
+        val VmRow m (vmVal m) ∷ val u64 units (vint w64 units) ∷ peek u64 s1 constants ∷ peek u64 s2 structs ∷ peek u64 s3
+        functions ∷ peek u8 s4 text ∷ peek u8 s5 main ∷ peek u32 s6 mainPlaces ∷ peek u8 s7 other ∷ peek u32 s8 otherPlaces ∷ mut
+        u64 s9 stack ∷ mut u64 s10 cells ∷ mut R s11 frames′ ∷ mut u64 s12 copy ∷ mut u32 s13 trace ∷ []
 
-    call-go : (units : ℕ) → Is u64 units (vint w64 units ∷ []) → (frames′ : List Frame) → length frames′ ≡ s11 .count → Rule 𝓤 H A W (to-go units frames′) ToGo ResultRow resultVal (λ r zs. (RunPost m (programLent structs constants functions text main mainPlaces other otherPlaces) (runLent stack cells frames′ copy trace) units r (runLent (zs .1 .1 .1 .1 .1 .1 .1 .1 .1 .1 .0) (zs .1 .1 .1 .1 .1 .1 .1 .1 .1 .1 .1 .0) (zs .1 .1 .1 .1 .1 .1 .1 .1 .1 .1 .1 .1 .0) (zs .1 .1 .1 .1 .1 .1 .1 .1 .1 .1 .1 .1 .1 .0) (zs .1 .1 .1 .1 .1 .1 .1 .1 .1 .1 .1 .1 .1 .1 .0))))
-    call-go units is-units frames′ len-frames = call-with 𝓤 H A W (to-go units frames′) ToGo ResultRow resultVal (λ r zs. (RunPost m (programLent structs constants functions text main mainPlaces other otherPlaces) (runLent stack cells frames′ copy trace) units r (runLent (zs .1 .1 .1 .1 .1 .1 .1 .1 .1 .1 .0) (zs .1 .1 .1 .1 .1 .1 .1 .1 .1 .1 .1 .0) (zs .1 .1 .1 .1 .1 .1 .1 .1 .1 .1 .1 .1 .0) (zs .1 .1 .1 .1 .1 .1 .1 .1 .1 .1 .1 .1 .1 .0) (zs .1 .1 .1 .1 .1 .1 .1 .1 .1 .1 .1 .1 .1 .1 .0)))) result-tells (λ ns. passing (lent (to-go units frames′) ns)) (λ ns. refl)
-        (λ ns. unasked W (lent (to-go units frames′) ns)) (λ ns w. id⊢ 𝓤 _) (vm-makes 𝓤 H A W m _ is-m, (uint-makes 𝓤 H A W w64 units _ is-units, tt)) ((refl, room1), ((refl, room2), ((refl, room3), ((refl, room4), ((refl, room5), ((refl, room6), ((refl, room7), ((refl, room8), ((refl, room9), ((refl, room10), ((len-frames, room11), ((refl, room12), ((refl, room13), tt)))))))))))))
+    call-go : (units : ℕ) → Is u64 units (vint w64 units ∷ []) → (frames′ : List Frame) → length frames′ ≡ s11 .count
+        → Rule 𝓤 H A W (to-go units frames′) ToGo ResultRow resultVal
+        (λ r zs. (RunPost m (programLent structs constants functions text main mainPlaces other otherPlaces) (runLent stack cells frames′ copy trace) units r
+        (runLent (zs .1 .1 .1 .1 .1 .1 .1 .1 .1 .1 .0) (zs .1 .1 .1 .1 .1 .1 .1 .1 .1 .1 .1 .0) (zs .1 .1 .1 .1 .1 .1 .1 .1 .1 .1 .1 .1 .0)
+        (zs .1 .1 .1 .1 .1 .1 .1 .1 .1 .1 .1 .1 .1 .0) (zs .1 .1 .1 .1 .1 .1 .1 .1 .1 .1 .1 .1 .1 .1 .0))))
+    call-go units is-units frames′ len-frames =
+        call-with 𝓤 H A W (to-go units frames′) ToGo ResultRow resultVal
+        (λ r zs. (RunPost m (programLent structs constants functions text main mainPlaces other otherPlaces)
+        (runLent stack cells frames′ copy trace) units r
+        (runLent (zs .1 .1 .1 .1 .1 .1 .1 .1 .1 .1 .0) (zs .1 .1 .1 .1 .1 .1 .1 .1 .1 .1 .1 .0)
+        (zs .1 .1 .1 .1 .1 .1 .1 .1 .1 .1 .1 .1 .0) (zs .1 .1 .1 .1 .1 .1 .1 .1 .1 .1 .1 .1 .1 .0)
+        (zs .1 .1 .1 .1 .1 .1 .1 .1 .1 .1 .1 .1 .1 .1 .0)))) result-tells (λ ns. passing (lent (to-go units frames′) ns))
+        (λ ns. refl) (λ ns. unasked W (lent (to-go units frames′) ns)) (λ ns w. id⊢ 𝓤 _)
+        (vm-makes 𝓤 H A W m _ is-m, (uint-makes 𝓤 H A W w64 units _ is-units, tt)) (
+          (refl, room1),
+          (
+            (refl, room2),
+            (
+              (refl, room3),
+              (
+                (refl, room4),
+                (
+                  (refl, room5),
+                  (
+                    (refl, room6),
+                    (
+                      (refl, room7),
+                      (
+                        (refl, room8),
+                        ((refl, room9), ((refl, room10), ((len-frames, room11), ((refl, room12), ((refl, room13), tt))))),
+                      ),
+                    ),
+                  ),
+                ),
+              ),
+            ),
+          ),
+        )
 
     abbrev to-back : List Frame → List Arg
-    to-back frames′ = val VmRow m (vmVal m) ∷ peek u64 s3 functions ∷ peek u8 s4 text ∷ peek u8 s5 main ∷ peek u32 s6 mainPlaces ∷ peek u8 s7 other ∷ peek u32 s8 otherPlaces ∷ peek u64 s9 stack ∷ peek R s11 frames′ ∷ mut u32 s13 trace ∷ []
+    to-back frames′ =
+        val VmRow m (vmVal m) ∷ peek u64 s3 functions ∷ peek u8 s4 text ∷ peek u8 s5 main ∷ peek u32 s6 mainPlaces ∷ peek u8 s7
+        other ∷ peek u32 s8 otherPlaces ∷ peek u64 s9 stack ∷ peek R s11 frames′ ∷ mut u32 s13 trace ∷ []
 
-    call-back : (frames′ : List Frame) → length frames′ ≡ s11 .count → Rule 𝓤 H A W (to-back frames′) ToBack ToldRow toldVal (λ r zs. ((structs′ constants′ : List ℕ) → record { answer = r; out = (zs .1 .1 .1 .1 .1 .1 .1 .1 .1 .0) } ≡ backtraceIn m (programLent structs′ constants′ functions text main mainPlaces other otherPlaces) stack frames′ trace))
-    call-back frames′ len-frames = call-with 𝓤 H A W (to-back frames′) ToBack ToldRow toldVal (λ r zs. ((structs′ constants′ : List ℕ) → record { answer = r; out = (zs .1 .1 .1 .1 .1 .1 .1 .1 .1 .0) } ≡ backtraceIn m (programLent structs′ constants′ functions text main mainPlaces other otherPlaces) stack frames′ trace)) told-tells (λ ns. passing (lent (to-back frames′) ns)) (λ ns. refl)
-        (λ ns. unasked W (lent (to-back frames′) ns)) (λ ns w. id⊢ 𝓤 _) (vm-makes 𝓤 H A W m _ is-m, tt) ((refl, room3), ((refl, room4), ((refl, room5), ((refl, room6), ((refl, room7), ((refl, room8), ((refl, room9), ((len-frames, room11), ((refl, room13), tt)))))))))
+    call-back : (frames′ : List Frame) → length frames′ ≡ s11 .count
+        → Rule 𝓤 H A W (to-back frames′) ToBack ToldRow toldVal (λ r zs.
+        ((structs′ constants′ : List ℕ) → record { answer = r; out = (zs .1 .1 .1 .1 .1 .1 .1 .1 .1 .0) } ≡ backtraceIn m
+        (programLent structs′ constants′ functions text main mainPlaces other otherPlaces) stack frames′ trace))
+    call-back frames′ len-frames =
+        call-with 𝓤 H A W (to-back frames′) ToBack ToldRow toldVal
+        (λ r zs. ((structs′ constants′ : List ℕ) → record { answer = r; out = (zs .1 .1 .1 .1 .1 .1 .1 .1 .1 .0) } ≡ backtraceIn m
+        (programLent structs′ constants′ functions text main mainPlaces other otherPlaces) stack frames′ trace)) told-tells
+        (λ ns. passing (lent (to-back frames′) ns)) (λ ns. refl) (λ ns. unasked W (lent (to-back frames′) ns)) (λ ns w. id⊢ 𝓤 _)
+        (vm-makes 𝓤 H A W m _ is-m, tt) (
+          (refl, room3),
+          (
+            (refl, room4),
+            (
+              (refl, room5),
+              ((refl, room6), ((refl, room7), ((refl, room8), ((refl, room9), ((len-frames, room11), ((refl, room13), tt)))))),
+            ),
+          ),
+        )
 
     module _ (ls : Blocks (code.function .locals)) where
       fm : FmC 𝓤 H (W .laws) (𝓣 .C)
@@ -330,30 +522,230 @@ module _ {M : Type 1} (𝓤 : URA M) (H : Heap 𝓤) (A : Atoms 𝓤) (W : Given
 
       -- what the locals hold once the frames are laid
       abbrev held : Call → List (Option Val)
-      held c = none ∷ some (vmVal m) ∷ some (callVal c) ∷ some (sval s0) ∷ some (sval s1) ∷ some (sval s2) ∷ some (sval s3) ∷ some (sval s4) ∷ some (sval s5) ∷ some (sval s6) ∷ some (sval s7) ∷ some (sval s8) ∷ some (sval s9) ∷ some (sval s10) ∷ some (sval s11) ∷ some (sval s12) ∷ some (sval s13) ∷ some (sval s14) ∷ none ∷ none ∷ none ∷ none ∷ none ∷ none ∷ none ∷ none ∷ none ∷ some vunit ∷ some (vptr (s11 .block) (s11 .offset)) ∷ some (sval s11) ∷ some (vptr (s14 .block) (s14 .offset)) ∷ some (sval s14) ∷ []
+      held c =
+          none ∷ some (vmVal m) ∷ some (callVal c) ∷ some (sval s0) ∷ some (sval s1) ∷ some (sval s2) ∷ some (sval s3) ∷ some
+          (sval s4) ∷ some (sval s5) ∷ some (sval s6) ∷ some (sval s7) ∷ some (sval s8) ∷ some (sval s9) ∷ some (sval s10) ∷ some
+          (sval s11) ∷ some (sval s12) ∷ some (sval s13) ∷ some (sval s14) ∷ none ∷ none ∷ none ∷ none ∷ none ∷ none ∷ none ∷ none
+          ∷ none ∷ some vunit ∷ some (vptr (s11 .block) (s11 .offset)) ∷ some (sval s11) ∷ some (vptr (s14 .block) (s14 .offset))
+          ∷ some (sval s14) ∷ []
 
-      answers : (c : Call) → callVal c ≡ callVal call → IsCall c → (fs : List Frame) → length fs ≡ s11 .count → Sq W (‵ (Locals (code.function .locals) ls (held c)) ∷ ‵ (Holds (slices constants structs functions text main mainPlaces other otherPlaces stack cells fs copy trace words)) ∷ []) (runs (𝓣 .C) (𝓣 .Λ) (envAt (code.function .locals) ls) cm.t-6 (atRet (envAt (code.function .locals) ls) Post))
+      answers : (c : Call) → callVal c ≡ callVal call → IsCall c → (fs : List Frame) → length fs ≡ s11 .count
+          → Sq W (‵ (Locals (code.function .locals) ls (held c)) ∷ ‵
+          (Holds (slices constants structs functions text main mainPlaces other otherPlaces stack cells fs copy trace words)) ∷ [])
+          (runs (𝓣 .C) (𝓣 .Λ) (envAt (code.function .locals) ls) cm.t-6 (atRet (envAt (code.function .locals) ls) Post))
       answers New e isc fs len =
-          returns-match ! 𝓣 (tag-of ! refl refl refl refl) refl (sets ! (addr ! (behind ! refl refl)) (tt, tt) $ sets ! (agg ! (ofs ! refl)) (tt, (tt, (record { fits = room3 .0 }, tt))) $ sets ! (addr ! (behind ! refl refl)) (tt, tt) $ sets ! (agg ! (ofs ! refl)) (tt, (tt, (record { fits = room4 .0 }, tt))) $ sets ! (addr ! (behind ! refl refl)) (tt, tt) $ sets ! (agg ! (ofs ! refl)) (tt, (tt, (record { fits = room11 .0 }, tt))) $ calls-on ! (false ∷ false ∷ false ∷ true ∷ true ∷ false ∷ false ∷ false ∷ false ∷ false ∷ false ∷ true ∷ []) (slices constants structs functions text main mainPlaces other otherPlaces stack cells fs copy trace words) (call-new fs len) (λ zs. (slices constants structs (zs .0) (zs .1 .0) main mainPlaces other otherPlaces stack cells (zs .1 .1 .0) copy trace words)) refl (λ zs. refl) (λ zs. refl) fm known-new refl (λ x zs₁ said₁ lens₁ isx. lands-in ! (started-typed 𝓤 H A W x isx) $
-          sets ! (addr ! (behind ! refl refl)) (tt, tt) $ sets ! (agg ! (ofs ! refl)) (tt, (tt, (record { fits = room11 .0 }, tt))) $ sets ! (addr ! (behind ! refl refl)) (tt, tt) $ sets ! (agg ! (ofs ! refl)) (tt, (tt, (record { fits = room14 .0 }, tt))) $ calls-on ! (false ∷ false ∷ false ∷ false ∷ false ∷ false ∷ false ∷ false ∷ false ∷ false ∷ false ∷ true ∷ false ∷ false ∷ true ∷ []) (slices constants structs (zs₁ .0) (zs₁ .1 .0) main mainPlaces other otherPlaces stack cells (zs₁ .1 .1 .0) copy trace words) (call-keep (zs₁ .1 .1 .0) words (lens₁ .1 .1 .0) refl) (λ zs. (slices constants structs (zs₁ .0) (zs₁ .1 .0) main mainPlaces other otherPlaces stack cells (zs₁ .1 .1 .0) copy trace (zs .1 .0))) refl (λ zs. refl) (λ zs. refl) fm known-keep refl (λ u zs₂ said₂ lens₂ isu. lands-in ! (tt, tt) $
-          calls-on ! [] (slices constants structs (zs₁ .0) (zs₁ .1 .0) main mainPlaces other otherPlaces stack cells (zs₁ .1 .1 .0) copy trace (zs₂ .1 .0)) (call-made x isx) (λ zs. (slices constants structs (zs₁ .0) (zs₁ .1 .0) main mainPlaces other otherPlaces stack cells (zs₁ .1 .1 .0) copy trace (zs₂ .1 .0))) refl (λ zs. refl) (λ zs. refl) fm known-made refl (λ r zs₉ er lens₉ isr. lands-in ! (answer-typed 𝓤 H A W r isr) $ sets ! (of-opd ! (of ! refl)) (answer-typed 𝓤 H A W r isr) $ leaves ! refl $ by ! (exits r constants structs (zs₁ .0) (zs₁ .1 .0) main mainPlaces other otherPlaces stack cells (zs₁ .1 .1 .0) copy trace (zs₂ .1 .0) isr refl refl (lens₁ .0) (lens₁ .1 .0) refl refl refl refl refl refl (lens₁ .1 .1 .0) refl refl (lens₂ .0))))))
+          returns-match ! 𝓣 (tag-of ! refl refl refl refl) refl
+          (sets ! (addr ! (behind ! refl refl)) (tt, tt) $ sets ! (agg ! (ofs ! refl))
+          (tt, (tt, (record { fits = room3 .0 }, tt))) $ sets ! (addr ! (behind ! refl refl)) (tt, tt) $ sets !
+          (agg ! (ofs ! refl)) (tt, (tt, (record { fits = room4 .0 }, tt))) $ sets ! (addr ! (behind ! refl refl)) (tt, tt) $ sets
+          ! (agg ! (ofs ! refl)) (tt, (tt, (record { fits = room11 .0 }, tt))) $ calls-on !
+          (false ∷ false ∷ false ∷ true ∷ true ∷ false ∷ false ∷ false ∷ false ∷ false ∷ false ∷ true ∷ [])
+          (slices constants structs functions text main mainPlaces other otherPlaces stack cells fs copy trace words)
+          (call-new fs len)
+          (λ zs. (slices constants structs (zs .0) (zs .1 .0) main mainPlaces other otherPlaces stack cells (zs .1 .1 .0) copy
+          trace words)) refl (λ zs. refl) (λ zs. refl) fm known-new refl
+          (λ x zs₁ said₁ lens₁ isx. lands-in ! (started-typed 𝓤 H A W x isx) $ sets ! (addr ! (behind ! refl refl)) (tt, tt) $
+          sets ! (agg ! (ofs ! refl)) (tt, (tt, (record { fits = room11 .0 }, tt))) $ sets ! (addr ! (behind ! refl refl))
+          (tt, tt) $ sets ! (agg ! (ofs ! refl)) (tt, (tt, (record { fits = room14 .0 }, tt))) $ calls-on !
+          (false ∷ false ∷ false ∷ false ∷ false ∷ false ∷ false ∷ false ∷ false ∷ false ∷ false ∷ true ∷ false ∷ false ∷ true ∷
+          [])
+          (slices constants structs (zs₁ .0) (zs₁ .1 .0) main mainPlaces other otherPlaces stack cells (zs₁ .1 .1 .0) copy trace
+          words) (call-keep (zs₁ .1 .1 .0) words (lens₁ .1 .1 .0) refl)
+          (λ zs. (slices constants structs (zs₁ .0) (zs₁ .1 .0) main mainPlaces other otherPlaces stack cells (zs₁ .1 .1 .0) copy
+          trace (zs .1 .0))) refl (λ zs. refl) (λ zs. refl) fm known-keep refl
+          (λ u zs₂ said₂ lens₂ isu. lands-in ! (tt, tt) $ calls-on ! []
+          (slices constants structs (zs₁ .0) (zs₁ .1 .0) main mainPlaces other otherPlaces stack cells (zs₁ .1 .1 .0) copy trace
+          (zs₂ .1 .0)) (call-made x isx)
+          (λ zs. (slices constants structs (zs₁ .0) (zs₁ .1 .0) main mainPlaces other otherPlaces stack cells (zs₁ .1 .1 .0) copy
+          trace (zs₂ .1 .0))) refl (λ zs. refl) (λ zs. refl) fm known-made refl
+          (λ r zs₉ er lens₉ isr. lands-in ! (answer-typed 𝓤 H A W r isr) $ sets ! (of-opd ! (of ! refl))
+          (answer-typed 𝓤 H A W r isr) $ leaves ! refl $ by !
+          (exits r constants structs (zs₁ .0) (zs₁ .1 .0) main mainPlaces other otherPlaces stack cells (zs₁ .1 .1 .0) copy trace
+          (zs₂ .1 .0) isr refl refl (lens₁ .0) (lens₁ .1 .0) refl refl refl refl refl refl (lens₁ .1 .1 .0) refl refl (lens₂ .0))))))
       answers Load e isc fs len =
-          returns-match ! 𝓣 (tag-of ! refl refl refl refl) refl (sets ! (addr ! (behind ! refl refl)) (tt, tt) $ sets ! (agg ! (ofs ! refl)) (tt, (tt, (record { fits = room1 .0 }, tt))) $ sets ! (addr ! (behind ! refl refl)) (tt, tt) $ sets ! (agg ! (ofs ! refl)) (tt, (tt, (record { fits = room2 .0 }, tt))) $ sets ! (addr ! (behind ! refl refl)) (tt, tt) $ sets ! (agg ! (ofs ! refl)) (tt, (tt, (record { fits = room3 .0 }, tt))) $ sets ! (addr ! (behind ! refl refl)) (tt, tt) $ sets ! (agg ! (ofs ! refl)) (tt, (tt, (record { fits = room4 .0 }, tt))) $ sets ! (addr ! (behind ! refl refl)) (tt, tt) $ sets ! (agg ! (ofs ! refl)) (tt, (tt, (record { fits = room5 .0 }, tt))) $ sets ! (addr ! (behind ! refl refl)) (tt, tt) $ sets ! (agg ! (ofs ! refl)) (tt, (tt, (record { fits = room6 .0 }, tt))) $ sets ! (addr ! (behind ! refl refl)) (tt, tt) $ sets ! (agg ! (ofs ! refl)) (tt, (tt, (record { fits = room7 .0 }, tt))) $ sets ! (addr ! (behind ! refl refl)) (tt, tt) $ sets ! (agg ! (ofs ! refl)) (tt, (tt, (record { fits = room8 .0 }, tt))) $ sets ! (addr ! (behind ! refl refl)) (tt, tt) $ sets ! (agg ! (ofs ! refl)) (tt, (tt, (record { fits = room11 .0 }, tt))) $ calls-on ! (true ∷ true ∷ true ∷ true ∷ true ∷ true ∷ true ∷ true ∷ true ∷ false ∷ false ∷ true ∷ []) (slices constants structs functions text main mainPlaces other otherPlaces stack cells fs copy trace words) (call-load fs len) (λ zs. (slices (zs .1 .0) (zs .1 .1 .0) (zs .1 .1 .1 .0) (zs .1 .1 .1 .1 .0) (zs .1 .1 .1 .1 .1 .0) (zs .1 .1 .1 .1 .1 .1 .0) (zs .1 .1 .1 .1 .1 .1 .1 .0) (zs .1 .1 .1 .1 .1 .1 .1 .1 .0) stack cells (zs .1 .1 .1 .1 .1 .1 .1 .1 .1 .0) copy trace words)) refl (λ zs. refl) (λ zs. refl) fm known-load refl (λ x zs₁ said₁ lens₁ isx. lands-in ! (started-typed 𝓤 H A W x isx) $
-          sets ! (addr ! (behind ! refl refl)) (tt, tt) $ sets ! (agg ! (ofs ! refl)) (tt, (tt, (record { fits = room11 .0 }, tt))) $ sets ! (addr ! (behind ! refl refl)) (tt, tt) $ sets ! (agg ! (ofs ! refl)) (tt, (tt, (record { fits = room14 .0 }, tt))) $ calls-on ! (false ∷ false ∷ false ∷ false ∷ false ∷ false ∷ false ∷ false ∷ false ∷ false ∷ false ∷ true ∷ false ∷ false ∷ true ∷ []) (slices (zs₁ .1 .0) (zs₁ .1 .1 .0) (zs₁ .1 .1 .1 .0) (zs₁ .1 .1 .1 .1 .0) (zs₁ .1 .1 .1 .1 .1 .0) (zs₁ .1 .1 .1 .1 .1 .1 .0) (zs₁ .1 .1 .1 .1 .1 .1 .1 .0) (zs₁ .1 .1 .1 .1 .1 .1 .1 .1 .0) stack cells (zs₁ .1 .1 .1 .1 .1 .1 .1 .1 .1 .0) copy trace words) (call-keep (zs₁ .1 .1 .1 .1 .1 .1 .1 .1 .1 .0) words (lens₁ .1 .1 .1 .1 .1 .1 .1 .1 .0) refl) (λ zs. (slices (zs₁ .1 .0) (zs₁ .1 .1 .0) (zs₁ .1 .1 .1 .0) (zs₁ .1 .1 .1 .1 .0) (zs₁ .1 .1 .1 .1 .1 .0) (zs₁ .1 .1 .1 .1 .1 .1 .0) (zs₁ .1 .1 .1 .1 .1 .1 .1 .0) (zs₁ .1 .1 .1 .1 .1 .1 .1 .1 .0) stack cells (zs₁ .1 .1 .1 .1 .1 .1 .1 .1 .1 .0) copy trace (zs .1 .0))) refl (λ zs. refl) (λ zs. refl) fm known-keep refl (λ u zs₂ said₂ lens₂ isu. lands-in ! (tt, tt) $
-          calls-on ! [] (slices (zs₁ .1 .0) (zs₁ .1 .1 .0) (zs₁ .1 .1 .1 .0) (zs₁ .1 .1 .1 .1 .0) (zs₁ .1 .1 .1 .1 .1 .0) (zs₁ .1 .1 .1 .1 .1 .1 .0) (zs₁ .1 .1 .1 .1 .1 .1 .1 .0) (zs₁ .1 .1 .1 .1 .1 .1 .1 .1 .0) stack cells (zs₁ .1 .1 .1 .1 .1 .1 .1 .1 .1 .0) copy trace (zs₂ .1 .0)) (call-made x isx) (λ zs. (slices (zs₁ .1 .0) (zs₁ .1 .1 .0) (zs₁ .1 .1 .1 .0) (zs₁ .1 .1 .1 .1 .0) (zs₁ .1 .1 .1 .1 .1 .0) (zs₁ .1 .1 .1 .1 .1 .1 .0) (zs₁ .1 .1 .1 .1 .1 .1 .1 .0) (zs₁ .1 .1 .1 .1 .1 .1 .1 .1 .0) stack cells (zs₁ .1 .1 .1 .1 .1 .1 .1 .1 .1 .0) copy trace (zs₂ .1 .0))) refl (λ zs. refl) (λ zs. refl) fm known-made refl (λ r zs₉ er lens₉ isr. lands-in ! (answer-typed 𝓤 H A W r isr) $ sets ! (of-opd ! (of ! refl)) (answer-typed 𝓤 H A W r isr) $ leaves ! refl $ by ! (exits r (zs₁ .1 .0) (zs₁ .1 .1 .0) (zs₁ .1 .1 .1 .0) (zs₁ .1 .1 .1 .1 .0) (zs₁ .1 .1 .1 .1 .1 .0) (zs₁ .1 .1 .1 .1 .1 .1 .0) (zs₁ .1 .1 .1 .1 .1 .1 .1 .0) (zs₁ .1 .1 .1 .1 .1 .1 .1 .1 .0) stack cells (zs₁ .1 .1 .1 .1 .1 .1 .1 .1 .1 .0) copy trace (zs₂ .1 .0) isr (lens₁ .0) (lens₁ .1 .0) (lens₁ .1 .1 .0) (lens₁ .1 .1 .1 .0) (lens₁ .1 .1 .1 .1 .0) (lens₁ .1 .1 .1 .1 .1 .0) (lens₁ .1 .1 .1 .1 .1 .1 .0) (lens₁ .1 .1 .1 .1 .1 .1 .1 .0) refl refl (lens₁ .1 .1 .1 .1 .1 .1 .1 .1 .0) refl refl (lens₂ .0))))))
+          returns-match ! 𝓣 (tag-of ! refl refl refl refl) refl
+          (sets ! (addr ! (behind ! refl refl)) (tt, tt) $ sets ! (agg ! (ofs ! refl))
+          (tt, (tt, (record { fits = room1 .0 }, tt))) $ sets ! (addr ! (behind ! refl refl)) (tt, tt) $ sets !
+          (agg ! (ofs ! refl)) (tt, (tt, (record { fits = room2 .0 }, tt))) $ sets ! (addr ! (behind ! refl refl)) (tt, tt) $ sets
+          ! (agg ! (ofs ! refl)) (tt, (tt, (record { fits = room3 .0 }, tt))) $ sets ! (addr ! (behind ! refl refl)) (tt, tt) $
+          sets ! (agg ! (ofs ! refl)) (tt, (tt, (record { fits = room4 .0 }, tt))) $ sets ! (addr ! (behind ! refl refl)) (tt, tt)
+          $ sets ! (agg ! (ofs ! refl)) (tt, (tt, (record { fits = room5 .0 }, tt))) $ sets ! (addr ! (behind ! refl refl))
+          (tt, tt) $ sets ! (agg ! (ofs ! refl)) (tt, (tt, (record { fits = room6 .0 }, tt))) $ sets !
+          (addr ! (behind ! refl refl)) (tt, tt) $ sets ! (agg ! (ofs ! refl)) (tt, (tt, (record { fits = room7 .0 }, tt))) $ sets
+          ! (addr ! (behind ! refl refl)) (tt, tt) $ sets ! (agg ! (ofs ! refl)) (tt, (tt, (record { fits = room8 .0 }, tt))) $
+          sets ! (addr ! (behind ! refl refl)) (tt, tt) $ sets ! (agg ! (ofs ! refl))
+          (tt, (tt, (record { fits = room11 .0 }, tt))) $ calls-on !
+          (true ∷ true ∷ true ∷ true ∷ true ∷ true ∷ true ∷ true ∷ true ∷ false ∷ false ∷ true ∷ [])
+          (slices constants structs functions text main mainPlaces other otherPlaces stack cells fs copy trace words)
+          (call-load fs len)
+          (λ zs. (slices (zs .1 .0) (zs .1 .1 .0) (zs .1 .1 .1 .0) (zs .1 .1 .1 .1 .0) (zs .1 .1 .1 .1 .1 .0)
+          (zs .1 .1 .1 .1 .1 .1 .0) (zs .1 .1 .1 .1 .1 .1 .1 .0) (zs .1 .1 .1 .1 .1 .1 .1 .1 .0) stack cells
+          (zs .1 .1 .1 .1 .1 .1 .1 .1 .1 .0) copy trace words)) refl (λ zs. refl) (λ zs. refl) fm known-load refl
+          (λ x zs₁ said₁ lens₁ isx. lands-in ! (started-typed 𝓤 H A W x isx) $ sets ! (addr ! (behind ! refl refl)) (tt, tt) $
+          sets ! (agg ! (ofs ! refl)) (tt, (tt, (record { fits = room11 .0 }, tt))) $ sets ! (addr ! (behind ! refl refl))
+          (tt, tt) $ sets ! (agg ! (ofs ! refl)) (tt, (tt, (record { fits = room14 .0 }, tt))) $ calls-on !
+          (false ∷ false ∷ false ∷ false ∷ false ∷ false ∷ false ∷ false ∷ false ∷ false ∷ false ∷ true ∷ false ∷ false ∷ true ∷
+          [])
+          (slices (zs₁ .1 .0) (zs₁ .1 .1 .0) (zs₁ .1 .1 .1 .0) (zs₁ .1 .1 .1 .1 .0) (zs₁ .1 .1 .1 .1 .1 .0)
+          (zs₁ .1 .1 .1 .1 .1 .1 .0) (zs₁ .1 .1 .1 .1 .1 .1 .1 .0) (zs₁ .1 .1 .1 .1 .1 .1 .1 .1 .0) stack cells
+          (zs₁ .1 .1 .1 .1 .1 .1 .1 .1 .1 .0) copy trace words)
+          (call-keep (zs₁ .1 .1 .1 .1 .1 .1 .1 .1 .1 .0) words (lens₁ .1 .1 .1 .1 .1 .1 .1 .1 .0) refl)
+          (λ zs. (slices (zs₁ .1 .0) (zs₁ .1 .1 .0) (zs₁ .1 .1 .1 .0) (zs₁ .1 .1 .1 .1 .0) (zs₁ .1 .1 .1 .1 .1 .0)
+          (zs₁ .1 .1 .1 .1 .1 .1 .0) (zs₁ .1 .1 .1 .1 .1 .1 .1 .0) (zs₁ .1 .1 .1 .1 .1 .1 .1 .1 .0) stack cells
+          (zs₁ .1 .1 .1 .1 .1 .1 .1 .1 .1 .0) copy trace (zs .1 .0))) refl (λ zs. refl) (λ zs. refl) fm known-keep refl
+          (λ u zs₂ said₂ lens₂ isu. lands-in ! (tt, tt) $ calls-on ! []
+          (slices (zs₁ .1 .0) (zs₁ .1 .1 .0) (zs₁ .1 .1 .1 .0) (zs₁ .1 .1 .1 .1 .0) (zs₁ .1 .1 .1 .1 .1 .0)
+          (zs₁ .1 .1 .1 .1 .1 .1 .0) (zs₁ .1 .1 .1 .1 .1 .1 .1 .0) (zs₁ .1 .1 .1 .1 .1 .1 .1 .1 .0) stack cells
+          (zs₁ .1 .1 .1 .1 .1 .1 .1 .1 .1 .0) copy trace (zs₂ .1 .0)) (call-made x isx)
+          (λ zs. (slices (zs₁ .1 .0) (zs₁ .1 .1 .0) (zs₁ .1 .1 .1 .0) (zs₁ .1 .1 .1 .1 .0) (zs₁ .1 .1 .1 .1 .1 .0)
+          (zs₁ .1 .1 .1 .1 .1 .1 .0) (zs₁ .1 .1 .1 .1 .1 .1 .1 .0) (zs₁ .1 .1 .1 .1 .1 .1 .1 .1 .0) stack cells
+          (zs₁ .1 .1 .1 .1 .1 .1 .1 .1 .1 .0) copy trace (zs₂ .1 .0))) refl (λ zs. refl) (λ zs. refl) fm known-made refl
+          (λ r zs₉ er lens₉ isr. lands-in ! (answer-typed 𝓤 H A W r isr) $ sets ! (of-opd ! (of ! refl))
+          (answer-typed 𝓤 H A W r isr) $ leaves ! refl $ by !
+          (exits r (zs₁ .1 .0) (zs₁ .1 .1 .0) (zs₁ .1 .1 .1 .0) (zs₁ .1 .1 .1 .1 .0) (zs₁ .1 .1 .1 .1 .1 .0)
+          (zs₁ .1 .1 .1 .1 .1 .1 .0) (zs₁ .1 .1 .1 .1 .1 .1 .1 .0) (zs₁ .1 .1 .1 .1 .1 .1 .1 .1 .0) stack cells
+          (zs₁ .1 .1 .1 .1 .1 .1 .1 .1 .1 .0) copy trace (zs₂ .1 .0) isr (lens₁ .0) (lens₁ .1 .0) (lens₁ .1 .1 .0)
+          (lens₁ .1 .1 .1 .0) (lens₁ .1 .1 .1 .1 .0) (lens₁ .1 .1 .1 .1 .1 .0) (lens₁ .1 .1 .1 .1 .1 .1 .0)
+          (lens₁ .1 .1 .1 .1 .1 .1 .1 .0) refl refl (lens₁ .1 .1 .1 .1 .1 .1 .1 .1 .0) refl refl (lens₂ .0))))))
       answers (Run units) e isc fs len =
-          returns-match ! 𝓣 (tag-of ! refl refl refl refl) refl (sets ! (of-opd ! (payload-of ! refl refl refl refl refl refl)) (tt, record { fits = run-fits units isc .1 }) $ sets ! (addr ! (behind ! refl refl)) (tt, tt) $ sets ! (agg ! (ofs ! refl)) (tt, (tt, (record { fits = room1 .0 }, tt))) $ sets ! (addr ! (behind ! refl refl)) (tt, tt) $ sets ! (agg ! (ofs ! refl)) (tt, (tt, (record { fits = room2 .0 }, tt))) $ sets ! (addr ! (behind ! refl refl)) (tt, tt) $ sets ! (agg ! (ofs ! refl)) (tt, (tt, (record { fits = room3 .0 }, tt))) $ sets ! (addr ! (behind ! refl refl)) (tt, tt) $ sets ! (agg ! (ofs ! refl)) (tt, (tt, (record { fits = room4 .0 }, tt))) $ sets ! (addr ! (behind ! refl refl)) (tt, tt) $ sets ! (agg ! (ofs ! refl)) (tt, (tt, (record { fits = room5 .0 }, tt))) $ sets ! (addr ! (behind ! refl refl)) (tt, tt) $ sets ! (agg ! (ofs ! refl)) (tt, (tt, (record { fits = room6 .0 }, tt))) $ sets ! (addr ! (behind ! refl refl)) (tt, tt) $ sets ! (agg ! (ofs ! refl)) (tt, (tt, (record { fits = room7 .0 }, tt))) $ sets ! (addr ! (behind ! refl refl)) (tt, tt) $ sets ! (agg ! (ofs ! refl)) (tt, (tt, (record { fits = room8 .0 }, tt))) $ sets ! (addr ! (behind ! refl refl)) (tt, tt) $ sets ! (agg ! (ofs ! refl)) (tt, (tt, (record { fits = room9 .0 }, tt))) $ sets ! (addr ! (behind ! refl refl)) (tt, tt) $ sets ! (agg ! (ofs ! refl)) (tt, (tt, (record { fits = room10 .0 }, tt))) $ sets ! (addr ! (behind ! refl refl)) (tt, tt) $ sets ! (agg ! (ofs ! refl)) (tt, (tt, (record { fits = room11 .0 }, tt))) $ sets ! (addr ! (behind ! refl refl)) (tt, tt) $ sets ! (agg ! (ofs ! refl)) (tt, (tt, (record { fits = room12 .0 }, tt))) $ sets ! (addr ! (behind ! refl refl)) (tt, tt) $ sets ! (agg ! (ofs ! refl)) (tt, (tt, (record { fits = room13 .0 }, tt))) $ calls-on ! (false ∷ true ∷ true ∷ true ∷ true ∷ true ∷ true ∷ true ∷ true ∷ true ∷ true ∷ true ∷ true ∷ true ∷ []) (slices constants structs functions text main mainPlaces other otherPlaces stack cells fs copy trace words) (call-go units (run-fits units isc) fs len) (λ zs. (slices constants structs functions text main mainPlaces other otherPlaces (zs .1 .1 .1 .1 .1 .1 .1 .1 .1 .1 .0) (zs .1 .1 .1 .1 .1 .1 .1 .1 .1 .1 .1 .0) (zs .1 .1 .1 .1 .1 .1 .1 .1 .1 .1 .1 .1 .0) (zs .1 .1 .1 .1 .1 .1 .1 .1 .1 .1 .1 .1 .1 .0) (zs .1 .1 .1 .1 .1 .1 .1 .1 .1 .1 .1 .1 .1 .1 .0) words)) refl (λ zs. refl) (λ zs. refl) fm known-go refl (λ x zs₁ said₁ lens₁ isx. lands-in ! (result-typed 𝓤 H A W x isx) $
-          sets ! (addr ! (behind ! refl refl)) (tt, tt) $ sets ! (agg ! (ofs ! refl)) (tt, (tt, (record { fits = room11 .0 }, tt))) $ sets ! (addr ! (behind ! refl refl)) (tt, tt) $ sets ! (agg ! (ofs ! refl)) (tt, (tt, (record { fits = room14 .0 }, tt))) $ calls-on ! (false ∷ false ∷ false ∷ false ∷ false ∷ false ∷ false ∷ false ∷ false ∷ false ∷ false ∷ true ∷ false ∷ false ∷ true ∷ []) (slices constants structs functions text main mainPlaces other otherPlaces (zs₁ .1 .1 .1 .1 .1 .1 .1 .1 .1 .1 .0) (zs₁ .1 .1 .1 .1 .1 .1 .1 .1 .1 .1 .1 .0) (zs₁ .1 .1 .1 .1 .1 .1 .1 .1 .1 .1 .1 .1 .0) (zs₁ .1 .1 .1 .1 .1 .1 .1 .1 .1 .1 .1 .1 .1 .0) (zs₁ .1 .1 .1 .1 .1 .1 .1 .1 .1 .1 .1 .1 .1 .1 .0) words) (call-keep (zs₁ .1 .1 .1 .1 .1 .1 .1 .1 .1 .1 .1 .1 .0) words (lens₁ .1 .1 .0) refl) (λ zs. (slices constants structs functions text main mainPlaces other otherPlaces (zs₁ .1 .1 .1 .1 .1 .1 .1 .1 .1 .1 .0) (zs₁ .1 .1 .1 .1 .1 .1 .1 .1 .1 .1 .1 .0) (zs₁ .1 .1 .1 .1 .1 .1 .1 .1 .1 .1 .1 .1 .0) (zs₁ .1 .1 .1 .1 .1 .1 .1 .1 .1 .1 .1 .1 .1 .0) (zs₁ .1 .1 .1 .1 .1 .1 .1 .1 .1 .1 .1 .1 .1 .1 .0) (zs .1 .0))) refl (λ zs. refl) (λ zs. refl) fm known-keep refl (λ u zs₂ said₂ lens₂ isu. lands-in ! (tt, tt) $
-          calls-on ! [] (slices constants structs functions text main mainPlaces other otherPlaces (zs₁ .1 .1 .1 .1 .1 .1 .1 .1 .1 .1 .0) (zs₁ .1 .1 .1 .1 .1 .1 .1 .1 .1 .1 .1 .0) (zs₁ .1 .1 .1 .1 .1 .1 .1 .1 .1 .1 .1 .1 .0) (zs₁ .1 .1 .1 .1 .1 .1 .1 .1 .1 .1 .1 .1 .1 .0) (zs₁ .1 .1 .1 .1 .1 .1 .1 .1 .1 .1 .1 .1 .1 .1 .0) (zs₂ .1 .0)) (call-ran x isx) (λ zs. (slices constants structs functions text main mainPlaces other otherPlaces (zs₁ .1 .1 .1 .1 .1 .1 .1 .1 .1 .1 .0) (zs₁ .1 .1 .1 .1 .1 .1 .1 .1 .1 .1 .1 .0) (zs₁ .1 .1 .1 .1 .1 .1 .1 .1 .1 .1 .1 .1 .0) (zs₁ .1 .1 .1 .1 .1 .1 .1 .1 .1 .1 .1 .1 .1 .0) (zs₁ .1 .1 .1 .1 .1 .1 .1 .1 .1 .1 .1 .1 .1 .1 .0) (zs₂ .1 .0))) refl (λ zs. refl) (λ zs. refl) fm known-ran refl (λ r zs₉ er lens₉ isr. lands-in ! (answer-typed 𝓤 H A W r isr) $ sets ! (of-opd ! (of ! refl)) (answer-typed 𝓤 H A W r isr) $ leaves ! refl $ by ! (exits r constants structs functions text main mainPlaces other otherPlaces (zs₁ .1 .1 .1 .1 .1 .1 .1 .1 .1 .1 .0) (zs₁ .1 .1 .1 .1 .1 .1 .1 .1 .1 .1 .1 .0) (zs₁ .1 .1 .1 .1 .1 .1 .1 .1 .1 .1 .1 .1 .0) (zs₁ .1 .1 .1 .1 .1 .1 .1 .1 .1 .1 .1 .1 .1 .0) (zs₁ .1 .1 .1 .1 .1 .1 .1 .1 .1 .1 .1 .1 .1 .1 .0) (zs₂ .1 .0) isr refl refl refl refl refl refl refl refl (lens₁ .0) (lens₁ .1 .0) (lens₁ .1 .1 .0) (lens₁ .1 .1 .1 .0) (lens₁ .1 .1 .1 .1 .0) (lens₂ .0))))))
+          returns-match ! 𝓣 (tag-of ! refl refl refl refl) refl
+          (sets ! (of-opd ! (payload-of ! refl refl refl refl refl refl)) (tt, record { fits = run-fits units isc .1 }) $ sets !
+          (addr ! (behind ! refl refl)) (tt, tt) $ sets ! (agg ! (ofs ! refl)) (tt, (tt, (record { fits = room1 .0 }, tt))) $ sets
+          ! (addr ! (behind ! refl refl)) (tt, tt) $ sets ! (agg ! (ofs ! refl)) (tt, (tt, (record { fits = room2 .0 }, tt))) $
+          sets ! (addr ! (behind ! refl refl)) (tt, tt) $ sets ! (agg ! (ofs ! refl)) (tt, (tt, (record { fits = room3 .0 }, tt)))
+          $ sets ! (addr ! (behind ! refl refl)) (tt, tt) $ sets ! (agg ! (ofs ! refl))
+          (tt, (tt, (record { fits = room4 .0 }, tt))) $ sets ! (addr ! (behind ! refl refl)) (tt, tt) $ sets !
+          (agg ! (ofs ! refl)) (tt, (tt, (record { fits = room5 .0 }, tt))) $ sets ! (addr ! (behind ! refl refl)) (tt, tt) $ sets
+          ! (agg ! (ofs ! refl)) (tt, (tt, (record { fits = room6 .0 }, tt))) $ sets ! (addr ! (behind ! refl refl)) (tt, tt) $
+          sets ! (agg ! (ofs ! refl)) (tt, (tt, (record { fits = room7 .0 }, tt))) $ sets ! (addr ! (behind ! refl refl)) (tt, tt)
+          $ sets ! (agg ! (ofs ! refl)) (tt, (tt, (record { fits = room8 .0 }, tt))) $ sets ! (addr ! (behind ! refl refl))
+          (tt, tt) $ sets ! (agg ! (ofs ! refl)) (tt, (tt, (record { fits = room9 .0 }, tt))) $ sets !
+          (addr ! (behind ! refl refl)) (tt, tt) $ sets ! (agg ! (ofs ! refl)) (tt, (tt, (record { fits = room10 .0 }, tt))) $
+          sets ! (addr ! (behind ! refl refl)) (tt, tt) $ sets ! (agg ! (ofs ! refl))
+          (tt, (tt, (record { fits = room11 .0 }, tt))) $ sets ! (addr ! (behind ! refl refl)) (tt, tt) $ sets !
+          (agg ! (ofs ! refl)) (tt, (tt, (record { fits = room12 .0 }, tt))) $ sets ! (addr ! (behind ! refl refl)) (tt, tt) $
+          sets ! (agg ! (ofs ! refl)) (tt, (tt, (record { fits = room13 .0 }, tt))) $ calls-on !
+          (false ∷ true ∷ true ∷ true ∷ true ∷ true ∷ true ∷ true ∷ true ∷ true ∷ true ∷ true ∷ true ∷ true ∷ [])
+          (slices constants structs functions text main mainPlaces other otherPlaces stack cells fs copy trace words)
+          (call-go units (run-fits units isc) fs len)
+          (λ zs. (slices constants structs functions text main mainPlaces other otherPlaces (zs .1 .1 .1 .1 .1 .1 .1 .1 .1 .1 .0)
+          (zs .1 .1 .1 .1 .1 .1 .1 .1 .1 .1 .1 .0) (zs .1 .1 .1 .1 .1 .1 .1 .1 .1 .1 .1 .1 .0)
+          (zs .1 .1 .1 .1 .1 .1 .1 .1 .1 .1 .1 .1 .1 .0) (zs .1 .1 .1 .1 .1 .1 .1 .1 .1 .1 .1 .1 .1 .1 .0) words)) refl
+          (λ zs. refl) (λ zs. refl) fm known-go refl
+          (λ x zs₁ said₁ lens₁ isx. lands-in ! (result-typed 𝓤 H A W x isx) $ sets ! (addr ! (behind ! refl refl)) (tt, tt) $ sets
+          ! (agg ! (ofs ! refl)) (tt, (tt, (record { fits = room11 .0 }, tt))) $ sets ! (addr ! (behind ! refl refl)) (tt, tt) $
+          sets ! (agg ! (ofs ! refl)) (tt, (tt, (record { fits = room14 .0 }, tt))) $ calls-on !
+          (false ∷ false ∷ false ∷ false ∷ false ∷ false ∷ false ∷ false ∷ false ∷ false ∷ false ∷ true ∷ false ∷ false ∷ true ∷
+          [])
+          (slices constants structs functions text main mainPlaces other otherPlaces (zs₁ .1 .1 .1 .1 .1 .1 .1 .1 .1 .1 .0)
+          (zs₁ .1 .1 .1 .1 .1 .1 .1 .1 .1 .1 .1 .0) (zs₁ .1 .1 .1 .1 .1 .1 .1 .1 .1 .1 .1 .1 .0)
+          (zs₁ .1 .1 .1 .1 .1 .1 .1 .1 .1 .1 .1 .1 .1 .0) (zs₁ .1 .1 .1 .1 .1 .1 .1 .1 .1 .1 .1 .1 .1 .1 .0) words)
+          (call-keep (zs₁ .1 .1 .1 .1 .1 .1 .1 .1 .1 .1 .1 .1 .0) words (lens₁ .1 .1 .0) refl)
+          (λ zs. (slices constants structs functions text main mainPlaces other otherPlaces (zs₁ .1 .1 .1 .1 .1 .1 .1 .1 .1 .1 .0)
+          (zs₁ .1 .1 .1 .1 .1 .1 .1 .1 .1 .1 .1 .0) (zs₁ .1 .1 .1 .1 .1 .1 .1 .1 .1 .1 .1 .1 .0)
+          (zs₁ .1 .1 .1 .1 .1 .1 .1 .1 .1 .1 .1 .1 .1 .0) (zs₁ .1 .1 .1 .1 .1 .1 .1 .1 .1 .1 .1 .1 .1 .1 .0) (zs .1 .0))) refl
+          (λ zs. refl) (λ zs. refl) fm known-keep refl
+          (λ u zs₂ said₂ lens₂ isu. lands-in ! (tt, tt) $ calls-on ! []
+          (slices constants structs functions text main mainPlaces other otherPlaces (zs₁ .1 .1 .1 .1 .1 .1 .1 .1 .1 .1 .0)
+          (zs₁ .1 .1 .1 .1 .1 .1 .1 .1 .1 .1 .1 .0) (zs₁ .1 .1 .1 .1 .1 .1 .1 .1 .1 .1 .1 .1 .0)
+          (zs₁ .1 .1 .1 .1 .1 .1 .1 .1 .1 .1 .1 .1 .1 .0) (zs₁ .1 .1 .1 .1 .1 .1 .1 .1 .1 .1 .1 .1 .1 .1 .0) (zs₂ .1 .0))
+          (call-ran x isx)
+          (λ zs. (slices constants structs functions text main mainPlaces other otherPlaces (zs₁ .1 .1 .1 .1 .1 .1 .1 .1 .1 .1 .0)
+          (zs₁ .1 .1 .1 .1 .1 .1 .1 .1 .1 .1 .1 .0) (zs₁ .1 .1 .1 .1 .1 .1 .1 .1 .1 .1 .1 .1 .0)
+          (zs₁ .1 .1 .1 .1 .1 .1 .1 .1 .1 .1 .1 .1 .1 .0) (zs₁ .1 .1 .1 .1 .1 .1 .1 .1 .1 .1 .1 .1 .1 .1 .0) (zs₂ .1 .0))) refl
+          (λ zs. refl) (λ zs. refl) fm known-ran refl
+          (λ r zs₉ er lens₉ isr. lands-in ! (answer-typed 𝓤 H A W r isr) $ sets ! (of-opd ! (of ! refl))
+          (answer-typed 𝓤 H A W r isr) $ leaves ! refl $ by !
+          (exits r constants structs functions text main mainPlaces other otherPlaces (zs₁ .1 .1 .1 .1 .1 .1 .1 .1 .1 .1 .0)
+          (zs₁ .1 .1 .1 .1 .1 .1 .1 .1 .1 .1 .1 .0) (zs₁ .1 .1 .1 .1 .1 .1 .1 .1 .1 .1 .1 .1 .0)
+          (zs₁ .1 .1 .1 .1 .1 .1 .1 .1 .1 .1 .1 .1 .1 .0) (zs₁ .1 .1 .1 .1 .1 .1 .1 .1 .1 .1 .1 .1 .1 .1 .0) (zs₂ .1 .0) isr refl
+          refl refl refl refl refl refl refl (lens₁ .0) (lens₁ .1 .0) (lens₁ .1 .1 .0) (lens₁ .1 .1 .1 .0) (lens₁ .1 .1 .1 .1 .0)
+          (lens₂ .0))))))
       answers Trace e isc fs len =
-          returns-match ! 𝓣 (tag-of ! refl refl refl refl) refl (sets ! (addr ! (behind ! refl refl)) (tt, tt) $ sets ! (agg ! (ofs ! refl)) (tt, (tt, (record { fits = room3 .0 }, tt))) $ sets ! (addr ! (behind ! refl refl)) (tt, tt) $ sets ! (agg ! (ofs ! refl)) (tt, (tt, (record { fits = room4 .0 }, tt))) $ sets ! (addr ! (behind ! refl refl)) (tt, tt) $ sets ! (agg ! (ofs ! refl)) (tt, (tt, (record { fits = room5 .0 }, tt))) $ sets ! (addr ! (behind ! refl refl)) (tt, tt) $ sets ! (agg ! (ofs ! refl)) (tt, (tt, (record { fits = room6 .0 }, tt))) $ sets ! (addr ! (behind ! refl refl)) (tt, tt) $ sets ! (agg ! (ofs ! refl)) (tt, (tt, (record { fits = room7 .0 }, tt))) $ sets ! (addr ! (behind ! refl refl)) (tt, tt) $ sets ! (agg ! (ofs ! refl)) (tt, (tt, (record { fits = room8 .0 }, tt))) $ sets ! (addr ! (behind ! refl refl)) (tt, tt) $ sets ! (agg ! (ofs ! refl)) (tt, (tt, (record { fits = room9 .0 }, tt))) $ sets ! (addr ! (behind ! refl refl)) (tt, tt) $ sets ! (agg ! (ofs ! refl)) (tt, (tt, (record { fits = room11 .0 }, tt))) $ sets ! (addr ! (behind ! refl refl)) (tt, tt) $ sets ! (agg ! (ofs ! refl)) (tt, (tt, (record { fits = room13 .0 }, tt))) $ calls-on ! (false ∷ false ∷ false ∷ true ∷ true ∷ true ∷ true ∷ true ∷ true ∷ true ∷ false ∷ true ∷ false ∷ true ∷ []) (slices constants structs functions text main mainPlaces other otherPlaces stack cells fs copy trace words) (call-back fs len) (λ zs. (slices constants structs functions text main mainPlaces other otherPlaces stack cells fs copy (zs .1 .1 .1 .1 .1 .1 .1 .1 .1 .0) words)) refl (λ zs. refl) (λ zs. refl) fm known-back refl (λ x zs₁ said₁ lens₁ isx. lands-in ! (told-typed 𝓤 H A W x isx) $
-          calls-on ! [] (slices constants structs functions text main mainPlaces other otherPlaces stack cells fs copy (zs₁ .1 .1 .1 .1 .1 .1 .1 .1 .1 .0) words) (call-traced x isx) (λ zs. (slices constants structs functions text main mainPlaces other otherPlaces stack cells fs copy (zs₁ .1 .1 .1 .1 .1 .1 .1 .1 .1 .0) words)) refl (λ zs. refl) (λ zs. refl) fm known-traced refl (λ r zs₉ er lens₉ isr. lands-in ! (answer-typed 𝓤 H A W r isr) $ sets ! (of-opd ! (of ! refl)) (answer-typed 𝓤 H A W r isr) $ leaves ! refl $ by ! (exits r constants structs functions text main mainPlaces other otherPlaces stack cells fs copy (zs₁ .1 .1 .1 .1 .1 .1 .1 .1 .1 .0) words isr refl refl refl refl refl refl refl refl refl refl len refl (lens₁ .0) refl))))
+          returns-match ! 𝓣 (tag-of ! refl refl refl refl) refl
+          (sets ! (addr ! (behind ! refl refl)) (tt, tt) $ sets ! (agg ! (ofs ! refl))
+          (tt, (tt, (record { fits = room3 .0 }, tt))) $ sets ! (addr ! (behind ! refl refl)) (tt, tt) $ sets !
+          (agg ! (ofs ! refl)) (tt, (tt, (record { fits = room4 .0 }, tt))) $ sets ! (addr ! (behind ! refl refl)) (tt, tt) $ sets
+          ! (agg ! (ofs ! refl)) (tt, (tt, (record { fits = room5 .0 }, tt))) $ sets ! (addr ! (behind ! refl refl)) (tt, tt) $
+          sets ! (agg ! (ofs ! refl)) (tt, (tt, (record { fits = room6 .0 }, tt))) $ sets ! (addr ! (behind ! refl refl)) (tt, tt)
+          $ sets ! (agg ! (ofs ! refl)) (tt, (tt, (record { fits = room7 .0 }, tt))) $ sets ! (addr ! (behind ! refl refl))
+          (tt, tt) $ sets ! (agg ! (ofs ! refl)) (tt, (tt, (record { fits = room8 .0 }, tt))) $ sets !
+          (addr ! (behind ! refl refl)) (tt, tt) $ sets ! (agg ! (ofs ! refl)) (tt, (tt, (record { fits = room9 .0 }, tt))) $ sets
+          ! (addr ! (behind ! refl refl)) (tt, tt) $ sets ! (agg ! (ofs ! refl)) (tt, (tt, (record { fits = room11 .0 }, tt))) $
+          sets ! (addr ! (behind ! refl refl)) (tt, tt) $ sets ! (agg ! (ofs ! refl))
+          (tt, (tt, (record { fits = room13 .0 }, tt))) $ calls-on !
+          (false ∷ false ∷ false ∷ true ∷ true ∷ true ∷ true ∷ true ∷ true ∷ true ∷ false ∷ true ∷ false ∷ true ∷ [])
+          (slices constants structs functions text main mainPlaces other otherPlaces stack cells fs copy trace words)
+          (call-back fs len)
+          (λ zs. (slices constants structs functions text main mainPlaces other otherPlaces stack cells fs copy
+          (zs .1 .1 .1 .1 .1 .1 .1 .1 .1 .0) words)) refl (λ zs. refl) (λ zs. refl) fm known-back refl
+          (λ x zs₁ said₁ lens₁ isx. lands-in ! (told-typed 𝓤 H A W x isx) $ calls-on ! []
+          (slices constants structs functions text main mainPlaces other otherPlaces stack cells fs copy
+          (zs₁ .1 .1 .1 .1 .1 .1 .1 .1 .1 .0) words) (call-traced x isx)
+          (λ zs. (slices constants structs functions text main mainPlaces other otherPlaces stack cells fs copy
+          (zs₁ .1 .1 .1 .1 .1 .1 .1 .1 .1 .0) words)) refl (λ zs. refl) (λ zs. refl) fm known-traced refl
+          (λ r zs₉ er lens₉ isr. lands-in ! (answer-typed 𝓤 H A W r isr) $ sets ! (of-opd ! (of ! refl))
+          (answer-typed 𝓤 H A W r isr) $ leaves ! refl $ by !
+          (exits r constants structs functions text main mainPlaces other otherPlaces stack cells fs copy
+          (zs₁ .1 .1 .1 .1 .1 .1 .1 .1 .1 .0) words isr refl refl refl refl refl refl refl refl refl refl len refl (lens₁ .0) refl))))
 
     walk : ent 𝓤 (onEntry 𝓤 H A me.signature (lfts xs₀) (shares xs₀) (denots xs₀) (valss xs₀)) (WpFn 𝓤 H (𝓣 .C) (𝓣 .Λ) code.function (values xs₀) Post)
     walk =
-        qed W (‵ (Toks xs₀) ∷ ‵ (Owns xs₀) ∷ []) ∵ takes ! xs₀ (enters ! (𝓣 .C) (𝓣 .Λ) code.function (values xs₀) Post
-        (vm-typed 𝓤 H A W m is-m, (call-typed 𝓤 H A W call (is .1 .0), ((tt, (tt, (record { fits = room0 .0 }, tt))), ((tt, (tt, (record { fits = room1 .0 }, tt))), ((tt, (tt, (record { fits = room2 .0 }, tt))), ((tt, (tt, (record { fits = room3 .0 }, tt))), ((tt, (tt, (record { fits = room4 .0 }, tt))), ((tt, (tt, (record { fits = room5 .0 }, tt))), ((tt, (tt, (record { fits = room6 .0 }, tt))), ((tt, (tt, (record { fits = room7 .0 }, tt))), ((tt, (tt, (record { fits = room8 .0 }, tt))), ((tt, (tt, (record { fits = room9 .0 }, tt))), ((tt, (tt, (record { fits = room10 .0 }, tt))), ((tt, (tt, (record { fits = room11 .0 }, tt))), ((tt, (tt, (record { fits = room12 .0 }, tt))), ((tt, (tt, (record { fits = room13 .0 }, tt))), ((tt, (tt, (record { fits = room14 .0 }, tt))), tt))))))))))))))))) (λ ls.
-        sets ! (addr ! (behind ! refl refl)) (tt, tt) $ sets ! (agg ! (ofs ! refl)) (tt, (tt, (record { fits = room11 .0 }, tt))) $ sets ! (addr ! (behind ! refl refl)) (tt, tt) $ sets ! (agg ! (ofs ! refl)) (tt, (tt, (record { fits = room14 .0 }, tt))) $ calls-on ! (false ∷ false ∷ false ∷ false ∷ false ∷ false ∷ false ∷ false ∷ false ∷ false ∷ false ∷ true ∷ false ∷ false ∷ true ∷ []) (slices constants structs functions text main mainPlaces other otherPlaces stack cells frames copy trace words) (call-lay) (λ zs. (slices constants structs functions text main mainPlaces other otherPlaces stack cells (zs .0) copy trace words)) refl (λ zs. refl) (λ zs. refl) fm known-lay refl (λ u zs said lens isu. lands-in ! (tt, tt) $
+        qed W (‵ (Toks xs₀) ∷ ‵ (Owns xs₀) ∷ []) ∵ takes ! xs₀ (enters ! (𝓣 .C) (𝓣 .Λ) code.function (values xs₀) Post (
+          vm-typed 𝓤 H A W m is-m,
+          (
+            call-typed 𝓤 H A W call (is .1 .0),
+            (
+              (tt, (tt, (record { fits = room0 .0 }, tt))),
+              (
+                (tt, (tt, (record { fits = room1 .0 }, tt))),
+                (
+                  (tt, (tt, (record { fits = room2 .0 }, tt))),
+                  (
+                    (tt, (tt, (record { fits = room3 .0 }, tt))),
+                    (
+                      (tt, (tt, (record { fits = room4 .0 }, tt))),
+                      (
+                        (tt, (tt, (record { fits = room5 .0 }, tt))),
+                        (
+                          (tt, (tt, (record { fits = room6 .0 }, tt))),
+                          (
+                            (tt, (tt, (record { fits = room7 .0 }, tt))),
+                            (
+                              (tt, (tt, (record { fits = room8 .0 }, tt))),
+                              (
+                                (tt, (tt, (record { fits = room9 .0 }, tt))),
+                                (
+                                  (tt, (tt, (record { fits = room10 .0 }, tt))),
+                                  (
+                                    (tt, (tt, (record { fits = room11 .0 }, tt))),
+                                    (
+                                      (tt, (tt, (record { fits = room12 .0 }, tt))),
+                                      (
+                                        (tt, (tt, (record { fits = room13 .0 }, tt))),
+                                        ((tt, (tt, (record { fits = room14 .0 }, tt))), tt),
+                                      ),
+                                    ),
+                                  ),
+                                ),
+                              ),
+                            ),
+                          ),
+                        ),
+                      ),
+                    ),
+                  ),
+                ),
+              ),
+            ),
+          ),
+        ) (λ ls.
+        sets ! (addr ! (behind ! refl refl)) (tt, tt) $ sets ! (agg ! (ofs ! refl)) (tt, (tt, (record { fits = room11 .0 }, tt))) $
+        sets ! (addr ! (behind ! refl refl)) (tt, tt) $ sets ! (agg ! (ofs ! refl)) (tt, (tt, (record { fits = room14 .0 }, tt))) $
+        calls-on ! (false ∷ false ∷ false ∷ false ∷ false ∷ false ∷ false ∷ false ∷ false ∷ false ∷ false ∷ true ∷ false ∷ false ∷ true ∷ [])
+        (slices constants structs functions text main mainPlaces other otherPlaces stack cells frames copy trace words) (call-lay)
+        (λ zs. (slices constants structs functions text main mainPlaces other otherPlaces stack cells (zs .0) copy trace words)) refl (λ zs. refl)
+        (λ zs. refl) fm known-lay refl (λ u zs said lens isu. lands-in ! (tt, tt) $
         answers ls call refl (is .1 .0) (zs .0) (lens .0))))
       where
         fm : FmC 𝓤 H (W .laws) (𝓣 .C)
@@ -364,14 +756,22 @@ unfolding code.routine tablesOf
 act-spec 𝓤 H 𝓜 𝓖 𝓡 =
     let W : Given 𝓤 H (𝓖 .A) = givenOf 𝓤 H 𝓜 𝓖 in
     closed kinds AnswerRow 𝓤 H 𝓜 𝓖 𝓡 code.env #me code.function (code.unfolded 𝓤 H 𝓜 𝓡) (me.clauses 𝓤 H (𝓖 .A) (𝓜 .mem) (𝓡 .run))
-    (λ κs qs a g is. unneeded 𝓤 _ (walk 𝓤 H (𝓖 .A) W (𝓜 .mem) (𝓡 .run) (tablesOf 𝓤 H 𝓜 (tables 𝓤 H 𝓜 𝓡 code.env))
-    (cited 𝓤 H (ToLay 𝓤 H (𝓖 .A) W (𝓜 .mem) (𝓡 .run)) 𝓜 𝓡 code.env #lay lay-def.routine code.calls-console·bridge·lay (lay-thm.met 𝓤 H 𝓜 𝓖 𝓡))
-    (cited 𝓤 H (ToKeep 𝓤 H (𝓖 .A) W (𝓜 .mem) (𝓡 .run)) 𝓜 𝓡 code.env #keep keep-def.routine code.calls-console·bridge·keep (keep-thm.met 𝓤 H 𝓜 𝓖 𝓡))
-    (cited 𝓤 H (ToNew 𝓤 H (𝓖 .A) W (𝓜 .mem) (𝓡 .run)) 𝓜 𝓡 code.env #new new-def.routine code.calls-machine·new (new-thm.met 𝓤 H 𝓜 𝓖 𝓡))
-    (cited 𝓤 H (ToLoad 𝓤 H (𝓖 .A) W (𝓜 .mem) (𝓡 .run)) 𝓜 𝓡 code.env #load load-def.routine code.calls-machine·load (load-thm.met 𝓤 H 𝓜 𝓖 𝓡))
+    (λ κs qs a g is. unneeded 𝓤 _
+    (walk 𝓤 H (𝓖 .A) W (𝓜 .mem) (𝓡 .run) (tablesOf 𝓤 H 𝓜 (tables 𝓤 H 𝓜 𝓡 code.env))
+    (cited 𝓤 H (ToLay 𝓤 H (𝓖 .A) W (𝓜 .mem) (𝓡 .run)) 𝓜 𝓡 code.env #lay lay-def.routine code.calls-console·bridge·lay
+    (lay-thm.met 𝓤 H 𝓜 𝓖 𝓡))
+    (cited 𝓤 H (ToKeep 𝓤 H (𝓖 .A) W (𝓜 .mem) (𝓡 .run)) 𝓜 𝓡 code.env #keep keep-def.routine code.calls-console·bridge·keep
+    (keep-thm.met 𝓤 H 𝓜 𝓖 𝓡))
+    (cited 𝓤 H (ToNew 𝓤 H (𝓖 .A) W (𝓜 .mem) (𝓡 .run)) 𝓜 𝓡 code.env #new new-def.routine code.calls-machine·new
+    (new-thm.met 𝓤 H 𝓜 𝓖 𝓡))
+    (cited 𝓤 H (ToLoad 𝓤 H (𝓖 .A) W (𝓜 .mem) (𝓡 .run)) 𝓜 𝓡 code.env #load load-def.routine code.calls-machine·load
+    (load-thm.met 𝓤 H 𝓜 𝓖 𝓡))
     (cited 𝓤 H (ToGo 𝓤 H (𝓖 .A) W (𝓜 .mem) (𝓡 .run)) 𝓜 𝓡 code.env #go go-def.routine code.calls-machine·run (go-thm.met 𝓤 H 𝓜 𝓖 𝓡))
-    (cited 𝓤 H (ToBack 𝓤 H (𝓖 .A) W (𝓜 .mem) (𝓡 .run)) 𝓜 𝓡 code.env #back back-def.routine code.calls-machine·backtrace (back-thm.met 𝓤 H 𝓜 𝓖 𝓡))
-    (cited 𝓤 H (ToMade 𝓤 H (𝓖 .A) W (𝓜 .mem) (𝓡 .run)) 𝓜 𝓡 code.env #made made-def.routine code.calls-console·bridge·made (made-thm.met 𝓤 H 𝓜 𝓖 𝓡))
-    (cited 𝓤 H (ToRan 𝓤 H (𝓖 .A) W (𝓜 .mem) (𝓡 .run)) 𝓜 𝓡 code.env #ran ran-def.routine code.calls-console·bridge·ran (ran-thm.met 𝓤 H 𝓜 𝓖 𝓡))
-    (cited 𝓤 H (ToTraced 𝓤 H (𝓖 .A) W (𝓜 .mem) (𝓡 .run)) 𝓜 𝓡 code.env #traced traced-def.routine code.calls-console·bridge·traced (traced-thm.met 𝓤 H 𝓜 𝓖 𝓡))
-    κs qs a is))
+    (cited 𝓤 H (ToBack 𝓤 H (𝓖 .A) W (𝓜 .mem) (𝓡 .run)) 𝓜 𝓡 code.env #back back-def.routine code.calls-machine·backtrace
+    (back-thm.met 𝓤 H 𝓜 𝓖 𝓡))
+    (cited 𝓤 H (ToMade 𝓤 H (𝓖 .A) W (𝓜 .mem) (𝓡 .run)) 𝓜 𝓡 code.env #made made-def.routine code.calls-console·bridge·made
+    (made-thm.met 𝓤 H 𝓜 𝓖 𝓡))
+    (cited 𝓤 H (ToRan 𝓤 H (𝓖 .A) W (𝓜 .mem) (𝓡 .run)) 𝓜 𝓡 code.env #ran ran-def.routine code.calls-console·bridge·ran
+    (ran-thm.met 𝓤 H 𝓜 𝓖 𝓡))
+    (cited 𝓤 H (ToTraced 𝓤 H (𝓖 .A) W (𝓜 .mem) (𝓡 .run)) 𝓜 𝓡 code.env #traced traced-def.routine code.calls-console·bridge·traced
+    (traced-thm.met 𝓤 H 𝓜 𝓖 𝓡)) κs qs a is))

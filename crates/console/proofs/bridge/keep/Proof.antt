@@ -53,7 +53,8 @@ module _ {M : Type 1} (𝓤 : URA M) (H : Heap 𝓤) (A : Atoms 𝓤) (W : Given
   left-typed : (r : Left) → IsLeft r → T (hasTy TL′.mir (lval r)) × WT (lval r)
   left-typed r is = LL.lawful TL.the-type TL′.the-laws 𝓤 H A W .typed r _ is .0
 
-  module _ (𝓣 : Tables 𝓤 H) (known-read : Triple 𝓤 (𝓣 .C #read) (Read 𝓤 H A W mem run)) (known-last : Triple 𝓤 (𝓣 .C #last) LastOf) (known-put : Triple 𝓤 (𝓣 .C #put) Kept) (κs : Lfts 2) (qs : Shares 2) (a : Passed kinds Nothing κs) (is : Known kinds Nothing κs a) where
+  module _ (𝓣 : Tables 𝓤 H) (known-read : Triple 𝓤 (𝓣 .C #read) (Read 𝓤 H A W mem run)) (known-last : Triple 𝓤 (𝓣 .C #last) LastOf)
+      (known-put : Triple 𝓤 (𝓣 .C #put) Kept) (κs : Lfts 2) (qs : Shares 2) (a : Passed kinds Nothing κs) (is : Known kinds Nothing κs a) where
     abbrev s0 : Sl
     s0 = sl (κs .0) (qs .0) (a .0)
 
@@ -86,22 +87,28 @@ module _ {M : Type 1} (𝓤 : URA M) (H : Heap 𝓤) (A : Atoms 𝓤) (W : Given
 
     exits : (ws : List ℕ) → length ws ≡ s1 .count → ent 𝓤 (⋆ 𝓤 H A (‵ (Holds frames) ∷ ‵ (Holds (stores ws)) ∷ [])) (Post vunit)
     exits ws len =
-        qed W (‵ (Holds frames) ∷ ‵ (Holds (stores ws)) ∷ []) ∵ suffices ! _ (ends-at 𝓤 H A me.ended (stays kinds) (me.clauses 𝓤 H A mem run) W (passing (xs words₀)) vunit tt (tt, (ws, tt)) (tt, (len, tt))) $ says ! len $
-        joins ! frames (stores ws) (gives ! (xs ws) tt (frame ! $ feqI ! (List Val) (vunit ∷ []) (vunit ∷ []) refl $ keep ! (1 ∷ 0 ∷ []) $ done !))
+        qed W (‵ (Holds frames) ∷ ‵ (Holds (stores ws)) ∷ []) ∵ suffices ! _
+        (ends-at 𝓤 H A me.ended (stays kinds) (me.clauses 𝓤 H A mem run) W (passing (xs words₀)) vunit tt (tt, (ws, tt))
+        (tt, (len, tt))) $ says ! len $ joins ! frames (stores ws)
+        (gives ! (xs ws) tt (frame ! $ feqI ! (List Val) (vunit ∷ []) (vunit ∷ []) refl $ keep ! (1 ∷ 0 ∷ []) $ done !))
 
     abbrev to-last : List Arg
     to-last = val usize (s0 .count) (vint w64 (s0 .count)) ∷ []
 
     call-last : Rule 𝓤 H A W to-last LastOf TL.the-row lval (λ r zs. weight (r .more) (r .at) ≤ s0 .count)
-    call-last = call-with 𝓤 H A W to-last LastOf TL.the-row lval (λ r zs. weight (r .more) (r .at) ≤ s0 .count) (TL′.lowers .val-is) (λ ns. passing (lent to-last ns)) (λ ns. refl)
-        (λ ns. unasked W (lent to-last ns)) (λ ns w. id⊢ 𝓤 _) (uint-makes 𝓤 H A W w64 (s0 .count) _ (refl, room0 .0), tt) tt
+    call-last =
+        call-with 𝓤 H A W to-last LastOf TL.the-row lval (λ r zs. weight (r .more) (r .at) ≤ s0 .count) (TL′.lowers .val-is)
+        (λ ns. passing (lent to-last ns)) (λ ns. refl) (λ ns. unasked W (lent to-last ns)) (λ ns w. id⊢ 𝓤 _)
+        (uint-makes 𝓤 H A W w64 (s0 .count) _ (refl, room0 .0), tt) tt
 
     abbrev to-put : ℕ → Frame → List ℕ → List Arg
     to-put i f ws = mut u64 s1 ws ∷ val usize i (vint w64 i) ∷ val R f (fval f) ∷ []
 
     call-put : (i : ℕ) (f : Frame) (ws : List ℕ) → length ws ≡ s1 .count → i < 2 ^ 64 → Is R f (fval f ∷ []) → Rule 𝓤 H A W (to-put i f ws) Kept TL.the-row lval (λ r zs. weight (r .more) (r .at) ≤ i)
-    call-put i f ws len fits isf = call-with 𝓤 H A W (to-put i f ws) Kept TL.the-row lval (λ r zs. weight (r .more) (r .at) ≤ i) (TL′.lowers .val-is) (λ ns. passing (lent (to-put i f ws) ns)) (λ ns. refl)
-        (λ ns. unasked W (lent (to-put i f ws) ns)) (λ ns w. id⊢ 𝓤 _) (uint-makes 𝓤 H A W w64 i _ (refl, fits), (frame-makes 𝓤 H A W f _ isf, tt)) ((len, room1), tt)
+    call-put i f ws len fits isf =
+        call-with 𝓤 H A W (to-put i f ws) Kept TL.the-row lval (λ r zs. weight (r .more) (r .at) ≤ i) (TL′.lowers .val-is)
+        (λ ns. passing (lent (to-put i f ws) ns)) (λ ns. refl) (λ ns. unasked W (lent (to-put i f ws) ns)) (λ ns w. id⊢ 𝓤 _)
+        (uint-makes 𝓤 H A W w64 i _ (refl, fits), (frame-makes 𝓤 H A W f _ isf, tt)) ((len, room1), tt)
 
     -- the loop's state: the next frame, the words so far, and what is known of them
     abbrev State : Type 0
@@ -124,7 +131,8 @@ module _ {M : Type 1} (𝓤 : URA M) (H : Heap 𝓤) (A : Atoms 𝓤) (W : Given
       turn : (x : State) → Sq W (loop .inv x) (runs (𝓣 .C) (𝓣 .Λ) (loop .env) cm.turn-1 (Turn loop x))
       turn (r, ws, (isr, len, g)) =
           sets ! (of-opd ! (of ! refl)) (tt, tt) $ whiles ! loop (r, ws, (isr, len, g)) (of ! refl)
-          (λ on. call-read 𝓤 H A W mem run s0 ys refl room0 (r .at) (at-fits r isr) (below (r .more) (r .at) (s0 .count) on g) .calls ! fm known-read refl (λ f zs ef lens isf. lands-in ! (frame-typed 𝓤 H A W f isf) $
+          (λ on. call-read 𝓤 H A W mem run s0 ys refl room0 (r .at) (at-fits r isr) (below (r .more) (r .at) (s0 .count) on g) .calls ! fm known-read refl
+          (λ f zs ef lens isf. lands-in ! (frame-typed 𝓤 H A W f isf) $
           sets ! (addr ! (behind ! refl refl)) (tt, tt) $ sets ! (agg ! (ofs ! refl)) (tt, (tt, (record { fits = room1 .0 }, tt))) $
           move ! (0 ∷ 2 ∷ []) $ call-put (r .at) f ws len (at-fits r isr) isf .calls ! fm known-put refl (λ t zs′ said lens′ ist. lands-in ! (left-typed t ist) $
           sets-last ! (of-opd ! (of ! refl)) (left-typed t ist) $ trims ! 4 $ move ! (0 ∷ 2 ∷ []) $
@@ -136,17 +144,25 @@ module _ {M : Type 1} (𝓤 : URA M) (H : Heap 𝓤) (A : Atoms 𝓤) (W : Given
 
     walk : ent 𝓤 (onEntry 𝓤 H A me.signature (lfts (xs words₀)) (shares (xs words₀)) (denots (xs words₀)) (valss (xs words₀))) (WpFn 𝓤 H (𝓣 .C) (𝓣 .Λ) code.function (values (xs words₀)) Post)
     walk =
-        qed W (‵ (Toks (xs words₀)) ∷ ‵ (Owns (xs words₀)) ∷ []) ∵ takes ! (xs words₀) (splits ! frames (stores words₀) (enters ! (𝓣 .C) (𝓣 .Λ) code.function (values (xs words₀)) Post
-        ((tt, (tt, (record { fits = room0 .0 }, tt))), ((tt, (tt, (record { fits = room1 .0 }, tt))), tt)) (λ ls.
-        sets ! (of-opd ! (of ! refl)) (tt, record { fits = room0 .0 }) $ nothing ! $ move ! (1 ∷ []) $ call-last .calls ! (fmOf 𝓤 H (W .laws) 𝓣) known-last refl (λ r zs said lens isr. lands-in ! (left-typed r isr) $
-        move ! (1 ∷ []) $ drop ! $ trims ! 4 $ rounds ! (loop ls) (turn ls) (r, words₀, (isr, refl, said))))))
+        qed W (‵ (Toks (xs words₀)) ∷ ‵ (Owns (xs words₀)) ∷ []) ∵ takes ! (xs words₀)
+        (splits ! frames (stores words₀)
+        (enters ! (𝓣 .C) (𝓣 .Λ) code.function (values (xs words₀)) Post
+        ((tt, (tt, (record { fits = room0 .0 }, tt))), ((tt, (tt, (record { fits = room1 .0 }, tt))), tt))
+        (λ ls. sets ! (of-opd ! (of ! refl)) (tt, record { fits = room0 .0 }) $ nothing ! $ move ! (1 ∷ []) $ call-last .calls !
+        (fmOf 𝓤 H (W .laws) 𝓣) known-last refl
+        (λ r zs said lens isr. lands-in ! (left-typed r isr) $ move ! (1 ∷ []) $ drop ! $ trims ! 4 $ rounds ! (loop ls) (turn ls)
+        (r, words₀, (isr, refl, said))))))
 
 pub keep-spec : {M : Type 1} → stated.statement M
 unfolding code.routine tablesOf
 keep-spec 𝓤 H 𝓜 𝓖 𝓡 =
     let W : Given 𝓤 H (𝓖 .A) = givenOf 𝓤 H 𝓜 𝓖 in
     closed kinds Nothing 𝓤 H 𝓜 𝓖 𝓡 code.env #me code.function (code.unfolded 𝓤 H 𝓜 𝓡) (me.clauses 𝓤 H (𝓖 .A) (𝓜 .mem) (𝓡 .run))
-    (λ κs qs a g is. via 𝓤 _ (fst∗ 𝓤 _ (emp 𝓤)) (walk 𝓤 H (𝓖 .A) W (𝓜 .mem) (𝓡 .run) (tablesOf 𝓤 H 𝓜 (tables 𝓤 H 𝓜 𝓡 code.env))
-    (cited 𝓤 H (Read 𝓤 H (𝓖 .A) W (𝓜 .mem) (𝓡 .run)) 𝓜 𝓡 code.env #read read-def.routine code.calls-frames·read-frame (read-thm.met 𝓤 H 𝓜 𝓖 𝓡))
-    (cited 𝓤 H (LastOf 𝓤 H (𝓖 .A) W (𝓜 .mem) (𝓡 .run)) 𝓜 𝓡 code.env #last last-def.routine code.calls-console·bridge·last-of (last-thm.met 𝓤 H 𝓜 𝓖 𝓡))
-    (cited 𝓤 H (Kept 𝓤 H (𝓖 .A) W (𝓜 .mem) (𝓡 .run)) 𝓜 𝓡 code.env #put put-def.routine code.calls-console·bridge·kept (put-thm.met 𝓤 H 𝓜 𝓖 𝓡)) κs qs a is))
+    (λ κs qs a g is. via 𝓤 _ (fst∗ 𝓤 _ (emp 𝓤))
+    (walk 𝓤 H (𝓖 .A) W (𝓜 .mem) (𝓡 .run) (tablesOf 𝓤 H 𝓜 (tables 𝓤 H 𝓜 𝓡 code.env))
+    (cited 𝓤 H (Read 𝓤 H (𝓖 .A) W (𝓜 .mem) (𝓡 .run)) 𝓜 𝓡 code.env #read read-def.routine code.calls-frames·read-frame
+    (read-thm.met 𝓤 H 𝓜 𝓖 𝓡))
+    (cited 𝓤 H (LastOf 𝓤 H (𝓖 .A) W (𝓜 .mem) (𝓡 .run)) 𝓜 𝓡 code.env #last last-def.routine code.calls-console·bridge·last-of
+    (last-thm.met 𝓤 H 𝓜 𝓖 𝓡))
+    (cited 𝓤 H (Kept 𝓤 H (𝓖 .A) W (𝓜 .mem) (𝓡 .run)) 𝓜 𝓡 code.env #put put-def.routine code.calls-console·bridge·kept
+    (put-thm.met 𝓤 H 𝓜 𝓖 𝓡)) κs qs a is))

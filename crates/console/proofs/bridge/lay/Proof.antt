@@ -49,7 +49,8 @@ module _ {M : Type 1} (𝓤 : URA M) (H : Heap 𝓤) (A : Atoms 𝓤) (W : Given
   resting-typed : (r : Resting) → IsResting r → T (hasTy TR′.mir (rval r)) × WT (rval r)
   resting-typed r is = LL.lawful TR.the-type TR′.the-laws 𝓤 H A W .typed r _ is .0
 
-  module _ (𝓣 : Tables 𝓤 H) (known-write : Triple 𝓤 (𝓣 .C #write) (Write 𝓤 H A W mem run)) (known-last : Triple 𝓤 (𝓣 .C #last) LastIn) (κs : Lfts 2) (qs : Shares 2) (a : Passed kinds Nothing κs) (is : Known kinds Nothing κs a) where
+  module _ (𝓣 : Tables 𝓤 H) (known-write : Triple 𝓤 (𝓣 .C #write) (Write 𝓤 H A W mem run)) (known-last : Triple 𝓤 (𝓣 .C #last) LastIn) (κs : Lfts 2)
+      (qs : Shares 2) (a : Passed kinds Nothing κs) (is : Known kinds Nothing κs a) where
     abbrev s0 : Sl
     s0 = sl (κs .0) (qs .0) (a .0)
 
@@ -82,15 +83,19 @@ module _ {M : Type 1} (𝓤 : URA M) (H : Heap 𝓤) (A : Atoms 𝓤) (W : Given
 
     exits : (fs : List Frame) → length fs ≡ s0 .count → ent 𝓤 (⋆ 𝓤 H A (‵ (Holds (frames fs)) ∷ ‵ (Holds stores) ∷ [])) (Post vunit)
     exits fs len =
-        qed W (‵ (Holds (frames fs)) ∷ ‵ (Holds stores) ∷ []) ∵ suffices ! _ (ends-at 𝓤 H A me.ended (stays kinds) (me.clauses 𝓤 H A mem run) W (passing (xs ys)) vunit tt (fs, (tt, tt)) (len, (tt, tt))) $ says ! len $
-        joins ! (frames fs) stores (gives ! (xs fs) tt (frame ! $ feqI ! (List Val) (vunit ∷ []) (vunit ∷ []) refl $ keep ! (1 ∷ 0 ∷ []) $ done !))
+        qed W (‵ (Holds (frames fs)) ∷ ‵ (Holds stores) ∷ []) ∵ suffices ! _
+        (ends-at 𝓤 H A me.ended (stays kinds) (me.clauses 𝓤 H A mem run) W (passing (xs ys)) vunit tt (fs, (tt, tt))
+        (len, (tt, tt))) $ says ! len $ joins ! (frames fs) stores
+        (gives ! (xs fs) tt (frame ! $ feqI ! (List Val) (vunit ∷ []) (vunit ∷ []) refl $ keep ! (1 ∷ 0 ∷ []) $ done !))
 
     abbrev to-last : ℕ → List Arg
     to-last n = shr u64 s1 words ∷ val usize n (vint w64 n) ∷ []
 
     call-last : (n : ℕ) → n < 2 ^ 64 → Rule 𝓤 H A W (to-last n) LastIn TR.the-row rval (λ r zs. weight (r .more) (r .at) ≤ n)
-    call-last n fits = call-with 𝓤 H A W (to-last n) LastIn TR.the-row rval (λ r zs. weight (r .more) (r .at) ≤ n) (TR′.lowers .val-is) (λ ns. passing (lent (to-last n) ns)) (λ ns. refl)
-        (λ ns. unasked W (lent (to-last n) ns)) (λ ns w. id⊢ 𝓤 _) (uint-makes 𝓤 H A W w64 n _ (refl, fits), tt) ((refl, room1), tt)
+    call-last n fits =
+        call-with 𝓤 H A W (to-last n) LastIn TR.the-row rval (λ r zs. weight (r .more) (r .at) ≤ n) (TR′.lowers .val-is)
+        (λ ns. passing (lent (to-last n) ns)) (λ ns. refl) (λ ns. unasked W (lent (to-last n) ns)) (λ ns w. id⊢ 𝓤 _)
+        (uint-makes 𝓤 H A W w64 n _ (refl, fits), tt) ((refl, room1), tt)
 
     -- the loop's state: the next frame, the records so far, and what is known of them
     abbrev State : Type 0
@@ -128,16 +133,23 @@ module _ {M : Type 1} (𝓤 : URA M) (H : Heap 𝓤) (A : Atoms 𝓤) (W : Given
 
     walk : ent 𝓤 (onEntry 𝓤 H A me.signature (lfts (xs ys)) (shares (xs ys)) (denots (xs ys)) (valss (xs ys))) (WpFn 𝓤 H (𝓣 .C) (𝓣 .Λ) code.function (values (xs ys)) Post)
     walk =
-        qed W (‵ (Toks (xs ys)) ∷ ‵ (Owns (xs ys)) ∷ []) ∵ takes ! (xs ys) (splits ! (frames ys) stores (enters ! (𝓣 .C) (𝓣 .Λ) code.function (values (xs ys)) Post
-        ((tt, (tt, (record { fits = room0 .0 }, tt))), ((tt, (tt, (record { fits = room1 .0 }, tt))), tt)) (λ ls.
-        sets ! (of-opd ! (of ! refl)) (tt, record { fits = room0 .0 }) $ move ! (0 ∷ 2 ∷ []) $ call-last (s0 .count) (room0 .0) .calls ! (fmOf 𝓤 H (W .laws) 𝓣) known-last refl (λ r zs said lens isr. lands-in ! (resting-typed r isr) $
-        trims ! 4 $ move ! (0 ∷ 2 ∷ []) $ rounds ! (loop ls) (turn ls) (r, ys, (isr, refl, said))))))
+        qed W (‵ (Toks (xs ys)) ∷ ‵ (Owns (xs ys)) ∷ []) ∵ takes ! (xs ys)
+        (splits ! (frames ys) stores
+        (enters ! (𝓣 .C) (𝓣 .Λ) code.function (values (xs ys)) Post
+        ((tt, (tt, (record { fits = room0 .0 }, tt))), ((tt, (tt, (record { fits = room1 .0 }, tt))), tt))
+        (λ ls. sets ! (of-opd ! (of ! refl)) (tt, record { fits = room0 .0 }) $ move ! (0 ∷ 2 ∷ []) $ call-last (s0 .count)
+        (room0 .0) .calls ! (fmOf 𝓤 H (W .laws) 𝓣) known-last refl
+        (λ r zs said lens isr. lands-in ! (resting-typed r isr) $ trims ! 4 $ move ! (0 ∷ 2 ∷ []) $ rounds ! (loop ls) (turn ls)
+        (r, ys, (isr, refl, said))))))
 
 pub lay-spec : {M : Type 1} → stated.statement M
 unfolding code.routine tablesOf
 lay-spec 𝓤 H 𝓜 𝓖 𝓡 =
     let W : Given 𝓤 H (𝓖 .A) = givenOf 𝓤 H 𝓜 𝓖 in
     closed kinds Nothing 𝓤 H 𝓜 𝓖 𝓡 code.env #me code.function (code.unfolded 𝓤 H 𝓜 𝓡) (me.clauses 𝓤 H (𝓖 .A) (𝓜 .mem) (𝓡 .run))
-    (λ κs qs a g is. via 𝓤 _ (fst∗ 𝓤 _ (emp 𝓤)) (walk 𝓤 H (𝓖 .A) W (𝓜 .mem) (𝓡 .run) (tablesOf 𝓤 H 𝓜 (tables 𝓤 H 𝓜 𝓡 code.env))
-    (cited 𝓤 H (Write 𝓤 H (𝓖 .A) W (𝓜 .mem) (𝓡 .run)) 𝓜 𝓡 code.env #write write-def.routine code.calls-frames·push-frame (write-thm.met 𝓤 H 𝓜 𝓖 𝓡))
-    (cited 𝓤 H (LastIn 𝓤 H (𝓖 .A) W (𝓜 .mem) (𝓡 .run)) 𝓜 𝓡 code.env #last last-def.routine code.calls-console·bridge·last-in (last-thm.met 𝓤 H 𝓜 𝓖 𝓡)) κs qs a is))
+    (λ κs qs a g is. via 𝓤 _ (fst∗ 𝓤 _ (emp 𝓤))
+    (walk 𝓤 H (𝓖 .A) W (𝓜 .mem) (𝓡 .run) (tablesOf 𝓤 H 𝓜 (tables 𝓤 H 𝓜 𝓡 code.env))
+    (cited 𝓤 H (Write 𝓤 H (𝓖 .A) W (𝓜 .mem) (𝓡 .run)) 𝓜 𝓡 code.env #write write-def.routine code.calls-frames·push-frame
+    (write-thm.met 𝓤 H 𝓜 𝓖 𝓡))
+    (cited 𝓤 H (LastIn 𝓤 H (𝓖 .A) W (𝓜 .mem) (𝓡 .run)) 𝓜 𝓡 code.env #last last-def.routine code.calls-console·bridge·last-in
+    (last-thm.met 𝓤 H 𝓜 𝓖 𝓡)) κs qs a is))

@@ -36,7 +36,10 @@ use Rattle.console.proofs.bridge.with_frames.Statement as stated
 use Rattle.console.proofs.bridge.with_frames.Code as code
 
 abbrev kinds : List (Kind 14)
-kinds = own VmRow vmVal vm-tells (λ x f. refl) ∷ own CallRow callVal call-tells (λ x f. refl) ∷ shared 0 tt u8 ∷ unique 1 tt u64 ∷ unique 2 tt u64 ∷ unique 3 tt u64 ∷ unique 4 tt u8 ∷ unique 5 tt u8 ∷ unique 6 tt u32 ∷ unique 7 tt u8 ∷ unique 8 tt u32 ∷ unique 9 tt u64 ∷ unique 10 tt u64 ∷ unique 11 tt u64 ∷ unique 12 tt u32 ∷ unique 13 tt u64 ∷ []
+kinds =
+    own VmRow vmVal vm-tells (λ x f. refl) ∷ own CallRow callVal call-tells (λ x f. refl) ∷ shared 0 tt u8 ∷ unique 1 tt u64 ∷
+    unique 2 tt u64 ∷ unique 3 tt u64 ∷ unique 4 tt u8 ∷ unique 5 tt u8 ∷ unique 6 tt u32 ∷ unique 7 tt u8 ∷ unique 8 tt u32 ∷
+    unique 9 tt u64 ∷ unique 10 tt u64 ∷ unique 11 tt u64 ∷ unique 12 tt u32 ∷ unique 13 tt u64 ∷ []
 
 -- the frames before any is laid
 abbrev frames₀ : List Frame
@@ -93,16 +96,23 @@ module _ {M : Type 1} (𝓤 : URA M) (H : Heap 𝓤) (A : Atoms 𝓤) (W : Given
     s9 = sl (κs .1 .1 .1 .1 .1 .1 .1 .1 .1 .0) (qs .1 .1 .1 .1 .1 .1 .1 .1 .1 .0) (a .1 .1 .1 .1 .1 .1 .1 .1 .1 .1 .1 .0)
 
     abbrev s10 : Sl
-    s10 = sl (κs .1 .1 .1 .1 .1 .1 .1 .1 .1 .1 .0) (qs .1 .1 .1 .1 .1 .1 .1 .1 .1 .1 .0) (a .1 .1 .1 .1 .1 .1 .1 .1 .1 .1 .1 .1 .0)
+    s10 =
+        sl (κs .1 .1 .1 .1 .1 .1 .1 .1 .1 .1 .0) (qs .1 .1 .1 .1 .1 .1 .1 .1 .1 .1 .0) (a .1 .1 .1 .1 .1 .1 .1 .1 .1 .1 .1 .1 .0)
 
     abbrev s11 : Sl
-    s11 = sl (κs .1 .1 .1 .1 .1 .1 .1 .1 .1 .1 .1 .0) (qs .1 .1 .1 .1 .1 .1 .1 .1 .1 .1 .1 .0) (a .1 .1 .1 .1 .1 .1 .1 .1 .1 .1 .1 .1 .1 .0)
+    s11 =
+        sl (κs .1 .1 .1 .1 .1 .1 .1 .1 .1 .1 .1 .0) (qs .1 .1 .1 .1 .1 .1 .1 .1 .1 .1 .1 .0)
+        (a .1 .1 .1 .1 .1 .1 .1 .1 .1 .1 .1 .1 .1 .0)
 
     abbrev s12 : Sl
-    s12 = sl (κs .1 .1 .1 .1 .1 .1 .1 .1 .1 .1 .1 .1 .0) (qs .1 .1 .1 .1 .1 .1 .1 .1 .1 .1 .1 .1 .0) (a .1 .1 .1 .1 .1 .1 .1 .1 .1 .1 .1 .1 .1 .1 .0)
+    s12 =
+        sl (κs .1 .1 .1 .1 .1 .1 .1 .1 .1 .1 .1 .1 .0) (qs .1 .1 .1 .1 .1 .1 .1 .1 .1 .1 .1 .1 .0)
+        (a .1 .1 .1 .1 .1 .1 .1 .1 .1 .1 .1 .1 .1 .1 .0)
 
     abbrev s13 : Sl
-    s13 = sl (κs .1 .1 .1 .1 .1 .1 .1 .1 .1 .1 .1 .1 .1 .0) (qs .1 .1 .1 .1 .1 .1 .1 .1 .1 .1 .1 .1 .1 .0) (a .1 .1 .1 .1 .1 .1 .1 .1 .1 .1 .1 .1 .1 .1 .1 .0)
+    s13 =
+        sl (κs .1 .1 .1 .1 .1 .1 .1 .1 .1 .1 .1 .1 .1 .0) (qs .1 .1 .1 .1 .1 .1 .1 .1 .1 .1 .1 .1 .1 .0)
+        (a .1 .1 .1 .1 .1 .1 .1 .1 .1 .1 .1 .1 .1 .1 .1 .0)
 
     abbrev image : List ℕ
     image = now (a .1 .1 .0)
@@ -190,7 +200,10 @@ module _ {M : Type 1} (𝓤 : URA M) (H : Heap 𝓤) (A : Atoms 𝓤) (W : Given
 
     -- the arguments before and behind the frames
     abbrev firsts : List Arg
-    firsts = val VmRow m (vmVal m) ∷ val CallRow call (callVal call) ∷ shr u8 s0 image ∷ mut u64 s1 constants ∷ mut u64 s2 structs ∷ mut u64 s3 functions ∷ mut u8 s4 text ∷ mut u8 s5 main ∷ mut u32 s6 mainPlaces ∷ mut u8 s7 other ∷ mut u32 s8 otherPlaces ∷ mut u64 s9 stack ∷ mut u64 s10 cells ∷ []
+    firsts =
+        val VmRow m (vmVal m) ∷ val CallRow call (callVal call) ∷ shr u8 s0 image ∷ mut u64 s1 constants ∷ mut u64 s2 structs ∷
+        mut u64 s3 functions ∷ mut u8 s4 text ∷ mut u8 s5 main ∷ mut u32 s6 mainPlaces ∷ mut u8 s7 other ∷ mut u32 s8 otherPlaces
+        ∷ mut u64 s9 stack ∷ mut u64 s10 cells ∷ []
 
     abbrev lasts : List Arg
     lasts = mut u64 s11 copy ∷ mut u32 s12 trace ∷ mut u64 s13 words ∷ []
@@ -203,8 +216,11 @@ module _ {M : Type 1} (𝓤 : URA M) (H : Heap 𝓤) (A : Atoms 𝓤) (W : Given
 
     exits : (r : Answer) (zs : Lists entry) → IsAnswer r → Lens entry zs → ent 𝓤 (⋆ 𝓤 H A (‵ (Holds (after entry zs)) ∷ [])) (Post (answerVal r))
     exits r zs isr lens =
-        qed W (‵ (Holds (after entry zs)) ∷ []) ∵ suffices ! _ (ends-at 𝓤 H A me.ended (stays kinds) (me.clauses 𝓤 H A mem run) W (passing entry) (answerVal r) r zs (tt, (tt, (tt, lens)))) $ says ! (lens .1 .1 .1 .1 .1 .1 .1 .1 .1 .1 .1 .1 .0) $
-        gives ! (after entry zs) (vm-makes 𝓤 H A W m _ (is .0), (call-makes 𝓤 H A W call _ (is .1 .0), tt)) (frame ! $ owned ! AnswerRow (Is AnswerRow) (answer-makes 𝓤 H A W) r _ isr $ keep ! (1 ∷ 0 ∷ []) $ done !)
+        qed W (‵ (Holds (after entry zs)) ∷ []) ∵ suffices ! _
+        (ends-at 𝓤 H A me.ended (stays kinds) (me.clauses 𝓤 H A mem run) W (passing entry) (answerVal r) r zs
+        (tt, (tt, (tt, lens)))) $ says ! (lens .1 .1 .1 .1 .1 .1 .1 .1 .1 .1 .1 .1 .0) $ gives ! (after entry zs)
+        (vm-makes 𝓤 H A W m _ (is .0), (call-makes 𝓤 H A W call _ (is .1 .0), tt))
+        (frame ! $ owned ! AnswerRow (Is AnswerRow) (answer-makes 𝓤 H A W) r _ isr $ keep ! (1 ∷ 0 ∷ []) $ done !)
 
     -- the frames, lent, and the call
     module _ (ν : ℕ) (δ : GName) (l : ℕ) where
@@ -219,7 +235,40 @@ module _ {M : Type 1} (𝓤 : URA M) (H : Heap 𝓤) (A : Atoms 𝓤) (W : Given
 
       -- what the call leaves before the frames, with other lists behind it
       abbrev left : (ys : List Arg) → Lists to-it → Lists ys → Lists (firsts ++ ys)
-      left ys zs us = (tt, (tt, (tt, (zs .1 .1 .1 .0, (zs .1 .1 .1 .1 .0, (zs .1 .1 .1 .1 .1 .0, (zs .1 .1 .1 .1 .1 .1 .0, (zs .1 .1 .1 .1 .1 .1 .1 .0, (zs .1 .1 .1 .1 .1 .1 .1 .1 .0, (zs .1 .1 .1 .1 .1 .1 .1 .1 .1 .0, (zs .1 .1 .1 .1 .1 .1 .1 .1 .1 .1 .0, (zs .1 .1 .1 .1 .1 .1 .1 .1 .1 .1 .1 .0, (zs .1 .1 .1 .1 .1 .1 .1 .1 .1 .1 .1 .1 .0, us)))))))))))))
+      left ys zs us = (
+        tt,
+        (
+          tt,
+          (
+            tt,
+            (
+              zs .1 .1 .1 .0,
+              (
+                zs .1 .1 .1 .1 .0,
+                (
+                  zs .1 .1 .1 .1 .1 .0,
+                  (
+                    zs .1 .1 .1 .1 .1 .1 .0,
+                    (
+                      zs .1 .1 .1 .1 .1 .1 .1 .0,
+                      (
+                        zs .1 .1 .1 .1 .1 .1 .1 .1 .0,
+                        (
+                          zs .1 .1 .1 .1 .1 .1 .1 .1 .1 .0,
+                          (
+                            zs .1 .1 .1 .1 .1 .1 .1 .1 .1 .1 .0,
+                            (zs .1 .1 .1 .1 .1 .1 .1 .1 .1 .1 .1 .0, (zs .1 .1 .1 .1 .1 .1 .1 .1 .1 .1 .1 .1 .0, us)),
+                          ),
+                        ),
+                      ),
+                    ),
+                  ),
+                ),
+              ),
+            ),
+          ),
+        ),
+      )
 
     -- the locals before and behind the array, and where it lies
     abbrev fs : List Local
@@ -229,10 +278,20 @@ module _ {M : Type 1} (𝓤 : URA M) (H : Heap 𝓤) (A : Atoms 𝓤) (W : Given
     bs = drop 19 (code.function .locals)
 
     abbrev us : List (Option Val)
-    us = none ∷ some (vmVal m) ∷ some (callVal call) ∷ some (sval s0) ∷ some (sval s1) ∷ some (sval s2) ∷ some (sval s3) ∷ some (sval s4) ∷ some (sval s5) ∷ some (sval s6) ∷ some (sval s7) ∷ some (sval s8) ∷ some (sval s9) ∷ some (sval s10) ∷ some (sval s11) ∷ some (sval s12) ∷ some (sval s13) ∷ some (fval noFrame) ∷ []
+    us =
+        none ∷ some (vmVal m) ∷ some (callVal call) ∷ some (sval s0) ∷ some (sval s1) ∷ some (sval s2) ∷ some (sval s3) ∷ some
+        (sval s4) ∷ some (sval s5) ∷ some (sval s6) ∷ some (sval s7) ∷ some (sval s8) ∷ some (sval s9) ∷ some (sval s10) ∷ some
+        (sval s11) ∷ some (sval s12) ∷ some (sval s13) ∷ some (fval noFrame) ∷ []
 
     abbrev ws : ℕ → List (Option Val)
-    ws l = some (vptr (s1 .block) (s1 .offset)) ∷ some (sval s1) ∷ some (vptr (s2 .block) (s2 .offset)) ∷ some (sval s2) ∷ some (vptr (s3 .block) (s3 .offset)) ∷ some (sval s3) ∷ some (vptr (s4 .block) (s4 .offset)) ∷ some (sval s4) ∷ some (vptr (s5 .block) (s5 .offset)) ∷ some (sval s5) ∷ some (vptr (s6 .block) (s6 .offset)) ∷ some (sval s6) ∷ some (vptr (s7 .block) (s7 .offset)) ∷ some (sval s7) ∷ some (vptr (s8 .block) (s8 .offset)) ∷ some (sval s8) ∷ some (vptr (s9 .block) (s9 .offset)) ∷ some (sval s9) ∷ some (vptr (s10 .block) (s10 .offset)) ∷ some (sval s10) ∷ some (vptr l 0) ∷ some (sliceVal (l, 0) 256) ∷ some (vptr (s11 .block) (s11 .offset)) ∷ some (sval s11) ∷ some (vptr (s12 .block) (s12 .offset)) ∷ some (sval s12) ∷ some (vptr (s13 .block) (s13 .offset)) ∷ some (sval s13) ∷ []
+    ws l =
+        some (vptr (s1 .block) (s1 .offset)) ∷ some (sval s1) ∷ some (vptr (s2 .block) (s2 .offset)) ∷ some (sval s2) ∷ some
+        (vptr (s3 .block) (s3 .offset)) ∷ some (sval s3) ∷ some (vptr (s4 .block) (s4 .offset)) ∷ some (sval s4) ∷ some
+        (vptr (s5 .block) (s5 .offset)) ∷ some (sval s5) ∷ some (vptr (s6 .block) (s6 .offset)) ∷ some (sval s6) ∷ some
+        (vptr (s7 .block) (s7 .offset)) ∷ some (sval s7) ∷ some (vptr (s8 .block) (s8 .offset)) ∷ some (sval s8) ∷ some
+        (vptr (s9 .block) (s9 .offset)) ∷ some (sval s9) ∷ some (vptr (s10 .block) (s10 .offset)) ∷ some (sval s10) ∷ some
+        (vptr l 0) ∷ some (sliceVal (l, 0) 256) ∷ some (vptr (s11 .block) (s11 .offset)) ∷ some (sval s11) ∷ some
+        (vptr (s12 .block) (s12 .offset)) ∷ some (sval s12) ∷ some (vptr (s13 .block) (s13 .offset)) ∷ some (sval s13) ∷ []
 
     abbrev at : Blocks (code.function .locals) → ℕ
     at ls = ls .1 .1 .1 .1 .1 .1 .1 .1 .1 .1 .1 .1 .1 .1 .1 .1 .1 .1 .0
@@ -241,9 +300,51 @@ module _ {M : Type 1} (𝓤 : URA M) (H : Heap 𝓤) (A : Atoms 𝓤) (W : Given
     walk =
         qed W (‵ (Toks entry) ∷ ‵ (Owns entry) ∷ []) ∵ takes ! entry (
         -- what the array owns, and that its machine value is one of the type
-        owned ! R (Is R) (frame-makes 𝓤 H A W) noFrame (fval noFrame ∷ []) is-none $ use1 W (‵ (Array R 256 .own frames₀ (array₀ ∷ []))) (array-repeat 𝓤 H A W R (frame-copy 𝓤 H A W) 256 noFrame (fval noFrame)) $
-        peeks ! (Array R 256) (Is (Array R 256)) (shows 𝓤 H A (Array R 256)) frames₀ (array₀ ∷ []) (λ isa. enters ! (𝓣 .C) (𝓣 .Λ) code.function (values entry) Post
-        (vm-typed 𝓤 H A W m (is .0), (call-typed 𝓤 H A W call (is .1 .0), ((tt, (tt, (record { fits = room0 .0 }, tt))), ((tt, (tt, (record { fits = room1 .0 }, tt))), ((tt, (tt, (record { fits = room2 .0 }, tt))), ((tt, (tt, (record { fits = room3 .0 }, tt))), ((tt, (tt, (record { fits = room4 .0 }, tt))), ((tt, (tt, (record { fits = room5 .0 }, tt))), ((tt, (tt, (record { fits = room6 .0 }, tt))), ((tt, (tt, (record { fits = room7 .0 }, tt))), ((tt, (tt, (record { fits = room8 .0 }, tt))), ((tt, (tt, (record { fits = room9 .0 }, tt))), ((tt, (tt, (record { fits = room10 .0 }, tt))), ((tt, (tt, (record { fits = room11 .0 }, tt))), ((tt, (tt, (record { fits = room12 .0 }, tt))), ((tt, (tt, (record { fits = room13 .0 }, tt))), tt)))))))))))))))) (λ ls.
+        owned ! R (Is R) (frame-makes 𝓤 H A W) noFrame (fval noFrame ∷ []) is-none $
+        use1 W (‵ (Array R 256 .own frames₀ (array₀ ∷ []))) (array-repeat 𝓤 H A W R (frame-copy 𝓤 H A W) 256 noFrame (fval noFrame)) $
+        peeks ! (Array R 256) (Is (Array R 256)) (shows 𝓤 H A (Array R 256)) frames₀ (array₀ ∷ []) (λ isa. enters ! (𝓣 .C) (𝓣 .Λ) code.function (values entry) Post (
+          vm-typed 𝓤 H A W m (is .0),
+          (
+            call-typed 𝓤 H A W call (is .1 .0),
+            (
+              (tt, (tt, (record { fits = room0 .0 }, tt))),
+              (
+                (tt, (tt, (record { fits = room1 .0 }, tt))),
+                (
+                  (tt, (tt, (record { fits = room2 .0 }, tt))),
+                  (
+                    (tt, (tt, (record { fits = room3 .0 }, tt))),
+                    (
+                      (tt, (tt, (record { fits = room4 .0 }, tt))),
+                      (
+                        (tt, (tt, (record { fits = room5 .0 }, tt))),
+                        (
+                          (tt, (tt, (record { fits = room6 .0 }, tt))),
+                          (
+                            (tt, (tt, (record { fits = room7 .0 }, tt))),
+                            (
+                              (tt, (tt, (record { fits = room8 .0 }, tt))),
+                              (
+                                (tt, (tt, (record { fits = room9 .0 }, tt))),
+                                (
+                                  (tt, (tt, (record { fits = room10 .0 }, tt))),
+                                  (
+                                    (tt, (tt, (record { fits = room11 .0 }, tt))),
+                                    ((tt, (tt, (record { fits = room12 .0 }, tt))), ((tt, (tt, (record { fits = room13 .0 }, tt))), tt)),
+                                  ),
+                                ),
+                              ),
+                            ),
+                          ),
+                        ),
+                      ),
+                    ),
+                  ),
+                ),
+              ),
+            ),
+          ),
+        ) (λ ls.
         sets ! (agg ! (ofs ! refl)) (frame-typed 𝓤 H A W noFrame is-none) $
         sets ! (rep ! 256 (of ! refl)) (array-lawful 𝓤 H A W R (LL.lawful T.the-type T′.the-laws 𝓤 H A W) 256 .typed frames₀ (array₀ ∷ []) isa .0) $
         sets ! (addr ! (behind ! refl refl)) (tt, tt) $ sets ! (agg ! (ofs ! refl)) (tt, (tt, (record { fits = room1 .0 }, tt))) $
@@ -265,19 +366,93 @@ module _ {M : Type 1} (𝓤 : URA M) (H : Heap 𝓤) (A : Atoms 𝓤) (W : Given
         -- [the frames; the lender's part; the locals before; what frees the array; the locals behind; the slices]
         move ! (5 ∷ []) $ splits ! firsts lasts (move ! (2 ∷ 1 ∷ []) $ fjoin ! $ move ! (1 ∷ 0 ∷ []) $ joins ! firsts (mut R (sf ν δ (at ls)) frames₀ ∷ lasts) (
         -- [all the slices; the lender's part; the locals before; what frees the array; the locals behind]
-        calls-with 𝓤 H A W (to-it ν δ (at ls)) It AnswerRow answerVal (Acted ν δ (at ls)) answer-tells (λ ns. passing (lent (to-it ν δ (at ls)) ns)) (λ ns. unasked W (lent (to-it ν δ (at ls)) ns)) (λ ns w. id⊢ 𝓤 _)
-        (vm-makes 𝓤 H A W m _ (is .0), (call-makes 𝓤 H A W call _ (is .1 .0), tt)) ((refl, room0), ((refl, room1), ((refl, room2), ((refl, room3), ((refl, room4), ((refl, room5), ((refl, room6), ((refl, room7), ((refl, room8), ((refl, room9), ((refl, room10), ((e, room), ((refl, room11), ((refl, room12), ((refl, room13), tt)))))))))))))))
-        ! (fmOf 𝓤 H (W .laws) 𝓣) known (λ ns. and-then ! (load ! (from ! (stop !)) (look-in ! 3 (here ! 1 refl))) (and-then ! (load ! (from ! (stop !)) (look-in ! 3 (here ! 2 refl))) (and-then ! (load ! (from ! (stop !)) (look-in ! 3 (here ! 3 refl))) (and-then ! (load ! (from ! (stop !)) (look-in ! 5 (here ! 1 refl))) (and-then ! (load ! (from ! (stop !)) (look-in ! 5 (here ! 3 refl))) (and-then ! (load ! (from ! (stop !)) (look-in ! 5 (here ! 5 refl))) (and-then ! (load ! (from ! (stop !)) (look-in ! 5 (here ! 7 refl))) (and-then ! (load ! (from ! (stop !)) (look-in ! 5 (here ! 9 refl))) (and-then ! (load ! (from ! (stop !)) (look-in ! 5 (here ! 11 refl))) (and-then ! (load ! (from ! (stop !)) (look-in ! 5 (here ! 13 refl))) (and-then ! (load ! (from ! (stop !)) (look-in ! 5 (here ! 15 refl))) (and-then ! (load ! (from ! (stop !)) (look-in ! 5 (here ! 17 refl))) (and-then ! (load ! (from ! (stop !)) (look-in ! 5 (here ! 19 refl))) (and-then ! (load ! (from ! (stop !)) (look-in ! 5 (here ! 21 refl))) (and-then ! (load ! (from ! (stop !)) (look-in ! 5 (here ! 23 refl))) (and-then ! (load ! (from ! (stop !)) (look-in ! 5 (here ! 25 refl))) (and-then ! (load ! (from ! (stop !)) (look-in ! 5 (here ! 27 refl))) (no-more !)))))))))))))))))) (λ r zs said lens isr.
-        splits ! (after firsts (left ν δ (at ls) [] zs tt)) (mut R (sf ν δ (at ls)) (zs .1 .1 .1 .1 .1 .1 .1 .1 .1 .1 .1 .1 .1 .0) ∷ after lasts (zs .1 .1 .1 .1 .1 .1 .1 .1 .1 .1 .1 .1 .1 .1)) (move ! (1 ∷ []) $ fsplit ! $ move ! (2 ∷ 1 ∷ []) $ joins ! (after firsts (left ν δ (at ls) [] zs tt)) (after lasts (zs .1 .1 .1 .1 .1 .1 .1 .1 .1 .1 .1 .1 .1 .1)) (
+        calls-with 𝓤 H A W (to-it ν δ (at ls)) It AnswerRow answerVal (Acted ν δ (at ls)) answer-tells (λ ns. passing (lent (to-it ν δ (at ls)) ns))
+        (λ ns. unasked W (lent (to-it ν δ (at ls)) ns)) (λ ns w. id⊢ 𝓤 _)
+        (vm-makes 𝓤 H A W m _ (is .0), (call-makes 𝓤 H A W call _ (is .1 .0), tt)) (
+          (refl, room0),
+          (
+            (refl, room1),
+            (
+              (refl, room2),
+              (
+                (refl, room3),
+                (
+                  (refl, room4),
+                  (
+                    (refl, room5),
+                    (
+                      (refl, room6),
+                      (
+                        (refl, room7),
+                        ((refl, room8), ((refl, room9), ((refl, room10), ((e, room), ((refl, room11), ((refl, room12), ((refl, room13), tt))))))),
+                      ),
+                    ),
+                  ),
+                ),
+              ),
+            ),
+          ),
+        )
+        ! (fmOf 𝓤 H (W .laws) 𝓣) known (λ ns. and-then ! (load ! (from ! (stop !)) (look-in ! 3 (here ! 1 refl)))
+        (and-then ! (load ! (from ! (stop !)) (look-in ! 3 (here ! 2 refl)))
+        (and-then ! (load ! (from ! (stop !)) (look-in ! 3 (here ! 3 refl)))
+        (and-then ! (load ! (from ! (stop !)) (look-in ! 5 (here ! 1 refl)))
+        (and-then ! (load ! (from ! (stop !)) (look-in ! 5 (here ! 3 refl)))
+        (and-then ! (load ! (from ! (stop !)) (look-in ! 5 (here ! 5 refl)))
+        (and-then ! (load ! (from ! (stop !)) (look-in ! 5 (here ! 7 refl)))
+        (and-then ! (load ! (from ! (stop !)) (look-in ! 5 (here ! 9 refl)))
+        (and-then ! (load ! (from ! (stop !)) (look-in ! 5 (here ! 11 refl)))
+        (and-then ! (load ! (from ! (stop !)) (look-in ! 5 (here ! 13 refl)))
+        (and-then ! (load ! (from ! (stop !)) (look-in ! 5 (here ! 15 refl)))
+        (and-then ! (load ! (from ! (stop !)) (look-in ! 5 (here ! 17 refl)))
+        (and-then ! (load ! (from ! (stop !)) (look-in ! 5 (here ! 19 refl)))
+        (and-then ! (load ! (from ! (stop !)) (look-in ! 5 (here ! 21 refl)))
+        (and-then ! (load ! (from ! (stop !)) (look-in ! 5 (here ! 23 refl)))
+        (and-then ! (load ! (from ! (stop !)) (look-in ! 5 (here ! 25 refl)))
+        (and-then ! (load ! (from ! (stop !)) (look-in ! 5 (here ! 27 refl))) (no-more !)))))))))))))))))) (λ r zs said lens isr.
+        splits ! (after firsts (left ν δ (at ls) [] zs tt)) (mut R (sf ν δ (at ls)) (zs .1 .1 .1 .1 .1 .1 .1 .1 .1 .1 .1 .1 .1 .0)
+        ∷ after lasts (zs .1 .1 .1 .1 .1 .1 .1 .1 .1 .1 .1 .1 .1 .1))
+        (move ! (1 ∷ []) $ fsplit ! $ move ! (2 ∷ 1 ∷ []) $ joins ! (after firsts (left ν δ (at ls) [] zs tt))
+        (after lasts (zs .1 .1 .1 .1 .1 .1 .1 .1 .1 .1 .1 .1 .1 .1)) (
         -- [the slices; the frames; the lender's part; the locals before; what frees the array; the locals behind]
-        move ! (1 ∷ 2 ∷ []) $ back-array ! tt R 256 (zs .1 .1 .1 .1 .1 .1 .1 .1 .1 .1 .1 .1 .1 .0) (at ls) ν δ 256 (λ u. move ! (2 ∷ 0 ∷ 3 ∷ 4 ∷ []) $ whole _ memorySlot bs (ws (at ls)) ! fs us tt u ls (
+        move ! (1 ∷ 2 ∷ []) $ back-array ! tt R 256 (zs .1 .1 .1 .1 .1 .1 .1 .1 .1 .1 .1 .1 .1 .0) (at ls) ν δ 256
+        (λ u. move ! (2 ∷ 0 ∷ 3 ∷ 4 ∷ []) $ whole _ memorySlot bs (ws (at ls)) ! fs us tt u ls (
         lands-in ! (answer-typed 𝓤 H A W r isr) $ leaves ! refl $
-        by ! (exits r (left ν δ (at ls) lasts zs (zs .1 .1 .1 .1 .1 .1 .1 .1 .1 .1 .1 .1 .1 .1)) isr (lens .0, (lens .1 .0, (lens .1 .1 .0, (lens .1 .1 .1 .0, (lens .1 .1 .1 .1 .0, (lens .1 .1 .1 .1 .1 .0, (lens .1 .1 .1 .1 .1 .1 .0, (lens .1 .1 .1 .1 .1 .1 .1 .0, (lens .1 .1 .1 .1 .1 .1 .1 .1 .0, (lens .1 .1 .1 .1 .1 .1 .1 .1 .1 .0, lens .1 .1 .1 .1 .1 .1 .1 .1 .1 .1 .1)))))))))))))))))))))))
+        by ! (exits r (left ν δ (at ls) lasts zs (zs .1 .1 .1 .1 .1 .1 .1 .1 .1 .1 .1 .1 .1 .1)) isr (
+          lens .0,
+          (
+            lens .1 .0,
+            (
+              lens .1 .1 .0,
+              (
+                lens .1 .1 .1 .0,
+                (
+                  lens .1 .1 .1 .1 .0,
+                  (
+                    lens .1 .1 .1 .1 .1 .0,
+                    (
+                      lens .1 .1 .1 .1 .1 .1 .0,
+                      (
+                        lens .1 .1 .1 .1 .1 .1 .1 .0,
+                        (
+                          lens .1 .1 .1 .1 .1 .1 .1 .1 .0,
+                          (lens .1 .1 .1 .1 .1 .1 .1 .1 .1 .0, lens .1 .1 .1 .1 .1 .1 .1 .1 .1 .1 .1),
+                        ),
+                      ),
+                    ),
+                  ),
+                ),
+              ),
+            ),
+          ),
+        ))))))))))))))
 
 pub with-frames-spec : {M : Type 1} → stated.statement M
 unfolding code.routine tablesOf
 with-frames-spec 𝓤 H 𝓜 𝓖 𝓡 =
     let W : Given 𝓤 H (𝓖 .A) = givenOf 𝓤 H 𝓜 𝓖 in
     closed kinds AnswerRow 𝓤 H 𝓜 𝓖 𝓡 code.env #me code.function (code.unfolded 𝓤 H 𝓜 𝓡) (me.clauses 𝓤 H (𝓖 .A) (𝓜 .mem) (𝓡 .run))
-    (λ κs qs a g is. unneeded 𝓤 _ (walk 𝓤 H (𝓖 .A) W (𝓜 .mem) (𝓡 .run) (tablesOf 𝓤 H 𝓜 (tables 𝓤 H 𝓜 𝓡 code.env))
-    (cited 𝓤 H (It 𝓤 H (𝓖 .A) W (𝓜 .mem) (𝓡 .run)) 𝓜 𝓡 code.env #it it-def.routine code.calls-console·bridge·act (it-thm.met 𝓤 H 𝓜 𝓖 𝓡)) κs qs a is))
+    (λ κs qs a g is. unneeded 𝓤 _
+    (walk 𝓤 H (𝓖 .A) W (𝓜 .mem) (𝓡 .run) (tablesOf 𝓤 H 𝓜 (tables 𝓤 H 𝓜 𝓡 code.env))
+    (cited 𝓤 H (It 𝓤 H (𝓖 .A) W (𝓜 .mem) (𝓡 .run)) 𝓜 𝓡 code.env #it it-def.routine code.calls-console·bridge·act
+    (it-thm.met 𝓤 H 𝓜 𝓖 𝓡)) κs qs a is))

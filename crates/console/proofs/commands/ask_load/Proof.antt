@@ -14,7 +14,13 @@ lent-whole-requires c κs = search needs
 
 returns : tie.Need-returns
 unfolding askLoad
-returns c = rw (← c .before .before .before .before .words-from .ensures, ← c .before .before .read-bytes .ensures, c .before .if1 .taken, c .lent-whole .ensures)
+returns c =
+    rw (
+      ← c .before .before .before .before .words-from .ensures,
+      ← c .before .before .read-bytes .ensures,
+      c .before .if1 .taken,
+      c .lent-whole .ensures,
+    )
 
 returns-2 : tie.Need-returns-2
 unfolding askLoad

@@ -17,11 +17,25 @@ whole-requires c κs = search needs
 
 returns : tie.Need-returns
 unfolding askRun
-returns c = rw (← c .before .before .before .before .before .before .word .ensures, ← c .before .before .before .before .before .decimal .ensures, ← c .before .before .before .before .read-room .ensures, c .before .if1 .taken, c .whole .ensures)
+returns c =
+    let at-read-room = c .before .before .before .before in
+    let at-decimal = at-read-room .before in
+    let at-word = at-decimal .before in
+    rw (
+      ← at-word .word .ensures,
+      ← at-decimal .decimal .ensures,
+      ← at-read-room .read-room .ensures,
+      c .before .if1 .taken,
+      c .whole .ensures,
+    )
 
 returns-2 : tie.Need-returns-2
 unfolding askRun
-returns-2 c = rw (← c .before .before .before .before .before .word .ensures, ← c .before .before .before .before .decimal .ensures, ← c .before .before .before .read-room .ensures, c .if1 .left)
+returns-2 c =
+    let at-read-room = c .before .before .before in
+    let at-decimal = at-read-room .before in
+    let at-word = at-decimal .before in
+    rw (← at-word .word .ensures, ← at-decimal .decimal .ensures, ← at-read-room .read-room .ensures, c .if1 .left)
 
 pub ask-run-spec : {M : Type 1} → statement M
 ask-run-spec = tie.close (tie.spec word-requires decimal-requires read-room-requires whole-requires returns returns-2)

@@ -24,7 +24,11 @@ same-bytes-requires-3 c κs = search needs
 
 returns : tie.Need-returns
 unfolding ascii isName
-returns c = rw (c .before .before .before .before .same-bytes .ensures, c .before .before .same-bytes2 .ensures, c .same-bytes3 .ensures)
+returns c =
+    rw (c .before .before .before .before .same-bytes .ensures, c .before .before .same-bytes2 .ensures, c .same-bytes3 .ensures)
 
 pub is-name-spec : {M : Type 1} → statement M
-is-name-spec = tie.close (tie.spec slice-aggregate-same-bytes same-bytes-requires slice-aggregate-same-bytes-2 same-bytes-requires-2 slice-aggregate-same-bytes-3 same-bytes-requires-3 returns)
+is-name-spec =
+    tie.close
+    (tie.spec slice-aggregate-same-bytes same-bytes-requires slice-aggregate-same-bytes-2 same-bytes-requires-2
+    slice-aggregate-same-bytes-3 same-bytes-requires-3 returns)

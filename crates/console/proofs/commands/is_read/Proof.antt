@@ -36,7 +36,21 @@ same-bytes-requires-5 c κs = search needs
 
 returns : tie.Need-returns
 unfolding ascii isRead
-returns c = rw (c .before .before .before .before .before .before .before .before .same-bytes .ensures, c .before .before .before .before .before .before .same-bytes2 .ensures, c .before .before .before .before .same-bytes3 .ensures, c .before .before .same-bytes4 .ensures, c .same-bytes5 .ensures)
+returns c =
+    let at-same-bytes3 = c .before .before .before .before in
+    let at-same-bytes2 = at-same-bytes3 .before .before in
+    let at-same-bytes = at-same-bytes2 .before .before in
+    rw (
+      at-same-bytes .same-bytes .ensures,
+      at-same-bytes2 .same-bytes2 .ensures,
+      at-same-bytes3 .same-bytes3 .ensures,
+      c .before .before .same-bytes4 .ensures,
+      c .same-bytes5 .ensures,
+    )
 
 pub is-read-spec : {M : Type 1} → statement M
-is-read-spec = tie.close (tie.spec slice-aggregate-same-bytes same-bytes-requires slice-aggregate-same-bytes-2 same-bytes-requires-2 slice-aggregate-same-bytes-3 same-bytes-requires-3 slice-aggregate-same-bytes-4 same-bytes-requires-4 slice-aggregate-same-bytes-5 same-bytes-requires-5 returns)
+is-read-spec =
+    tie.close
+    (tie.spec slice-aggregate-same-bytes same-bytes-requires slice-aggregate-same-bytes-2 same-bytes-requires-2
+    slice-aggregate-same-bytes-3 same-bytes-requires-3 slice-aggregate-same-bytes-4 same-bytes-requires-4
+    slice-aggregate-same-bytes-5 same-bytes-requires-5 returns)

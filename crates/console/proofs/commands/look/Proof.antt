@@ -75,7 +75,11 @@ slice-relend-prefix-lent : tie.Need-slice-relend-prefix-lent
 slice-relend-prefix-lent c = search needs
 
 slice-aggregate-lent : tie.Need-slice-aggregate-lent
-slice-aggregate-lent c = sym (length-take-le _ (c .before .before .before .before .before .before .before .before .before .before .before .before .before .before .before .before .before .before .before .before .before .before .args .space .now) (c .before .at-most .ensures .1))
+slice-aggregate-lent c =
+    sym
+    (length-take-le _
+    (c .before .before .before .before .before .before .before .before .before .before .before .before .before .before .before
+    .before .before .before .before .before .before .before .args .space .now) (c .before .at-most .ensures .1))
 
 slice-aggregate-same-bytes-3 : tie.Need-slice-aggregate-same-bytes-3
 slice-aggregate-same-bytes-3 c = search needs
@@ -102,4 +106,10 @@ returns-6 : tie.Need-returns-6
 returns-6 c = search needs
 
 pub look-spec : {M : Type 1} → statement M
-look-spec = tie.close (tie.spec word-requires slice-aggregate-same-bytes same-bytes-requires current-offset-requires say-told-requires returns slice-aggregate-same-bytes-2 same-bytes-requires-2 words-from-requires read-bytes-requires cut-requires get-function-idx-requires say-told-requires-2 same-length returns-2 say-unknown-requires same-length-2 returns-3 read-room-requires say-unknown-requires-2 returns-4 at-most-requires slice-relend-prefix-lent slice-aggregate-lent slice-aggregate-same-bytes-3 same-bytes-requires-3 save-requires same-length-3 returns-5 list-requires same-length-4 returns-6)
+look-spec =
+    tie.close
+    (tie.spec word-requires slice-aggregate-same-bytes same-bytes-requires current-offset-requires say-told-requires returns
+    slice-aggregate-same-bytes-2 same-bytes-requires-2 words-from-requires read-bytes-requires cut-requires
+    get-function-idx-requires say-told-requires-2 same-length returns-2 say-unknown-requires same-length-2 returns-3
+    read-room-requires say-unknown-requires-2 returns-4 at-most-requires slice-relend-prefix-lent slice-aggregate-lent
+    slice-aggregate-same-bytes-3 same-bytes-requires-3 save-requires same-length-3 returns-5 list-requires same-length-4 returns-6)

@@ -47,7 +47,38 @@ mixed-words-requires-7 c κs = search needs
 
 returns : tie.Need-returns
 unfolding sumOf
-returns c = rw (c .mixed-words7 .ensures, c .before .mixed-places3 .ensures, c .before .before .mixed-words6 .ensures, c .before .before .before .mixed-words5 .ensures, c .before .before .before .before .mixed-words4 .ensures, c .before .before .before .before .before .mixed-places2 .ensures, c .before .before .before .before .before .before .mixed-bytes3 .ensures, c .before .before .before .before .before .before .before .mixed-places .ensures, c .before .before .before .before .before .before .before .before .mixed-bytes2 .ensures, c .before .before .before .before .before .before .before .before .before .mixed-bytes .ensures, c .before .before .before .before .before .before .before .before .before .before .mixed-words3 .ensures, c .before .before .before .before .before .before .before .before .before .before .before .mixed-words2 .ensures, c .before .before .before .before .before .before .before .before .before .before .before .before .mixed-words .ensures, c .before .before .before .before .before .before .before .before .before .before .before .before .before .mixed-counts .ensures)
+returns c =
+    let at-mixed-words5 = c .before .before .before in
+    let at-mixed-words4 = at-mixed-words5 .before in
+    let at-mixed-places2 = at-mixed-words4 .before in
+    let at-mixed-bytes3 = at-mixed-places2 .before in
+    let at-mixed-places = at-mixed-bytes3 .before in
+    let at-mixed-bytes2 = at-mixed-places .before in
+    let at-mixed-bytes = at-mixed-bytes2 .before in
+    let at-mixed-words3 = at-mixed-bytes .before in
+    let at-mixed-words2 = at-mixed-words3 .before in
+    let at-mixed-words = at-mixed-words2 .before in
+    let at-mixed-counts = at-mixed-words .before in
+    rw (
+      c .mixed-words7 .ensures,
+      c .before .mixed-places3 .ensures,
+      c .before .before .mixed-words6 .ensures,
+      at-mixed-words5 .mixed-words5 .ensures,
+      at-mixed-words4 .mixed-words4 .ensures,
+      at-mixed-places2 .mixed-places2 .ensures,
+      at-mixed-bytes3 .mixed-bytes3 .ensures,
+      at-mixed-places .mixed-places .ensures,
+      at-mixed-bytes2 .mixed-bytes2 .ensures,
+      at-mixed-bytes .mixed-bytes .ensures,
+      at-mixed-words3 .mixed-words3 .ensures,
+      at-mixed-words2 .mixed-words2 .ensures,
+      at-mixed-words .mixed-words .ensures,
+      at-mixed-counts .mixed-counts .ensures,
+    )
 
 pub sum-spec : {M : Type 1} → statement M
-sum-spec = tie.close (tie.spec mixed-counts-requires mixed-words-requires mixed-words-requires-2 mixed-words-requires-3 mixed-bytes-requires mixed-bytes-requires-2 mixed-places-requires mixed-bytes-requires-3 mixed-places-requires-2 mixed-words-requires-4 mixed-words-requires-5 mixed-words-requires-6 mixed-places-requires-3 mixed-words-requires-7 returns)
+sum-spec =
+    tie.close
+    (tie.spec mixed-counts-requires mixed-words-requires mixed-words-requires-2 mixed-words-requires-3 mixed-bytes-requires
+    mixed-bytes-requires-2 mixed-places-requires mixed-bytes-requires-3 mixed-places-requires-2 mixed-words-requires-4
+    mixed-words-requires-5 mixed-words-requires-6 mixed-places-requires-3 mixed-words-requires-7 returns)

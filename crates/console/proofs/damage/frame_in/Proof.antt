@@ -46,4 +46,7 @@ unfolding frameIn
 returns-2 c = rw (le-ltb _ _ (c .if1 .left))
 
 pub frame-in-spec : {M : Type 1} → statement M
-frame-in-spec = tie.close (tie.spec mul-t6 mul-t7 shared-slice-read-t9 mul-t11 add-t12 mul-t13 shared-slice-read-t15 mul-t17 add-t18 mul-t19 shared-slice-read-t21 returns returns-2)
+frame-in-spec =
+    tie.close
+    (tie.spec mul-t6 mul-t7 shared-slice-read-t9 mul-t11 add-t12 mul-t13 shared-slice-read-t15 mul-t17 add-t18 mul-t19
+    shared-slice-read-t21 returns returns-2)

@@ -30,7 +30,19 @@ returns c = rw (c .before .enum-told .given .1) (c .mixed .ensures)
 
 returns-2 : tie.Need-returns-2
 unfolding mixedLast
-returns-2 c = rw (c .before .before .before .before .before .last .given .1, c .mixed3 .ensures, c .before .before .mixed2 .ensures, c .before .before .before .kind-of .ensures, c .before .payload-of .ensures .is)
+returns-2 c =
+    let at-kind-of = c .before .before .before in
+    let at-last = at-kind-of .before .before in
+    rw (
+      at-last .last .given .1,
+      c .mixed3 .ensures,
+      c .before .before .mixed2 .ensures,
+      at-kind-of .kind-of .ensures,
+      c .before .payload-of .ensures .is,
+    )
 
 pub mixed-last-spec : {M : Type 1} → statement M
-mixed-last-spec = tie.close (tie.spec enum-told mixed-requires enum-known-last kind-of-requires mixed-requires-2 payload-of-requires mixed-requires-3 returns returns-2)
+mixed-last-spec =
+    tie.close
+    (tie.spec enum-told mixed-requires enum-known-last kind-of-requires mixed-requires-2 payload-of-requires mixed-requires-3
+    returns returns-2)

@@ -38,11 +38,17 @@ loop-less c = omega arith
 
 loop-again : tie.Need-loop-again Inv-loop μ-loop
 unfolding mixedAll
-loop-again c = along-by _ _ _ (c .before .before .before .before .loop .inv) (c .before .before .before .loop-test .taken) (c .before .wide-place .ensures) (c .mixed .ensures)
+loop-again c =
+    let at-loop-test = c .before .before .before in
+    let at-loop = at-loop-test .before in
+    along-by _ _ _ (at-loop .loop .inv) (at-loop-test .loop-test .taken) (c .before .wide-place .ensures) (c .mixed .ensures)
 
 returns : tie.Need-returns Inv-loop μ-loop
 unfolding mixedAll
 returns c = along-end _ _ _ (c .before .loop .inv) (c .loop-test .left)
 
 pub mixed-places-spec : {M : Type 1} → statement M
-mixed-places-spec = tie.close (tie.spec Inv-loop μ-loop loop-holds mul-wide-place shared-slice-read-wide-place wide-place-requires mixed-requires add-i loop-less loop-again returns)
+mixed-places-spec =
+    tie.close
+    (tie.spec Inv-loop μ-loop loop-holds mul-wide-place shared-slice-read-wide-place wide-place-requires mixed-requires add-i
+    loop-less loop-again returns)

@@ -42,4 +42,6 @@ unfolding mixedAll
 returns c = along-end _ _ _ (c .before .loop .inv) (c .loop-test .left)
 
 pub mixed-words-spec : {M : Type 1} → statement M
-mixed-words-spec = tie.close (tie.spec Inv-loop μ-loop loop-holds mul-mixed shared-slice-read-mixed mixed-requires add-i loop-less loop-again returns)
+mixed-words-spec =
+    tie.close
+    (tie.spec Inv-loop μ-loop loop-holds mul-mixed shared-slice-read-mixed mixed-requires add-i loop-less loop-again returns)

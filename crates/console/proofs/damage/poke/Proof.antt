@@ -21,11 +21,26 @@ poke-places-requires c κs = search needs
 
 returns : tie.Need-returns
 unfolding pokeArgs wordsAsked bytesAsked placesAsked
-returns c = rw (← c .before .before .before .before .before .before .before .before .before .before .before .before .before .before .read-args .ensures, c .before .before .before .before .before .before .before .before .before .before .before .before .before .if1 .taken, ← c .before .before .before .before .before .before .before .before .before .before .before .before .before .before .before .word .ensures, ← c .before .before .before .before .before .before .before .poke-words .ensures, ← c .before .before .before .poke-bytes .ensures, ← c .poke-places .ensures) (refl, refl, refl, refl)
+returns c =
+    let at-poke-bytes = c .before .before .before in
+    let at-poke-words = at-poke-bytes .before .before .before .before in
+    let at-if1 = at-poke-words .before .before .before .before .before .before in
+    let at-read-args = at-if1 .before in
+    let at-word = at-read-args .before in
+    rw (
+      ← at-read-args .read-args .ensures,
+      at-if1 .if1 .taken,
+      ← at-word .word .ensures,
+      ← at-poke-words .poke-words .ensures,
+      ← at-poke-bytes .poke-bytes .ensures,
+      ← c .poke-places .ensures,
+    ) (refl, refl, refl, refl)
 
 returns-2 : tie.Need-returns-2
 unfolding pokeArgs wordsAsked bytesAsked placesAsked
 returns-2 c = rw (← c .before .read-args .ensures, c .if1 .left) (refl, refl, refl, refl)
 
 pub poke-spec : {M : Type 1} → statement M
-poke-spec = tie.close (tie.spec word-requires read-args-requires poke-words-requires poke-bytes-requires poke-places-requires returns returns-2)
+poke-spec =
+    tie.close
+    (tie.spec word-requires read-args-requires poke-words-requires poke-bytes-requires poke-places-requires returns returns-2)

@@ -15,7 +15,13 @@ put-byte-requires c κs = search needs
 
 returns : tie.Need-returns
 unfolding ascii pokedBytes
-returns c = rw (← c .before .before .before .same-bytes .ensures, c .before .before .if1 .taken, c .put-byte .ensures .0, c .put-byte .ensures .1)
+returns c =
+    rw (
+      ← c .before .before .before .same-bytes .ensures,
+      c .before .before .if1 .taken,
+      c .put-byte .ensures .0,
+      c .put-byte .ensures .1,
+    )
 
 slice-aggregate-same-bytes-2 : tie.Need-slice-aggregate-same-bytes-2
 slice-aggregate-same-bytes-2 c = search needs
@@ -28,7 +34,18 @@ put-byte-requires-2 c κs = search needs
 
 returns-2 : tie.Need-returns-2
 unfolding ascii pokedBytes
-returns-2 c = rw (← c .before .before .before .before .before .before .same-bytes .ensures, c .before .before .before .before .before .if1 .left, ← c .before .before .before .same-bytes2 .ensures, c .before .before .if2 .taken, c .put-byte2 .ensures .0, c .put-byte2 .ensures .1)
+returns-2 c =
+    let at-same-bytes2 = c .before .before .before in
+    let at-if1 = at-same-bytes2 .before .before in
+    let at-same-bytes = at-if1 .before in
+    rw (
+      ← at-same-bytes .same-bytes .ensures,
+      at-if1 .if1 .left,
+      ← at-same-bytes2 .same-bytes2 .ensures,
+      c .before .before .if2 .taken,
+      c .put-byte2 .ensures .0,
+      c .put-byte2 .ensures .1,
+    )
 
 slice-aggregate-same-bytes-3 : tie.Need-slice-aggregate-same-bytes-3
 slice-aggregate-same-bytes-3 c = search needs
@@ -41,11 +58,42 @@ put-byte-requires-3 c κs = search needs
 
 returns-3 : tie.Need-returns-3
 unfolding ascii pokedBytes
-returns-3 c = rw (← c .before .before .before .before .before .before .before .before .before .same-bytes .ensures, c .before .before .before .before .before .before .before .before .if1 .left, ← c .before .before .before .before .before .before .same-bytes2 .ensures, c .before .before .before .before .before .if2 .left, ← c .before .before .before .same-bytes3 .ensures, c .before .before .if3 .taken, c .put-byte3 .ensures .0, c .put-byte3 .ensures .1)
+returns-3 c =
+    let at-same-bytes3 = c .before .before .before in
+    let at-if2 = at-same-bytes3 .before .before in
+    let at-same-bytes2 = at-if2 .before in
+    let at-if1 = at-same-bytes2 .before .before in
+    let at-same-bytes = at-if1 .before in
+    rw (
+      ← at-same-bytes .same-bytes .ensures,
+      at-if1 .if1 .left,
+      ← at-same-bytes2 .same-bytes2 .ensures,
+      at-if2 .if2 .left,
+      ← at-same-bytes3 .same-bytes3 .ensures,
+      c .before .before .if3 .taken,
+      c .put-byte3 .ensures .0,
+      c .put-byte3 .ensures .1,
+    )
 
 returns-4 : tie.Need-returns-4
 unfolding ascii pokedBytes
-returns-4 c = rw (← c .before .before .before .before .before .before .before .same-bytes .ensures, c .before .before .before .before .before .before .if1 .left, ← c .before .before .before .before .same-bytes2 .ensures, c .before .before .before .if2 .left, ← c .before .same-bytes3 .ensures, c .if3 .left)
+returns-4 c =
+    let at-if2 = c .before .before .before in
+    let at-same-bytes2 = at-if2 .before in
+    let at-if1 = at-same-bytes2 .before .before in
+    let at-same-bytes = at-if1 .before in
+    rw (
+      ← at-same-bytes .same-bytes .ensures,
+      at-if1 .if1 .left,
+      ← at-same-bytes2 .same-bytes2 .ensures,
+      at-if2 .if2 .left,
+      ← c .before .same-bytes3 .ensures,
+      c .if3 .left,
+    )
 
 pub poke-bytes-spec : {M : Type 1} → statement M
-poke-bytes-spec = tie.close (tie.spec slice-aggregate-same-bytes same-bytes-requires put-byte-requires returns slice-aggregate-same-bytes-2 same-bytes-requires-2 put-byte-requires-2 returns-2 slice-aggregate-same-bytes-3 same-bytes-requires-3 put-byte-requires-3 returns-3 returns-4)
+poke-bytes-spec =
+    tie.close
+    (tie.spec slice-aggregate-same-bytes same-bytes-requires put-byte-requires returns slice-aggregate-same-bytes-2
+    same-bytes-requires-2 put-byte-requires-2 returns-2 slice-aggregate-same-bytes-3 same-bytes-requires-3 put-byte-requires-3
+    returns-3 returns-4)

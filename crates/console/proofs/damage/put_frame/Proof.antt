@@ -27,11 +27,23 @@ same-length c = search needs
 
 returns : tie.Need-returns
 unfolding frameAt
-returns c = rw (lt-ltb _ _ (c .before .before .before .before .before .before .before .before .before .before .before .before .if1 .taken), c .before .before .put-word3 .ensures .1, c .before .before .before .before .before .before .put-word2 .ensures .1, c .before .before .before .before .before .before .before .before .before .before .put-word .ensures .1)
+returns c =
+    let at-put-word2 = c .before .before .before .before .before .before in
+    let at-put-word = at-put-word2 .before .before .before .before in
+    let at-if1 = at-put-word .before .before in
+    rw (
+      lt-ltb _ _ (at-if1 .if1 .taken),
+      c .before .before .put-word3 .ensures .1,
+      at-put-word2 .put-word2 .ensures .1,
+      at-put-word .put-word .ensures .1,
+    )
 
 returns-2 : tie.Need-returns-2
 unfolding frameAt
 returns-2 c = rw (le-ltb _ _ (c .if1 .left))
 
 pub put-frame-spec : {M : Type 1} → statement M
-put-frame-spec = tie.close (tie.spec mul-at put-word-requires add-put-word put-word-requires-2 add-put-word-2 put-word-requires-3 same-length returns returns-2)
+put-frame-spec =
+    tie.close
+    (tie.spec mul-at put-word-requires add-put-word put-word-requires-2 add-put-word-2 put-word-requires-3 same-length returns
+    returns-2)

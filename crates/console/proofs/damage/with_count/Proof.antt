@@ -14,7 +14,9 @@ with-named-requires c κs = search needs
 
 returns : tie.Need-returns
 unfolding countArgs countAsked
-returns c = rw (← c .before .before .before .read-args .ensures, c .before .before .if1 .taken, ← c .before .word .ensures) (c .with-named .ensures)
+returns c =
+    rw (← c .before .before .before .read-args .ensures, c .before .before .if1 .taken, ← c .before .word .ensures)
+    (c .with-named .ensures)
 
 returns-2 : tie.Need-returns-2
 unfolding unchanged countArgs countAsked

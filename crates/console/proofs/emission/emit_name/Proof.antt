@@ -20,14 +20,40 @@ named-requires c κs = search needs
 
 returns : tie.Need-returns
 unfolding saidBytes nameAsked
-returns c = λ rest. rw (← c .before .before .before .before .before .before .before .before .before .before .before .word .ensures, ← c .before .before .before .before .before .before .before .before .before .before .words-from .ensures, ← c .before .before .before .before .before .before .before .before .read-bytes .ensures, c .before .before .before .before .before .before .before .if1 .taken, ← c .before .before .before .before .cut .ensures) (c .named .ensures rest)
+returns c =
+    let at-cut = c .before .before .before .before in
+    let at-if1 = at-cut .before .before .before in
+    let at-read-bytes = at-if1 .before in
+    let at-words-from = at-read-bytes .before .before in
+    let at-word = at-words-from .before in
+    λ rest. rw (
+      ← at-word .word .ensures,
+      ← at-words-from .words-from .ensures,
+      ← at-read-bytes .read-bytes .ensures,
+      at-if1 .if1 .taken,
+      ← at-cut .cut .ensures,
+    ) (c .named .ensures rest)
 
 unknown-requires : tie.Need-unknown-requires
 unknown-requires c κs = search needs
 
 returns-2 : tie.Need-returns-2
 unfolding notKnown saidBytes nameAsked
-returns-2 c = λ rest. record { means = rw (← c .before .before .before .before .before .word .ensures, ← c .before .before .before .before .words-from .ensures, ← c .before .before .read-bytes .ensures, c .before .if1 .left, c .unknown .ensures) }
+returns-2 c =
+    let at-words-from = c .before .before .before .before in
+    let at-word = at-words-from .before in
+    λ rest. record {
+      means =
+          rw (
+            ← at-word .word .ensures,
+            ← at-words-from .words-from .ensures,
+            ← c .before .before .read-bytes .ensures,
+            c .before .if1 .left,
+            c .unknown .ensures,
+          );
+    }
 
 pub emit-name-spec : {M : Type 1} → statement M
-emit-name-spec = tie.close (tie.spec word-requires words-from-requires read-bytes-requires cut-requires named-requires returns unknown-requires returns-2)
+emit-name-spec =
+    tie.close
+    (tie.spec word-requires words-from-requires read-bytes-requires cut-requires named-requires returns unknown-requires returns-2)

@@ -17,7 +17,14 @@ patch-u16-value-at-requires c κs = search needs
 
 returns : tie.Need-returns
 unfolding patchArgs patchAsked
-returns c = λ rest. rw (← c .before .before .before .before .before .before .before .read-args .ensures, c .before .before .before .before .before .before .if1 .taken, ← c .before .before .before .before .before .operand .ensures, ← c .before .before .before .before .operand2 .ensures) (c .patch-u16-value-at .ensures rest)
+returns c =
+    let at-operand2 = c .before .before .before .before in
+    let at-operand = at-operand2 .before in
+    let at-if1 = at-operand .before in
+    let at-read-args = at-if1 .before in
+    λ rest. rw
+    (← at-read-args .read-args .ensures, at-if1 .if1 .taken, ← at-operand .operand .ensures, ← at-operand2 .operand2 .ensures)
+    (c .patch-u16-value-at .ensures rest)
 
 unknown-requires : tie.Need-unknown-requires
 unknown-requires c κs = search needs
@@ -27,4 +34,7 @@ unfolding notKnown patchArgs patchAsked
 returns-2 c = λ rest. record { means = rw (← c .before .before .read-args .ensures, c .before .if1 .left, c .unknown .ensures) }
 
 pub emit-patch-spec : {M : Type 1} → statement M
-emit-patch-spec = tie.close (tie.spec read-args-requires operand-requires operand-requires-2 patch-u16-value-at-requires returns unknown-requires returns-2)
+emit-patch-spec =
+    tie.close
+    (tie.spec read-args-requires operand-requires operand-requires-2 patch-u16-value-at-requires returns unknown-requires
+    returns-2)

@@ -17,7 +17,10 @@ slice-relend-prefix-text-bytes : tie.Need-slice-relend-prefix-text-bytes
 slice-relend-prefix-text-bytes c = search needs
 
 slice-aggregate-text-bytes : tie.Need-slice-aggregate-text-bytes
-slice-aggregate-text-bytes c = sym (length-take-le _ (c .before .before .before .before .before .before .before .args .space .now) (c .before .at-most .ensures .1))
+slice-aggregate-text-bytes c =
+    sym
+    (length-take-le _ (c .before .before .before .before .before .before .before .args .space .now)
+    (c .before .at-most .ensures .1))
 
 text-bytes-requires : tie.Need-text-bytes-requires
 text-bytes-requires c κs = search needs
@@ -30,11 +33,18 @@ same-length c = search needs
 
 returns : tie.Need-returns
 unfolding textAfter
-returns c = rw (c .before .before .before .before .before .before .s .given .1, ← c .before .before .before .before .at-most .ensures .0) (ap (λ (o : OutRes). o .answer) (c .before .before .text-bytes .ensures))
+returns c =
+    let at-at-most = c .before .before .before .before in
+    let at-s = at-at-most .before .before in
+    rw (at-s .s .given .1, ← at-at-most .at-most .ensures .0)
+    (ap (λ (o : OutRes). o .answer) (c .before .before .text-bytes .ensures))
 
 returns-2 : tie.Need-returns-2
 unfolding textAfter
 returns-2 c = rw (c .before .s2 .given .1)
 
 pub text-of-spec : {M : Type 1} → statement M
-text-of-spec = tie.close (tie.spec enum-known-s at-most-requires slice-relend-prefix-text-bytes slice-aggregate-text-bytes text-bytes-requires enum-known-s-2 same-length returns returns-2)
+text-of-spec =
+    tie.close
+    (tie.spec enum-known-s at-most-requires slice-relend-prefix-text-bytes slice-aggregate-text-bytes text-bytes-requires
+    enum-known-s-2 same-length returns returns-2)

@@ -34,4 +34,7 @@ unfolding afterAnswer
 returns-3 c = rw (c .before .before .a3 .given .1) (c .say-trace .ensures)
 
 pub say-answer-spec : {M : Type 1} → statement M
-say-answer-spec = tie.close (tie.spec enum-known-a say-started-requires enum-known-a-2 say-run-requires enum-known-a-3 say-trace-requires returns returns-2 returns-3)
+say-answer-spec =
+    tie.close
+    (tie.spec enum-known-a say-started-requires enum-known-a-2 say-run-requires enum-known-a-3 say-trace-requires returns
+    returns-2 returns-3)

@@ -33,4 +33,7 @@ unfolding withProgram afterEmitted
 returns-2 c = rw (c .before .before .e2 .given .1)
 
 pub say-emitted-spec : {M : Type 1} → statement M
-say-emitted-spec = tie.close (tie.spec enum-known-e slice-aggregate-say-count say-count-requires slice-aggregate-say say-requires enum-known-e-2 say-refused-requires returns returns-2)
+say-emitted-spec =
+    tie.close
+    (tie.spec enum-known-e slice-aggregate-say-count say-count-requires slice-aggregate-say say-requires enum-known-e-2
+    say-refused-requires returns returns-2)

@@ -74,4 +74,9 @@ unfolding afterRun
 returns-4 c = rw (c .before .before .r4 .given .1)
 
 pub say-run-spec : {M : Type 1} → statement M
-say-run-spec = tie.close (tie.spec enum-known-r slice-aggregate-say say-requires say-value-requires say-left-requires enum-known-r-2 slice-aggregate-say-2 say-requires-2 say-left-requires-2 enum-known-r-3 slice-aggregate-say-3 say-requires-3 cast-say-number say-number-requires say-left-requires-3 say-entries-requires enum-known-r-4 say-refused-requires returns returns-2 returns-3 returns-4)
+say-run-spec =
+    tie.close
+    (tie.spec enum-known-r slice-aggregate-say say-requires say-value-requires say-left-requires enum-known-r-2
+    slice-aggregate-say-2 say-requires-2 say-left-requires-2 enum-known-r-3 slice-aggregate-say-3 say-requires-3 cast-say-number
+    say-number-requires say-left-requires-3 say-entries-requires enum-known-r-4 say-refused-requires returns returns-2 returns-3
+    returns-4)

@@ -46,4 +46,7 @@ unfolding afterStarted
 returns-3 c = rw (c .before .before .s3 .given .1)
 
 pub say-started-spec : {M : Type 1} → statement M
-say-started-spec = tie.close (tie.spec enum-known-s slice-aggregate-say say-requires enum-known-s-2 slice-aggregate-say-count say-count-requires slice-aggregate-say-2 say-requires-2 enum-known-s-3 say-refused-requires returns returns-2 returns-3)
+say-started-spec =
+    tie.close
+    (tie.spec enum-known-s slice-aggregate-say say-requires enum-known-s-2 slice-aggregate-say-count say-count-requires
+    slice-aggregate-say-2 say-requires-2 enum-known-s-3 say-refused-requires returns returns-2 returns-3)

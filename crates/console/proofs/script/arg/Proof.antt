@@ -12,7 +12,10 @@ decimal-requires c κs = search needs
 
 returns : tie.Need-returns
 unfolding argOf
-returns c = rw (lt-ltb _ _ (c .before .before .before .before .if1 .taken), c .before .before .decimal .ensures, c .before .before .before .word .ensures)
+returns c =
+    let at-word = c .before .before .before in
+    let at-if1 = at-word .before in
+    rw (lt-ltb _ _ (at-if1 .if1 .taken), c .before .before .decimal .ensures, at-word .word .ensures)
 
 returns-2 : tie.Need-returns-2
 unfolding argOf

@@ -29,4 +29,6 @@ unfolding cutOf
 returns-3 c = rw (le-ltb _ _ (c .before .before .if1 .left), le-ltb _ _ (c .before .if2 .left))
 
 pub cut-spec : {M : Type 1} → statement M
-cut-spec = tie.close (tie.spec slice-aggregate-result returns slice-aggregate-result-2 returns-2 part-result-start part-result-end returns-3)
+cut-spec =
+    tie.close
+    (tie.spec slice-aggregate-result returns slice-aggregate-result-2 returns-2 part-result-start part-result-end returns-3)

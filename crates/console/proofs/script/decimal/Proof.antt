@@ -31,10 +31,13 @@ loop-less : tie.Need-loop-less Inv-loop μ-loop
 loop-less c = omega arith
 
 loop-again : tie.Need-loop-again Inv-loop μ-loop
-loop-again c = along-on _ _ _ (c .before .before .before .loop .inv) (c .before .before .loop-test .taken) (c .with-decimal .ensures)
+loop-again c =
+    along-on _ _ _ (c .before .before .before .loop .inv) (c .before .before .loop-test .taken) (c .with-decimal .ensures)
 
 returns : tie.Need-returns Inv-loop μ-loop
 returns c = along-end _ _ _ (c .before .loop .inv) (c .loop-test .left)
 
 pub decimal-spec : {M : Type 1} → statement M
-decimal-spec = tie.close (tie.spec Inv-loop μ-loop loop-holds shared-slice-read-with-decimal with-decimal-requires add-i loop-less loop-again returns)
+decimal-spec =
+    tie.close
+    (tie.spec Inv-loop μ-loop loop-holds shared-slice-read-with-decimal with-decimal-requires add-i loop-less loop-again returns)

@@ -37,4 +37,6 @@ returns : tie.Need-returns Inv-loop μ-loop
 returns c = along-end _ _ _ (c .before .loop .inv) (c .loop-test .left)
 
 pub hex-spec : {M : Type 1} → statement M
-hex-spec = tie.close (tie.spec Inv-loop μ-loop loop-holds shared-slice-read-with-hex with-hex-requires add-i loop-less loop-again returns)
+hex-spec =
+    tie.close
+    (tie.spec Inv-loop μ-loop loop-holds shared-slice-read-with-hex with-hex-requires add-i loop-less loop-again returns)

@@ -23,7 +23,9 @@ shared-slice-read-if1 c = search needs
 
 returns : tie.Need-returns Inv-loop μ-loop
 unfolding nextOf
-returns c = next-here _ _ _ (c .before .before .loop-test .taken) (eq-eqb _ _ (c .if1 .taken)) ∙ sym (c .before .before .before .loop .inv)
+returns c =
+    next-here _ _ _ (c .before .before .loop-test .taken) (eq-eqb _ _ (c .if1 .taken)) ∙ sym
+    (c .before .before .before .loop .inv)
 
 add-i : tie.Need-add-i Inv-loop μ-loop
 add-i c = omega arith
@@ -33,7 +35,8 @@ loop-less c = omega arith
 
 loop-again : tie.Need-loop-again Inv-loop μ-loop
 unfolding nextOf
-loop-again c = c .before .before .before .loop .inv ∙ next-on _ _ _ (c .before .before .loop-test .taken) (ne-eqb _ _ (c .if1 .left))
+loop-again c =
+    c .before .before .before .loop .inv ∙ next-on _ _ _ (c .before .before .loop-test .taken) (ne-eqb _ _ (c .if1 .left))
 
 returns-2 : tie.Need-returns-2 Inv-loop μ-loop
 unfolding nextOf

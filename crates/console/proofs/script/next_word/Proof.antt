@@ -24,7 +24,9 @@ shared-slice-read-if1 c = search needs
 
 returns : tie.Need-returns Inv-loop μ-loop
 unfolding nextWord
-returns c = next-here _ _ _ (c .before .before .loop-test .taken) (ap not (ne-eqb _ _ (c .if1 .taken))) ∙ sym (c .before .before .before .loop .inv)
+returns c =
+    next-here _ _ _ (c .before .before .loop-test .taken) (ap not (ne-eqb _ _ (c .if1 .taken))) ∙ sym
+    (c .before .before .before .loop .inv)
 
 add-i : tie.Need-add-i Inv-loop μ-loop
 add-i c = omega arith
@@ -34,11 +36,14 @@ loop-less c = omega arith
 
 loop-again : tie.Need-loop-again Inv-loop μ-loop
 unfolding nextWord
-loop-again c = c .before .before .before .loop .inv ∙ next-on _ _ _ (c .before .before .loop-test .taken) (ap not (eq-eqb _ _ (c .if1 .left)))
+loop-again c =
+    c .before .before .before .loop .inv ∙ next-on _ _ _ (c .before .before .loop-test .taken)
+    (ap not (eq-eqb _ _ (c .if1 .left)))
 
 returns-2 : tie.Need-returns-2 Inv-loop μ-loop
 unfolding nextWord
 returns-2 c = next-end _ _ _ (c .loop-test .left) ∙ sym (c .before .loop .inv)
 
 pub next-word-spec : {M : Type 1} → statement M
-next-word-spec = tie.close (tie.spec Inv-loop μ-loop loop-holds shared-slice-read-if1 returns add-i loop-less loop-again returns-2)
+next-word-spec =
+    tie.close (tie.spec Inv-loop μ-loop loop-holds shared-slice-read-if1 returns add-i loop-less loop-again returns-2)

@@ -40,7 +40,26 @@ word-requires c κs = search needs
 
 returns-2 : tie.Need-returns-2
 unfolding argsOf
-returns-2 c = rw (le-ltb _ _ (c .before .before .before .before .before .before .before .before .before .before .before .if1 .left), c .before .before .before .before .before .before .before .before .before .before .arg .ensures, c .before .before .before .before .before .before .before .before .before .arg2 .ensures, c .before .before .before .before .before .before .before .before .arg3 .ensures, c .before .before .before .before .before .before .before .arg4 .ensures, c .before .before .before .before .before .before .arg5 .ensures, c .before .before .before .before .before .word .ensures)
+returns-2 c =
+    let at-word = c .before .before .before .before .before in
+    let at-arg5 = at-word .before in
+    let at-arg4 = at-arg5 .before in
+    let at-arg3 = at-arg4 .before in
+    let at-arg2 = at-arg3 .before in
+    let at-arg = at-arg2 .before in
+    let at-if1 = at-arg .before in
+    rw (
+      le-ltb _ _ (at-if1 .if1 .left),
+      at-arg .arg .ensures,
+      at-arg2 .arg2 .ensures,
+      at-arg3 .arg3 .ensures,
+      at-arg4 .arg4 .ensures,
+      at-arg5 .arg5 .ensures,
+      at-word .word .ensures,
+    )
 
 pub read-args-spec : {M : Type 1} → statement M
-read-args-spec = tie.close (tie.spec returns arg-requires add-arg arg-requires-2 add-arg-2 arg-requires-3 add-arg-3 arg-requires-4 add-arg-4 arg-requires-5 word-requires returns-2)
+read-args-spec =
+    tie.close
+    (tie.spec returns arg-requires add-arg arg-requires-2 add-arg-2 arg-requires-3 add-arg-3 arg-requires-4 add-arg-4
+    arg-requires-5 word-requires returns-2)

@@ -10,7 +10,9 @@ use Rattle.console.proofs.script.read_bytes.Statement.{statement}
 use Rattle.console.proofs.script.read_bytes.Tie as tie
 
 abbrev Inv-loop : tie.InvT-loop
-Inv-loop words out₀ h₀ i₀ out h i = (length out ≡ length out₀) × (along withByte (record { read = h₀; out = out₀ }) words ≡ along withByte (record { read = h; out = out }) (drop i words))
+Inv-loop words out₀ h₀ i₀ out h i =
+    (length out ≡ length out₀) ×
+    (along withByte (record { read = h₀; out = out₀ }) words ≡ along withByte (record { read = h; out = out }) (drop i words))
 
 abbrev μ-loop : tie.MeasureT-loop
 μ-loop words out₀ h₀ i₀ out h i = length words - i
@@ -31,7 +33,12 @@ loop-less : tie.Need-loop-less Inv-loop μ-loop
 loop-less c = omega arith
 
 loop-again : tie.Need-loop-again Inv-loop μ-loop
-loop-again c = (search needs, along-on _ _ _ (c .before .before .before .before .before .before .loop .inv .1) (c .before .before .before .before .before .loop-test .taken) (c .before .before .with-byte .ensures))
+loop-again c = (
+  search needs,
+  let at-loop-test = c .before .before .before .before .before in
+      let at-loop = at-loop-test .before in
+      along-on _ _ _ (at-loop .loop .inv .1) (at-loop-test .loop-test .taken) (c .before .before .with-byte .ensures),
+)
 
 same-length : tie.Need-same-length Inv-loop μ-loop
 same-length c = c .before .before .before .loop .inv .0
@@ -41,4 +48,7 @@ unfolding whole hexOf
 returns c = ap whole (along-end _ _ _ (c .before .before .before .loop .inv .1) (c .before .before .loop-test .left))
 
 pub read-bytes-spec : {M : Type 1} → statement M
-read-bytes-spec = tie.close (tie.spec Inv-loop μ-loop loop-holds shared-slice-read-with-byte with-byte-requires add-i loop-less loop-again same-length returns)
+read-bytes-spec =
+    tie.close
+    (tie.spec Inv-loop μ-loop loop-holds shared-slice-read-with-byte with-byte-requires add-i loop-less loop-again same-length
+    returns)

@@ -31,13 +31,20 @@ loop-less : tie.Need-loop-less Inv-loop μ-loop
 loop-less c = omega arith
 
 loop-again : tie.Need-loop-again Inv-loop μ-loop
-loop-again c = c .before .before .before .loop .inv ∙ word-on _ _ _ (c .before .before .loop-test .taken) (c .before .next-of .ensures) (c .next-word2 .ensures)
+loop-again c =
+    c .before .before .before .loop .inv ∙ word-on _ _ _ (c .before .before .loop-test .taken) (c .before .next-of .ensures)
+    (c .next-word2 .ensures)
 
 cut-requires : tie.Need-cut-requires Inv-loop μ-loop
 cut-requires c κs = search needs
 
 returns : tie.Need-returns Inv-loop μ-loop
-returns c = words-end _ _ _ _ (c .before .loop-test .left) (c .before .before .before .next-word .ensures) (c .before .before .loop .inv) (c .cut .ensures)
+returns c =
+    words-end _ _ _ _ (c .before .loop-test .left) (c .before .before .before .next-word .ensures) (c .before .before .loop .inv)
+    (c .cut .ensures)
 
 pub words-from-spec : {M : Type 1} → statement M
-words-from-spec = tie.close (tie.spec Inv-loop μ-loop next-word-requires loop-holds next-of-requires next-word-requires-2 sub-left loop-less loop-again cut-requires returns)
+words-from-spec =
+    tie.close
+    (tie.spec Inv-loop μ-loop next-word-requires loop-holds next-of-requires next-word-requires-2 sub-left loop-less loop-again
+    cut-requires returns)

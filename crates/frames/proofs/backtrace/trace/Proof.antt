@@ -47,7 +47,8 @@ module _ {M : Type 1} (𝓤 : URA M) (H : Heap 𝓤) (A : Atoms 𝓤) (W : Given
   left-typed : (s : Left) → IsLeft s → T (hasTy TL′.mir (leftVal s)) × WT (leftVal s)
   left-typed s is = LL.lawful TL.the-type TL′.the-laws 𝓤 H A W .typed s _ is .0
 
-  module _ (𝓣 : Tables 𝓤 H) (known-read : Triple 𝓤 (𝓣 .C #read) (Read 𝓤 H A W mem run)) (known-put : Triple 𝓤 (𝓣 .C #put) PutEntry) (κs : Lfts 5) (qs : Shares 5) (a : Passed kinds Nothing κs) (is : Known kinds Nothing κs a) where
+  module _ (𝓣 : Tables 𝓤 H) (known-read : Triple 𝓤 (𝓣 .C #read) (Read 𝓤 H A W mem run)) (known-put : Triple 𝓤 (𝓣 .C #put) PutEntry) (κs : Lfts 5)
+      (qs : Shares 5) (a : Passed kinds Nothing κs) (is : Known kinds Nothing κs a) where
     -- the parameters
     abbrev s0 : Sl
     s0 = sl (κs .0) (qs .0) (a .0)
@@ -180,20 +181,35 @@ module _ {M : Type 1} (𝓤 : URA M) (H : Heap 𝓤) (A : Atoms 𝓤) (W : Given
       turn : (x : State) → Sq W (loop .inv x) (runs (𝓣 .C) (𝓣 .Λ) (loop .env) cm.turn-1 (Turn loop x))
       turn (s, zs, (iss, len, g)) =
           sets ! (of-opd ! (of ! refl)) (tt, tt) $ whiles ! loop (s, zs, (iss, len, g)) (of ! refl)
-          (λ on. move ! (0 ∷ 2 ∷ []) $ call-read 𝓤 H A W mem run s3 ys refl room3 (s .at) (left-fits s iss) (omega (arith, can .there, writes-at words main other callers ys g on)) .calls ! fm known-read refl (λ f us ef lens isf. lands-in ! (frame-typed 𝓤 H A W f isf) $
+          (λ on. move ! (0 ∷ 2 ∷ []) $ call-read 𝓤 H A W mem run s3 ys refl room3 (s .at) (left-fits s iss)
+          (omega (arith, can .there, writes-at words main other callers ys g on)) .calls ! fm known-read refl
+          (λ f us ef lens isf. lands-in ! (frame-typed 𝓤 H A W f isf) $
           sets ! (addr ! (behind ! refl refl)) (tt, tt) $ sets ! (agg ! (ofs ! refl)) (tt, (tt, (record { fits = room4 .0 }, tt))) $
-          move ! (0 ∷ 2 ∷ []) $ call-put (s .at) f zs len (left-fits s iss) isf (subst (Readable words main other) (sym ef) (can .each (s .at) (writes-at words main other callers ys g on)), omega (arith, writes-at words main other callers ys g on), omega (arith, can .fits, len)) .calls ! fm known-put refl (λ t ws said lens′ ist. lands-in ! (left-typed t ist) $
+          move ! (0 ∷ 2 ∷ []) $ call-put (s .at) f zs len (left-fits s iss) isf (
+            subst (Readable words main other) (sym ef) (can .each (s .at) (writes-at words main other callers ys g on)),
+            omega (arith, writes-at words main other callers ys g on),
+            omega (arith, can .fits, len),
+          ) .calls ! fm known-put refl
+          (λ t ws said lens′ ist. lands-in ! (left-typed t ist) $
           sets-last ! (of-opd ! (of ! refl)) (left-typed t ist) $ trims ! 9 $
-          again ! loop (s, zs, (iss, len, g)) (t, ws .1 .1 .1 .1 .1 .1 .0, (ist, lens′ .0, writes-on words main other callers ys g on _ t (here s f t zs _ ef said))) (writes-less words main other callers ys g on _ t (here s f t zs _ ef said)))))
+          again ! loop (s, zs, (iss, len, g)) (
+            t,
+            ws .1 .1 .1 .1 .1 .1 .0,
+            (ist, lens′ .0, writes-on words main other callers ys g on _ t (here s f t zs _ ef said)),
+          )
+          (writes-less words main other callers ys g on _ t (here s f t zs _ ef said)))))
           (λ off. sets ! (of-opd ! (of ! refl)) (tt, tt) $ leaves ! refl $ by ! (exits zs len (wrote-all words main other callers ys g off)))
         where
           fm : FmC 𝓤 H (W .laws) (𝓣 .C)
           fm = fmOf 𝓤 H (W .laws) 𝓣
 
-          here : (s : Left) (f : Frame) (t : Left) (zs ws : List ℕ) → f ≡ getD ys (s .at) noFrame → Put words main other callers (s .at) f zs ws t → Put words main other callers (s .at) (getD ys (s .at) noFrame) zs ws t
+          here : (s : Left) (f : Frame) (t : Left) (zs ws : List ℕ) → f ≡ getD ys (s .at) noFrame → Put words main other callers (s .at) f zs ws t
+              → Put words main other callers (s .at) (getD ys (s .at) noFrame) zs ws t
           here s f t zs ws ef said = subst (λ (r : Frame). Put words main other callers (s .at) r zs ws t) ef said
 
-    walk : TraceFits words main other inner callers ys (length out) → ent 𝓤 (onEntry 𝓤 H A me.signature (lfts (xs out)) (shares (xs out)) (denots (xs out)) (valss (xs out))) (WpFn 𝓤 H (𝓣 .C) (𝓣 .Λ) code.function (values (xs out)) Post)
+    walk : TraceFits words main other inner callers ys (length out)
+        → ent 𝓤 (onEntry 𝓤 H A me.signature (lfts (xs out)) (shares (xs out)) (denots (xs out)) (valss (xs out)))
+        (WpFn 𝓤 H (𝓣 .C) (𝓣 .Λ) code.function (values (xs out)) Post)
     walk can =
         qed W (‵ (Toks (xs out)) ∷ ‵ (Owns (xs out)) ∷ []) ∵ takes ! (xs out)
         (splits ! stores (shr R s3 ys ∷ mut u32 s4 out ∷ [])

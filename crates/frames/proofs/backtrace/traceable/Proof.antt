@@ -31,7 +31,8 @@ module _ {M : Type 1} (𝓤 : URA M) (H : Heap 𝓤) (A : Atoms 𝓤) (W : Given
   abbrev Inside : Contract 𝓤
   Inside = tripleOf 𝓤 H A inside.signature (inside.spec 𝓤 H A mem run)
 
-  module _ (𝓣 : Tables 𝓤 H) (known-read : Triple 𝓤 (𝓣 .C #read) (Read 𝓤 H A W mem run)) (known-inside : Triple 𝓤 (𝓣 .C #inside) Inside) (κs : Lfts 2) (qs : Shares 2) (a : Passed kinds Boolean κs) (is : Known kinds Boolean κs a) where
+  module _ (𝓣 : Tables 𝓤 H) (known-read : Triple 𝓤 (𝓣 .C #read) (Read 𝓤 H A W mem run)) (known-inside : Triple 𝓤 (𝓣 .C #inside) Inside) (κs : Lfts 2)
+      (qs : Shares 2) (a : Passed kinds Boolean κs) (is : Known kinds Boolean κs a) where
     -- the parameters
     abbrev s0 : Sl
     s0 = sl (κs .0) (qs .0) (a .0)
@@ -111,10 +112,12 @@ module _ {M : Type 1} (𝓤 : URA M) (H : Heap 𝓤) (A : Atoms 𝓤) (W : Given
       turn : (x : State) → Sq W (loop .inv x) (runs (𝓣 .C) (𝓣 .Λ) (loop .env) cm.turn-1 (Turn loop x))
       turn (s, (iss, g)) =
           sets ! (of-opd ! (of ! refl)) (tt, tt) $ whiles ! loop (s, (iss, g)) (of ! refl)
-          (λ on. move ! (0 ∷ 2 ∷ []) $ call-read 𝓤 H A W mem run s1 ys refl room1 (s .at) (scan-fits s iss) (omega (arith, there, judges-at words ys g on)) .calls ! fm known-read refl (λ f zs ef lens isf. lands-in ! (frame-typed 𝓤 H A W f isf) $
+          (λ on. move ! (0 ∷ 2 ∷ []) $ call-read 𝓤 H A W mem run s1 ys refl room1 (s .at) (scan-fits s iss)
+          (omega (arith, there, judges-at words ys g on)) .calls ! fm known-read refl (λ f zs ef lens isf. lands-in ! (frame-typed 𝓤 H A W f isf) $
           move ! (0 ∷ 2 ∷ []) $ call-inside (s .at) f (scan-fits s iss) isf .calls ! fm known-inside refl (λ t zs′ et lens′ ist. lands-in ! (scan-typed 𝓤 H A W t ist) $
           sets-last ! (of-opd ! (of ! refl)) (scan-typed 𝓤 H A W t ist) $ trims ! 6 $
-          again ! loop (s, (iss, g)) (t, (ist, subst (Judging words ys goal callers) (sym (next s f t ef et)) (judges-on words ys g on))) (subst (λ (u : Scan). toJudge words ys u < toJudge words ys s) (sym (next s f t ef et)) (judges-less words ys g on)))))
+          again ! loop (s, (iss, g)) (t, (ist, subst (Judging words ys goal callers) (sym (next s f t ef et)) (judges-on words ys g on)))
+          (subst (λ (u : Scan). toJudge words ys u < toJudge words ys s) (sym (next s f t ef et)) (judges-less words ys g on)))))
           (λ off. sets ! (of-opd ! (of ! refl)) (tt, tt) $ leaves ! refl $ by ! (exits (s .good) (judged-all words ys g off)))
         where
           fm : FmC 𝓤 H (W .laws) (𝓣 .C)

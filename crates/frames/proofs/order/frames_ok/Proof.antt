@@ -111,7 +111,8 @@ module _ {M : Type 1} (𝓤 : URA M) (H : Heap 𝓤) (A : Atoms 𝓤) (W : Given
         shr u64 s0 words ∷ val usize count (vint w64 count) ∷ val usize slots (vint w64 slots) ∷ val usize n (vint w64 n) ∷ val
         usize i (vint w64 i) ∷ val R f (fval f) ∷ []
 
-    call-look : (i : ℕ) (f : Frame) → i < 2 ^ 64 → Is R f (fval f ∷ []) → (2 * count ≤ length words) × (i < n) → Rule 𝓤 H A W (to-look i f) Look ScanRow scanVal (λ t zs. t ≡ looked (placeGood words count slots n i f) n i)
+    call-look : (i : ℕ) (f : Frame) → i < 2 ^ 64 → Is R f (fval f ∷ []) → (2 * count ≤ length words) × (i < n)
+        → Rule 𝓤 H A W (to-look i f) Look ScanRow scanVal (λ t zs. t ≡ looked (placeGood words count slots n i f) n i)
     call-look i f fits isf ask =
         call-with 𝓤 H A W (to-look i f) Look ScanRow scanVal (λ t zs. t ≡ looked (placeGood words count slots n i f) n i)
         scan-tells (λ ns. passing (lent (to-look i f) ns)) (λ ns. refl) (λ ns. asked W (lent (to-look i f) ns) ask)
@@ -149,9 +150,12 @@ module _ {M : Type 1} (𝓤 : URA M) (H : Heap 𝓤) (A : Atoms 𝓤) (W : Given
       turn : (x : State) → Sq W (loop .inv x) (runs (𝓣 .C) (𝓣 .Λ) (loop .env) cm.turn-1 (Turn loop x))
       turn (s, (iss, g)) =
           sets ! (of-opd ! (of ! refl)) (tt, tt) $ whiles ! loop (s, (iss, g)) (of ! refl)
-          (λ on. move ! (0 ∷ 2 ∷ []) $ call-read 𝓤 H A W mem run s1 ys refl room1 (s .at) (scan-fits s iss) (in-reach test n g on .1) .calls ! fm known-read refl (λ f zs ef lens isf. lands-in ! (frame-typed 𝓤 H A W f isf) $
+          (λ on. move ! (0 ∷ 2 ∷ []) $ call-read 𝓤 H A W mem run s1 ys refl room1 (s .at) (scan-fits s iss)
+          (in-reach test n g on .1) .calls ! fm known-read refl (λ f zs ef lens isf. lands-in ! (frame-typed 𝓤 H A W f isf) $
           move ! (0 ∷ 2 ∷ []) $ call-look (s .at) f (scan-fits s iss) isf (asks, in-reach test n g on .0) .calls ! fm known-look refl (λ t zs′ et lens′ ist. lands-in ! (scan-typed 𝓤 H A W t ist) $
-          sets-last ! (of-opd ! (of ! refl)) (scan-typed 𝓤 H A W t ist) $ trims ! 7 $ again ! loop (s, (iss, g)) (t, (ist, subst (Going test n goal (s1 .count)) (sym (next s f t ef et)) (goes-on test n g on))) (subst (λ (u : Scan). toGo test n u < toGo test n s) (sym (next s f t ef et)) (falls test n g on)))))
+          sets-last ! (of-opd ! (of ! refl)) (scan-typed 𝓤 H A W t ist) $ trims ! 7 $
+          again ! loop (s, (iss, g)) (t, (ist, subst (Going test n goal (s1 .count)) (sym (next s f t ef et)) (goes-on test n g on)))
+          (subst (λ (u : Scan). toGo test n u < toGo test n s) (sym (next s f t ef et)) (falls test n g on)))))
           (λ off. sets ! (of-opd ! (of ! refl)) (tt, tt) $ leaves ! refl $ by ! (exits (s .good) (stops test n g off)))
         where
           next : (s : Scan) (f : Frame) (t : Scan) → f ≡ getD ys (s .at) noFrame → t ≡ looked (placeGood words count slots n (s .at) f) n (s .at) → t ≡ looked (test (s .at)) n (s .at)

@@ -71,7 +71,8 @@ module _ {M : Type 1} (𝓤 : URA M) (H : Heap 𝓤) (A : Atoms 𝓤) (W : Given
     abbrev Post : Val → SProp 𝓤
     Post = walkOf 𝓤 H A me.ended (stays kinds) (me.clauses 𝓤 H A mem run) .post (passing (xs frames))
 
-    exits : (r : RunResult) (frames′ : List Frame) → Is ResultRow r (resultVal r ∷ []) → length frames′ ≡ s0 .count → ((r ≡ endedWith m units g) × (frames′ ≡ set frames (g .callers) (frameIn g))) → ent 𝓤 (⋆ 𝓤 H A (‵ (Holds (slices frames′)) ∷ [])) (Post (resultVal r))
+    exits : (r : RunResult) (frames′ : List Frame) → Is ResultRow r (resultVal r ∷ []) → length frames′ ≡ s0 .count
+        → ((r ≡ endedWith m units g) × (frames′ ≡ set frames (g .callers) (frameIn g))) → ent 𝓤 (⋆ 𝓤 H A (‵ (Holds (slices frames′)) ∷ [])) (Post (resultVal r))
     exits r frames′ isr len-frames said =
         qed W (‵ (Holds (slices frames′)) ∷ []) ∵ suffices ! _
         (ends-at 𝓤 H A me.ended (stays kinds) (me.clauses 𝓤 H A mem run) W (passing (xs frames)) (resultVal r) r
@@ -98,14 +99,19 @@ module _ {M : Type 1} (𝓤 : URA M) (H : Heap 𝓤) (A : Atoms 𝓤) (W : Given
         (vm-makes 𝓤 H A W m _ (is .0), (uint-makes 𝓤 H A W w64 units _ (is .1 .0), (going-makes 𝓤 H A W g _ (is .1 .1 .0), tt)))
         tt
 
-    walk : ((g .units ≤ units) × (g .callers < 2 ^ 32) × (g .callers < length frames)) → ent 𝓤 (onEntry 𝓤 H A me.signature (lfts (xs frames)) (shares (xs frames)) (denots (xs frames)) (valss (xs frames))) (WpFn 𝓤 H (𝓣 .C) (𝓣 .Λ) code.function (values (xs frames)) Post)
+    walk : ((g .units ≤ units) × (g .callers < 2 ^ 32) × (g .callers < length frames))
+        → ent 𝓤 (onEntry 𝓤 H A me.signature (lfts (xs frames)) (shares (xs frames)) (denots (xs frames)) (valss (xs frames)))
+        (WpFn 𝓤 H (𝓣 .C) (𝓣 .Λ) code.function (values (xs frames)) Post)
     walk can =
         qed W (‵ (Toks (xs frames)) ∷ ‵ (Owns (xs frames)) ∷ []) ∵ takes ! (xs frames) (enters ! (𝓣 .C) (𝓣 .Λ) code.function (values (xs frames)) Post
         (vm-typed 𝓤 H A W m (is .0), ((tt, record { fits = (is .1 .0) .1 }), (going-typed 𝓤 H A W g (is .1 .1 .0), ((tt, (tt, (record { fits = room0 .0 }, tt))), tt)))) (λ ls.
         calls-on ! [] (slices frames) (call-current) (λ zs. slices frames) refl (λ zs. refl) (λ zs. refl) fm known-current refl (λ f zs ef lens isf. lands-in ! (frame-typed 𝓤 H A W f isf) $
-        sets ! (of-opd ! (of ! refl)) (tt, record { fits = callers-fit g (is .1 .1 .0) }) $ sets ! (addr ! (behind ! refl refl)) (tt, tt) $ sets ! (agg ! (ofs ! refl)) (tt, (tt, (record { fits = room0 .0 }, tt))) $
-        calls-on ! (true ∷ []) (slices frames) (call-write 𝓤 H A W mem run s0 frames refl room0 (g .callers) (callers-fit g (is .1 .1 .0)) (can .2) f isf) (λ zs. slices (zs .0)) refl (λ zs. refl) (λ zs. refl) fm known-writef refl (λ u zs₁ ew lens₁ isu. lands-in ! (tt, tt) $
-        calls-on ! [] (slices (zs₁ .0)) (call-over (can .0, can .1)) (λ zs. slices (zs₁ .0)) refl (λ zs. refl) (λ zs. refl) fm known-over refl (λ r zs₂ er lens₂ isr. lands-in ! (result-typed 𝓤 H A W r isr) $
+        sets ! (of-opd ! (of ! refl)) (tt, record { fits = callers-fit g (is .1 .1 .0) }) $ sets ! (addr ! (behind ! refl refl)) (tt, tt) $
+        sets ! (agg ! (ofs ! refl)) (tt, (tt, (record { fits = room0 .0 }, tt))) $
+        calls-on ! (true ∷ []) (slices frames) (call-write 𝓤 H A W mem run s0 frames refl room0 (g .callers) (callers-fit g (is .1 .1 .0)) (can .2) f isf)
+        (λ zs. slices (zs .0)) refl (λ zs. refl) (λ zs. refl) fm known-writef refl (λ u zs₁ ew lens₁ isu. lands-in ! (tt, tt) $
+        calls-on ! [] (slices (zs₁ .0)) (call-over (can .0, can .1)) (λ zs. slices (zs₁ .0)) refl (λ zs. refl) (λ zs. refl) fm known-over refl
+        (λ r zs₂ er lens₂ isr. lands-in ! (result-typed 𝓤 H A W r isr) $
         sets ! (of-opd ! (of ! refl)) (result-typed 𝓤 H A W r isr) $ leaves ! refl $ by ! (exits r (zs₁ .0) isr (lens₁ .0) (er, ew ∙ ap (set frames (g .callers)) ef)))))))
       where
         fm : FmC 𝓤 H (W .laws) (𝓣 .C)

@@ -78,12 +78,18 @@ module _ {M : Type 1} (𝓤 : URA M) (H : Heap 𝓤) (A : Atoms 𝓤) (W : Given
   abbrev Stop : Contract 𝓤
   Stop = tripleOf 𝓤 H A stop.signature (stop.spec 𝓤 H A mem run)
 
-  module _ (𝓣 : Tables 𝓤 H) (known-bounds : Triple 𝓤 (𝓣 .C #bounds) Bounds) (known-start : Triple 𝓤 (𝓣 .C #start) Start) (known-taken : Triple 𝓤 (𝓣 .C #taken) Taken) (known-turns : Triple 𝓤 (𝓣 .C #turns) Turns) (known-finish : Triple 𝓤 (𝓣 .C #finish) Finish) (known-stop : Triple 𝓤 (𝓣 .C #stop) Stop)
+  module _ (𝓣 : Tables 𝓤 H) (known-bounds : Triple 𝓤 (𝓣 .C #bounds) Bounds) (known-start : Triple 𝓤 (𝓣 .C #start) Start)
+      (known-taken : Triple 𝓤 (𝓣 .C #taken) Taken) (known-turns : Triple 𝓤 (𝓣 .C #turns) Turns) (known-finish : Triple 𝓤 (𝓣 .C #finish) Finish)
+      (known-stop : Triple 𝓤 (𝓣 .C #stop) Stop)
       (p : Passing) where
     abbrev Post : Val → SProp 𝓤
     Post = walkOf 𝓤 H A me.ended (stays kinds) (me.clauses 𝓤 H A mem run) .post (passing (xs₀ p))
 
-    exits : (r : RunResult) (stack′ : List ℕ) (cells′ : List ℕ) (frames′ : List Frame) (copy′ : List ℕ) (backtrace′ : List ℕ) → Is ResultRow r (resultVal r ∷ []) → length stack′ ≡ stack-at p .count → length cells′ ≡ cells-at p .count → length frames′ ≡ frames-at p .count → length copy′ ≡ copy-at p .count → length backtrace′ ≡ backtrace-at p .count → RunPost (m p) (stores p) (lent₀ p) (units p) r (runLent stack′ cells′ frames′ copy′ backtrace′) → ent 𝓤 (⋆ 𝓤 H A (‵ (Holds (slices p stack′ cells′ frames′ copy′ backtrace′)) ∷ [])) (Post (resultVal r))
+    exits : (r : RunResult) (stack′ : List ℕ) (cells′ : List ℕ) (frames′ : List Frame) (copy′ : List ℕ) (backtrace′ : List ℕ)
+        → Is ResultRow r (resultVal r ∷ []) → length stack′ ≡ stack-at p .count → length cells′ ≡ cells-at p .count → length frames′ ≡ frames-at p .count
+        → length copy′ ≡ copy-at p .count → length backtrace′ ≡ backtrace-at p .count
+        → RunPost (m p) (stores p) (lent₀ p) (units p) r (runLent stack′ cells′ frames′ copy′ backtrace′)
+        → ent 𝓤 (⋆ 𝓤 H A (‵ (Holds (slices p stack′ cells′ frames′ copy′ backtrace′)) ∷ [])) (Post (resultVal r))
     exits r stack′ cells′ frames′ copy′ backtrace′ isr len-stack len-cells len-frames len-copy len-backtrace said =
         qed W (‵ (Holds (slices p stack′ cells′ frames′ copy′ backtrace′)) ∷ []) ∵ suffices ! _
         (ends-at 𝓤 H A me.ended (stays kinds) (me.clauses 𝓤 H A mem run) W (passing (xs₀ p)) (resultVal r) r
@@ -122,7 +128,9 @@ module _ {M : Type 1} (𝓤 : URA M) (H : Heap 𝓤) (A : Atoms 𝓤) (W : Given
         val VmRow (m p) (vmVal (m p)) ∷ val u64 (units p) (vint w64 (units p)) ∷ peek u64 (stack-at p) (stack p) ∷ peek R
         (frames-at p) (frames p) ∷ mut u64 (copy-at p) (copy p) ∷ []
 
-    call-start : (2 * m p .stack ≤ length (stack p)) × (2 * m p .stack ≤ length (copy p)) × (m p .frames - 1 < length (frames p)) → Rule 𝓤 H A W to-start Start GoingRow goingVal (λ g zs. Begun (m p) (getD (frames p) (m p .frames - 1) noFrame) (units p) g × (zs .1 .1 .1 .1 .0 ≡ written (copy p) 0 (take (2 * m p .stack) (stack p))))
+    call-start : (2 * m p .stack ≤ length (stack p)) × (2 * m p .stack ≤ length (copy p)) × (m p .frames - 1 < length (frames p))
+        → Rule 𝓤 H A W to-start Start GoingRow goingVal (λ g zs. Begun (m p) (getD (frames p) (m p .frames - 1) noFrame) (units p) g ×
+        (zs .1 .1 .1 .1 .0 ≡ written (copy p) 0 (take (2 * m p .stack) (stack p))))
     call-start can =
         call-with 𝓤 H A W to-start Start GoingRow goingVal
         (λ g zs. Begun (m p) (getD (frames p) (m p .frames - 1) noFrame) (units p) g ×
@@ -147,7 +155,12 @@ module _ {M : Type 1} (𝓤 : URA M) (H : Heap 𝓤) (A : Atoms 𝓤) (W : Given
         u8 (other-at p) (other p) ∷ mut u64 (stack-at p) (stack p) ∷ mut u64 (cells-at p) (cells p) ∷ mut R (frames-at p)
         (frames p) ∷ []
 
-    call-turns : (k : Fixed) (g : Going) (n : ℕ) → Is FixedRow k (fixedVal k ∷ []) → Is GoingRow g (goingVal g ∷ []) → n < 2 ^ 64 → ((w : World) × Under w k g n (constants p) (functions p) (text p) (main p) (other p) (stack p) (cells p) (frames p)) → Rule 𝓤 H A W (to-turns k g n) Turns CourseRow courseVal (λ c zs. ((w : World) → Under w k g n (constants p) (functions p) (text p) (main p) (other p) (stack p) (cells p) (frames p) → TurnsPost w k g (stack p) (cells p) (frames p) c (zs .1 .1 .1 .1 .1 .1 .1 .1 .0) (zs .1 .1 .1 .1 .1 .1 .1 .1 .1 .0) (zs .1 .1 .1 .1 .1 .1 .1 .1 .1 .1 .0)))
+    call-turns : (k : Fixed) (g : Going) (n : ℕ) → Is FixedRow k (fixedVal k ∷ []) → Is GoingRow g (goingVal g ∷ []) → n < 2 ^ 64
+        → ((w : World) × Under w k g n (constants p) (functions p) (text p) (main p) (other p) (stack p) (cells p) (frames p))
+        → Rule 𝓤 H A W (to-turns k g n) Turns CourseRow courseVal
+        (λ c zs. ((w : World) → Under w k g n (constants p) (functions p) (text p) (main p) (other p) (stack p) (cells p) (frames p)
+        → TurnsPost w k g (stack p) (cells p) (frames p) c (zs .1 .1 .1 .1 .1 .1 .1 .1 .0) (zs .1 .1 .1 .1 .1 .1 .1 .1 .1 .0)
+        (zs .1 .1 .1 .1 .1 .1 .1 .1 .1 .1 .0)))
     call-turns k g n isk isg fits can =
         call-with 𝓤 H A W (to-turns k g n) Turns CourseRow courseVal
         (λ c zs. ((w : World) → Under w k g n (constants p) (functions p) (text p) (main p) (other p) (stack p) (cells p)
@@ -173,7 +186,10 @@ module _ {M : Type 1} (𝓤 : URA M) (H : Heap 𝓤) (A : Atoms 𝓤) (W : Given
         val VmRow (m p) (vmVal (m p)) ∷ val u64 (units p) (vint w64 (units p)) ∷ val GoingRow h (goingVal h) ∷ mut R (frames-at p)
         fs ∷ []
 
-    call-finish : (h : Going) (fs : List Frame) → Is GoingRow h (goingVal h ∷ []) → length fs ≡ frames-at p .count → (h .units ≤ units p) × (h .callers < 2 ^ 32) × (h .callers < length fs) → Rule 𝓤 H A W (to-finish h fs) Finish ResultRow resultVal (λ r zs. (r ≡ endedWith (m p) (units p) h) × (zs .1 .1 .1 .0 ≡ set fs (h .callers) (frameIn h)))
+    call-finish : (h : Going) (fs : List Frame) → Is GoingRow h (goingVal h ∷ []) → length fs ≡ frames-at p .count
+        → (h .units ≤ units p) × (h .callers < 2 ^ 32) × (h .callers < length fs)
+        → Rule 𝓤 H A W (to-finish h fs) Finish ResultRow resultVal
+        (λ r zs. (r ≡ endedWith (m p) (units p) h) × (zs .1 .1 .1 .0 ≡ set fs (h .callers) (frameIn h)))
     call-finish h fs ish len can =
         call-with 𝓤 H A W (to-finish h fs) Finish ResultRow resultVal
         (λ r zs. (r ≡ endedWith (m p) (units p) h) × (zs .1 .1 .1 .0 ≡ set fs (h .callers) (frameIn h))) result-tells
@@ -189,7 +205,15 @@ module _ {M : Type 1} (𝓤 : URA M) (H : Heap 𝓤) (A : Atoms 𝓤) (W : Given
         (other-places-at p) (otherPlaces p) ∷ mut u64 (stack-at p) st ∷ mut R (frames-at p) fs ∷ peek u64 (copy-at p) cs ∷ mut u32
         (backtrace-at p) (backtrace p) ∷ []
 
-    call-stop : (h : Going) (e : ℕ) (st : List ℕ) (fs : List Frame) (cs : List ℕ) → Is GoingRow h (goingVal h ∷ []) → e < 2 ^ 8 → length st ≡ stack-at p .count → length fs ≡ frames-at p .count → length cs ≡ copy-at p .count → (h .units ≤ units p) × (h .callers < 2 ^ 32) × TraceFits (functions p) (mainPlaces p) (otherPlaces p) (frameIn h) (h .callers) fs (length (backtrace p)) × (2 * m p .stack ≤ length cs) × (2 * m p .stack ≤ length st) × (0 < length fs) → Rule 𝓤 H A W (to-stop h e st fs cs) Stop ResultRow resultVal (λ r zs. (r ≡ faultedWith (m p) (units p) h e) × (zs .1 .1 .1 .1 .1 .1 .1 .1 .1 .1 .0 ≡ written (backtrace p) 0 (traceWords (functions p) (mainPlaces p) (otherPlaces p) (frameIn h ∷ callersOf (h .callers) fs))) × (zs .1 .1 .1 .1 .1 .1 .1 .0 ≡ written st 0 (take (2 * m p .stack) cs)) × (zs .1 .1 .1 .1 .1 .1 .1 .1 .0 ≡ set fs 0 (root (size (codeWord (functions p) 0)))))
+    call-stop : (h : Going) (e : ℕ) (st : List ℕ) (fs : List Frame) (cs : List ℕ) → Is GoingRow h (goingVal h ∷ []) → e < 2 ^ 8 → length st ≡ stack-at p .count
+        → length fs ≡ frames-at p .count → length cs ≡ copy-at p .count
+        → (h .units ≤ units p) × (h .callers < 2 ^ 32) × TraceFits (functions p) (mainPlaces p) (otherPlaces p) (frameIn h) (h .callers) fs
+        (length (backtrace p)) × (2 * m p .stack ≤ length cs) × (2 * m p .stack ≤ length st) × (0 < length fs)
+        → Rule 𝓤 H A W (to-stop h e st fs cs) Stop ResultRow resultVal
+        (λ r zs. (r ≡ faultedWith (m p) (units p) h e) × (zs .1 .1 .1 .1 .1 .1 .1 .1 .1 .1 .0 ≡ written (backtrace p) 0
+        (traceWords (functions p) (mainPlaces p) (otherPlaces p) (frameIn h ∷ callersOf (h .callers) fs))) ×
+        (zs .1 .1 .1 .1 .1 .1 .1 .0 ≡ written st 0 (take (2 * m p .stack) cs)) ×
+        (zs .1 .1 .1 .1 .1 .1 .1 .1 .0 ≡ set fs 0 (root (size (codeWord (functions p) 0)))))
     call-stop h e st fs cs ish fits len-st len-fs len-cs can =
         call-with 𝓤 H A W (to-stop h e st fs cs) Stop ResultRow resultVal
         (λ r zs. (r ≡ faultedWith (m p) (units p) h e) ×
@@ -215,28 +239,111 @@ module _ {M : Type 1} (𝓤 : URA M) (H : Heap 𝓤) (A : Atoms 𝓤) (W : Given
           ),
         )
 
-    walk : Granted (m p) (stores p) (lent₀ p) → ent 𝓤 (onEntry 𝓤 H A me.signature (lfts (xs₀ p)) (shares (xs₀ p)) (denots (xs₀ p)) (valss (xs₀ p))) (WpFn 𝓤 H (𝓣 .C) (𝓣 .Λ) code.function (values (xs₀ p)) Post)
+    walk : Granted (m p) (stores p) (lent₀ p) → ent 𝓤 (onEntry 𝓤 H A me.signature (lfts (xs₀ p)) (shares (xs₀ p)) (denots (xs₀ p)) (valss (xs₀ p)))
+        (WpFn 𝓤 H (𝓣 .C) (𝓣 .Λ) code.function (values (xs₀ p)) Post)
     walk can =
-        qed W (‵ (Toks (xs₀ p)) ∷ ‵ (Owns (xs₀ p)) ∷ []) ∵ takes ! (xs₀ p) (enters ! (𝓣 .C) (𝓣 .Λ) code.function (values (xs₀ p)) Post
-        (vm-typed 𝓤 H A W (m p) (p .is .0), ((tt, record { fits = (p .is .1 .0) .1 }), ((tt, (tt, (record { fits = constants-room p .0 }, tt))), ((tt, (tt, (record { fits = structs-room p .0 }, tt))), ((tt, (tt, (record { fits = functions-room p .0 }, tt))), ((tt, (tt, (record { fits = text-room p .0 }, tt))), ((tt, (tt, (record { fits = main-room p .0 }, tt))), ((tt, (tt, (record { fits = main-places-room p .0 }, tt))), ((tt, (tt, (record { fits = other-room p .0 }, tt))), ((tt, (tt, (record { fits = other-places-room p .0 }, tt))), ((tt, (tt, (record { fits = stack-room p .0 }, tt))), ((tt, (tt, (record { fits = cells-room p .0 }, tt))), ((tt, (tt, (record { fits = frames-room p .0 }, tt))), ((tt, (tt, (record { fits = copy-room p .0 }, tt))), ((tt, (tt, (record { fits = backtrace-room p .0 }, tt))), tt))))))))))))))) (λ ls.
-        move ! (1 ∷ []) $ picks ! (false ∷ false ∷ false ∷ false ∷ true ∷ []) (slices₀ p) (bytes-known ! tt (main-at p) (main p) [] (λ mb. unpicks ! (false ∷ false ∷ false ∷ false ∷ true ∷ []) (slices₀ p) (picks ! (false ∷ false ∷ false ∷ false ∷ false ∷ false ∷ true ∷ []) (slices₀ p) (bytes-known ! tt (other-at p) (other p) [] (λ ob. unpicks ! (false ∷ false ∷ false ∷ false ∷ false ∷ false ∷ true ∷ []) (slices₀ p) (move ! (1 ∷ []) $
+        qed W (‵ (Toks (xs₀ p)) ∷ ‵ (Owns (xs₀ p)) ∷ []) ∵ takes ! (xs₀ p) (enters ! (𝓣 .C) (𝓣 .Λ) code.function (values (xs₀ p)) Post (
+          vm-typed 𝓤 H A W (m p) (p .is .0),
+          (
+            (tt, record { fits = (p .is .1 .0) .1 }),
+            (
+              (tt, (tt, (record { fits = constants-room p .0 }, tt))),
+              (
+                (tt, (tt, (record { fits = structs-room p .0 }, tt))),
+                (
+                  (tt, (tt, (record { fits = functions-room p .0 }, tt))),
+                  (
+                    (tt, (tt, (record { fits = text-room p .0 }, tt))),
+                    (
+                      (tt, (tt, (record { fits = main-room p .0 }, tt))),
+                      (
+                        (tt, (tt, (record { fits = main-places-room p .0 }, tt))),
+                        (
+                          (tt, (tt, (record { fits = other-room p .0 }, tt))),
+                          (
+                            (tt, (tt, (record { fits = other-places-room p .0 }, tt))),
+                            (
+                              (tt, (tt, (record { fits = stack-room p .0 }, tt))),
+                              (
+                                (tt, (tt, (record { fits = cells-room p .0 }, tt))),
+                                (
+                                  (tt, (tt, (record { fits = frames-room p .0 }, tt))),
+                                  (
+                                    (tt, (tt, (record { fits = copy-room p .0 }, tt))),
+                                    ((tt, (tt, (record { fits = backtrace-room p .0 }, tt))), tt),
+                                  ),
+                                ),
+                              ),
+                            ),
+                          ),
+                        ),
+                      ),
+                    ),
+                  ),
+                ),
+              ),
+            ),
+          ),
+        ) (λ ls.
+        move ! (1 ∷ []) $ picks ! (false ∷ false ∷ false ∷ false ∷ true ∷ []) (slices₀ p)
+        (bytes-known ! tt (main-at p) (main p) [] (λ mb. unpicks ! (false ∷ false ∷ false ∷ false ∷ true ∷ []) (slices₀ p)
+        (picks ! (false ∷ false ∷ false ∷ false ∷ false ∷ false ∷ true ∷ []) (slices₀ p)
+        (bytes-known ! tt (other-at p) (other p) [] (λ ob. unpicks ! (false ∷ false ∷ false ∷ false ∷ false ∷ false ∷ true ∷ []) (slices₀ p)
+        (move ! (1 ∷ []) $
         sets ! (of-opd ! (of ! refl)) (tt, record { fits = stack-room p .0 }) $ sets ! (of-opd ! (of ! refl)) (tt, record { fits = frames-room p .0 }) $
         calls-on ! [] (slices₀ p) (call-bounds) (λ zs. slices₀ p) refl (λ zs. refl) (λ zs. refl) fm known-bounds refl (λ k zs ek lens isk. lands-in ! (fixed-typed 𝓤 H A W k isk) $
-        sets ! (addr ! (behind ! refl refl)) (tt, tt) $ sets ! (agg ! (ofs ! refl)) (tt, (tt, (record { fits = stack-room p .0 }, tt))) $ sets ! (addr ! (behind ! refl refl)) (tt, tt) $ sets ! (agg ! (ofs ! refl)) (tt, (tt, (record { fits = frames-room p .0 }, tt))) $ sets ! (addr ! (behind ! refl refl)) (tt, tt) $ sets ! (agg ! (ofs ! refl)) (tt, (tt, (record { fits = copy-room p .0 }, tt))) $
-        calls-on ! (false ∷ false ∷ false ∷ false ∷ false ∷ false ∷ false ∷ false ∷ true ∷ false ∷ true ∷ true ∷ []) (slices₀ p) (call-start (copyable .0, copyable .1, current)) (λ zs. slices p (stack p) (cells p) (frames p) (zs .1 .1 .1 .1 .0) (backtrace p)) refl (λ zs. refl) (λ zs. refl) fm known-start refl (λ g zs₁ eg lens₁ isg. lands-in ! (going-typed 𝓤 H A W g isg) $
-        calls-on ! [] (slices p (stack p) (cells p) (frames p) (zs₁ .1 .1 .1 .1 .0) (backtrace p)) (call-taken) (λ zs. slices p (stack p) (cells p) (frames p) (zs₁ .1 .1 .1 .1 .0) (backtrace p)) refl (λ zs. refl) (λ zs. refl) fm known-taken refl (λ n zs₂ en lens₂ isn. lands-in ! (tt, record { fits = isn .1 }) $
-        sets ! (addr ! (behind ! refl refl)) (tt, tt) $ sets ! (agg ! (ofs ! refl)) (tt, (tt, (record { fits = stack-room p .0 }, tt))) $ sets ! (addr ! (behind ! refl refl)) (tt, tt) $ sets ! (agg ! (ofs ! refl)) (tt, (tt, (record { fits = cells-room p .0 }, tt))) $ sets ! (addr ! (behind ! refl refl)) (tt, tt) $ sets ! (agg ! (ofs ! refl)) (tt, (tt, (record { fits = frames-room p .0 }, tt))) $
-        calls-on ! (true ∷ false ∷ true ∷ true ∷ true ∷ false ∷ true ∷ false ∷ true ∷ true ∷ true ∷ []) (slices p (stack p) (cells p) (frames p) (zs₁ .1 .1 .1 .1 .0) (backtrace p)) (call-turns k g n isk isg (isn .1) (worldOf (m p) (stores p) (lent₀ p), under-at k g n mb ob ek (eg .0) en)) (λ zs. slices p (zs .1 .1 .1 .1 .1 .1 .1 .1 .0) (zs .1 .1 .1 .1 .1 .1 .1 .1 .1 .0) (zs .1 .1 .1 .1 .1 .1 .1 .1 .1 .1 .0) (zs₁ .1 .1 .1 .1 .0) (backtrace p)) refl (λ zs. refl) (λ zs. refl) fm known-turns refl (λ c zs₃ ec lens₃ isc. lands-in ! (course-typed 𝓤 H A W c isc) $
+        sets ! (addr ! (behind ! refl refl)) (tt, tt) $ sets ! (agg ! (ofs ! refl)) (tt, (tt, (record { fits = stack-room p .0 }, tt))) $
+        sets ! (addr ! (behind ! refl refl)) (tt, tt) $ sets ! (agg ! (ofs ! refl)) (tt, (tt, (record { fits = frames-room p .0 }, tt))) $
+        sets ! (addr ! (behind ! refl refl)) (tt, tt) $ sets ! (agg ! (ofs ! refl)) (tt, (tt, (record { fits = copy-room p .0 }, tt))) $
+        calls-on ! (false ∷ false ∷ false ∷ false ∷ false ∷ false ∷ false ∷ false ∷ true ∷ false ∷ true ∷ true ∷ []) (slices₀ p)
+        (call-start (copyable .0, copyable .1, current)) (λ zs. slices p (stack p) (cells p) (frames p) (zs .1 .1 .1 .1 .0) (backtrace p)) refl (λ zs. refl)
+        (λ zs. refl) fm known-start refl (λ g zs₁ eg lens₁ isg. lands-in ! (going-typed 𝓤 H A W g isg) $
+        calls-on ! [] (slices p (stack p) (cells p) (frames p) (zs₁ .1 .1 .1 .1 .0) (backtrace p)) (call-taken)
+        (λ zs. slices p (stack p) (cells p) (frames p) (zs₁ .1 .1 .1 .1 .0) (backtrace p)) refl (λ zs. refl) (λ zs. refl) fm known-taken refl
+        (λ n zs₂ en lens₂ isn. lands-in ! (tt, record { fits = isn .1 }) $
+        sets ! (addr ! (behind ! refl refl)) (tt, tt) $ sets ! (agg ! (ofs ! refl)) (tt, (tt, (record { fits = stack-room p .0 }, tt))) $
+        sets ! (addr ! (behind ! refl refl)) (tt, tt) $ sets ! (agg ! (ofs ! refl)) (tt, (tt, (record { fits = cells-room p .0 }, tt))) $
+        sets ! (addr ! (behind ! refl refl)) (tt, tt) $ sets ! (agg ! (ofs ! refl)) (tt, (tt, (record { fits = frames-room p .0 }, tt))) $
+        calls-on ! (true ∷ false ∷ true ∷ true ∷ true ∷ false ∷ true ∷ false ∷ true ∷ true ∷ true ∷ [])
+        (slices p (stack p) (cells p) (frames p) (zs₁ .1 .1 .1 .1 .0) (backtrace p))
+        (call-turns k g n isk isg (isn .1) (worldOf (m p) (stores p) (lent₀ p), under-at k g n mb ob ek (eg .0) en))
+        (λ zs. slices p (zs .1 .1 .1 .1 .1 .1 .1 .1 .0) (zs .1 .1 .1 .1 .1 .1 .1 .1 .1 .0) (zs .1 .1 .1 .1 .1 .1 .1 .1 .1 .1 .0) (zs₁ .1 .1 .1 .1 .0)
+        (backtrace p)) refl (λ zs. refl) (λ zs. refl) fm known-turns refl (λ c zs₃ ec lens₃ isc. lands-in ! (course-typed 𝓤 H A W c isc) $
         sets ! (of-opd ! (of ! refl)) (going-typed 𝓤 H A W (c .going) (course-going c isc)) $ sets ! (of-opd ! (of ! refl)) (tt, record { fits = course-fault c isc }) $
         sets ! (bin ! (of ! refl) (of ! refl) tt) (tt, tt) $ returns-if ! 𝓣 (of ! refl)
         (λ on. sets ! (addr ! (behind ! refl refl)) (tt, tt) $ sets ! (agg ! (ofs ! refl)) (tt, (tt, (record { fits = frames-room p .0 }, tt))) $
-        calls-on ! (false ∷ false ∷ false ∷ false ∷ false ∷ false ∷ false ∷ false ∷ false ∷ false ∷ true ∷ []) (slices p (zs₃ .1 .1 .1 .1 .1 .1 .1 .1 .0) (zs₃ .1 .1 .1 .1 .1 .1 .1 .1 .1 .0) (zs₃ .1 .1 .1 .1 .1 .1 .1 .1 .1 .1 .0) (zs₁ .1 .1 .1 .1 .0) (backtrace p)) (call-finish (c .going) (zs₃ .1 .1 .1 .1 .1 .1 .1 .1 .1 .1 .0) (course-going c isc) (lens₃ .1 .1 .0) (finishes (zs₃ .1 .1 .1 .1 .1 .1 .1 .1 .0) (zs₃ .1 .1 .1 .1 .1 .1 .1 .1 .1 .0) (zs₃ .1 .1 .1 .1 .1 .1 .1 .1 .1 .1 .0) (came-at k g n c (zs₃ .1 .1 .1 .1 .1 .1 .1 .1 .0) (zs₃ .1 .1 .1 .1 .1 .1 .1 .1 .1 .0) (zs₃ .1 .1 .1 .1 .1 .1 .1 .1 .1 .1 .0) mb ob ek (eg .0) en ec (lens₃ .0) (lens₃ .1 .0) (lens₃ .1 .1 .0)))) (λ zs. slices p (zs₃ .1 .1 .1 .1 .1 .1 .1 .1 .0) (zs₃ .1 .1 .1 .1 .1 .1 .1 .1 .1 .0) (zs .1 .1 .1 .0) (zs₁ .1 .1 .1 .1 .0) (backtrace p)) refl (λ zs. refl) (λ zs. refl) fm known-finish refl (λ r zs₄ er lens₄ isr. lands-in ! (result-typed 𝓤 H A W r isr) $
-        sets ! (of-opd ! (of ! refl)) (result-typed 𝓤 H A W r isr) $ leaves ! refl $ by ! (exits r (zs₃ .1 .1 .1 .1 .1 .1 .1 .1 .0) (zs₃ .1 .1 .1 .1 .1 .1 .1 .1 .1 .0) (zs₄ .1 .1 .1 .0) (zs₁ .1 .1 .1 .1 .0) (backtrace p) isr (lens₃ .0) (lens₃ .1 .0) (lens₄ .0) (lens₁ .0) refl
-        (ended p (came-at k g n c (zs₃ .1 .1 .1 .1 .1 .1 .1 .1 .0) (zs₃ .1 .1 .1 .1 .1 .1 .1 .1 .1 .0) (zs₃ .1 .1 .1 .1 .1 .1 .1 .1 .1 .1 .0) mb ob ek (eg .0) en ec (lens₃ .0) (lens₃ .1 .0) (lens₃ .1 .1 .0)) (eg .1) (is-zero (c .fault) on) (er .1) (er .0)))))
-        (λ off. sets ! (addr ! (behind ! refl refl)) (tt, tt) $ sets ! (agg ! (ofs ! refl)) (tt, (tt, (record { fits = stack-room p .0 }, tt))) $ sets ! (addr ! (behind ! refl refl)) (tt, tt) $ sets ! (agg ! (ofs ! refl)) (tt, (tt, (record { fits = frames-room p .0 }, tt))) $ sets ! (addr ! (behind ! refl refl)) (tt, tt) $ sets ! (agg ! (ofs ! refl)) (tt, (tt, (record { fits = copy-room p .0 }, tt))) $ sets ! (addr ! (behind ! refl refl)) (tt, tt) $ sets ! (agg ! (ofs ! refl)) (tt, (tt, (record { fits = backtrace-room p .0 }, tt))) $
-        calls-on ! (false ∷ false ∷ true ∷ false ∷ false ∷ true ∷ false ∷ true ∷ true ∷ false ∷ true ∷ true ∷ true ∷ []) (slices p (zs₃ .1 .1 .1 .1 .1 .1 .1 .1 .0) (zs₃ .1 .1 .1 .1 .1 .1 .1 .1 .1 .0) (zs₃ .1 .1 .1 .1 .1 .1 .1 .1 .1 .1 .0) (zs₁ .1 .1 .1 .1 .0) (backtrace p)) (call-stop (c .going) (c .fault) (zs₃ .1 .1 .1 .1 .1 .1 .1 .1 .0) (zs₃ .1 .1 .1 .1 .1 .1 .1 .1 .1 .1 .0) (zs₁ .1 .1 .1 .1 .0) (course-going c isc) (course-fault c isc) (lens₃ .0) (lens₃ .1 .1 .0) (lens₁ .0) (stops (zs₃ .1 .1 .1 .1 .1 .1 .1 .1 .0) (zs₃ .1 .1 .1 .1 .1 .1 .1 .1 .1 .0) (zs₃ .1 .1 .1 .1 .1 .1 .1 .1 .1 .1 .0) (zs₁ .1 .1 .1 .1 .0) (came-at k g n c (zs₃ .1 .1 .1 .1 .1 .1 .1 .1 .0) (zs₃ .1 .1 .1 .1 .1 .1 .1 .1 .1 .0) (zs₃ .1 .1 .1 .1 .1 .1 .1 .1 .1 .1 .0) mb ob ek (eg .0) en ec (lens₃ .0) (lens₃ .1 .0) (lens₃ .1 .1 .0)) (eg .1) (not-zero (c .fault) off))) (λ zs. slices p (zs .1 .1 .1 .1 .1 .1 .1 .0) (zs₃ .1 .1 .1 .1 .1 .1 .1 .1 .1 .0) (zs .1 .1 .1 .1 .1 .1 .1 .1 .0) (zs₁ .1 .1 .1 .1 .0) (zs .1 .1 .1 .1 .1 .1 .1 .1 .1 .1 .0)) refl (λ zs. refl) (λ zs. refl) fm known-stop refl (λ r zs₄ er lens₄ isr. lands-in ! (result-typed 𝓤 H A W r isr) $
-        sets ! (of-opd ! (of ! refl)) (result-typed 𝓤 H A W r isr) $ leaves ! refl $ by ! (exits r (zs₄ .1 .1 .1 .1 .1 .1 .1 .0) (zs₃ .1 .1 .1 .1 .1 .1 .1 .1 .1 .0) (zs₄ .1 .1 .1 .1 .1 .1 .1 .1 .0) (zs₁ .1 .1 .1 .1 .0) (zs₄ .1 .1 .1 .1 .1 .1 .1 .1 .1 .1 .0) isr (lens₄ .0) (lens₃ .1 .0) (lens₄ .1 .0) (lens₁ .0) (lens₄ .1 .1 .0)
-        (faulted p (came-at k g n c (zs₃ .1 .1 .1 .1 .1 .1 .1 .1 .0) (zs₃ .1 .1 .1 .1 .1 .1 .1 .1 .1 .0) (zs₃ .1 .1 .1 .1 .1 .1 .1 .1 .1 .1 .0) mb ob ek (eg .0) en ec (lens₃ .0) (lens₃ .1 .0) (lens₃ .1 .1 .0)) (eg .1) (not-zero (c .fault) off) (er .1) (er .2) (er .3) (er .0)))))))))))))))))
+        calls-on ! (false ∷ false ∷ false ∷ false ∷ false ∷ false ∷ false ∷ false ∷ false ∷ false ∷ true ∷ [])
+        (slices p (zs₃ .1 .1 .1 .1 .1 .1 .1 .1 .0) (zs₃ .1 .1 .1 .1 .1 .1 .1 .1 .1 .0) (zs₃ .1 .1 .1 .1 .1 .1 .1 .1 .1 .1 .0) (zs₁ .1 .1 .1 .1 .0)
+        (backtrace p)) (call-finish (c .going) (zs₃ .1 .1 .1 .1 .1 .1 .1 .1 .1 .1 .0) (course-going c isc) (lens₃ .1 .1 .0)
+        (finishes (zs₃ .1 .1 .1 .1 .1 .1 .1 .1 .0) (zs₃ .1 .1 .1 .1 .1 .1 .1 .1 .1 .0) (zs₃ .1 .1 .1 .1 .1 .1 .1 .1 .1 .1 .0)
+        (came-at k g n c (zs₃ .1 .1 .1 .1 .1 .1 .1 .1 .0) (zs₃ .1 .1 .1 .1 .1 .1 .1 .1 .1 .0) (zs₃ .1 .1 .1 .1 .1 .1 .1 .1 .1 .1 .0) mb ob ek (eg .0) en ec
+        (lens₃ .0) (lens₃ .1 .0) (lens₃ .1 .1 .0)))) (λ zs. slices p (zs₃ .1 .1 .1 .1 .1 .1 .1 .1 .0) (zs₃ .1 .1 .1 .1 .1 .1 .1 .1 .1 .0) (zs .1 .1 .1 .0)
+        (zs₁ .1 .1 .1 .1 .0) (backtrace p)) refl (λ zs. refl) (λ zs. refl) fm known-finish refl
+        (λ r zs₄ er lens₄ isr. lands-in ! (result-typed 𝓤 H A W r isr) $
+        sets ! (of-opd ! (of ! refl)) (result-typed 𝓤 H A W r isr) $ leaves ! refl $
+        by ! (exits r (zs₃ .1 .1 .1 .1 .1 .1 .1 .1 .0) (zs₃ .1 .1 .1 .1 .1 .1 .1 .1 .1 .0) (zs₄ .1 .1 .1 .0) (zs₁ .1 .1 .1 .1 .0) (backtrace p) isr
+        (lens₃ .0) (lens₃ .1 .0) (lens₄ .0) (lens₁ .0) refl
+        (ended p (came-at k g n c (zs₃ .1 .1 .1 .1 .1 .1 .1 .1 .0) (zs₃ .1 .1 .1 .1 .1 .1 .1 .1 .1 .0) (zs₃ .1 .1 .1 .1 .1 .1 .1 .1 .1 .1 .0) mb ob ek
+        (eg .0) en ec (lens₃ .0) (lens₃ .1 .0) (lens₃ .1 .1 .0)) (eg .1) (is-zero (c .fault) on) (er .1) (er .0)))))
+        (λ off. sets ! (addr ! (behind ! refl refl)) (tt, tt) $ sets ! (agg ! (ofs ! refl)) (tt, (tt, (record { fits = stack-room p .0 }, tt))) $
+        sets ! (addr ! (behind ! refl refl)) (tt, tt) $ sets ! (agg ! (ofs ! refl)) (tt, (tt, (record { fits = frames-room p .0 }, tt))) $
+        sets ! (addr ! (behind ! refl refl)) (tt, tt) $ sets ! (agg ! (ofs ! refl)) (tt, (tt, (record { fits = copy-room p .0 }, tt))) $
+        sets ! (addr ! (behind ! refl refl)) (tt, tt) $ sets ! (agg ! (ofs ! refl)) (tt, (tt, (record { fits = backtrace-room p .0 }, tt))) $
+        calls-on ! (false ∷ false ∷ true ∷ false ∷ false ∷ true ∷ false ∷ true ∷ true ∷ false ∷ true ∷ true ∷ true ∷ [])
+        (slices p (zs₃ .1 .1 .1 .1 .1 .1 .1 .1 .0) (zs₃ .1 .1 .1 .1 .1 .1 .1 .1 .1 .0) (zs₃ .1 .1 .1 .1 .1 .1 .1 .1 .1 .1 .0) (zs₁ .1 .1 .1 .1 .0)
+        (backtrace p)) (call-stop (c .going) (c .fault) (zs₃ .1 .1 .1 .1 .1 .1 .1 .1 .0) (zs₃ .1 .1 .1 .1 .1 .1 .1 .1 .1 .1 .0) (zs₁ .1 .1 .1 .1 .0)
+        (course-going c isc) (course-fault c isc) (lens₃ .0) (lens₃ .1 .1 .0) (lens₁ .0)
+        (stops (zs₃ .1 .1 .1 .1 .1 .1 .1 .1 .0) (zs₃ .1 .1 .1 .1 .1 .1 .1 .1 .1 .0) (zs₃ .1 .1 .1 .1 .1 .1 .1 .1 .1 .1 .0) (zs₁ .1 .1 .1 .1 .0)
+        (came-at k g n c (zs₃ .1 .1 .1 .1 .1 .1 .1 .1 .0) (zs₃ .1 .1 .1 .1 .1 .1 .1 .1 .1 .0) (zs₃ .1 .1 .1 .1 .1 .1 .1 .1 .1 .1 .0) mb ob ek (eg .0) en ec
+        (lens₃ .0) (lens₃ .1 .0) (lens₃ .1 .1 .0)) (eg .1) (not-zero (c .fault) off)))
+        (λ zs. slices p (zs .1 .1 .1 .1 .1 .1 .1 .0) (zs₃ .1 .1 .1 .1 .1 .1 .1 .1 .1 .0) (zs .1 .1 .1 .1 .1 .1 .1 .1 .0) (zs₁ .1 .1 .1 .1 .0)
+        (zs .1 .1 .1 .1 .1 .1 .1 .1 .1 .1 .0)) refl (λ zs. refl) (λ zs. refl) fm known-stop refl
+        (λ r zs₄ er lens₄ isr. lands-in ! (result-typed 𝓤 H A W r isr) $
+        sets ! (of-opd ! (of ! refl)) (result-typed 𝓤 H A W r isr) $ leaves ! refl $
+        by ! (exits r (zs₄ .1 .1 .1 .1 .1 .1 .1 .0) (zs₃ .1 .1 .1 .1 .1 .1 .1 .1 .1 .0) (zs₄ .1 .1 .1 .1 .1 .1 .1 .1 .0) (zs₁ .1 .1 .1 .1 .0)
+        (zs₄ .1 .1 .1 .1 .1 .1 .1 .1 .1 .1 .0) isr (lens₄ .0) (lens₃ .1 .0) (lens₄ .1 .0) (lens₁ .0) (lens₄ .1 .1 .0)
+        (faulted p (came-at k g n c (zs₃ .1 .1 .1 .1 .1 .1 .1 .1 .0) (zs₃ .1 .1 .1 .1 .1 .1 .1 .1 .1 .0) (zs₃ .1 .1 .1 .1 .1 .1 .1 .1 .1 .1 .0) mb ob ek
+        (eg .0) en ec (lens₃ .0) (lens₃ .1 .0) (lens₃ .1 .1 .0)) (eg .1) (not-zero (c .fault) off) (er .1) (er .2) (er .3) (er .0)))))))))))))))))
       where
         fm : FmC 𝓤 H (W .laws) (𝓣 .C)
         fm = fmOf 𝓤 H (W .laws) 𝓣
@@ -247,27 +354,39 @@ module _ {M : Type 1} (𝓤 : URA M) (H : Heap 𝓤) (A : Atoms 𝓤) (W : Given
         current : m p .frames - 1 < length (frames p)
         current = current-ready p can
 
-        begins-at : (k : Fixed) (g : Going) → ((j : ℕ) → j < length (main p) → getD (main p) j 0 < 256) → ((j : ℕ) → j < length (other p) → getD (other p) j 0 < 256) → FixedPost (m p) (stack-at p .count) (frames-at p .count) k → Begun (m p) (getD (frames p) (m p .frames - 1) noFrame) (units p) g → Begins (m p) (stores p) (lent₀ p) (units p) k g
+        begins-at : (k : Fixed) (g : Going) → ((j : ℕ) → j < length (main p) → getD (main p) j 0 < 256)
+            → ((j : ℕ) → j < length (other p) → getD (other p) j 0 < 256) → FixedPost (m p) (stack-at p .count) (frames-at p .count) k
+            → Begun (m p) (getD (frames p) (m p .frames - 1) noFrame) (units p) g → Begins (m p) (stores p) (lent₀ p) (units p) k g
         begins-at k g mb ob ek eg =
             begins p can k g mb ob ((p .is .1 .0) .1) (ek .constants) (ek .structs) (ek .functions) (ek .slots (stack p) refl)
             (ek .frames (frames p) refl) eg
 
-        under-at : (k : Fixed) (g : Going) (n : ℕ) → ((j : ℕ) → j < length (main p) → getD (main p) j 0 < 256) → ((j : ℕ) → j < length (other p) → getD (other p) j 0 < 256) → FixedPost (m p) (stack-at p .count) (frames-at p .count) k → Begun (m p) (getD (frames p) (m p .frames - 1) noFrame) (units p) g → n ≡ m p .program .text → Under (worldOf (m p) (stores p) (lent₀ p)) k g n (constants p) (functions p) (text p) (main p) (other p) (stack p) (cells p) (frames p)
+        under-at : (k : Fixed) (g : Going) (n : ℕ) → ((j : ℕ) → j < length (main p) → getD (main p) j 0 < 256)
+            → ((j : ℕ) → j < length (other p) → getD (other p) j 0 < 256) → FixedPost (m p) (stack-at p .count) (frames-at p .count) k
+            → Begun (m p) (getD (frames p) (m p .frames - 1) noFrame) (units p) g → n ≡ m p .program .text
+            → Under (worldOf (m p) (stores p) (lent₀ p)) k g n (constants p) (functions p) (text p) (main p) (other p) (stack p) (cells p) (frames p)
         under-at k g n mb ob ek eg en =
             subst
             (λ (j : ℕ). Under (worldOf (m p) (stores p) (lent₀ p)) k g j (constants p) (functions p) (text p) (main p) (other p)
             (stack p) (cells p) (frames p)) (sym en) (under p (begins-at k g mb ob ek eg))
 
-        came-at : (k : Fixed) (g : Going) (n : ℕ) (c : Course) (st cs : List ℕ) (fs : List Frame) → ((j : ℕ) → j < length (main p) → getD (main p) j 0 < 256) → ((j : ℕ) → j < length (other p) → getD (other p) j 0 < 256) → FixedPost (m p) (stack-at p .count) (frames-at p .count) k → Begun (m p) (getD (frames p) (m p .frames - 1) noFrame) (units p) g → n ≡ m p .program .text
-            → ((w : World) → Under w k g n (constants p) (functions p) (text p) (main p) (other p) (stack p) (cells p) (frames p) → TurnsPost w k g (stack p) (cells p) (frames p) c st cs fs) → length st ≡ stack-at p .count → length cs ≡ cells-at p .count → length fs ≡ frames-at p .count → Came (m p) (stores p) (lent₀ p) (units p) k g c st cs fs
+        came-at : (k : Fixed) (g : Going) (n : ℕ) (c : Course) (st cs : List ℕ) (fs : List Frame) → ((j : ℕ) → j < length (main p) → getD (main p) j 0 < 256)
+            → ((j : ℕ) → j < length (other p) → getD (other p) j 0 < 256) → FixedPost (m p) (stack-at p .count) (frames-at p .count) k
+            → Begun (m p) (getD (frames p) (m p .frames - 1) noFrame) (units p) g → n ≡ m p .program .text
+            → ((w : World) → Under w k g n (constants p) (functions p) (text p) (main p) (other p) (stack p) (cells p) (frames p)
+            → TurnsPost w k g (stack p) (cells p) (frames p) c st cs fs) → length st ≡ stack-at p .count → length cs ≡ cells-at p .count
+            → length fs ≡ frames-at p .count → Came (m p) (stores p) (lent₀ p) (units p) k g c st cs fs
         came-at k g n c st cs fs mb ob ek eg en ec ls lc lf =
             came p (begins-at k g mb ob ek eg) (ec (worldOf (m p) (stores p) (lent₀ p)) (under-at k g n mb ob ek eg en)) ls lc lf
 
-        finishes : {k : Fixed} {g : Going} {c : Course} (st cs : List ℕ) (fs : List Frame) → Came (m p) (stores p) (lent₀ p) (units p) k g c st cs fs → (c .going .units ≤ units p) × (c .going .callers < 2 ^ 32) × (c .going .callers < length fs)
+        finishes : {k : Fixed} {g : Going} {c : Course} (st cs : List ℕ) (fs : List Frame) → Came (m p) (stores p) (lent₀ p) (units p) k g c st cs fs
+            → (c .going .units ≤ units p) × (c .going .callers < 2 ^ 32) × (c .going .callers < length fs)
         finishes st cs fs h = (units-ready p h, callers-ready p h, frame-ready p h)
 
-        stops : {k : Fixed} {g : Going} {c : Course} (st cs : List ℕ) (fs : List Frame) (copy′ : List ℕ) → Came (m p) (stores p) (lent₀ p) (units p) k g c st cs fs → copy′ ≡ written (copy p) 0 (take (2 * m p .stack) (stack p)) → (c .fault ≡ 0 → ⊥)
-            → (c .going .units ≤ units p) × (c .going .callers < 2 ^ 32) × TraceFits (functions p) (mainPlaces p) (otherPlaces p) (frameIn (c .going)) (c .going .callers) fs (length (backtrace p)) × (2 * m p .stack ≤ length copy′) × (2 * m p .stack ≤ length st) × (0 < length fs)
+        stops : {k : Fixed} {g : Going} {c : Course} (st cs : List ℕ) (fs : List Frame) (copy′ : List ℕ)
+            → Came (m p) (stores p) (lent₀ p) (units p) k g c st cs fs → copy′ ≡ written (copy p) 0 (take (2 * m p .stack) (stack p)) → (c .fault ≡ 0 → ⊥)
+            → (c .going .units ≤ units p) × (c .going .callers < 2 ^ 32) × TraceFits (functions p) (mainPlaces p) (otherPlaces p) (frameIn (c .going))
+            (c .going .callers) fs (length (backtrace p)) × (2 * m p .stack ≤ length copy′) × (2 * m p .stack ≤ length st) × (0 < length fs)
         stops st cs fs copy′ h copied bad =
             let back = back-ready p h copied in
             (units-ready p h, callers-ready p h, trace-ready p h bad, back .0, back .1, omega (arith, frame-ready p h))

@@ -89,7 +89,9 @@ module _ {M : Type 1} (𝓤 : URA M) (H : Heap 𝓤) (A : Atoms 𝓤) (W : Given
     abbrev Post : Val → SProp 𝓤
     Post = walkOf 𝓤 H A me.ended (stays kinds) (me.clauses 𝓤 H A mem run) .post (passing (xs stack frames))
 
-    exits : (r : Unit {0}) (stack′ : List ℕ) (frames′ : List Frame) → Is Nothing r (vunit ∷ []) → length stack′ ≡ s1 .count → length frames′ ≡ s2 .count → ((stack′ ≡ written stack 0 (take (2 * n) copy)) × (frames′ ≡ set frames 0 (root (size (codeWord functions 0))))) → ent 𝓤 (⋆ 𝓤 H A (‵ (Holds (slices stack′ frames′)) ∷ [])) (Post vunit)
+    exits : (r : Unit {0}) (stack′ : List ℕ) (frames′ : List Frame) → Is Nothing r (vunit ∷ []) → length stack′ ≡ s1 .count → length frames′ ≡ s2 .count
+        → ((stack′ ≡ written stack 0 (take (2 * n) copy)) × (frames′ ≡ set frames 0 (root (size (codeWord functions 0)))))
+        → ent 𝓤 (⋆ 𝓤 H A (‵ (Holds (slices stack′ frames′)) ∷ [])) (Post vunit)
     exits r stack′ frames′ isr len-stack len-frames said =
         qed W (‵ (Holds (slices stack′ frames′)) ∷ []) ∵ suffices ! _
         (ends-at 𝓤 H A me.ended (stays kinds) (me.clauses 𝓤 H A mem run) W (passing (xs stack frames)) vunit r
@@ -115,15 +117,26 @@ module _ {M : Type 1} (𝓤 : URA M) (H : Heap 𝓤) (A : Atoms 𝓤) (W : Given
         call-with 𝓤 H A W to-end End R fval (λ f zs. f ≡ root (size (codeWord functions 0))) tells
         (λ ns. passing (lent to-end ns)) (λ ns. refl) (λ ns. unasked W (lent to-end ns)) (λ ns w. id⊢ 𝓤 _) tt ((refl, room0), tt)
 
-    walk : ((2 * n ≤ length copy) × (2 * n ≤ length stack) × (0 < length frames)) → ent 𝓤 (onEntry 𝓤 H A me.signature (lfts (xs stack frames)) (shares (xs stack frames)) (denots (xs stack frames)) (valss (xs stack frames))) (WpFn 𝓤 H (𝓣 .C) (𝓣 .Λ) code.function (values (xs stack frames)) Post)
+    walk : ((2 * n ≤ length copy) × (2 * n ≤ length stack) × (0 < length frames))
+        → ent 𝓤 (onEntry 𝓤 H A me.signature (lfts (xs stack frames)) (shares (xs stack frames)) (denots (xs stack frames)) (valss (xs stack frames)))
+        (WpFn 𝓤 H (𝓣 .C) (𝓣 .Λ) code.function (values (xs stack frames)) Post)
     walk can =
-        qed W (‵ (Toks (xs stack frames)) ∷ ‵ (Owns (xs stack frames)) ∷ []) ∵ takes ! (xs stack frames) (enters ! (𝓣 .C) (𝓣 .Λ) code.function (values (xs stack frames)) Post
-        ((tt, record { fits = (is .0) .1 }), ((tt, (tt, (record { fits = room0 .0 }, tt))), ((tt, (tt, (record { fits = room1 .0 }, tt))), ((tt, (tt, (record { fits = room2 .0 }, tt))), ((tt, (tt, (record { fits = room3 .0 }, tt))), tt))))) (λ ls.
+        qed W (‵ (Toks (xs stack frames)) ∷ ‵ (Owns (xs stack frames)) ∷ []) ∵ takes ! (xs stack frames) (enters ! (𝓣 .C) (𝓣 .Λ) code.function (values (xs stack frames)) Post (
+          (tt, record { fits = (is .0) .1 }),
+          (
+            (tt, (tt, (record { fits = room0 .0 }, tt))),
+            ((tt, (tt, (record { fits = room1 .0 }, tt))), ((tt, (tt, (record { fits = room2 .0 }, tt))), ((tt, (tt, (record { fits = room3 .0 }, tt))), tt))),
+          ),
+        )
+        (λ ls.
         sets ! (addr ! (behind ! refl refl)) (tt, tt) $ sets ! (agg ! (ofs ! refl)) (tt, (tt, (record { fits = room1 .0 }, tt))) $
-        calls-on ! (false ∷ true ∷ false ∷ true ∷ []) (slices stack frames) (call-back (can .0, can .1)) (λ zs. slices (zs .1 .0) frames) refl (λ zs. refl) (λ zs. refl) fm known-back refl (λ u zs eb lens isu. lands-in ! (tt, tt) $
-        calls-on ! (true ∷ []) (slices (zs .1 .0) frames) (call-end) (λ zs′. slices (zs .1 .0) frames) refl (λ zs. refl) (λ zs. refl) fm known-end refl (λ f zs₁ ef lens₁ isf. lands-in ! (frame-typed 𝓤 H A W f isf) $
+        calls-on ! (false ∷ true ∷ false ∷ true ∷ []) (slices stack frames) (call-back (can .0, can .1)) (λ zs. slices (zs .1 .0) frames) refl (λ zs. refl)
+        (λ zs. refl) fm known-back refl (λ u zs eb lens isu. lands-in ! (tt, tt) $
+        calls-on ! (true ∷ []) (slices (zs .1 .0) frames) (call-end) (λ zs′. slices (zs .1 .0) frames) refl (λ zs. refl) (λ zs. refl) fm known-end refl
+        (λ f zs₁ ef lens₁ isf. lands-in ! (frame-typed 𝓤 H A W f isf) $
         sets ! (addr ! (behind ! refl refl)) (tt, tt) $ sets ! (agg ! (ofs ! refl)) (tt, (tt, (record { fits = room2 .0 }, tt))) $
-        calls-on ! (false ∷ false ∷ true ∷ []) (slices (zs .1 .0) frames) (call-write 𝓤 H A W mem run s2 frames refl room2 0 (omega arith) (can .2) f isf) (λ zs′. slices (zs .1 .0) (zs′ .0)) refl (λ zs. refl) (λ zs. refl) fm known-writef refl (λ v zs₂ ew lens₂ isv. lands-in ! (tt, tt) $
+        calls-on ! (false ∷ false ∷ true ∷ []) (slices (zs .1 .0) frames) (call-write 𝓤 H A W mem run s2 frames refl room2 0 (omega arith) (can .2) f isf)
+        (λ zs′. slices (zs .1 .0) (zs′ .0)) refl (λ zs. refl) (λ zs. refl) fm known-writef refl (λ v zs₂ ew lens₂ isv. lands-in ! (tt, tt) $
         sets ! (of-opd ! (of ! refl)) (tt, tt) $ leaves ! refl $ by ! (exits tt (zs .1 .0) (zs₂ .0) refl (lens .0) (lens₂ .0) (eb, ew ∙ ap (set frames 0) ef)))))))
       where
         fm : FmC 𝓤 H (W .laws) (𝓣 .C)

@@ -70,7 +70,9 @@ module _ {M : Type 1} (𝓤 : URA M) (H : Heap 𝓤) (A : Atoms 𝓤) (W : Given
   abbrev Why : Contract 𝓤
   Why = tripleOf 𝓤 H A why.signature (why.spec 𝓤 H A mem run)
 
-  module _ (𝓣 : Tables 𝓤 H) (known-judge : Triple 𝓤 (𝓣 .C #judge) Judge) (known-count : Triple 𝓤 (𝓣 .C #count) Count) (known-slots : Triple 𝓤 (𝓣 .C #slots) Slots) (known-good : Triple 𝓤 (𝓣 .C #good) Good) (known-short : Triple 𝓤 (𝓣 .C #short) Short) (known-why : Triple 𝓤 (𝓣 .C #why) Why)
+  module _ (𝓣 : Tables 𝓤 H) (known-judge : Triple 𝓤 (𝓣 .C #judge) Judge) (known-count : Triple 𝓤 (𝓣 .C #count) Count)
+      (known-slots : Triple 𝓤 (𝓣 .C #slots) Slots) (known-good : Triple 𝓤 (𝓣 .C #good) Good) (known-short : Triple 𝓤 (𝓣 .C #short) Short)
+      (known-why : Triple 𝓤 (𝓣 .C #why) Why)
       (κs : Lfts 11) (qs : Shares 11) (a : Passed kinds u8 κs) (is : Known kinds u8 κs a) where
     -- the parameters
     abbrev m : Vm
@@ -195,7 +197,9 @@ module _ {M : Type 1} (𝓤 : URA M) (H : Heap 𝓤) (A : Atoms 𝓤) (W : Given
     abbrev Post : Val → SProp 𝓤
     Post = walkOf 𝓤 H A me.ended (stays kinds) (me.clauses 𝓤 H A mem run) .post (passing xs)
 
-    exits : (r : ℕ) → Is u8 r (vint w8 r ∷ []) → ((copy backtrace : List ℕ) → length copy ≡ copies → length backtrace ≡ entries → RunJudged m (programLent structs constants functions text main mainPlaces other otherPlaces) (runLent stack cells frames copy backtrace) r) → ent 𝓤 (⋆ 𝓤 H A (‵ (Holds slices) ∷ [])) (Post (vint w8 r))
+    exits : (r : ℕ) → Is u8 r (vint w8 r ∷ []) → ((copy backtrace : List ℕ) → length copy ≡ copies → length backtrace ≡ entries
+        → RunJudged m (programLent structs constants functions text main mainPlaces other otherPlaces) (runLent stack cells frames copy backtrace) r)
+        → ent 𝓤 (⋆ 𝓤 H A (‵ (Holds slices) ∷ [])) (Post (vint w8 r))
     exits r isr said =
         qed W (‵ (Holds slices) ∷ []) ∵ suffices ! _
         (ends-at 𝓤 H A me.ended (stays kinds) (me.clauses 𝓤 H A mem run) W (passing xs) (vint w8 r) r
@@ -289,7 +293,8 @@ module _ {M : Type 1} (𝓤 : URA M) (H : Heap 𝓤) (A : Atoms 𝓤) (W : Given
     abbrev to-why : Bool → Bool → Bool → List Arg
     to-why b f s = val Boolean b (vbool b) ∷ val Boolean f (vbool f) ∷ val Boolean s (vbool s) ∷ []
 
-    call-why : (b : Bool) (f : Bool) (s : Bool) → Is Boolean b (vbool b ∷ []) → Is Boolean f (vbool f ∷ []) → Is Boolean s (vbool s ∷ []) → Rule 𝓤 H A W (to-why b f s) Why u8 (vint w8) (λ w zs. w ≡ refusalBy b f s)
+    call-why : (b : Bool) (f : Bool) (s : Bool) → Is Boolean b (vbool b ∷ []) → Is Boolean f (vbool f ∷ []) → Is Boolean s (vbool s ∷ [])
+        → Rule 𝓤 H A W (to-why b f s) Why u8 (vint w8) (λ w zs. w ≡ refusalBy b f s)
     call-why b f s isb isf iss =
         call-with 𝓤 H A W (to-why b f s) Why u8 (vint w8) (λ w zs. w ≡ refusalBy b f s) (uint-tells w8)
         (λ ns. passing (lent (to-why b f s) ns)) (λ ns. refl) (λ ns. unasked W (lent (to-why b f s) ns)) (λ ns w. id⊢ 𝓤 _)
@@ -297,14 +302,55 @@ module _ {M : Type 1} (𝓤 : URA M) (H : Heap 𝓤) (A : Atoms 𝓤) (W : Given
 
     walk : ent 𝓤 (onEntry 𝓤 H A me.signature (lfts xs) (shares xs) (denots xs) (valss xs)) (WpFn 𝓤 H (𝓣 .C) (𝓣 .Λ) code.function (values xs) Post)
     walk =
-        qed W (‵ (Toks xs) ∷ ‵ (Owns xs) ∷ []) ∵ takes ! xs (enters ! (𝓣 .C) (𝓣 .Λ) code.function (values xs) Post
-        (vm-typed 𝓤 H A W m (is .0), ((tt, record { fits = (is .1 .0) .1 }), ((tt, record { fits = (is .1 .1 .0) .1 }), ((tt, (tt, (record { fits = constants-room .0 }, tt))), ((tt, (tt, (record { fits = structs-room .0 }, tt))), ((tt, (tt, (record { fits = functions-room .0 }, tt))), ((tt, (tt, (record { fits = text-room .0 }, tt))), ((tt, (tt, (record { fits = main-room .0 }, tt))), ((tt, (tt, (record { fits = main-places-room .0 }, tt))), ((tt, (tt, (record { fits = other-room .0 }, tt))), ((tt, (tt, (record { fits = other-places-room .0 }, tt))), ((tt, (tt, (record { fits = stack-room .0 }, tt))), ((tt, (tt, (record { fits = cells-room .0 }, tt))), ((tt, (tt, (record { fits = frames-room .0 }, tt))), tt)))))))))))))) (λ ls.
+        qed W (‵ (Toks xs) ∷ ‵ (Owns xs) ∷ []) ∵ takes ! xs (enters ! (𝓣 .C) (𝓣 .Λ) code.function (values xs) Post (
+          vm-typed 𝓤 H A W m (is .0),
+          (
+            (tt, record { fits = (is .1 .0) .1 }),
+            (
+              (tt, record { fits = (is .1 .1 .0) .1 }),
+              (
+                (tt, (tt, (record { fits = constants-room .0 }, tt))),
+                (
+                  (tt, (tt, (record { fits = structs-room .0 }, tt))),
+                  (
+                    (tt, (tt, (record { fits = functions-room .0 }, tt))),
+                    (
+                      (tt, (tt, (record { fits = text-room .0 }, tt))),
+                      (
+                        (tt, (tt, (record { fits = main-room .0 }, tt))),
+                        (
+                          (tt, (tt, (record { fits = main-places-room .0 }, tt))),
+                          (
+                            (tt, (tt, (record { fits = other-room .0 }, tt))),
+                            (
+                              (tt, (tt, (record { fits = other-places-room .0 }, tt))),
+                              (
+                                (tt, (tt, (record { fits = stack-room .0 }, tt))),
+                                (
+                                  (tt, (tt, (record { fits = cells-room .0 }, tt))),
+                                  ((tt, (tt, (record { fits = frames-room .0 }, tt))), tt),
+                                ),
+                              ),
+                            ),
+                          ),
+                        ),
+                      ),
+                    ),
+                  ),
+                ),
+              ),
+            ),
+          ),
+        ) (λ ls.
         sets ! (of-opd ! (of ! refl)) (tt, record { fits = frames-fit m (is .0) }) $
-        calls-on ! (true ∷ true ∷ true ∷ true ∷ true ∷ true ∷ true ∷ true ∷ true ∷ true ∷ []) slices (call-judge) (λ zs. slices) refl (λ zs. refl) (λ zs. refl) fm known-judge refl (λ b zs eb lens isb. lands-in ! (tt, tt) $
+        calls-on ! (true ∷ true ∷ true ∷ true ∷ true ∷ true ∷ true ∷ true ∷ true ∷ true ∷ []) slices (call-judge) (λ zs. slices) refl (λ zs. refl)
+        (λ zs. refl) fm known-judge refl (λ b zs eb lens isb. lands-in ! (tt, tt) $
         calls-on ! [] slices (call-count b isb) (λ zs. slices) refl (λ zs. refl) (λ zs. refl) fm known-count refl (λ k zs₁ ek lens₁ isk. lands-in ! (tt, record { fits = isk .1 }) $
         sets ! (of-opd ! (of ! refl)) (tt, record { fits = stack-room .0 }) $
         calls-on ! [] slices (call-slots) (λ zs. slices) refl (λ zs. refl) (λ zs. refl) fm known-slots refl (λ p zs₂ ep lens₂ isp. lands-in ! (tt, record { fits = isp .1 }) $
-        calls-on ! (false ∷ false ∷ true ∷ false ∷ false ∷ false ∷ false ∷ false ∷ false ∷ false ∷ true ∷ []) slices (call-good k p (isk .1) (isp .1) (there b k eb ek)) (λ zs. slices) refl (λ zs. refl) (λ zs. refl) fm known-good refl (λ f zs₃ ef lens₃ isf. lands-in ! (tt, tt) $
+        calls-on ! (false ∷ false ∷ true ∷ false ∷ false ∷ false ∷ false ∷ false ∷ false ∷ false ∷ true ∷ []) slices
+        (call-good k p (isk .1) (isp .1) (there b k eb ek)) (λ zs. slices) refl (λ zs. refl) (λ zs. refl) fm known-good refl
+        (λ f zs₃ ef lens₃ isf. lands-in ! (tt, tt) $
         sets ! (of-opd ! (of ! refl)) (tt, record { fits = stack-room .0 }) $ sets ! (of-opd ! (of ! refl)) (tt, record { fits = frames-room .0 }) $
         calls-on ! [] slices (call-short) (λ zs. slices) refl (λ zs. refl) (λ zs. refl) fm known-short refl (λ s zs₄ es lens₄ iss. lands-in ! (tt, tt) $
         calls-on ! [] slices (call-why b f s isb isf iss) (λ zs. slices) refl (λ zs. refl) (λ zs. refl) fm known-why refl (λ r zs₅ er lens₅ isr. lands-in ! (tt, record { fits = isr .1 }) $
@@ -313,13 +359,18 @@ module _ {M : Type 1} (𝓤 : URA M) (H : Heap 𝓤) (A : Atoms 𝓤) (W : Given
         fm : FmC 𝓤 H (W .laws) (𝓣 .C)
         fm = fmOf 𝓤 H (W .laws) 𝓣
 
-        there : (b : Bool) (k : ℕ) → b ≡ restOrder m (programLent structs constants functions text main mainPlaces other otherPlaces) stack cells → k ≡ (if b then m .program .functions else 0) → 2 * k ≤ length functions
+        there : (b : Bool) (k : ℕ) → b ≡ restOrder m (programLent structs constants functions text main mainPlaces other otherPlaces) stack cells
+            → k ≡ (if b then m .program .functions else 0) → 2 * k ≤ length functions
         there b k eb ek =
             subst (λ (j : ℕ). 2 * j ≤ length functions) (sym ek)
             (functions-counted m structs constants functions text main mainPlaces other otherPlaces stack cells frames [] [] b eb)
 
-        judged : (b : Bool) (k p : ℕ) (f s : Bool) (r : ℕ) → b ≡ restOrder m (programLent structs constants functions text main mainPlaces other otherPlaces) stack cells → k ≡ (if b then m .program .functions else 0) → ((os : List ℕ) → length os ≡ stack-at .count → p ≡ places 2 os) → f ≡ framesGood functions k p (m .frames) frames → ShortPost (stack-at .count) (frames-at .count) copies entries s → r ≡ refusalBy b f s
-            → (copy backtrace : List ℕ) → length copy ≡ copies → length backtrace ≡ entries → RunJudged m (programLent structs constants functions text main mainPlaces other otherPlaces) (runLent stack cells frames copy backtrace) r
+        judged : (b : Bool) (k p : ℕ) (f s : Bool) (r : ℕ) → b ≡ restOrder m
+            (programLent structs constants functions text main mainPlaces other otherPlaces) stack cells → k ≡ (if b then m .program .functions else 0)
+            → ((os : List ℕ) → length os ≡ stack-at .count → p ≡ places 2 os) → f ≡ framesGood functions k p (m .frames) frames
+            → ShortPost (stack-at .count) (frames-at .count) copies entries s → r ≡ refusalBy b f s
+            → (copy backtrace : List ℕ) → length copy ≡ copies → length backtrace ≡ entries
+            → RunJudged m (programLent structs constants functions text main mainPlaces other otherPlaces) (runLent stack cells frames copy backtrace) r
         judged b k p f s r eb ek ep ef es er copy backtrace ec et =
             subst
             (RunJudged m (programLent structs constants functions text main mainPlaces other otherPlaces)

@@ -49,7 +49,8 @@ module _ {M : Type 1} (𝓤 : URA M) (H : Heap 𝓤) (A : Atoms 𝓤) (W : Given
   abbrev Begin : Contract 𝓤
   Begin = tripleOf 𝓤 H A begin.signature (begin.spec 𝓤 H A mem run)
 
-  module _ (𝓣 : Tables 𝓤 H) (known-fill : Triple 𝓤 (𝓣 .C #fill) Fill) (known-at : Triple 𝓤 (𝓣 .C #at) At) (known-read : Triple 𝓤 (𝓣 .C #read) (Read 𝓤 H A W mem run)) (known-begin : Triple 𝓤 (𝓣 .C #begin) Begin)
+  module _ (𝓣 : Tables 𝓤 H) (known-fill : Triple 𝓤 (𝓣 .C #fill) Fill) (known-at : Triple 𝓤 (𝓣 .C #at) At)
+      (known-read : Triple 𝓤 (𝓣 .C #read) (Read 𝓤 H A W mem run)) (known-begin : Triple 𝓤 (𝓣 .C #begin) Begin)
       (κs : Lfts 3) (qs : Shares 3) (a : Passed kinds GoingRow κs) (is : Known kinds GoingRow κs a) where
     -- the parameters
     abbrev m : Vm
@@ -94,7 +95,9 @@ module _ {M : Type 1} (𝓤 : URA M) (H : Heap 𝓤) (A : Atoms 𝓤) (W : Given
     abbrev Post : Val → SProp 𝓤
     Post = walkOf 𝓤 H A me.ended (stays kinds) (me.clauses 𝓤 H A mem run) .post (passing (xs copy))
 
-    exits : (r : Going) (copy′ : List ℕ) → Is GoingRow r (goingVal r ∷ []) → length copy′ ≡ s2 .count → (Begun m (getD frames (m .frames - 1) noFrame) units r × (copy′ ≡ written copy 0 (take (2 * m .stack) stack))) → ent 𝓤 (⋆ 𝓤 H A (‵ (Holds (slices copy′)) ∷ [])) (Post (goingVal r))
+    exits : (r : Going) (copy′ : List ℕ) → Is GoingRow r (goingVal r ∷ []) → length copy′ ≡ s2 .count
+        → (Begun m (getD frames (m .frames - 1) noFrame) units r × (copy′ ≡ written copy 0 (take (2 * m .stack) stack)))
+        → ent 𝓤 (⋆ 𝓤 H A (‵ (Holds (slices copy′)) ∷ [])) (Post (goingVal r))
     exits r copy′ isr len-copy said =
         qed W (‵ (Holds (slices copy′)) ∷ []) ∵ suffices ! _
         (ends-at 𝓤 H A me.ended (stays kinds) (me.clauses 𝓤 H A mem run) W (passing (xs copy)) (goingVal r) r
@@ -130,16 +133,29 @@ module _ {M : Type 1} (𝓤 : URA M) (H : Heap 𝓤) (A : Atoms 𝓤) (W : Given
         (λ ns. passing (lent (to-begin f) ns)) (λ ns. refl) (λ ns. unasked W (lent (to-begin f) ns)) (λ ns w. id⊢ 𝓤 _)
         (vm-makes 𝓤 H A W m _ (is .0), (frame-makes 𝓤 H A W f _ isf, (uint-makes 𝓤 H A W w64 units _ (is .1 .0), tt))) tt
 
-    walk : ((2 * m .stack ≤ length stack) × (2 * m .stack ≤ length copy) × (m .frames - 1 < length frames)) → ent 𝓤 (onEntry 𝓤 H A me.signature (lfts (xs copy)) (shares (xs copy)) (denots (xs copy)) (valss (xs copy))) (WpFn 𝓤 H (𝓣 .C) (𝓣 .Λ) code.function (values (xs copy)) Post)
+    walk : ((2 * m .stack ≤ length stack) × (2 * m .stack ≤ length copy) × (m .frames - 1 < length frames))
+        → ent 𝓤 (onEntry 𝓤 H A me.signature (lfts (xs copy)) (shares (xs copy)) (denots (xs copy)) (valss (xs copy)))
+        (WpFn 𝓤 H (𝓣 .C) (𝓣 .Λ) code.function (values (xs copy)) Post)
     walk can =
-        qed W (‵ (Toks (xs copy)) ∷ ‵ (Owns (xs copy)) ∷ []) ∵ takes ! (xs copy) (enters ! (𝓣 .C) (𝓣 .Λ) code.function (values (xs copy)) Post
-        (vm-typed 𝓤 H A W m (is .0), ((tt, record { fits = (is .1 .0) .1 }), ((tt, (tt, (record { fits = room0 .0 }, tt))), ((tt, (tt, (record { fits = room1 .0 }, tt))), ((tt, (tt, (record { fits = room2 .0 }, tt))), tt))))) (λ ls.
-        sets ! (of-opd ! (of ! refl)) (tt, record { fits = stack-fits m (is .0) }) $ sets ! (addr ! (behind ! refl refl)) (tt, tt) $ sets ! (agg ! (ofs ! refl)) (tt, (tt, (record { fits = room2 .0 }, tt))) $
-        calls-on ! (true ∷ false ∷ true ∷ []) (slices copy) (call-fill (can .0, can .1)) (λ zs. slices (zs .1 .1 .0)) refl (λ zs. refl) (λ zs. refl) fm known-fill refl (λ u zs ew lens isu. lands-in ! (tt, tt) $
+        qed W (‵ (Toks (xs copy)) ∷ ‵ (Owns (xs copy)) ∷ []) ∵ takes ! (xs copy) (enters ! (𝓣 .C) (𝓣 .Λ) code.function (values (xs copy)) Post (
+          vm-typed 𝓤 H A W m (is .0),
+          (
+            (tt, record { fits = (is .1 .0) .1 }),
+            ((tt, (tt, (record { fits = room0 .0 }, tt))), ((tt, (tt, (record { fits = room1 .0 }, tt))), ((tt, (tt, (record { fits = room2 .0 }, tt))), tt))),
+          ),
+        )
+        (λ ls.
+        sets ! (of-opd ! (of ! refl)) (tt, record { fits = stack-fits m (is .0) }) $ sets ! (addr ! (behind ! refl refl)) (tt, tt) $
+        sets ! (agg ! (ofs ! refl)) (tt, (tt, (record { fits = room2 .0 }, tt))) $
+        calls-on ! (true ∷ false ∷ true ∷ []) (slices copy) (call-fill (can .0, can .1)) (λ zs. slices (zs .1 .1 .0)) refl (λ zs. refl)
+        (λ zs. refl) fm known-fill refl (λ u zs ew lens isu. lands-in ! (tt, tt) $
         sets ! (of-opd ! (of ! refl)) (tt, record { fits = frames-fit m (is .0) }) $
         calls-on ! [] (slices (zs .1 .1 .0)) (call-at) (λ zs′. slices (zs .1 .1 .0)) refl (λ zs. refl) (λ zs. refl) fm known-at refl (λ k zs₁ ek lens₁ isk. lands-in ! (tt, record { fits = isk .1 }) $
-        calls-on ! (false ∷ true ∷ []) (slices (zs .1 .1 .0)) (call-read 𝓤 H A W mem run s1 frames refl room1 k (isk .1) (subst (λ (j : ℕ). j < length frames) (sym ek) (can .2))) (λ zs′. slices (zs .1 .1 .0)) refl (λ zs. refl) (λ zs. refl) fm known-read refl (λ f zs₂ ef lens₂ isf. lands-in ! (frame-typed 𝓤 H A W f isf) $
-        calls-on ! [] (slices (zs .1 .1 .0)) (call-begin f isf) (λ zs′. slices (zs .1 .1 .0)) refl (λ zs. refl) (λ zs. refl) fm known-begin refl (λ g zs₃ eg lens₃ isg. lands-in ! (going-typed 𝓤 H A W g isg) $
+        calls-on ! (false ∷ true ∷ []) (slices (zs .1 .1 .0)) (call-read 𝓤 H A W mem run s1 frames refl room1 k (isk .1)
+        (subst (λ (j : ℕ). j < length frames) (sym ek) (can .2))) (λ zs′. slices (zs .1 .1 .0)) refl (λ zs. refl) (λ zs. refl) fm known-read refl
+        (λ f zs₂ ef lens₂ isf. lands-in ! (frame-typed 𝓤 H A W f isf) $
+        calls-on ! [] (slices (zs .1 .1 .0)) (call-begin f isf) (λ zs′. slices (zs .1 .1 .0)) refl (λ zs. refl) (λ zs. refl) fm known-begin refl
+        (λ g zs₃ eg lens₃ isg. lands-in ! (going-typed 𝓤 H A W g isg) $
         sets ! (of-opd ! (of ! refl)) (going-typed 𝓤 H A W g isg) $ leaves ! refl $ by ! (exits g (zs .1 .1 .0) isg (lens .0) (begun k f g ek ef eg, ew))))))))
       where
         fm : FmC 𝓤 H (W .laws) (𝓣 .C)

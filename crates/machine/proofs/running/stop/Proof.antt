@@ -58,7 +58,8 @@ module _ {M : Type 1} (𝓤 : URA M) (H : Heap 𝓤) (A : Atoms 𝓤) (W : Given
   abbrev Answer : Contract 𝓤
   Answer = tripleOf 𝓤 H A answer.signature (answer.spec 𝓤 H A mem run)
 
-  module _ (𝓣 : Tables 𝓤 H) (known-current : Triple 𝓤 (𝓣 .C #current) Current) (known-trace : Triple 𝓤 (𝓣 .C #trace) Trace) (known-back : Triple 𝓤 (𝓣 .C #back) Back) (known-answer : Triple 𝓤 (𝓣 .C #answer) Answer)
+  module _ (𝓣 : Tables 𝓤 H) (known-current : Triple 𝓤 (𝓣 .C #current) Current) (known-trace : Triple 𝓤 (𝓣 .C #trace) Trace)
+      (known-back : Triple 𝓤 (𝓣 .C #back) Back) (known-answer : Triple 𝓤 (𝓣 .C #answer) Answer)
       (κs : Lfts 7) (qs : Shares 7) (a : Passed kinds ResultRow κs) (is : Known kinds ResultRow κs a) where
     -- the parameters
     abbrev m : Vm
@@ -149,7 +150,12 @@ module _ {M : Type 1} (𝓤 : URA M) (H : Heap 𝓤) (A : Atoms 𝓤) (W : Given
     abbrev Post : Val → SProp 𝓤
     Post = walkOf 𝓤 H A me.ended (stays kinds) (me.clauses 𝓤 H A mem run) .post (passing (xs stack frames backtrace))
 
-    exits : (r : RunResult) (stack′ : List ℕ) (frames′ : List Frame) (backtrace′ : List ℕ) → Is ResultRow r (resultVal r ∷ []) → length stack′ ≡ s3 .count → length frames′ ≡ s4 .count → length backtrace′ ≡ s6 .count → ((r ≡ faultedWith m units g fault) × (backtrace′ ≡ written backtrace 0 (traceWords functions mainPlaces otherPlaces (frameIn g ∷ callersOf (g .callers) frames))) × (stack′ ≡ written stack 0 (take (2 * m .stack) copy)) × (frames′ ≡ set frames 0 (root (size (codeWord functions 0))))) → ent 𝓤 (⋆ 𝓤 H A (‵ (Holds (slices stack′ frames′ backtrace′)) ∷ [])) (Post (resultVal r))
+    exits : (r : RunResult) (stack′ : List ℕ) (frames′ : List Frame) (backtrace′ : List ℕ) → Is ResultRow r (resultVal r ∷ []) → length stack′ ≡ s3 .count
+        → length frames′ ≡ s4 .count → length backtrace′ ≡ s6 .count
+        → ((r ≡ faultedWith m units g fault) × (backtrace′ ≡ written backtrace 0
+        (traceWords functions mainPlaces otherPlaces (frameIn g ∷ callersOf (g .callers) frames))) × (stack′ ≡ written stack 0 (take (2 * m .stack) copy)) ×
+        (frames′ ≡ set frames 0 (root (size (codeWord functions 0)))))
+        → ent 𝓤 (⋆ 𝓤 H A (‵ (Holds (slices stack′ frames′ backtrace′)) ∷ [])) (Post (resultVal r))
     exits r stack′ frames′ backtrace′ isr len-stack len-frames len-backtrace said =
         qed W (‵ (Holds (slices stack′ frames′ backtrace′)) ∷ []) ∵ suffices ! _
         (ends-at 𝓤 H A me.ended (stays kinds) (me.clauses 𝓤 H A mem run) W (passing (xs stack frames backtrace)) (resultVal r) r
@@ -177,7 +183,9 @@ module _ {M : Type 1} (𝓤 : URA M) (H : Heap 𝓤) (A : Atoms 𝓤) (W : Given
         shr u64 s0 functions ∷ shr u32 s1 mainPlaces ∷ shr u32 s2 otherPlaces ∷ val R f (fval f) ∷ val usize (g .callers)
         (vint w64 (g .callers)) ∷ peek R s4 frames ∷ mut u32 s6 backtrace ∷ []
 
-    call-trace : (f : Frame) → Is R f (fval f ∷ []) → TraceFits functions mainPlaces otherPlaces f (g .callers) frames (length backtrace) → Rule 𝓤 H A W (to-trace f) Trace Nothing (λ _. vunit) (λ r zs. zs .1 .1 .1 .1 .1 .1 .0 ≡ written backtrace 0 (traceWords functions mainPlaces otherPlaces (f ∷ callersOf (g .callers) frames)))
+    call-trace : (f : Frame) → Is R f (fval f ∷ []) → TraceFits functions mainPlaces otherPlaces f (g .callers) frames (length backtrace)
+        → Rule 𝓤 H A W (to-trace f) Trace Nothing (λ _. vunit) (λ r zs. zs .1 .1 .1 .1 .1 .1 .0 ≡ written backtrace 0
+        (traceWords functions mainPlaces otherPlaces (f ∷ callersOf (g .callers) frames)))
     call-trace f isf can =
         call-with 𝓤 H A W (to-trace f) Trace Nothing (λ _. vunit)
         (λ r zs. zs .1 .1 .1 .1 .1 .1 .0 ≡ written backtrace 0
@@ -191,7 +199,9 @@ module _ {M : Type 1} (𝓤 : URA M) (H : Heap 𝓤) (A : Atoms 𝓤) (W : Given
         val usize (m .stack) (vint w64 (m .stack)) ∷ shr u64 s0 functions ∷ mut u64 s3 stack ∷ mut R s4 frames ∷ shr u64 s5 copy ∷
         []
 
-    call-back : (2 * m .stack ≤ length copy) × (2 * m .stack ≤ length stack) × (0 < length frames) → Rule 𝓤 H A W to-back Back Nothing (λ _. vunit) (λ r zs. (zs .1 .1 .0 ≡ written stack 0 (take (2 * m .stack) copy)) × (zs .1 .1 .1 .0 ≡ set frames 0 (root (size (codeWord functions 0)))))
+    call-back : (2 * m .stack ≤ length copy) × (2 * m .stack ≤ length stack) × (0 < length frames)
+        → Rule 𝓤 H A W to-back Back Nothing (λ _. vunit) (λ r zs. (zs .1 .1 .0 ≡ written stack 0 (take (2 * m .stack) copy)) ×
+        (zs .1 .1 .1 .0 ≡ set frames 0 (root (size (codeWord functions 0)))))
     call-back can =
         call-with 𝓤 H A W to-back Back Nothing (λ _. vunit)
         (λ r zs. (zs .1 .1 .0 ≡ written stack 0 (take (2 * m .stack) copy)) ×
@@ -215,17 +225,68 @@ module _ {M : Type 1} (𝓤 : URA M) (H : Heap 𝓤) (A : Atoms 𝓤) (W : Given
           ),
         ) tt
 
-    walk : ((g .units ≤ units) × (g .callers < 2 ^ 32) × TraceFits functions mainPlaces otherPlaces (frameIn g) (g .callers) frames (length backtrace) × (2 * m .stack ≤ length copy) × (2 * m .stack ≤ length stack) × (0 < length frames)) → ent 𝓤 (onEntry 𝓤 H A me.signature (lfts (xs stack frames backtrace)) (shares (xs stack frames backtrace)) (denots (xs stack frames backtrace)) (valss (xs stack frames backtrace))) (WpFn 𝓤 H (𝓣 .C) (𝓣 .Λ) code.function (values (xs stack frames backtrace)) Post)
+    walk : ((g .units ≤ units) × (g .callers < 2 ^ 32) × TraceFits functions mainPlaces otherPlaces (frameIn g) (g .callers) frames (length backtrace) ×
+        (2 * m .stack ≤ length copy) × (2 * m .stack ≤ length stack) × (0 < length frames))
+        → ent 𝓤 (onEntry 𝓤 H A me.signature (lfts (xs stack frames backtrace)) (shares (xs stack frames backtrace)) (denots (xs stack frames backtrace))
+        (valss (xs stack frames backtrace))) (WpFn 𝓤 H (𝓣 .C) (𝓣 .Λ) code.function (values (xs stack frames backtrace)) Post)
     walk can =
-        qed W (‵ (Toks (xs stack frames backtrace)) ∷ ‵ (Owns (xs stack frames backtrace)) ∷ []) ∵ takes ! (xs stack frames backtrace) (enters ! (𝓣 .C) (𝓣 .Λ) code.function (values (xs stack frames backtrace)) Post
-        (vm-typed 𝓤 H A W m (is .0), ((tt, record { fits = (is .1 .0) .1 }), (going-typed 𝓤 H A W g (is .1 .1 .0), ((tt, record { fits = (is .1 .1 .1 .0) .1 }), ((tt, (tt, (record { fits = room0 .0 }, tt))), ((tt, (tt, (record { fits = room1 .0 }, tt))), ((tt, (tt, (record { fits = room2 .0 }, tt))), ((tt, (tt, (record { fits = room3 .0 }, tt))), ((tt, (tt, (record { fits = room4 .0 }, tt))), ((tt, (tt, (record { fits = room5 .0 }, tt))), ((tt, (tt, (record { fits = room6 .0 }, tt))), tt))))))))))) (λ ls.
-        calls-on ! [] (slices stack frames backtrace) (call-current) (λ zs. slices stack frames backtrace) refl (λ zs. refl) (λ zs. refl) fm known-current refl (λ f zs ef lens isf. lands-in ! (frame-typed 𝓤 H A W f isf) $
-        sets ! (of-opd ! (of ! refl)) (tt, record { fits = callers-fit g (is .1 .1 .0) }) $ sets ! (addr ! (behind ! refl refl)) (tt, tt) $ sets ! (agg ! (ofs ! refl)) (tt, (tt, (record { fits = room4 .0 }, tt))) $ sets ! (addr ! (behind ! refl refl)) (tt, tt) $ sets ! (agg ! (ofs ! refl)) (tt, (tt, (record { fits = room6 .0 }, tt))) $
-        calls-on ! (true ∷ true ∷ true ∷ false ∷ true ∷ false ∷ true ∷ []) (slices stack frames backtrace) (call-trace f isf (subst (λ (x : Frame). TraceFits functions mainPlaces otherPlaces x (g .callers) frames (length backtrace)) (sym ef) (can .2))) (λ zs. slices stack frames (zs .1 .1 .1 .1 .1 .1 .0)) refl (λ zs. refl) (λ zs. refl) fm known-trace refl (λ u zs₁ et lens₁ isu. lands-in ! (tt, tt) $
-        sets ! (of-opd ! (of ! refl)) (tt, record { fits = stack-fits m (is .0) }) $ sets ! (addr ! (behind ! refl refl)) (tt, tt) $ sets ! (agg ! (ofs ! refl)) (tt, (tt, (record { fits = room3 .0 }, tt))) $ sets ! (addr ! (behind ! refl refl)) (tt, tt) $ sets ! (agg ! (ofs ! refl)) (tt, (tt, (record { fits = room4 .0 }, tt))) $
-        calls-on ! (true ∷ false ∷ false ∷ true ∷ true ∷ true ∷ []) (slices stack frames (zs₁ .1 .1 .1 .1 .1 .1 .0)) (call-back (can .3, can .4, can .5)) (λ zs. slices (zs .1 .1 .0) (zs .1 .1 .1 .0) (zs₁ .1 .1 .1 .1 .1 .1 .0)) refl (λ zs. refl) (λ zs. refl) fm known-back refl (λ v zs₂ eb lens₂ isv. lands-in ! (tt, tt) $
-        calls-on ! [] (slices (zs₂ .1 .1 .0) (zs₂ .1 .1 .1 .0) (zs₁ .1 .1 .1 .1 .1 .1 .0)) (call-answer (can .0, can .1)) (λ zs. slices (zs₂ .1 .1 .0) (zs₂ .1 .1 .1 .0) (zs₁ .1 .1 .1 .1 .1 .1 .0)) refl (λ zs. refl) (λ zs. refl) fm known-answer refl (λ r zs₃ er lens₃ isr. lands-in ! (result-typed 𝓤 H A W r isr) $
-        sets ! (of-opd ! (of ! refl)) (result-typed 𝓤 H A W r isr) $ leaves ! refl $ by ! (exits r (zs₂ .1 .1 .0) (zs₂ .1 .1 .1 .0) (zs₁ .1 .1 .1 .1 .1 .1 .0) isr (lens₂ .0) (lens₂ .1 .0) (lens₁ .0) (er, et ∙ ap (λ (x : Frame). written backtrace 0 (traceWords functions mainPlaces otherPlaces (x ∷ callersOf (g .callers) frames))) ef, eb .0, eb .1))))))))
+        qed W (‵ (Toks (xs stack frames backtrace)) ∷ ‵ (Owns (xs stack frames backtrace)) ∷ []) ∵
+        takes ! (xs stack frames backtrace) (enters ! (𝓣 .C) (𝓣 .Λ) code.function (values (xs stack frames backtrace)) Post (
+          vm-typed 𝓤 H A W m (is .0),
+          (
+            (tt, record { fits = (is .1 .0) .1 }),
+            (
+              going-typed 𝓤 H A W g (is .1 .1 .0),
+              (
+                (tt, record { fits = (is .1 .1 .1 .0) .1 }),
+                (
+                  (tt, (tt, (record { fits = room0 .0 }, tt))),
+                  (
+                    (tt, (tt, (record { fits = room1 .0 }, tt))),
+                    (
+                      (tt, (tt, (record { fits = room2 .0 }, tt))),
+                      (
+                        (tt, (tt, (record { fits = room3 .0 }, tt))),
+                        (
+                          (tt, (tt, (record { fits = room4 .0 }, tt))),
+                          (
+                            (tt, (tt, (record { fits = room5 .0 }, tt))),
+                            ((tt, (tt, (record { fits = room6 .0 }, tt))), tt),
+                          ),
+                        ),
+                      ),
+                    ),
+                  ),
+                ),
+              ),
+            ),
+          ),
+        ) (λ ls.
+        calls-on ! [] (slices stack frames backtrace) (call-current) (λ zs. slices stack frames backtrace) refl (λ zs. refl) (λ zs. refl) fm known-current refl
+        (λ f zs ef lens isf. lands-in ! (frame-typed 𝓤 H A W f isf) $
+        sets ! (of-opd ! (of ! refl)) (tt, record { fits = callers-fit g (is .1 .1 .0) }) $ sets ! (addr ! (behind ! refl refl)) (tt, tt) $
+        sets ! (agg ! (ofs ! refl)) (tt, (tt, (record { fits = room4 .0 }, tt))) $ sets ! (addr ! (behind ! refl refl)) (tt, tt) $
+        sets ! (agg ! (ofs ! refl)) (tt, (tt, (record { fits = room6 .0 }, tt))) $
+        calls-on ! (true ∷ true ∷ true ∷ false ∷ true ∷ false ∷ true ∷ []) (slices stack frames backtrace)
+        (call-trace f isf (subst (λ (x : Frame). TraceFits functions mainPlaces otherPlaces x (g .callers) frames (length backtrace)) (sym ef) (can .2)))
+        (λ zs. slices stack frames (zs .1 .1 .1 .1 .1 .1 .0)) refl (λ zs. refl) (λ zs. refl) fm known-trace refl
+        (λ u zs₁ et lens₁ isu. lands-in ! (tt, tt) $
+        sets ! (of-opd ! (of ! refl)) (tt, record { fits = stack-fits m (is .0) }) $ sets ! (addr ! (behind ! refl refl)) (tt, tt) $
+        sets ! (agg ! (ofs ! refl)) (tt, (tt, (record { fits = room3 .0 }, tt))) $ sets ! (addr ! (behind ! refl refl)) (tt, tt) $
+        sets ! (agg ! (ofs ! refl)) (tt, (tt, (record { fits = room4 .0 }, tt))) $
+        calls-on ! (true ∷ false ∷ false ∷ true ∷ true ∷ true ∷ []) (slices stack frames (zs₁ .1 .1 .1 .1 .1 .1 .0)) (call-back (can .3, can .4, can .5))
+        (λ zs. slices (zs .1 .1 .0) (zs .1 .1 .1 .0) (zs₁ .1 .1 .1 .1 .1 .1 .0)) refl (λ zs. refl) (λ zs. refl) fm known-back refl
+        (λ v zs₂ eb lens₂ isv. lands-in ! (tt, tt) $
+        calls-on ! [] (slices (zs₂ .1 .1 .0) (zs₂ .1 .1 .1 .0) (zs₁ .1 .1 .1 .1 .1 .1 .0)) (call-answer (can .0, can .1))
+        (λ zs. slices (zs₂ .1 .1 .0) (zs₂ .1 .1 .1 .0) (zs₁ .1 .1 .1 .1 .1 .1 .0)) refl (λ zs. refl) (λ zs. refl) fm known-answer refl
+        (λ r zs₃ er lens₃ isr. lands-in ! (result-typed 𝓤 H A W r isr) $
+        sets ! (of-opd ! (of ! refl)) (result-typed 𝓤 H A W r isr) $ leaves ! refl $
+        by ! (exits r (zs₂ .1 .1 .0) (zs₂ .1 .1 .1 .0) (zs₁ .1 .1 .1 .1 .1 .1 .0) isr (lens₂ .0) (lens₂ .1 .0) (lens₁ .0) (
+          er,
+          et ∙ ap (λ (x : Frame). written backtrace 0 (traceWords functions mainPlaces otherPlaces (x ∷ callersOf (g .callers) frames))) ef,
+          eb .0,
+          eb .1,
+        ))))))))
       where
         fm : FmC 𝓤 H (W .laws) (𝓣 .C)
         fm = fmOf 𝓤 H (W .laws) 𝓣

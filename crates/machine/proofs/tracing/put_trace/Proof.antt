@@ -124,7 +124,8 @@ module _ {M : Type 1} (𝓤 : URA M) (H : Heap 𝓤) (A : Atoms 𝓤) (W : Given
     abbrev Post : Val → SProp 𝓤
     Post = walkOf 𝓤 H A me.ended (stays kinds) (me.clauses 𝓤 H A mem run) .post (passing (xs out))
 
-    exits : (r : Told) (zs : List ℕ) → IsTold r → length zs ≡ s4 .count → record { answer = r; out = zs } ≡ traceInto words main other n ys out → ent 𝓤 (⋆ 𝓤 H A (‵ (Holds (slices zs)) ∷ [])) (Post (toldVal r))
+    exits : (r : Told) (zs : List ℕ) → IsTold r → length zs ≡ s4 .count → record { answer = r; out = zs } ≡ traceInto words main other n ys out
+        → ent 𝓤 (⋆ 𝓤 H A (‵ (Holds (slices zs)) ∷ [])) (Post (toldVal r))
     exits r zs isr len said =
         qed W (‵ (Holds (slices zs)) ∷ []) ∵ suffices ! _
         (ends-at 𝓤 H A me.ended (stays kinds) (me.clauses 𝓤 H A mem run) W (passing (xs out)) (toldVal r) r
@@ -177,18 +178,35 @@ module _ {M : Type 1} (𝓤 : URA M) (H : Heap 𝓤) (A : Atoms 𝓤) (W : Given
         call-with 𝓤 H A W to-not Not ToldRow toldVal (λ r zs. r ≡ t.Refused 16) told-tells (λ ns. passing (lent to-not ns))
         (λ ns. refl) (λ ns. unasked W (lent to-not ns)) (λ ns w. id⊢ 𝓤 _) (uint-makes 𝓤 H A W w8 16 _ (refl, omega arith), tt) tt
 
-    walk : Traceable words main other n ys (length out) → ent 𝓤 (onEntry 𝓤 H A me.signature (lfts (xs out)) (shares (xs out)) (denots (xs out)) (valss (xs out))) (WpFn 𝓤 H (𝓣 .C) (𝓣 .Λ) code.function (values (xs out)) Post)
+    walk : Traceable words main other n ys (length out) → ent 𝓤 (onEntry 𝓤 H A me.signature (lfts (xs out)) (shares (xs out)) (denots (xs out))
+        (valss (xs out))) (WpFn 𝓤 H (𝓣 .C) (𝓣 .Λ) code.function (values (xs out)) Post)
     walk can =
-        qed W (‵ (Toks (xs out)) ∷ ‵ (Owns (xs out)) ∷ []) ∵ takes ! (xs out) (enters ! (𝓣 .C) (𝓣 .Λ) code.function (values (xs out)) Post
-        ((tt, record { fits = is .0 .1 }), ((tt, (tt, (record { fits = room0 .0 }, tt))), ((tt, (tt, (record { fits = room1 .0 }, tt))), ((tt, (tt, (record { fits = room2 .0 }, tt))), ((tt, (tt, (record { fits = room3 .0 }, tt))), ((tt, (tt, (record { fits = room4 .0 }, tt))), tt)))))) (λ ls.
+        qed W (‵ (Toks (xs out)) ∷ ‵ (Owns (xs out)) ∷ []) ∵ takes ! (xs out) (enters ! (𝓣 .C) (𝓣 .Λ) code.function (values (xs out)) Post (
+          (tt, record { fits = is .0 .1 }),
+          (
+            (tt, (tt, (record { fits = room0 .0 }, tt))),
+            (
+              (tt, (tt, (record { fits = room1 .0 }, tt))),
+              (
+                (tt, (tt, (record { fits = room2 .0 }, tt))),
+                ((tt, (tt, (record { fits = room3 .0 }, tt))), ((tt, (tt, (record { fits = room4 .0 }, tt))), tt)),
+              ),
+            ),
+          ),
+        ) (λ ls.
         calls-on ! [] (slices out) call-at (λ zs. slices out) refl (λ zs. refl) (λ zs. refl) fm known-at refl (λ k zs ek lens isk. lands-in ! (tt, record { fits = isk .1 }) $
-        calls-on ! (false ∷ false ∷ false ∷ true ∷ []) (slices out) (call-read 𝓤 H A W mem run s3 ys refl room3 k (isk .1) (inside k ek)) (λ zs. slices out) refl (λ zs. refl) (λ zs. refl) fm known-read refl (λ f zs₁ ef lens₁ isf. lands-in ! (frame-typed 𝓤 H A W f isf) $
-        calls-on ! (true ∷ false ∷ false ∷ true ∷ []) (slices out) (call-fine k f (isk .1) isf (omega (arith, inside k ek))) (λ zs. slices out) refl (λ zs. refl) (λ zs. refl) fm known-fine refl (λ b zs₂ eb lens₂ isb. lands-in ! (tt, tt) $
+        calls-on ! (false ∷ false ∷ false ∷ true ∷ []) (slices out) (call-read 𝓤 H A W mem run s3 ys refl room3 k (isk .1) (inside k ek))
+        (λ zs. slices out) refl (λ zs. refl) (λ zs. refl) fm known-read refl (λ f zs₁ ef lens₁ isf. lands-in ! (frame-typed 𝓤 H A W f isf) $
+        calls-on ! (true ∷ false ∷ false ∷ true ∷ []) (slices out) (call-fine k f (isk .1) isf (omega (arith, inside k ek))) (λ zs. slices out) refl
+        (λ zs. refl) (λ zs. refl) fm known-fine refl (λ b zs₂ eb lens₂ isb. lands-in ! (tt, tt) $
         sets ! (of-opd ! (of ! refl)) (tt, tt) $ returns-if ! 𝓣 (of ! refl)
         (λ on. sets ! (addr ! (behind ! refl refl)) (tt, tt) $ sets ! (agg ! (ofs ! refl)) (tt, (tt, (record { fits = room4 .0 }, tt))) $
-        calls-on ! (true ∷ true ∷ true ∷ true ∷ true ∷ []) (slices out) (call-write k f (isk .1) isf (ready k f b ek ef eb (is-true b on))) (λ zs. slices (zs .1 .1 .1 .1 .1 .1 .0)) refl (λ zs. refl) (λ zs. refl) fm known-write refl (λ u zs₃ ew lens₃ isu. lands-in ! (tt, tt) $
-        calls-on ! [] (slices (zs₃ .1 .1 .1 .1 .1 .1 .0)) call-told (λ zs. slices (zs₃ .1 .1 .1 .1 .1 .1 .0)) refl (λ zs. refl) (λ zs. refl) fm known-told refl (λ r zs₄ er lens₄ isr. lands-in ! (told-typed 𝓤 H A W r isr) $
-        sets ! (of-opd ! (of ! refl)) (told-typed 𝓤 H A W r isr) $ leaves ! refl $ by ! (exits r (zs₃ .1 .1 .1 .1 .1 .1 .0) isr (lens₃ .0) (trace-wrote words main other n ys out ek ef eb (is-true b on) ew er)))))
+        calls-on ! (true ∷ true ∷ true ∷ true ∷ true ∷ []) (slices out) (call-write k f (isk .1) isf (ready k f b ek ef eb (is-true b on)))
+        (λ zs. slices (zs .1 .1 .1 .1 .1 .1 .0)) refl (λ zs. refl) (λ zs. refl) fm known-write refl (λ u zs₃ ew lens₃ isu. lands-in ! (tt, tt) $
+        calls-on ! [] (slices (zs₃ .1 .1 .1 .1 .1 .1 .0)) call-told (λ zs. slices (zs₃ .1 .1 .1 .1 .1 .1 .0)) refl (λ zs. refl) (λ zs. refl) fm known-told refl
+        (λ r zs₄ er lens₄ isr. lands-in ! (told-typed 𝓤 H A W r isr) $
+        sets ! (of-opd ! (of ! refl)) (told-typed 𝓤 H A W r isr) $ leaves ! refl $
+        by ! (exits r (zs₃ .1 .1 .1 .1 .1 .1 .0) isr (lens₃ .0) (trace-wrote words main other n ys out ek ef eb (is-true b on) ew er)))))
         (λ off. calls-on ! [] (slices out) call-not (λ zs. slices out) refl (λ zs. refl) (λ zs. refl) fm known-not refl (λ r zs₃ er lens₃ isr. lands-in ! (told-typed 𝓤 H A W r isr) $
         sets ! (of-opd ! (of ! refl)) (told-typed 𝓤 H A W r isr) $ leaves ! refl $ by ! (exits r out isr refl (trace-none words main other n ys out ek ef eb (is-false b off) er)))))))))
       where

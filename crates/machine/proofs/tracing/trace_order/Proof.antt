@@ -63,7 +63,8 @@ module _ {M : Type 1} (𝓤 : URA M) (H : Heap 𝓤) (A : Atoms 𝓤) (W : Given
   abbrev Both : Contract 𝓤
   Both = tripleOf 𝓤 H A both.signature (both.spec 𝓤 H A mem run)
 
-  module _ (𝓣 : Tables 𝓤 H) (known-whole : Triple 𝓤 (𝓣 .C #whole) Whole) (known-count : Triple 𝓤 (𝓣 .C #count) Count) (known-slots : Triple 𝓤 (𝓣 .C #slots) Slots) (known-good : Triple 𝓤 (𝓣 .C #good) Good) (known-both : Triple 𝓤 (𝓣 .C #both) Both)
+  module _ (𝓣 : Tables 𝓤 H) (known-whole : Triple 𝓤 (𝓣 .C #whole) Whole) (known-count : Triple 𝓤 (𝓣 .C #count) Count)
+      (known-slots : Triple 𝓤 (𝓣 .C #slots) Slots) (known-good : Triple 𝓤 (𝓣 .C #good) Good) (known-both : Triple 𝓤 (𝓣 .C #both) Both)
       (κs : Lfts 8) (qs : Shares 8) (a : Passed kinds Boolean κs) (is : Known kinds Boolean κs a) where
     -- the parameters
     abbrev m : Vm
@@ -152,7 +153,9 @@ module _ {M : Type 1} (𝓤 : URA M) (H : Heap 𝓤) (A : Atoms 𝓤) (W : Given
     abbrev Post : Val → SProp 𝓤
     Post = walkOf 𝓤 H A me.ended (stays kinds) (me.clauses 𝓤 H A mem run) .post (passing xs)
 
-    exits : (r : Bool) → Is Boolean r (vbool r ∷ []) → ((structs constants : List ℕ) → r ≡ traceOrder m (programLent structs constants functions text main mainPlaces other otherPlaces) stack frames) → ent 𝓤 (⋆ 𝓤 H A (‵ (Holds slices) ∷ [])) (Post (vbool r))
+    exits : (r : Bool) → Is Boolean r (vbool r ∷ []) → ((structs constants : List ℕ)
+        → r ≡ traceOrder m (programLent structs constants functions text main mainPlaces other otherPlaces) stack frames)
+        → ent 𝓤 (⋆ 𝓤 H A (‵ (Holds slices) ∷ [])) (Post (vbool r))
     exits r isr said =
         qed W (‵ (Holds slices) ∷ []) ∵ suffices ! _
         (ends-at 𝓤 H A me.ended (stays kinds) (me.clauses 𝓤 H A mem run) W (passing xs) (vbool r) r
@@ -166,7 +169,8 @@ module _ {M : Type 1} (𝓤 : URA M) (H : Heap 𝓤) (A : Atoms 𝓤) (W : Given
         val VmRow m (vmVal m) ∷ shr u64 functions-at functions ∷ shr u8 text-at text ∷ shr u8 main-at main ∷ shr u32
         main-places-at mainPlaces ∷ shr u8 other-at other ∷ shr u32 other-places-at otherPlaces ∷ []
 
-    call-whole : Rule 𝓤 H A W to-whole Whole Boolean vbool (λ b zs. ((structs constants : List ℕ) → b ≡ traceProgram (m .program) (programLent structs constants functions text main mainPlaces other otherPlaces)))
+    call-whole : Rule 𝓤 H A W to-whole Whole Boolean vbool (λ b zs.
+        ((structs constants : List ℕ) → b ≡ traceProgram (m .program) (programLent structs constants functions text main mainPlaces other otherPlaces)))
     call-whole =
         call-with 𝓤 H A W to-whole Whole Boolean vbool
         (λ b zs. ((structs constants : List ℕ) → b ≡ traceProgram (m .program)
@@ -224,26 +228,52 @@ module _ {M : Type 1} (𝓤 : URA M) (H : Heap 𝓤) (A : Atoms 𝓤) (W : Given
 
     walk : ent 𝓤 (onEntry 𝓤 H A me.signature (lfts xs) (shares xs) (denots xs) (valss xs)) (WpFn 𝓤 H (𝓣 .C) (𝓣 .Λ) code.function (values xs) Post)
     walk =
-        qed W (‵ (Toks xs) ∷ ‵ (Owns xs) ∷ []) ∵ takes ! xs (enters ! (𝓣 .C) (𝓣 .Λ) code.function (values xs) Post
-        (vm-typed 𝓤 H A W m (is .0), ((tt, (tt, (record { fits = functions-room .0 }, tt))), ((tt, (tt, (record { fits = text-room .0 }, tt))), ((tt, (tt, (record { fits = main-room .0 }, tt))), ((tt, (tt, (record { fits = main-places-room .0 }, tt))), ((tt, (tt, (record { fits = other-room .0 }, tt))), ((tt, (tt, (record { fits = other-places-room .0 }, tt))), ((tt, (tt, (record { fits = stack-room .0 }, tt))), ((tt, (tt, (record { fits = frames-room .0 }, tt))), tt))))))))) (λ ls.
+        qed W (‵ (Toks xs) ∷ ‵ (Owns xs) ∷ []) ∵ takes ! xs (enters ! (𝓣 .C) (𝓣 .Λ) code.function (values xs) Post (
+          vm-typed 𝓤 H A W m (is .0),
+          (
+            (tt, (tt, (record { fits = functions-room .0 }, tt))),
+            (
+              (tt, (tt, (record { fits = text-room .0 }, tt))),
+              (
+                (tt, (tt, (record { fits = main-room .0 }, tt))),
+                (
+                  (tt, (tt, (record { fits = main-places-room .0 }, tt))),
+                  (
+                    (tt, (tt, (record { fits = other-room .0 }, tt))),
+                    (
+                      (tt, (tt, (record { fits = other-places-room .0 }, tt))),
+                      ((tt, (tt, (record { fits = stack-room .0 }, tt))), ((tt, (tt, (record { fits = frames-room .0 }, tt))), tt)),
+                    ),
+                  ),
+                ),
+              ),
+            ),
+          ),
+        ) (λ ls.
         sets ! (of-opd ! (of ! refl)) (tt, record { fits = frames-fit m (is .0) }) $
         calls-on ! (true ∷ true ∷ true ∷ true ∷ true ∷ true ∷ []) slices (call-whole) (λ zs. slices) refl (λ zs. refl) (λ zs. refl) fm known-whole refl (λ b zs eb lens isb. lands-in ! (tt, tt) $
         calls-on ! [] slices (call-count b isb) (λ zs. slices) refl (λ zs. refl) (λ zs. refl) fm known-count refl (λ k zs₁ ek lens₁ isk. lands-in ! (tt, record { fits = isk .1 }) $
         sets ! (of-opd ! (of ! refl)) (tt, record { fits = stack-room .0 }) $
         calls-on ! [] slices (call-slots) (λ zs. slices) refl (λ zs. refl) (λ zs. refl) fm known-slots refl (λ p zs₄ ep lens₄ isp. lands-in ! (tt, record { fits = isp .1 }) $
-        calls-on ! (true ∷ false ∷ false ∷ false ∷ false ∷ false ∷ false ∷ true ∷ []) slices (call-good k p (isk .1) (isp .1) (there b k eb ek)) (λ zs. slices) refl (λ zs. refl) (λ zs. refl) fm known-good refl (λ f zs₂ ef lens₂ isf. lands-in ! (tt, tt) $
+        calls-on ! (true ∷ false ∷ false ∷ false ∷ false ∷ false ∷ false ∷ true ∷ []) slices (call-good k p (isk .1) (isp .1) (there b k eb ek))
+        (λ zs. slices) refl (λ zs. refl) (λ zs. refl) fm known-good refl (λ f zs₂ ef lens₂ isf. lands-in ! (tt, tt) $
         calls-on ! [] slices (call-both b f isb isf) (λ zs. slices) refl (λ zs. refl) (λ zs. refl) fm known-both refl (λ r zs₃ er lens₃ isr. lands-in ! (tt, tt) $
         sets ! (of-opd ! (of ! refl)) (tt, tt) $ leaves ! refl $ by ! (exits r isr (judged b k p f r eb ek ep ef er)))))))))
       where
         fm : FmC 𝓤 H (W .laws) (𝓣 .C)
         fm = fmOf 𝓤 H (W .laws) 𝓣
 
-        there : (b : Bool) (k : ℕ) → ((structs constants : List ℕ) → b ≡ traceProgram (m .program) (programLent structs constants functions text main mainPlaces other otherPlaces)) → k ≡ (if b then m .program .functions else 0) → 2 * k ≤ length functions
+        there : (b : Bool) (k : ℕ) → ((structs constants : List ℕ) → b ≡ traceProgram (m .program)
+            (programLent structs constants functions text main mainPlaces other otherPlaces)) → k ≡ (if b then m .program .functions else 0)
+            → 2 * k ≤ length functions
         there b k eb ek =
             subst (λ (j : ℕ). 2 * j ≤ length functions) (sym ek)
             (functions-counted m [] [] functions text main mainPlaces other otherPlaces b (eb [] []))
 
-        judged : (b : Bool) (k p : ℕ) (f r : Bool) → ((structs constants : List ℕ) → b ≡ traceProgram (m .program) (programLent structs constants functions text main mainPlaces other otherPlaces)) → k ≡ (if b then m .program .functions else 0) → ((os : List ℕ) → length os ≡ stack-at .count → p ≡ places 2 os) → f ≡ framesGood functions k p (m .frames) frames → r ≡ (b && f)
+        judged : (b : Bool) (k p : ℕ) (f r : Bool) → ((structs constants : List ℕ)
+            → b ≡ traceProgram (m .program) (programLent structs constants functions text main mainPlaces other otherPlaces))
+            → k ≡ (if b then m .program .functions else 0) → ((os : List ℕ) → length os ≡ stack-at .count → p ≡ places 2 os)
+            → f ≡ framesGood functions k p (m .frames) frames → r ≡ (b && f)
             → (structs constants : List ℕ) → r ≡ traceOrder m (programLent structs constants functions text main mainPlaces other otherPlaces) stack frames
         judged b k p f r eb ek ep ef er structs constants =
             er ∙ frames-judged m structs constants functions text main mainPlaces other otherPlaces stack frames b f

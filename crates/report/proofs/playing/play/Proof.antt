@@ -211,7 +211,8 @@ module _ {M : Type 1} (𝓤 : URA M) (H : Heap 𝓤) (A : Atoms 𝓤) (W : Given
     abbrev before : List Frame → Lent
     before frames = runLent stack cells frames copy backtrace
 
-    exits : (r : RunResult) (stack′ cells′ copy′ backtrace′ : List ℕ) → Is ResultRow r (resultVal r ∷ []) → length stack′ ≡ stack-at .count → length cells′ ≡ cells-at .count → length copy′ ≡ copy-at .count → length backtrace′ ≡ backtrace-at .count
+    exits : (r : RunResult) (stack′ cells′ copy′ backtrace′ : List ℕ) → Is ResultRow r (resultVal r ∷ []) → length stack′ ≡ stack-at .count
+        → length cells′ ≡ cells-at .count → length copy′ ≡ copy-at .count → length backtrace′ ≡ backtrace-at .count
         → PlayPost m units stores before r (λ frames. runLent stack′ cells′ frames copy′ backtrace′) → ent 𝓤 (⋆ 𝓤 H A (‵ (Holds (slices stack′ cells′ copy′ backtrace′)) ∷ [])) (Post (resultVal r))
     exits r stack′ cells′ copy′ backtrace′ isr len-stack len-cells len-copy len-backtrace said =
         qed W (‵ (Holds (slices stack′ cells′ copy′ backtrace′)) ∷ []) ∵ suffices ! _
@@ -263,9 +264,45 @@ module _ {M : Type 1} (𝓤 : URA M) (H : Heap 𝓤) (A : Atoms 𝓤) (W : Given
     walk =
         qed W (‵ (Toks entry) ∷ ‵ (Owns entry) ∷ []) ∵ takes ! entry (
         -- what the array owns, and that its machine value is one of the type
-        owned ! R (Is R) (frame-makes 𝓤 H A W) (root 0) (fval (root 0) ∷ []) is-root $ use1 W (‵ (Array R 256 .own frames₀ (array₀ ∷ []))) (array-repeat 𝓤 H A W R (frame-copy 𝓤 H A W) 256 (root 0) (fval (root 0))) $
-        peeks ! (Array R 256) (Is (Array R 256)) (shows 𝓤 H A (Array R 256)) frames₀ (array₀ ∷ []) (λ isa. enters ! (𝓣 .C) (𝓣 .Λ) code.function (values entry) Post
-        (vm-typed 𝓤 H A W m (is .0), ((tt, record { fits = is .1 .0 .1 }), ((tt, (tt, (record { fits = constants-room .0 }, tt))), ((tt, (tt, (record { fits = structs-room .0 }, tt))), ((tt, (tt, (record { fits = functions-room .0 }, tt))), ((tt, (tt, (record { fits = text-room .0 }, tt))), ((tt, (tt, (record { fits = main-room .0 }, tt))), ((tt, (tt, (record { fits = main-places-room .0 }, tt))), ((tt, (tt, (record { fits = other-room .0 }, tt))), ((tt, (tt, (record { fits = other-places-room .0 }, tt))), ((tt, (tt, (record { fits = stack-room .0 }, tt))), ((tt, (tt, (record { fits = cells-room .0 }, tt))), ((tt, (tt, (record { fits = copy-room .0 }, tt))), ((tt, (tt, (record { fits = backtrace-room .0 }, tt))), tt)))))))))))))) (λ ls.
+        owned ! R (Is R) (frame-makes 𝓤 H A W) (root 0) (fval (root 0) ∷ []) is-root $
+        use1 W (‵ (Array R 256 .own frames₀ (array₀ ∷ []))) (array-repeat 𝓤 H A W R (frame-copy 𝓤 H A W) 256 (root 0) (fval (root 0))) $
+        peeks ! (Array R 256) (Is (Array R 256)) (shows 𝓤 H A (Array R 256)) frames₀ (array₀ ∷ []) (λ isa. enters ! (𝓣 .C) (𝓣 .Λ) code.function (values entry) Post (
+          vm-typed 𝓤 H A W m (is .0),
+          (
+            (tt, record { fits = is .1 .0 .1 }),
+            (
+              (tt, (tt, (record { fits = constants-room .0 }, tt))),
+              (
+                (tt, (tt, (record { fits = structs-room .0 }, tt))),
+                (
+                  (tt, (tt, (record { fits = functions-room .0 }, tt))),
+                  (
+                    (tt, (tt, (record { fits = text-room .0 }, tt))),
+                    (
+                      (tt, (tt, (record { fits = main-room .0 }, tt))),
+                      (
+                        (tt, (tt, (record { fits = main-places-room .0 }, tt))),
+                        (
+                          (tt, (tt, (record { fits = other-room .0 }, tt))),
+                          (
+                            (tt, (tt, (record { fits = other-places-room .0 }, tt))),
+                            (
+                              (tt, (tt, (record { fits = stack-room .0 }, tt))),
+                              (
+                                (tt, (tt, (record { fits = cells-room .0 }, tt))),
+                                ((tt, (tt, (record { fits = copy-room .0 }, tt))), ((tt, (tt, (record { fits = backtrace-room .0 }, tt))), tt)),
+                              ),
+                            ),
+                          ),
+                        ),
+                      ),
+                    ),
+                  ),
+                ),
+              ),
+            ),
+          ),
+        ) (λ ls.
         sets ! (agg ! (ofs ! refl)) (frame-typed 𝓤 H A W (root 0) is-root) $
         sets ! (rep ! 256 (of ! refl)) (array-lawful 𝓤 H A W R (LL.lawful T.the-type T′.the-laws 𝓤 H A W) 256 .typed frames₀ (array₀ ∷ []) isa .0) $
         sets ! (addr ! (behind ! refl refl)) (tt, tt) $ sets ! (agg ! (ofs ! refl)) (tt, (tt, (record { fits = stack-room .0 }, tt))) $
@@ -274,18 +311,72 @@ module _ {M : Type 1} (𝓤 : URA M) (H : Heap 𝓤) (A : Atoms 𝓤) (W : Given
         sets ! (addr ! (behind ! refl refl)) (tt, tt) $ sets ! (agg ! (ofs ! refl)) (tt, (tt, (record { fits = copy-room .0 }, tt))) $
         sets ! (addr ! (behind ! refl refl)) (tt, tt) $ sets ! (agg ! (ofs ! refl)) (tt, (tt, (record { fits = backtrace-room .0 }, tt))) $
         -- [the locals; what the array owns; the slices]
-        apart _ memorySlot bs (ws (ls .1 .1 .1 .1 .1 .1 .1 .1 .1 .1 .1 .1 .1 .1 .1 .1 .0)) ! fs us tt array₀ ls (move ! (1 ∷ 4 ∷ []) $ lend-array ! tt R tt 256 room frames₀ (ls .1 .1 .1 .1 .1 .1 .1 .1 .1 .1 .1 .1 .1 .1 .1 .1 .0) array₀ (λ ν δ e.
+        apart _ memorySlot bs (ws (ls .1 .1 .1 .1 .1 .1 .1 .1 .1 .1 .1 .1 .1 .1 .1 .1 .0)) ! fs us tt array₀ ls
+        (move ! (1 ∷ 4 ∷ []) $ lend-array ! tt R tt 256 room frames₀ (ls .1 .1 .1 .1 .1 .1 .1 .1 .1 .1 .1 .1 .1 .1 .1 .1 .0) array₀ (λ ν δ e.
         -- [the frames; the lender's part; the locals before; what frees the array; the locals behind; the slices]
-        move ! (5 ∷ []) $ splits ! (firsts stack cells) (lasts copy backtrace) (move ! (2 ∷ 1 ∷ []) $ fjoin ! $ move ! (1 ∷ 0 ∷ []) $ joins ! (firsts stack cells) (mut R (sf ν δ (ls .1 .1 .1 .1 .1 .1 .1 .1 .1 .1 .1 .1 .1 .1 .1 .1 .0)) frames₀ ∷ lasts copy backtrace) (
+        move ! (5 ∷ []) $ splits ! (firsts stack cells) (lasts copy backtrace)
+        (move ! (2 ∷ 1 ∷ []) $ fjoin ! $ move ! (1 ∷ 0 ∷ []) $ joins ! (firsts stack cells)
+        (mut R (sf ν δ (ls .1 .1 .1 .1 .1 .1 .1 .1 .1 .1 .1 .1 .1 .1 .1 .1 .0)) frames₀ ∷ lasts copy backtrace) (
         -- [all the slices; the lender's part; the locals before; what frees the array; the locals behind]
-        calls-with 𝓤 H A W (to-it ν δ (ls .1 .1 .1 .1 .1 .1 .1 .1 .1 .1 .1 .1 .1 .1 .1 .1 .0)) It ResultRow resultVal (Ran ν δ (ls .1 .1 .1 .1 .1 .1 .1 .1 .1 .1 .1 .1 .1 .1 .1 .1 .0)) result-tells (λ ns. passing (lent (to-it ν δ (ls .1 .1 .1 .1 .1 .1 .1 .1 .1 .1 .1 .1 .1 .1 .1 .1 .0)) ns)) (λ ns. unasked W (lent (to-it ν δ (ls .1 .1 .1 .1 .1 .1 .1 .1 .1 .1 .1 .1 .1 .1 .1 .1 .0)) ns)) (λ ns w. id⊢ 𝓤 _)
-        (vm-makes 𝓤 H A W m _ (is .0), (uint-makes 𝓤 H A W w64 units _ (is .1 .0), tt)) ((refl, constants-room), ((refl, structs-room), ((refl, functions-room), ((refl, text-room), ((refl, main-room), ((refl, main-places-room), ((refl, other-room), ((refl, other-places-room), ((refl, stack-room), ((refl, cells-room), ((e, room), ((refl, copy-room), ((refl, backtrace-room), tt)))))))))))))
-        ! fm known (λ ns. and-then ! (load ! (from ! (stop !)) (look-in ! 3 (here ! 1 refl))) (and-then ! (load ! (from ! (stop !)) (look-in ! 3 (here ! 2 refl))) (and-then ! (load ! (from ! (stop !)) (look-in ! 3 (here ! 3 refl))) (and-then ! (load ! (from ! (stop !)) (look-in ! 3 (here ! 4 refl))) (and-then ! (load ! (from ! (stop !)) (look-in ! 3 (here ! 5 refl))) (and-then ! (load ! (from ! (stop !)) (look-in ! 3 (here ! 6 refl))) (and-then ! (load ! (from ! (stop !)) (look-in ! 3 (here ! 7 refl))) (and-then ! (load ! (from ! (stop !)) (look-in ! 3 (here ! 8 refl))) (and-then ! (load ! (from ! (stop !)) (look-in ! 3 (here ! 9 refl))) (and-then ! (load ! (from ! (stop !)) (look-in ! 3 (here ! 10 refl))) (and-then ! (load ! (from ! (stop !)) (look-in ! 5 (here ! 2 refl))) (and-then ! (load ! (from ! (stop !)) (look-in ! 5 (here ! 4 refl))) (and-then ! (load ! (from ! (stop !)) (look-in ! 5 (here ! 6 refl))) (and-then ! (load ! (from ! (stop !)) (look-in ! 5 (here ! 8 refl))) (and-then ! (load ! (from ! (stop !)) (look-in ! 5 (here ! 10 refl))) (no-more !)))))))))))))))) (λ r zs said lens isr.
-        splits ! (firsts (zs .1 .1 .1 .1 .1 .1 .1 .1 .1 .1 .0) (zs .1 .1 .1 .1 .1 .1 .1 .1 .1 .1 .1 .0)) (mut R (sf ν δ (ls .1 .1 .1 .1 .1 .1 .1 .1 .1 .1 .1 .1 .1 .1 .1 .1 .0)) (zs .1 .1 .1 .1 .1 .1 .1 .1 .1 .1 .1 .1 .0) ∷ lasts (zs .1 .1 .1 .1 .1 .1 .1 .1 .1 .1 .1 .1 .1 .0) (zs .1 .1 .1 .1 .1 .1 .1 .1 .1 .1 .1 .1 .1 .1 .0)) (move ! (1 ∷ []) $ fsplit ! $ move ! (2 ∷ 1 ∷ []) $ joins ! (firsts (zs .1 .1 .1 .1 .1 .1 .1 .1 .1 .1 .0) (zs .1 .1 .1 .1 .1 .1 .1 .1 .1 .1 .1 .0)) (lasts (zs .1 .1 .1 .1 .1 .1 .1 .1 .1 .1 .1 .1 .1 .0) (zs .1 .1 .1 .1 .1 .1 .1 .1 .1 .1 .1 .1 .1 .1 .0)) (
+        calls-with 𝓤 H A W (to-it ν δ (ls .1 .1 .1 .1 .1 .1 .1 .1 .1 .1 .1 .1 .1 .1 .1 .1 .0)) It ResultRow resultVal
+        (Ran ν δ (ls .1 .1 .1 .1 .1 .1 .1 .1 .1 .1 .1 .1 .1 .1 .1 .1 .0)) result-tells
+        (λ ns. passing (lent (to-it ν δ (ls .1 .1 .1 .1 .1 .1 .1 .1 .1 .1 .1 .1 .1 .1 .1 .1 .0)) ns))
+        (λ ns. unasked W (lent (to-it ν δ (ls .1 .1 .1 .1 .1 .1 .1 .1 .1 .1 .1 .1 .1 .1 .1 .1 .0)) ns)) (λ ns w. id⊢ 𝓤 _)
+        (vm-makes 𝓤 H A W m _ (is .0), (uint-makes 𝓤 H A W w64 units _ (is .1 .0), tt)) (
+          (refl, constants-room),
+          (
+            (refl, structs-room),
+            (
+              (refl, functions-room),
+              (
+                (refl, text-room),
+                (
+                  (refl, main-room),
+                  (
+                    (refl, main-places-room),
+                    (
+                      (refl, other-room),
+                      (
+                        (refl, other-places-room),
+                        (
+                          (refl, stack-room),
+                          ((refl, cells-room), ((e, room), ((refl, copy-room), ((refl, backtrace-room), tt)))),
+                        ),
+                      ),
+                    ),
+                  ),
+                ),
+              ),
+            ),
+          ),
+        )
+        ! fm known (λ ns. and-then ! (load ! (from ! (stop !)) (look-in ! 3 (here ! 1 refl)))
+        (and-then ! (load ! (from ! (stop !)) (look-in ! 3 (here ! 2 refl)))
+        (and-then ! (load ! (from ! (stop !)) (look-in ! 3 (here ! 3 refl)))
+        (and-then ! (load ! (from ! (stop !)) (look-in ! 3 (here ! 4 refl)))
+        (and-then ! (load ! (from ! (stop !)) (look-in ! 3 (here ! 5 refl)))
+        (and-then ! (load ! (from ! (stop !)) (look-in ! 3 (here ! 6 refl)))
+        (and-then ! (load ! (from ! (stop !)) (look-in ! 3 (here ! 7 refl)))
+        (and-then ! (load ! (from ! (stop !)) (look-in ! 3 (here ! 8 refl)))
+        (and-then ! (load ! (from ! (stop !)) (look-in ! 3 (here ! 9 refl)))
+        (and-then ! (load ! (from ! (stop !)) (look-in ! 3 (here ! 10 refl)))
+        (and-then ! (load ! (from ! (stop !)) (look-in ! 5 (here ! 2 refl)))
+        (and-then ! (load ! (from ! (stop !)) (look-in ! 5 (here ! 4 refl)))
+        (and-then ! (load ! (from ! (stop !)) (look-in ! 5 (here ! 6 refl)))
+        (and-then ! (load ! (from ! (stop !)) (look-in ! 5 (here ! 8 refl)))
+        (and-then ! (load ! (from ! (stop !)) (look-in ! 5 (here ! 10 refl))) (no-more !)))))))))))))))) (λ r zs said lens isr.
+        splits ! (firsts (zs .1 .1 .1 .1 .1 .1 .1 .1 .1 .1 .0) (zs .1 .1 .1 .1 .1 .1 .1 .1 .1 .1 .1 .0))
+        (mut R (sf ν δ (ls .1 .1 .1 .1 .1 .1 .1 .1 .1 .1 .1 .1 .1 .1 .1 .1 .0)) (zs .1 .1 .1 .1 .1 .1 .1 .1 .1 .1 .1 .1 .0)
+        ∷ lasts (zs .1 .1 .1 .1 .1 .1 .1 .1 .1 .1 .1 .1 .1 .0) (zs .1 .1 .1 .1 .1 .1 .1 .1 .1 .1 .1 .1 .1 .1 .0))
+        (move ! (1 ∷ []) $ fsplit ! $ move ! (2 ∷ 1 ∷ []) $ joins ! (firsts (zs .1 .1 .1 .1 .1 .1 .1 .1 .1 .1 .0) (zs .1 .1 .1 .1 .1 .1 .1 .1 .1 .1 .1 .0))
+        (lasts (zs .1 .1 .1 .1 .1 .1 .1 .1 .1 .1 .1 .1 .1 .0) (zs .1 .1 .1 .1 .1 .1 .1 .1 .1 .1 .1 .1 .1 .1 .0)) (
         -- [the slices; the frames; the lender's part; the locals before; what frees the array; the locals behind]
-        move ! (1 ∷ 2 ∷ []) $ back-array ! tt R 256 (zs .1 .1 .1 .1 .1 .1 .1 .1 .1 .1 .1 .1 .0) (ls .1 .1 .1 .1 .1 .1 .1 .1 .1 .1 .1 .1 .1 .1 .1 .1 .0) ν δ 256 (λ u. move ! (2 ∷ 0 ∷ 3 ∷ 4 ∷ []) $ whole _ memorySlot bs (ws (ls .1 .1 .1 .1 .1 .1 .1 .1 .1 .1 .1 .1 .1 .1 .1 .1 .0)) ! fs us tt u ls (
+        move ! (1 ∷ 2 ∷ []) $ back-array ! tt R 256 (zs .1 .1 .1 .1 .1 .1 .1 .1 .1 .1 .1 .1 .0) (ls .1 .1 .1 .1 .1 .1 .1 .1 .1 .1 .1 .1 .1 .1 .1 .1 .0) ν δ 256
+        (λ u. move ! (2 ∷ 0 ∷ 3 ∷ 4 ∷ []) $ whole _ memorySlot bs (ws (ls .1 .1 .1 .1 .1 .1 .1 .1 .1 .1 .1 .1 .1 .1 .1 .1 .0)) ! fs us tt u ls (
         lands-in ! (result-typed 𝓤 H A W r isr) $ sets ! (of-opd ! (of ! refl)) (result-typed 𝓤 H A W r isr) $ leaves ! refl $
-        by ! (exits r (zs .1 .1 .1 .1 .1 .1 .1 .1 .1 .1 .0) (zs .1 .1 .1 .1 .1 .1 .1 .1 .1 .1 .1 .0) (zs .1 .1 .1 .1 .1 .1 .1 .1 .1 .1 .1 .1 .1 .0) (zs .1 .1 .1 .1 .1 .1 .1 .1 .1 .1 .1 .1 .1 .1 .0) isr (lens .0) (lens .1 .0) (lens .1 .1 .1 .0) (lens .1 .1 .1 .1 .0) (record { frames = (zs .1 .1 .1 .1 .1 .1 .1 .1 .1 .1 .1 .1 .0); post = said }))))))))))))))
+        by ! (exits r (zs .1 .1 .1 .1 .1 .1 .1 .1 .1 .1 .0) (zs .1 .1 .1 .1 .1 .1 .1 .1 .1 .1 .1 .0) (zs .1 .1 .1 .1 .1 .1 .1 .1 .1 .1 .1 .1 .1 .0)
+        (zs .1 .1 .1 .1 .1 .1 .1 .1 .1 .1 .1 .1 .1 .1 .0) isr (lens .0) (lens .1 .0) (lens .1 .1 .1 .0) (lens .1 .1 .1 .1 .0)
+        (record { frames = (zs .1 .1 .1 .1 .1 .1 .1 .1 .1 .1 .1 .1 .0); post = said }))))))))))))))
       where
         fm : FmC 𝓤 H (W .laws) (𝓣 .C)
         fm = fmOf 𝓤 H (W .laws) 𝓣
