@@ -90,7 +90,7 @@ pub judged : (image loading running listing : List ℕ) {a b ran listed : Bool} 
     → record { loading = a; saving = b; stores = s; saved = saved } ≡ compareOf image loading
     record {
       constants = replicate 512 0;
-      structs = replicate 256 0;
+      structs = replicate 512 0;
       functions = replicate 512 0;
       text = replicate 16384 0;
       main = replicate 8192 0;

@@ -213,7 +213,7 @@ pub fn judge(image: &[u8], loading: &[u8], running: &[u8], listing: &[u8]) -> Ve
     ensures { λ r. ⌜ r ≡ verdictOf (now (image .entry)) (now (loading .entry)) (now (running .entry)) (now (listing .entry)) ⌝ }
 {
     let mut constants = [0u64; 512];
-    let mut structs = [0u64; 256];
+    let mut structs = [0u64; 512];
     let mut functions = [0u64; 512];
     let mut text = [0u8; 16384];
     let mut main = [0u8; 8192];
