@@ -1,7 +1,9 @@
 // Lists and structs in a store of cells: building them, reading a field, equality, and the test of good order.
+use model::DEPTH_LIMIT;
 use model::Fault;
 use model::Found;
 use model::Header;
+use model::MOST_PLACES;
 use model::Value;
 use value::words;
 ghost use mathlib.Core.Path.{_≡_};
@@ -72,10 +74,10 @@ fn room_of(cells: &[u64]) -> usize
     ensures { λ r. ⌜ r ≡ places 2 (now (cells .entry)) ⌝ }
 {
     let n = cells.len() / 2;
-    if n < 0xFFFF_FFFF {
+    if n < MOST_PLACES {
         return n;
     }
-    0xFFFF_FFFF
+    MOST_PLACES
 }
 
 // Copies the n values on top of a stack to the cells from place `from` on.
@@ -105,7 +107,7 @@ pub fn build(
     ensures { λ r. ⌜ BuildPost list (now (stack .entry)) sp n number (now (cells .entry)) used r (now (cells .exit)) ⌝ }
 {
     let d = deepest_of(list, stack, sp, n, cells, used);
-    if 64 <= d {
+    if DEPTH_LIMIT <= d {
         return Built::Bad(Fault::TooDeep);
     }
     let room = room_of(cells);
@@ -321,7 +323,7 @@ fn block_ok(texts: usize, cells: &[u64], used: usize, p: usize) -> bool
         }
         i += 1;
     }
-    if 64 < told {
+    if DEPTH_LIMIT < told {
         return false;
     }
     if told <= d {

@@ -11,6 +11,7 @@ use layout::reads::size_of;
 use model::Counts;
 use model::Frame;
 use model::Last;
+use model::MOST_PLACES;
 use model::RunResult;
 use model::Tally;
 use model::Vm;
@@ -146,7 +147,7 @@ pub fn judge(
 pub fn too_short(stack: usize, frames: usize, copy: usize, backtrace: usize) -> bool
     ensures { λ r. ⌜ ShortPost stack frames copy backtrace r ⌝ }
 {
-    (room(copy, 2) < room(stack, 2)) | (room(backtrace, 2) < lesser(frames, 0xFFFF_FFFF))
+    (room(copy, 2) < room(stack, 2)) | (room(backtrace, 2) < lesser(frames, MOST_PLACES))
 }
 
 // The first n values of one store at the front of another: the starting stack is kept, and put back.
@@ -172,7 +173,7 @@ pub fn fixed(m: Vm, stack: usize, frames: usize) -> Fixed
         structs: c.structs,
         functions: c.functions,
         slots: room(stack, 2),
-        frames: lesser(frames, 0xFFFF_FFFF),
+        frames: lesser(frames, MOST_PLACES),
     }
 }
 

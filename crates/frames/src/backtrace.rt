@@ -3,6 +3,7 @@ use crate::order::Scan;
 use crate::order::code_length;
 use crate::read_frame;
 use model::Frame;
+use model::HALF;
 ghost use mathlib.Core.Path.{_≡_};
 ghost use mathlib.Core.List.{_∷_};
 ghost use Prim.Native.Nat.{_+_, _-_, _*_, _<_, _≤_};
@@ -33,7 +34,7 @@ fn code_start(functions: &[u64], i: usize) -> usize
 {
     let at = 2 * i + 1;
     let word = functions[at];
-    (word % 0x1_0000_0000) as usize
+    (word % HALF) as usize
 }
 
 fn number_at(places: &[u32], begin: usize, byte: usize) -> u32

@@ -1,6 +1,9 @@
 // Good order of the frames that the host lends.
 use crate::read_frame;
 use model::Frame;
+use model::HALF;
+use model::MOST_PLACES;
+use model::POSITION_LIMIT;
 ghost use mathlib.Core.Path.{_≡_};
 ghost use Prim.Native.Nat.{_+_, _*_, _<_, _≤_};
 ghost use lib.ListN.{length};
@@ -21,7 +24,7 @@ pub fn code_length(functions: &[u64], i: usize) -> usize
 {
     let at = 2 * i + 1;
     let word = functions[at];
-    (word / 0x1_0000_0000) as usize
+    (word / HALF) as usize
 }
 
 fn frame_ok(count: usize, slots: usize, f: Frame) -> bool
@@ -33,7 +36,7 @@ fn frame_ok(count: usize, slots: usize, f: Frame) -> bool
     if f.base > slots {
         return false;
     }
-    f.position <= 131070
+    f.position <= POSITION_LIMIT
 }
 
 fn first_ok(i: usize, f: Frame) -> bool
@@ -96,7 +99,7 @@ fn begin(n: usize, room: usize) -> Scan
             good: false,
         };
     }
-    if n > 0xFFFF_FFFF {
+    if n > MOST_PLACES {
         return Scan {
             at: 0,
             more: false,

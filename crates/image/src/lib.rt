@@ -5,8 +5,11 @@ mod saving; // saving.rt: the image of a program, piece by piece
 
 use layout::reads::room;
 use layout::reads::same_bytes;
+use model::CODE_LIMIT;
+use model::CONSTANT_LIMIT;
 use model::Counts;
 use model::Loaded;
+use model::NAME_LIMIT;
 use model::Told;
 use number::Num;
 use program::order::program_ok;
@@ -412,7 +415,7 @@ fn check_others(image: &[u8], at: usize, n: usize) -> Rest
             Spanned::Is(p) => {
                 text = text + p.name;
                 code = code + p.code;
-                within = within & (p.code <= 65535);
+                within = within & (p.code <= CODE_LIMIT);
                 next = p.next;
             }
             Spanned::Broken(o) => {
@@ -468,7 +471,7 @@ fn check_functions(image: &[u8], at: usize) -> Coded
                     text: m.name + z.text,
                     main: m.code,
                     other: z.code,
-                    within: (m.code <= 65535) & z.within,
+                    within: (m.code <= CODE_LIMIT) & z.within,
                 }),
                 Rest::Broken(o) => Coded::Broken(o),
             }
@@ -549,9 +552,9 @@ pub fn load(
     match judge(image) {
         Judgement::Broken(o) => Loaded::Broken(o),
         Judgement::Fine(z) => {
-            let within = (z.constants <= 65535)
-                & (z.structs <= 65536)
-                & (z.functions <= 65536)
+            let within = (z.constants <= CONSTANT_LIMIT)
+                & (z.structs <= NAME_LIMIT)
+                & (z.functions <= NAME_LIMIT)
                 & z.within;
             if !within {
                 return Loaded::Refused(22);

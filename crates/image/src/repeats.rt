@@ -7,6 +7,7 @@ use layout::ordered::spot;
 use layout::ordered::stands;
 use layout::reads::lesser;
 use layout::reads::pack;
+use model::MOST_PLACES;
 ghost use mathlib.Core.Path.{_≡_};
 ghost use Prim.Native.Nat.{_≤_};
 ghost use lib.ListN.{length};
@@ -63,7 +64,7 @@ fn take_in(image: &[u8], from: usize, n: usize, structs: &mut [u64]) -> Taken
             };
         }
         let start = here - from;
-        if 0xFFFF_FFFF < start {
+        if MOST_PLACES < start {
             return Taken {
                 count: i,
                 next,

@@ -1,5 +1,7 @@
 // What stands where in the stores. Reading past a store's end gives 0, and a part past it is cut short, so that nothing is required.
 use model::Counts;
+use model::HALF;
+use model::MOST_PLACES;
 ghost use mathlib.Core.Path.{_≡_};
 ghost use mathlib.Core.List.{List};
 ghost use Prim.Native.Nat.{ℕ, _≤_, _<_, _^_, min};
@@ -25,7 +27,7 @@ pub fn room(n: usize, w: usize) -> usize
     requires { ⌜ 1 ≤ w ⌝ }
     ensures { λ r. ⌜ ((s : List ℕ) → length s ≡ n → r ≡ places w s) ⌝ }
 {
-    lesser(n / w, 0xFFFF_FFFF)
+    lesser(n / w, MOST_PLACES)
 }
 
 // Whether n bytes of text more have room.
@@ -44,14 +46,14 @@ pub fn text_room(c: Counts, text: &[u8], n: usize) -> bool
 pub fn start_of(w: u64) -> usize
     ensures { λ r. ⌜ (r ≡ start w) × (r < 2 ^ 32) ⌝ }
 {
-    (w % 0x1_0000_0000) as usize
+    (w % HALF) as usize
 }
 
 // How long that part is.
 pub fn size_of(w: u64) -> usize
     ensures { λ r. ⌜ (r ≡ size w) × (r < 2 ^ 32) ⌝ }
 {
-    (w / 0x1_0000_0000) as usize
+    (w / HALF) as usize
 }
 
 // The word that names n bytes from o on.
@@ -59,7 +61,7 @@ pub fn pack(o: usize, n: usize) -> u64
     requires { ⌜ (o < 2 ^ 32) × (n < 2 ^ 32) ⌝ }
     ensures { λ r. ⌜ r ≡ pack o n ⌝ }
 {
-    o as u64 + 0x1_0000_0000 * (n as u64)
+    o as u64 + HALF * (n as u64)
 }
 
 // A word as a number of a place.

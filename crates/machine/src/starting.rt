@@ -3,10 +3,12 @@ use ends::fresh_vm;
 use image::Judgement;
 use image::judge;
 use image::load;
+use model::CONSTANT_LIMIT;
 use model::Counts;
 use model::Emitted;
 use model::Frame;
 use model::Loaded;
+use model::NAME_LIMIT;
 use model::Started;
 use program::functions::new;
 ghost use mathlib.Core.Path.{_≡_};
@@ -46,9 +48,9 @@ fn no_place(image: &[u8]) -> Started
     match judge(image) {
         Judgement::Broken(o) => Started::Broken(o),
         Judgement::Fine(z) => {
-            let within = (z.constants <= 65535)
-                & (z.structs <= 65536)
-                & (z.functions <= 65536)
+            let within = (z.constants <= CONSTANT_LIMIT)
+                & (z.structs <= NAME_LIMIT)
+                & (z.functions <= NAME_LIMIT)
                 & z.within;
             if within {
                 return Started::Refused(21);

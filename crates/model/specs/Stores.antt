@@ -24,68 +24,26 @@ pub record Stores : Type 0 where
 
 -- ---- one store, or one function's two stores, anew
 
+abbrev pub storesOf : (constants structs functions text main mainPlaces other otherPlaces : List ℕ) → Stores
+storesOf cs ss fs t m mp o op = record { constants = cs; structs = ss; functions = fs; text = t; main = m; mainPlaces = mp; other = o; otherPlaces = op }
+
 abbrev pub withConstants : List ℕ → Stores → Stores
-withConstants cs s = record {
-  constants = cs;
-  structs = s .structs;
-  functions = s .functions;
-  text = s .text;
-  main = s .main;
-  mainPlaces = s .mainPlaces;
-  other = s .other;
-  otherPlaces = s .otherPlaces;
-}
+withConstants cs s = storesOf cs (s .structs) (s .functions) (s .text) (s .main) (s .mainPlaces) (s .other) (s .otherPlaces)
 
 abbrev pub withStructs : List ℕ → Stores → Stores
-withStructs ss s = record {
-  constants = s .constants;
-  structs = ss;
-  functions = s .functions;
-  text = s .text;
-  main = s .main;
-  mainPlaces = s .mainPlaces;
-  other = s .other;
-  otherPlaces = s .otherPlaces;
-}
+withStructs ss s = storesOf (s .constants) ss (s .functions) (s .text) (s .main) (s .mainPlaces) (s .other) (s .otherPlaces)
 
 abbrev pub withFunctions : List ℕ → Stores → Stores
-withFunctions fs s = record {
-  constants = s .constants;
-  structs = s .structs;
-  functions = fs;
-  text = s .text;
-  main = s .main;
-  mainPlaces = s .mainPlaces;
-  other = s .other;
-  otherPlaces = s .otherPlaces;
-}
+withFunctions fs s = storesOf (s .constants) (s .structs) fs (s .text) (s .main) (s .mainPlaces) (s .other) (s .otherPlaces)
 
 abbrev pub withText : List ℕ → Stores → Stores
-withText t s = record { constants = s .constants; structs = s .structs; functions = s .functions; text = t; main = s .main; mainPlaces = s .mainPlaces; other = s .other; otherPlaces = s .otherPlaces }
+withText t s = storesOf (s .constants) (s .structs) (s .functions) t (s .main) (s .mainPlaces) (s .other) (s .otherPlaces)
 
 abbrev pub withMain : List ℕ → List ℕ → Stores → Stores
-withMain code places s = record {
-  constants = s .constants;
-  structs = s .structs;
-  functions = s .functions;
-  text = s .text;
-  main = code;
-  mainPlaces = places;
-  other = s .other;
-  otherPlaces = s .otherPlaces;
-}
+withMain code places s = storesOf (s .constants) (s .structs) (s .functions) (s .text) code places (s .other) (s .otherPlaces)
 
 abbrev pub withOther : List ℕ → List ℕ → Stores → Stores
-withOther code places s = record {
-  constants = s .constants;
-  structs = s .structs;
-  functions = s .functions;
-  text = s .text;
-  main = s .main;
-  mainPlaces = s .mainPlaces;
-  other = code;
-  otherPlaces = places;
-}
+withOther code places s = storesOf (s .constants) (s .structs) (s .functions) (s .text) (s .main) (s .mainPlaces) code places
 
 -- the stores of the function that is being emitted
 unfoldable pub codeHere : Counts → Stores → List ℕ

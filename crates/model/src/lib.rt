@@ -1,5 +1,26 @@
 // The machine's types. They hold no code: what they mean is in specs/, and the crates above work with them.
 
+// ---- [limits]
+
+// "Code of one function: 65,535 bytes. Constants: 65,535. Functions and struct names: 65,536 each."
+pub const CODE_LIMIT: usize = 65535;
+
+pub const CONSTANT_LIMIT: usize = 65535;
+
+pub const NAME_LIMIT: usize = 65536;
+
+// "Positions at most 131,070."
+pub const POSITION_LIMIT: usize = 131070;
+
+// "Depth: .. at most 64."
+pub const DEPTH_LIMIT: usize = 64;
+
+// "Of any store 4,294,967,295 places count."
+pub const MOST_PLACES: usize = 0xFFFF_FFFF;
+
+// A word that names a part of a store: where it starts, and this times how long it is.
+pub const HALF: u64 = 0x1_0000_0000;
+
 // The four arithmetic opcodes, and the four orderings: families that share a rule.
 pub enum Arith {
     Add,

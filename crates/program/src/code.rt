@@ -10,6 +10,7 @@ use layout::reads::size_of;
 use layout::reads::start_of;
 use layout::writes::put_bytes;
 use layout::writes::put_code;
+use model::CODE_LIMIT;
 use model::Counts;
 use model::Emitted;
 use model::Told;
@@ -86,7 +87,7 @@ fn emit(
     let start = start_of(word);
     let size = size_of(word);
     let n = bytes.len();
-    if 65535 - size < n {
+    if CODE_LIMIT - size < n {
         return Emitted::Refused(22);
     }
     let end = start + size;

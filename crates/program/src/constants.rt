@@ -7,6 +7,7 @@ use layout::reads::room;
 use layout::reads::text_room;
 use layout::writes::put_bytes;
 use layout::writes::put_words;
+use model::CONSTANT_LIMIT;
 use model::Constant;
 use model::Counts;
 use model::Emitted;
@@ -78,7 +79,7 @@ pub fn add_constant(
         return Emitted::Refused(19);
     }
     let n = c.constants;
-    if 65535 <= n {
+    if CONSTANT_LIMIT <= n {
         return Emitted::Refused(22);
     }
     if room(constants.len(), 2) <= n {

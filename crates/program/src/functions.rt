@@ -12,6 +12,7 @@ use layout::writes::put_bytes;
 use layout::writes::put_words;
 use model::Counts;
 use model::Emitted;
+use model::NAME_LIMIT;
 use model::Told;
 ghost use mathlib.Core.Path.{_≡_};
 ghost use Rattle.model.specs.Stores.{Stores};
@@ -63,7 +64,7 @@ pub fn begin_function(c: Counts, name: &[u8], functions: &mut [u64], text: &mut 
         return Emitted::Refused(19);
     }
     let n = c.functions;
-    if 65536 <= n {
+    if NAME_LIMIT <= n {
         return Emitted::Refused(22);
     }
     if room(functions.len(), 2) <= n {

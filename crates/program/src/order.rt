@@ -11,7 +11,11 @@ use layout::reads::same_bytes;
 use layout::reads::second;
 use layout::reads::size_of;
 use layout::reads::start_of;
+use model::CODE_LIMIT;
+use model::CONSTANT_LIMIT;
 use model::Counts;
+use model::MOST_PLACES;
+use model::NAME_LIMIT;
 ghost use mathlib.Core.Path.{_≡_};
 ghost use mathlib.Core.Bool.{_&&_};
 ghost use mathlib.Core.List.{List};
@@ -39,11 +43,11 @@ fn last_of(i: usize, n: usize) -> bool
 pub fn counts_ok(c: Counts) -> bool
     ensures { λ r. ⌜ r ≡ countsOk c ⌝ }
 {
-    (c.constants <= 65535)
-        & (c.structs <= 65536)
+    (c.constants <= CONSTANT_LIMIT)
+        & (c.structs <= NAME_LIMIT)
         & (1 <= c.functions)
-        & (c.functions <= 65536)
-        & (c.text <= 0xFFFF_FFFF)
+        & (c.functions <= NAME_LIMIT)
+        & (c.text <= MOST_PLACES)
         & ((c.current == 0) | last_of(c.current, c.functions))
 }
 
@@ -156,8 +160,8 @@ pub fn function_ok(c: Counts, functions: &[u64], i: usize) -> bool
     let code = second(functions, i);
     inside_text(c, first(functions, i))
         & (start_of(code) == code_start(functions, i))
-        & (size_of(code) <= 65535)
-        & (code_end(functions, i) <= 0xFFFF_FFFF)
+        & (size_of(code) <= CODE_LIMIT)
+        & (code_end(functions, i) <= MOST_PLACES)
 }
 
 // The functions lie in their store, each in order.

@@ -13,6 +13,7 @@ use layout::reads::text_room;
 use layout::writes::put_bytes;
 use model::Counts;
 use model::Emitted;
+use model::NAME_LIMIT;
 ghost use mathlib.Core.Path.{_≡_};
 ghost use Rattle.model.specs.Stores.{Stores};
 ghost use Rattle.model.specs.Emission.{structOrder, structAdded, addStructOf};
@@ -35,7 +36,7 @@ fn add_struct(c: Counts, at: usize, name: &[u8], structs: &mut [u64], text: &mut
     ensures { λ r. ⌜ ((rest : Stores) → Is (structAdded c (now (name .entry)) (structsLent rest (now (structs .entry)) (now (text .entry)))) r (structsLent rest (now (structs .exit)) (now (text .exit)))) ⌝ }
 {
     let n = c.structs;
-    if 65536 <= n {
+    if NAME_LIMIT <= n {
         return Emitted::Refused(22);
     }
     if room(structs.len(), 2) <= n {

@@ -1,4 +1,5 @@
 // A value, a header and the last result as two words, the kind and the payload; and the stores that hold two words to a place.
+use model::HALF;
 use model::Header;
 use model::Last;
 use model::Value;
@@ -35,8 +36,8 @@ pub fn of_word(b: u64) -> f64
 pub fn value_of(kind: u64, payload: u64) -> Value
     ensures { λ r. ⌜ r ≡ valueOf kind payload ⌝ }
 {
-    let low = (payload % 0x1_0000_0000) as u32;
-    let high = (payload / 0x1_0000_0000) as u32;
+    let low = (payload % HALF) as u32;
+    let high = (payload / HALF) as u32;
     match kind {
         0 => Value::Scalar(of_word(payload)),
         1 => Value::Boolean(payload != 0),
@@ -65,7 +66,7 @@ pub fn kind_of(v: Value) -> u64
 fn pack(o: u32, n: u32) -> u64
     ensures { λ r. ⌜ r ≡ o + 0x1_0000_0000 * n ⌝ }
 {
-    o as u64 + 0x1_0000_0000 * (n as u64)
+    o as u64 + HALF * (n as u64)
 }
 
 // The payload of v, and that v fits a store.
@@ -107,7 +108,7 @@ pub fn read_header(s: &[u64], i: usize) -> Header
     Header {
         count: (a % 0x1_0000) as usize,
         number: (a / 0x1_0000 % 0x1_0000) as usize,
-        depth: (a / 0x1_0000_0000) as usize,
+        depth: (a / HALF) as usize,
     }
 }
 
@@ -133,7 +134,7 @@ pub fn write_header(s: &mut [u64], i: usize, h: Header)
     requires { ⌜ (2 * i + 2 ≤ length (now s)) × (h .count < 0x1_0000) × (h .number < 0x1_0000) × (h .depth < 0x1_0000) ⌝ }
     ensures { λ _. ⌜ Written (now (s .entry)) i (head h) (now (s .exit)) ⌝ }
 {
-    let payload = h.count as u64 + 0x1_0000 * (h.number as u64) + 0x1_0000_0000 * (h.depth as u64);
+    let payload = h.count as u64 + 0x1_0000 * (h.number as u64) + HALF * (h.depth as u64);
     write_words(s, i, 6, payload);
 }
 
