@@ -9,7 +9,7 @@ use Rattle.model.specs.Heap.{heapOf}
 use Rattle.model.specs.Runs.{runOf}
 use Rattle.model.specs.Stores.{Stores, functionsFrom}
 use Rattle.model.specs.Machines.{Lent, machineIn, worldOf, runOrder, tooShort, ran, refused, runAnswer}
-use Rattle.rules.proofs.Ordered.{order-exact}
+use Rattle.laws_runs.proofs.Ordered.{order-exact}
 use Rattle.demands.specs.Agree.{LentAlike}
 use Rattle.demands.proofs.Fronts.{places-alike, vals-alike, heap-alike, cells-alike, stack-alike, room-alike, frames-alike, innermost-alike, callers-alike}
 

@@ -27,8 +27,8 @@ use Rattle.program.proofs.Keeping.{Good, good-of}
 use Rattle.layout.proofs.Writing.{length-written, length-words}
 use Rattle.program.proofs.Reading.{Reads, emit-reads, patch-reads, add-constant-reads}
 use Rattle.program.proofs.Naming.{struct-reads, begin-reads, end-reads}
-use Rattle.rules.proofs.Programs.{parts-of, code-size}
-use Rattle.ordering.proofs.Putting.{length-put}
+use Rattle.laws_runs.proofs.Programs.{parts-of, code-size}
+use Rattle.laws_names.proofs.Putting.{length-put}
 use Rattle.demands.specs.Meant.{AsLong}
 use Rattle.demands.proofs.Fronts.{places-alike}
 

@@ -28,7 +28,7 @@ use Rattle.model.specs.Loading.{LoadRes, mainOf, othersOf, laid, countsFor, roo
 use Rattle.layout.proofs.Bools.{either-way}
 use Rattle.image.proofs.Codecs.{bytes-front, bytes-rest}
 use Rattle.image.proofs.Trip.{image-only}
-use Rattle.rules.specs.Ordered.{CodeBytes}
+use Rattle.laws_runs.specs.Ordered.{CodeBytes}
 use Rattle.demands.specs.Host.{Held, Ask, new, load, addOp, addOp1, addOp2, addOp3, patch, addConstant, addStruct, beginFunction, endFunction, currentOffset, functionIdx, save, disassemble, backtrace, lastResult, stackValue, blockHeader, element, textBytes, Call, run, ask, Answer, Done, emits, starts, looks, done, After}
 use Rattle.demands.specs.Jobs.{jobOf, Below, Typed, AllTyped}
 use Rattle.demands.specs.Meant.{Fine}

@@ -19,8 +19,8 @@ use Rattle.model.specs.Stores.{start, size, part, constantIn, constantsFrom}
 use Rattle.model.specs.Orders.{textOk, insideText, constantOk, constantsOk}
 use Rattle.layout.proofs.Bools.{either-way}
 use Rattle.program.proofs.Known.{text-within, text-inside, constants-known}
-use Rattle.alike.specs.Alike.{AlikeValues, none, more}
-use Rattle.alike.proofs.Texts.{text-kept}
+use Rattle.laws_meaning.specs.Alike.{AlikeValues, none, more}
+use Rattle.laws_meaning.proofs.Texts.{text-kept}
 
 -- what a constant means
 unfoldable constantTree : Constant → Tree

@@ -17,7 +17,7 @@ use Rattle.model.specs.Stores as st
 use Rattle.model.specs.Orders as o
 use Rattle.model.specs.Emission.{counts}
 use Rattle.model.specs.Machines.{frameRoom, innermost, callersIn, machineIn, worldOf, runOrder}
-use Rattle.alike.specs.Alike.{none, more, is}
+use Rattle.laws_meaning.specs.Alike.{none, more, is}
 use Rattle.demands.specs.Host.{Held, Call, Answer, Chain}
 use Rattle.demands.specs.Jobs.{anew, AllTyped}
 use Rattle.demands.specs.Meant.{Fine, AlikeHeld, said}

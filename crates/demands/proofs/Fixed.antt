@@ -23,8 +23,8 @@ use Rattle.value.proofs.Stores.{length-vals, vals-slot, getD-cells}
 use Rattle.cells.proofs.Stands.{length-heap, exact-at}
 use Rattle.layout.proofs.Bools.{either-way}
 use Rattle.image.proofs.Loads.{two-words}
-use Rattle.rules.specs.Ordered.{Exact}
-use Rattle.rules.proofs.Ordered.{order-of, order-sane, order-exact}
+use Rattle.laws_runs.specs.Ordered.{Exact}
+use Rattle.laws_runs.proofs.Ordered.{order-of, order-sane, order-exact}
 use Rattle.demands.specs.Agree.{Alike, Rooms, LentAlike}
 
 -- ---- words

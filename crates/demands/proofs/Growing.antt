@@ -8,11 +8,11 @@ use Rattle.model.specs.Trees.{meaning}
 use Rattle.model.specs.Steps.{World, State, went, returned}
 use Rattle.model.specs.Runs.{Progress}
 use Rattle.cells.proofs.Meaning.{equal-is-trees, new-list, new-struct, field-is, meaning-kept}
-use Rattle.rules.specs.Sane.{AllPlaced, Sane}
-use Rattle.rules.specs.Paths.{Grows, Adds, Steps, none, on, ret}
-use Rattle.rules.proofs.Does.{list, struct}
-use Rattle.rules.proofs.Adds.{grows-none, grows-on, step-adds}
-use Rattle.rules.proofs.Placed.{every-made}
+use Rattle.laws_runs.specs.Sane.{AllPlaced, Sane}
+use Rattle.laws_runs.specs.Paths.{Grows, Adds, Steps, none, on, ret}
+use Rattle.laws_runs.proofs.Does.{list, struct}
+use Rattle.laws_runs.proofs.Adds.{grows-none, grows-on, step-adds}
+use Rattle.laws_runs.proofs.Placed.{every-made}
 use Rattle.demands.specs.Trees.{means, AsTrees}
 
 -- the cells of a state stay, with more behind them

@@ -27,12 +27,12 @@ use Rattle.model.specs.Emission.{Res, addOpOf, addOp1Of, addOp2Of, addOp3Of}
 use Rattle.model.specs.Machines.{innermost, callersIn, machineIn, worldOf, backtraceIn, traceOrder, startWith, fresh, newMachineOf, loadMachineOf}
 use Rattle.model.specs.Readers.{lastShown, lastResultOf, valueShown, stackValueOf}
 use Rattle.value.proofs.Stores.{length-vals, vals-slot}
-use Rattle.rules.proofs.Ordered.{order-sane, order-exact}
-use Rattle.alike.specs.Alike.{none, nothing, AlikeLast}
-use Rattle.alike.specs.Alike as al
-use Rattle.alike.specs.Answers.{Begins}
-use Rattle.alike.proofs.Values.{Boths, boths-of, length-alike, at-alike}
-use Rattle.alike.proofs.Texts.{later-alike}
+use Rattle.laws_runs.proofs.Ordered.{order-sane, order-exact}
+use Rattle.laws_meaning.specs.Alike.{none, nothing, AlikeLast}
+use Rattle.laws_meaning.specs.Alike as al
+use Rattle.laws_meaning.specs.Answers.{Begins}
+use Rattle.laws_meaning.proofs.Values.{Boths, boths-of, length-alike, at-alike}
+use Rattle.laws_meaning.proofs.Texts.{later-alike}
 use Rattle.demands.specs.Host.{Held, Ask, new, load, addOp, addOp1, addOp2, addOp3, patch, addConstant, addStruct, beginFunction, endFunction, currentOffset, functionIdx, save, disassemble, backtrace, lastResult, stackValue, blockHeader, element, textBytes, ask, Answer, shown, Done, counted, withFrames, emits, starts, looks as seen, done}
 use Rattle.demands.specs.Agree.{Alike}
 use Rattle.demands.specs.Kept.{InOrder, Grew}

@@ -10,8 +10,8 @@ use Rattle.model.specs.declared.Last.the-variants.{Nothing, Is}
 use Rattle.model.specs.Heap.{Cell}
 use Rattle.model.specs.Steps.{World}
 use Rattle.model.specs.Runs.{Machine}
-use Rattle.alike.specs.Alike.{AlikeValues, AlikeLast, AlikeMachine}
-use Rattle.alike.specs.Alike as al
+use Rattle.laws_meaning.specs.Alike.{AlikeValues, AlikeLast, AlikeMachine}
+use Rattle.laws_meaning.specs.Alike as al
 use Rattle.demands.specs.Host.{Held, Call, run, ask, Answer, After, Chain, none, more}
 use Rattle.demands.specs.Agree.{Rooms}
 use Rattle.demands.specs.Jobs.{jobOf, isMakes, anew, AllTyped}

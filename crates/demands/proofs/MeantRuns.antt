@@ -13,12 +13,12 @@ use Rattle.model.specs.Stores.{programIn}
 use Rattle.model.specs.Stores as st
 use Rattle.model.specs.Machines.{frameRoom, machineIn, worldOf, tooShort, refused, runAnswer, answerIn, ranAs}
 use Rattle.model.specs.Machines as m
-use Rattle.rules.specs.Sane.{SaneWorld, Sane}
-use Rattle.rules.proofs.Ordered.{order-world, order-sane}
+use Rattle.laws_runs.specs.Sane.{SaneWorld, Sane}
+use Rattle.laws_runs.proofs.Ordered.{order-world, order-sane}
 use Rattle.program.proofs.Keeping.{good-of}
-use Rattle.alike.specs.Alike.{laidOut, AlikeConstants}
-use Rattle.alike.specs.Answers.{meant, AlikeRan}
-use Rattle.alike.proofs.Runs.{run-alike}
+use Rattle.laws_meaning.specs.Alike.{laidOut, AlikeConstants}
+use Rattle.laws_meaning.specs.Answers.{meant, AlikeRan}
+use Rattle.laws_meaning.proofs.Runs.{run-alike}
 use Rattle.demands.specs.Host.{Held, Call, run, Answer, ran, RanBy, vmAfter}
 use Rattle.demands.specs.Agree.{Rooms}
 use Rattle.demands.specs.Kept.{InOrder}

@@ -23,7 +23,7 @@ use Rattle.model.specs.Orders.{countsOk, programOk}
 use Rattle.model.specs.Emission.{Res, counts, newOf, addOpOf, addOp1Of, addOp2Of, addOp3Of, endFunctionOf}
 use Rattle.model.specs.Loading.{LoadRes, roomFor, laid, countsFor, loadJudged, loadOf}
 use Rattle.model.specs.Machines.{tooShort, startWith, asLoaded, fresh, newMachineOf, loadMachineOf}
-use Rattle.rules.proofs.Ordered.{fresh-order}
+use Rattle.laws_runs.proofs.Ordered.{fresh-order}
 use Rattle.program.proofs.Keeping.{Kept, emit-keeps}
 use Rattle.program.proofs.Growing.{constant-keeps, patch-keeps, end-keeps}
 use Rattle.program.proofs.Naming.{struct-keeps, new-keeps, begin-keeps}

@@ -28,13 +28,13 @@ use Rattle.model.specs.Scalars.{zeroDivisor}
 use Rattle.model.specs.Heap.{Cell, headIn, deepest, blockOf, built, unbuilt, buildOf, fieldOf}
 use Rattle.model.specs.Equality.{Same, same, sameOf}
 use Rattle.model.specs.Steps.{World, State, Outcome, went, returned, faulted, withStack, withHeap, withUnits, at, position, codeOf, pushing, onFound, constantOf, slotOf, lastOf, loadStep, slotStep, lastStep, negateStep, arithmeticStep, orderingStep, onSame, equalStep, logicStep, notStep, jumpStep, jumpIfFalseStep, enter, callStep, enterNamed, callCallableStep, onBuilt, buildStep, structStep, fieldStep, returnTo, returnStep, execOf, operandsThen, decodedThen, fetched, stepOf}
-use Rattle.rules.proofs.Combinators.{if-each, ifScalar-each, ifBoolean-each, ifReference-each, ifStruct-each}
+use Rattle.laws_runs.proofs.Combinators.{if-each, ifScalar-each, ifBoolean-each, ifReference-each, ifStruct-each}
 use Rattle.model.specs.Runs.{Machine, begin, machineOf, Progress, atStart, Ended, ended, stopped, endOf, traceOf, fault, tally, answered, recovered, settle, runOf}
-use Rattle.rules.specs.Paths.{Steps, none, on, ret, rootReturns, By, EndedBy, StoppedBy}
-use Rattle.rules.proofs.Does.{Does, fault as failed, spent, full, push, answer, compare, fall, leap, call, build, field, back, home, Stepped, unpaid, unread, ran, step-one}
-use Rattle.rules.proofs.Ends.{end-of}
-use Rattle.rules.proofs.Paths.{run-path, returns-counted}
-use Rattle.rules.proofs.Spends.{faulted-spends}
+use Rattle.laws_runs.specs.Paths.{Steps, none, on, ret, rootReturns, By, EndedBy, StoppedBy}
+use Rattle.laws_runs.proofs.Does.{Does, fault as failed, spent, full, push, answer, compare, fall, leap, call, build, field, back, home, Stepped, unpaid, unread, ran, step-one}
+use Rattle.laws_runs.proofs.Ends.{end-of}
+use Rattle.laws_runs.proofs.Paths.{run-path, returns-counted}
+use Rattle.laws_runs.proofs.Spends.{faulted-spends}
 use Rattle.demands.specs.Units.{pairs, topPairs, pairsOf, pairsBy, pairsAt, Costs, Fee, one, all, spentOn, didUntil, RunIs, ends, faults}
 
 -- ---- an instruction whose opcode has been fetched

@@ -12,12 +12,12 @@ use Rattle.model.specs.Steps.{World, State, returned}
 use Rattle.model.specs.Runs.{Machine, begin, Progress, atStart, Entry, fault, Ran, recovered}
 use Rattle.model.specs.Stores.{Stores}
 use Rattle.model.specs.Machines.{Lent, innermost, machineIn, worldOf, entriesIn, answerIn, RunPost}
-use Rattle.rules.specs.Paths.{Adds}
-use Rattle.rules.specs.Demand.{Since, Recovered}
-use Rattle.rules.specs.Demand as d
-use Rattle.rules.proofs.Adds.{step-adds}
-use Rattle.rules.proofs.Demands.{run-recovered, recovered-faults}
-use Rattle.rules.proofs.Ordered.{order-world, order-sane}
+use Rattle.laws_runs.specs.Paths.{Adds}
+use Rattle.laws_runs.specs.Demand.{Since, Recovered}
+use Rattle.laws_runs.specs.Demand as d
+use Rattle.laws_runs.proofs.Adds.{step-adds}
+use Rattle.laws_runs.proofs.Demands.{run-recovered, recovered-faults}
+use Rattle.laws_runs.proofs.Ordered.{order-world, order-sane}
 use Rattle.value.proofs.Stores.{length-vals}
 use Rattle.demands.specs.Host.{Held}
 use Rattle.demands.specs.Agree.{Alike, Rooms, Agree}

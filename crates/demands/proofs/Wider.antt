@@ -22,9 +22,9 @@ use Rattle.model.specs.Orders.{programOk}
 use Rattle.model.specs.Machines.{Lent, machineIn, worldOf, runOrder}
 use Rattle.value.proofs.Coding.{and-left, and-right}
 use Rattle.cells.proofs.Order.{and-both}
-use Rattle.rules.specs.Sane.{AllPlaced, LastPlaced, FrameFits, CallersFit, Sane}
-use Rattle.rules.proofs.Ordered.{order-of, order-sane, order-exact, sane-ordered, text-length}
-use Rattle.rules.proofs.Programs.{length-functions, parts-of, code-size}
+use Rattle.laws_runs.specs.Sane.{AllPlaced, LastPlaced, FrameFits, CallersFit, Sane}
+use Rattle.laws_runs.proofs.Ordered.{order-of, order-sane, order-exact, sane-ordered, text-length}
+use Rattle.laws_runs.proofs.Programs.{length-functions, parts-of, code-size}
 use Rattle.demands.specs.Kept.{Grew, WorldGrew}
 
 -- ---- more text

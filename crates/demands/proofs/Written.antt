@@ -16,12 +16,12 @@ use Rattle.model.specs.Steps.{World, State}
 use Rattle.model.specs.Runs.{Machine, begin, Progress, Ended, ended, stopped, endOf, Entry, fault, Ran, tally, answered, settle, runOf}
 use Rattle.model.specs.Stores.{Stores}
 use Rattle.model.specs.Machines.{Lent, machineIn, worldOf, ran, answerIn, RunPost}
-use Rattle.rules.specs.Paths.{Steps}
-use Rattle.rules.specs.Demand.{Recovered}
-use Rattle.rules.proofs.Paths.{path-spends}
-use Rattle.rules.proofs.Demands.{run-recovered}
-use Rattle.rules.proofs.Ordered.{order-world, order-sane}
-use Rattle.rules.proofs.Runs.{path-sane}
+use Rattle.laws_runs.specs.Paths.{Steps}
+use Rattle.laws_runs.specs.Demand.{Recovered}
+use Rattle.laws_runs.proofs.Paths.{path-spends}
+use Rattle.laws_runs.proofs.Demands.{run-recovered}
+use Rattle.laws_runs.proofs.Ordered.{order-world, order-sane}
+use Rattle.laws_runs.proofs.Runs.{path-sane}
 use Rattle.demands.specs.Units.{Fee, one, all, Within, Demand2}
 use Rattle.demands.proofs.Went.{Went, went}
 use Rattle.demands.proofs.Paying.{fault-fee, run-is-steps}

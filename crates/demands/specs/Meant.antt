@@ -12,9 +12,9 @@ use Rattle.model.specs.Runs.{Machine}
 use Rattle.model.specs.Stores.{Stores, programIn}
 use Rattle.model.specs.Machines.{machineIn, worldOf}
 use Rattle.model.specs.Machines as m
-use Rattle.rules.specs.Ordered.{CodeBytes}
-use Rattle.alike.specs.Alike.{Layout, AlikeMachine}
-use Rattle.alike.specs.Answers.{Meant, meantIn}
+use Rattle.laws_runs.specs.Ordered.{CodeBytes}
+use Rattle.laws_meaning.specs.Alike.{Layout, AlikeMachine}
+use Rattle.laws_meaning.specs.Answers.{Meant, meantIn}
 use Rattle.demands.specs.Host.{Held, Call, run, ask, Answer, ran, emitted, started, told, put, shown, headed, Chain, none, more}
 use Rattle.demands.specs.Kept.{InOrder}
 use Rattle.demands.specs.Jobs.{Job, makes, writes, looks, handed, jobOf}
@@ -74,7 +74,7 @@ pub data Said : Type 0 where
   -- all else, as it was answered
   plain : Answer → Said
   -- to a reader that was handed a value: it names cells of one machine, so that the same value is not the same question to another.
-  -- Of values that mean the same, `crates/alike` says that header, elements and text are the same (`AlikeBlock`).
+  -- Of values that mean the same, `crates/laws_meaning` says that header, elements and text are the same (`AlikeBlock`).
   own : Said
 
 -- values are those of the machine that is then held

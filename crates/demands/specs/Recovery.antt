@@ -15,10 +15,10 @@ use Rattle.model.specs.Steps.{World, State, returned, stepOf}
 use Rattle.model.specs.Runs.{Machine, begin, Progress, over, root, Entry, recovered}
 use Rattle.model.specs.Stores.{Stores}
 use Rattle.model.specs.Machines.{Lent, machineIn, worldOf, runOrder}
-use Rattle.rules.specs.Ordered.{CodeBytes}
-use Rattle.rules.specs.Sane.{Faults}
-use Rattle.rules.specs.Paths.{Steps}
-use Rattle.rules.specs.Demand.{Quiet, Recovered}
+use Rattle.laws_runs.specs.Ordered.{CodeBytes}
+use Rattle.laws_runs.specs.Sane.{Faults}
+use Rattle.laws_runs.specs.Paths.{Steps}
+use Rattle.laws_runs.specs.Demand.{Quiet, Recovered}
 use Rattle.demands.specs.Host.{Held, Call, Answer, Chain}
 use Rattle.demands.specs.Jobs.{anew, AllTyped}
 use Rattle.demands.specs.Agree.{Alike, Rooms}

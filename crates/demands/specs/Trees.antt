@@ -12,7 +12,7 @@ use Rattle.model.specs.Equality.{sameOf}
 use Rattle.model.specs.Trees.{Tree, Trees, list, struct, treesOf, meaning, sameTree}
 use Rattle.model.specs.Steps.{World, State}
 use Rattle.model.specs.Runs.{Progress}
-use Rattle.rules.specs.Paths.{Steps}
+use Rattle.laws_runs.specs.Paths.{Steps}
 use Rattle.cells.proofs.Meaning.{At}
 
 -- the tree that a value means in a state

@@ -21,8 +21,8 @@ use Rattle.model.specs.Steps.{World, State, Outcome, went, returned, faulted, p
 use Rattle.model.specs.Runs.{Machine, begin, machineOf, Progress, atStart, over, Entry, traceOf, Reply, value, continue, fault, Ran, answered, recovered}
 use Rattle.model.specs.Stores.{Stores}
 use Rattle.model.specs.Machines.{Lent, machineIn, worldOf}
-use Rattle.rules.specs.Ordered.{CodeBytes}
-use Rattle.rules.specs.Paths.{Steps, none, on, ret, rootReturns}
+use Rattle.laws_runs.specs.Ordered.{CodeBytes}
+use Rattle.laws_runs.specs.Paths.{Steps, none, on, ret, rootReturns}
 use Rattle.demands.specs.Trees.{AsTrees}
 
 -- ---- a step

@@ -15,8 +15,8 @@ use Rattle.model.specs.Stores.{Stores}
 use Rattle.model.specs.Emission.{Res}
 use Rattle.model.specs.Loading.{OutRes}
 use Rattle.model.specs.Machines.{Lent, RunPost, StartRes}
-use Rattle.coding.specs.Coding.{vmIn, slicesRefusal, outRefusal, Coded, runCoded, startedCoded, emittedCoded, toldCoded, RunThrough, startThrough, outThrough, through, emitThrough}
-use Rattle.coding.proofs.Answers.{told-refused}
+use Rattle.embed_words.specs.Coding.{vmIn, slicesRefusal, outRefusal, Coded, runCoded, startedCoded, emittedCoded, toldCoded, RunThrough, startThrough, outThrough, through, emitThrough}
+use Rattle.embed_words.proofs.Answers.{told-refused}
 
 -- ---- a run
 

@@ -1,8 +1,8 @@
 // Emission for a host in C: a program is written into the stores that the host lends. Where a number is told it stands in answer[0].
-use coding::slices_refusal;
-use coding::tell;
-use coding::tell_emitted;
-use coding::vm_of;
+use embed_words::slices_refusal;
+use embed_words::tell;
+use embed_words::tell_emitted;
+use embed_words::vm_of;
 use model::Constant;
 use program::code::add_op;
 use program::code::add_op1;
@@ -22,7 +22,7 @@ ghost use Rattle.model.specs.declared.Constant.the-variants as k;
 ghost use Rattle.model.specs.Stores.{Stores};
 ghost use Rattle.model.specs.Emission.{addOpOf, addOp1Of, addOp2Of, addOp3Of, patchOf, currentOffsetOf, addConstantOf, addStructOf, beginFunctionOf, endFunctionOf, functionIdxOf};
 ghost use Rattle.program.specs.Links.{codeLent, bytesLent, constantsLent, structsLent, namesLent};
-ghost use Rattle.coding.specs.Coding.{vmIn, slicesRefusal, emittedCoded, toldCoded, through, emitThrough};
+ghost use Rattle.embed_words.specs.Coding.{vmIn, slicesRefusal, emittedCoded, toldCoded, through, emitThrough};
 
 // Appends an opcode to the code of the current function, with the given place.
 #[no_mangle]

@@ -2,12 +2,12 @@
 pub mod emission; // emission.rt: a program is written
 pub mod reading; // reading.rt: a machine is read
 
-use coding::out_refusal;
-use coding::slices_refusal;
-use coding::tell;
-use coding::tell_run;
-use coding::tell_started;
-use coding::vm_of;
+use embed_words::out_refusal;
+use embed_words::slices_refusal;
+use embed_words::tell;
+use embed_words::tell_run;
+use embed_words::tell_started;
+use embed_words::vm_of;
 use image::save;
 use listing::disassemble;
 use machine::backtrace;
@@ -25,9 +25,9 @@ ghost use Rattle.model.specs.Machines.{backtraceIn, loadMachineOf, newMachineOf
 ghost use Rattle.program.specs.Links.{namesLent};
 ghost use Rattle.image.specs.Fills.{lent};
 ghost use Rattle.listing.specs.Links.{lent as listed};
-ghost use Rattle.ends.specs.Links.{programLent};
+ghost use Rattle.run_ends.specs.Links.{programLent};
 ghost use Rattle.machine.specs.Links.{runLent};
-ghost use Rattle.coding.specs.Coding.{slicesRefusal, RunThrough, startThrough, outThrough};
+ghost use Rattle.embed_words.specs.Coding.{slicesRefusal, RunThrough, startThrough, outThrough};
 
 // A machine over a new program.
 #[no_mangle]

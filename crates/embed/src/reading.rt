@@ -1,10 +1,10 @@
 // What a host in C reads of a machine. A value that is shown stands in answer[0] and answer[1], its kind and its payload; a value that the host hands in is two such words.
-use coding::slices_refusal;
-use coding::tell;
-use coding::tell_header;
-use coding::tell_shown;
-use coding::value_refusal;
-use coding::vm_of;
+use embed_words::slices_refusal;
+use embed_words::tell;
+use embed_words::tell_header;
+use embed_words::tell_shown;
+use embed_words::value_refusal;
+use embed_words::vm_of;
 use readers::block_header;
 use readers::element;
 use readers::last_result;
@@ -15,7 +15,7 @@ ghost use mathlib.Core.Path.{_≡_};
 ghost use Rattle.model.specs.declared.Vm.{Vm};
 ghost use Rattle.model.specs.Values.{valueOf};
 ghost use Rattle.model.specs.Readers.{lastResultOf, stackValueOf, blockHeaderOf, elementOf, textBytesOf};
-ghost use Rattle.coding.specs.Coding.{vmIn, slicesRefusal, valueRefusal, shownCoded, headedCoded, through, outThrough};
+ghost use Rattle.embed_words.specs.Coding.{vmIn, slicesRefusal, valueRefusal, shownCoded, headedCoded, through, outThrough};
 
 // The last result.
 #[no_mangle]

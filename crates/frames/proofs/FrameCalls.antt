@@ -25,8 +25,8 @@ use denote.Triple.Statement.{Contract}
 use Rattle.model.specs.declared.Frame.{Frame}
 use Rattle.frames.specs.Links.{noFrame}
 use Rattle.frames.proofs.Frames.{R, fval, tells, frame-makes}
-use Rattle.frames.proofs.Slices.{Sl, Arg, val, shr, mut, peek, lent, passing}
-use Rattle.frames.proofs.Calls.{Rule, call-with, asked}
+use Rattle.laws_walks.proofs.Slices.{Sl, Arg, val, shr, mut, peek, lent, passing}
+use Rattle.laws_walks.proofs.Calls.{Rule, call-with, asked}
 use Rattle.frames.proofs.read_frame as read
 use Rattle.frames.proofs.push_frame as write
 

@@ -1,16 +1,3 @@
--- the laws of walks, which say nothing of frames
-pub mod Locals
-pub mod Lends
-pub mod Slices
-pub mod Calls
-pub mod Lending
-pub mod Picks
-pub mod Elements
-pub mod Branches
-pub mod Loops
-pub mod Matches
-pub mod Closing
-pub mod Walk
 -- a frame in a slice
 pub mod Frames
 pub mod FrameCalls

@@ -27,8 +27,8 @@ use Rattle.image.specs.declared.Item.the-variants as e
 use Rattle.image.specs.declared.Run.{Run}
 use Rattle.image.specs.declared.NextRun.{NextRun}
 use Rattle.image.specs.declared.NextRun.the-variants as r
-use Rattle.ordering.specs.Sorted.{Edge, structPut}
-use Rattle.ordering.proofs.Laying.{Unlike, unlike-more, length-order, laid-length as structs-length, laid-more as structs-more}
+use Rattle.laws_names.specs.Sorted.{Edge, structPut}
+use Rattle.laws_names.proofs.Laying.{Unlike, unlike-more, length-order, laid-length as structs-length, laid-more as structs-more}
 use Rattle.layout.proofs.Bools.{either-way}
 use Rattle.program.proofs.Growing.{split, below}
 use Rattle.number.proofs.Codes.{never}

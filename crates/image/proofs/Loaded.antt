@@ -16,8 +16,8 @@ use Rattle.model.specs.Stores.{Stores, start, size, pack, structWord, nameWord,
 use Rattle.model.specs.Orders.{countsOk, textOk, insideText, constantOk, constantsOk, structsOk, codeStart, functionOk, functionsOk, mainOk, mainTaken, otherTaken, insideCodes, programOk}
 use Rattle.model.specs.Loading.{constantText, constantWords, constantsLaid, structsLaid, othersLaid, functionsLaid, constantTexts, structTexts, textsOf, mainOf, othersOf, laid, countsFor, roomFor}
 use Rattle.model.specs.declared.Counts.{Counts}
-use Rattle.ordering.specs.Sorted.{allDifferent}
-use Rattle.ordering.proofs.Laying.{length-order, laid-length as structs-length, different-unlike, standing-of}
+use Rattle.laws_names.specs.Sorted.{allDifferent}
+use Rattle.laws_names.proofs.Laying.{length-order, laid-length as structs-length, different-unlike, standing-of}
 use Rattle.program.proofs.Known.{structs-good}
 use Rattle.layout.proofs.Parts.{one-word, two-words, places-same, start-pack, size-pack}
 use Rattle.layout.proofs.Bools.{either-way, both-true, and-both}

@@ -15,10 +15,10 @@ use Rattle.model.specs.Equality.{sameBytes}
 use Rattle.model.specs.Images.{readText}
 use Rattle.model.specs.Stores.{pack, part, orderWord}
 use Rattle.model.specs.Orders.{nameInOrder}
-use Rattle.ordering.specs.Sorted.{Edge, structPut}
-use Rattle.ordering.proofs.Halves.{edge-spot, found-not, stands-yes, stands-no}
-use Rattle.ordering.proofs.Putting.{put-keeps-length, new-word, old-word}
-use Rattle.ordering.proofs.Standing.{names-differ, none-of-them, stays-in-order}
+use Rattle.laws_names.specs.Sorted.{Edge, structPut}
+use Rattle.laws_names.proofs.Halves.{edge-spot, found-not, stands-yes, stands-no}
+use Rattle.laws_names.proofs.Putting.{put-keeps-length, new-word, old-word}
+use Rattle.laws_names.proofs.Standing.{names-differ, none-of-them, stays-in-order}
 use Rattle.layout.proofs.Bools.{apart, either-way}
 use Rattle.layout.proofs.Parts.{start-pack, size-pack}
 use Rattle.number.proofs.Codes.{never}

@@ -15,8 +15,8 @@ use Rattle.model.specs.Images.{Small, SoundConstant, SoundName, SoundFunction, 
 use Rattle.model.specs.Stores.{Stores, start, size, part, structWord, nameWord, codeWord, codeEnd, constantIn, constantsFrom, structsFrom, functionIn, functionsFrom, programIn}
 use Rattle.model.specs.Orders.{mainOk, programOk}
 use Rattle.model.specs.declared.Counts.{Counts}
-use Rattle.ordering.specs.Sorted.{allDifferent}
-use Rattle.ordering.proofs.Standing.{all-different}
+use Rattle.laws_names.specs.Sorted.{allDifferent}
+use Rattle.laws_names.proofs.Standing.{all-different}
 use Rattle.image.specs.Fills.{lent}
 use Rattle.image.specs.Puts.{Known}
 use Rattle.layout.proofs.Bools.{either-way, both-true}

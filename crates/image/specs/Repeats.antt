@@ -8,7 +8,7 @@ use Rattle.model.specs.Numbers.{Step, got, bad}
 use Rattle.model.specs.Equality.{sameBytes}
 use Rattle.model.specs.Images.{readText}
 use Rattle.model.specs.Stores.{part, structWord}
-use Rattle.ordering.specs.Sorted.{InOrder}
+use Rattle.laws_names.specs.Sorted.{InOrder}
 use Rattle.image.specs.Links.{Good, Bad}
 use Rattle.image.specs.declared.repeats.Taken.{Taken}
 use Rattle.image.specs.declared.repeats.Chunk.{Chunk}

@@ -14,7 +14,7 @@ ghost use Rattle.model.specs.Equality.{sameBytes};
 ghost use Rattle.model.specs.Programs.{before};
 ghost use Rattle.model.specs.Stores.{structWord, orderWord};
 ghost use Rattle.model.specs.Orders.{nameInOrder};
-ghost use Rattle.ordering.specs.Sorted.{Edge, movedUp, structPut};
+ghost use Rattle.laws_names.specs.Sorted.{Edge, movedUp, structPut};
 
 // Whether one name stands before another: it is less at the first difference, or ends there.
 pub fn before(a: &[u8], b: &[u8]) -> bool

@@ -14,7 +14,7 @@ use Rattle.model.specs.Values.{kindAt}
 use Rattle.model.specs.Listings.{Listed, inFront, andListed, headerLine, linesFor, listingFrom}
 use Rattle.model.specs.Stores.{Stores, part, nameWord, functionIn, functionsFrom}
 use Rattle.listing.specs.Links.{Listing, lent}
-use Rattle.texts.proofs.Puts.{kept}
+use Rattle.printing.proofs.Puts.{kept}
 use Rattle.listing.proofs.Judging.{front-and, wrote, not-wrote, Sofar, at-start, onward, stops, completes}
 
 -- one function's listing

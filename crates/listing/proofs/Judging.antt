@@ -8,8 +8,8 @@ use Rattle.model.specs.declared.Told.the-variants.{Number, Refused}
 use Rattle.model.specs.Listings.{Listed, text, unlisted, inFront, andListed}
 use Rattle.model.specs.Emission.{written}
 use Rattle.listing.specs.Links.{Listing}
-use Rattle.texts.specs.Links.{Put}
-use Rattle.texts.proofs.Puts.{within, both, nothing}
+use Rattle.printing.specs.Links.{Put}
+use Rattle.printing.proofs.Puts.{within, both, nothing}
 
 -- ---- the model's joints
 

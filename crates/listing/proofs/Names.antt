@@ -13,7 +13,7 @@ use Rattle.model.specs.Listings.{paddedTo}
 use Rattle.opcode.proofs.Arms.{within}
 use Rattle.opcode.proofs.Names.{row-at}
 use Rattle.layout.proofs.Bools.{apart}
-use Rattle.texts.proofs.Digits.{by-lt}
+use Rattle.printing.proofs.Digits.{by-lt}
 
 padded-length : (w : ℕ) (t : List ℕ) → length (paddedTo w t) ≡ length t + (w - length t)
 unfolding paddedTo

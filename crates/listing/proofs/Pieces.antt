@@ -9,9 +9,9 @@ use Rattle.model.specs.Basics.{ascii}
 use Rattle.model.specs.Opcodes.{opcodeAt}
 use Rattle.model.specs.Programs.{wordAt}
 use Rattle.model.specs.Listings.{decimal, paddedTo, operandsFrom, lineOf, headerLine}
-use Rattle.texts.specs.Links.{Put}
-use Rattle.texts.proofs.Puts.{is, within, both, nothing}
-use Rattle.texts.proofs.Digits.{like, plain, four}
+use Rattle.printing.specs.Links.{Put}
+use Rattle.printing.proofs.Puts.{is, within, both, nothing}
+use Rattle.printing.proofs.Digits.{like, plain, four}
 
 pub word-is : (s : List ℕ) (i : ℕ) → getD s i 0 + 256 * getD s (i + 1) 0 ≡ wordAt s i
 unfolding wordAt

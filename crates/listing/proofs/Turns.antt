@@ -15,7 +15,7 @@ use Rattle.model.specs.Opcodes.{Opcode, opcodeAt}
 use Rattle.model.specs.Programs.{behind}
 use Rattle.model.specs.Listings.{Listed, text, lineOf, knownThen, opcodeThen, lineThen, linesFor}
 use Rattle.listing.specs.Links.{Listing}
-use Rattle.texts.specs.Links.{Put}
+use Rattle.printing.specs.Links.{Put}
 use Rattle.listing.proofs.Judging.{Sofar, at-start, onward, stops, completes}
 
 pub behind-is : (i n : ℕ) → behind i n ≡ i + 1 + 2 * n

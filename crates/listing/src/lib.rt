@@ -8,13 +8,13 @@ use layout::reads::room;
 use layout::reads::second;
 use model::Counts;
 use model::Told;
+use printing::put_text;
+use printing::write_decimal;
 use program::order::counts_ok;
 use program::order::functions_ok;
 use program::order::inside_codes;
 use program::order::main_ok;
 use program::order::text_ok;
-use texts::put_text;
-use texts::write_decimal;
 ghost use mathlib.Core.Path.{_≡_};
 ghost use mathlib.Core.List.{List};
 ghost use Prim.Native.Nat.{ℕ, _+_, _*_, _≤_, _<_, _^_};
@@ -23,7 +23,7 @@ ghost use Rattle.model.specs.Listings.{headerLine, linesFor, inFront, listingOf
 ghost use Rattle.model.specs.Stores.{Stores, functionIn, programIn};
 ghost use Rattle.model.specs.Loading.{listOrder, listOf};
 ghost use Rattle.listing.specs.Links.{Listing, lent};
-ghost use Rattle.texts.specs.Links.{Put};
+ghost use Rattle.printing.specs.Links.{Put};
 
 // The line above a function's code.
 fn write_header(i: usize, name: &[u8], out: &mut [u8], at: usize) -> usize

@@ -5,9 +5,9 @@ use opcode::decode;
 use opcode::name_byte;
 use opcode::name_len;
 use opcode::num_operands;
-use texts::put_byte;
-use texts::put_text;
-use texts::write_decimal;
+use printing::put_byte;
+use printing::put_text;
+use printing::write_decimal;
 ghost use mathlib.Core.Path.{_≡_};
 ghost use Prim.Native.Nat.{_+_, _*_, _≤_, _<_, _^_};
 ghost use lib.ListN.{length};
@@ -15,7 +15,7 @@ ghost use Rattle.model.specs.Opcodes.{opcodeAt};
 ghost use Rattle.model.specs.Programs.{wordAt, behind};
 ghost use Rattle.model.specs.Listings.{paddedTo, operandsFrom, lineOf, linesFor};
 ghost use Rattle.listing.specs.Links.{Listing};
-ghost use Rattle.texts.specs.Links.{Put};
+ghost use Rattle.printing.specs.Links.{Put};
 
 // An opcode's name, padded with spaces to 13.
 fn write_name(b: u8, out: &mut [u8], at: usize) -> usize

@@ -13,19 +13,19 @@ use Rattle.model.specs.Steps.{State}
 use Rattle.model.specs.Runs.{begin, atStart, endOf}
 use Rattle.model.specs.Stores.{Stores}
 use Rattle.model.specs.Machines.{Lent, frameRoom, machineIn, worldOf}
-use Rattle.rules.specs.Paths.{endFrom}
-use Rattle.rules.specs.Ordered.{CodeBytes}
-use Rattle.rules.proofs.Ends.{end-of}
-use Rattle.rules.proofs.Programs.{parts-of}
-use Rattle.rules.proofs.Ordered.{order-of, order-exact, order-sane}
+use Rattle.laws_runs.specs.Paths.{endFrom}
+use Rattle.laws_runs.specs.Ordered.{CodeBytes}
+use Rattle.laws_runs.proofs.Ends.{end-of}
+use Rattle.laws_runs.proofs.Programs.{parts-of}
+use Rattle.laws_runs.proofs.Ordered.{order-of, order-exact, order-sane}
 use Rattle.frames.specs.Links.{noFrame, callersOf}
-use Rattle.arms.specs.declared.Fixed.{Fixed}
-use Rattle.arms.specs.declared.Going.{Going}
-use Rattle.arms.specs.Links.{stateOf}
-use Rattle.arms.proofs.Keeping.{exact-all}
-use Rattle.steps.specs.Links.{answerIn, progressIn}
-use Rattle.turns.specs.Links.{Under}
-use Rattle.ends.specs.Links.{Begun}
+use Rattle.run_arms.specs.declared.Fixed.{Fixed}
+use Rattle.run_arms.specs.declared.Going.{Going}
+use Rattle.run_arms.specs.Links.{stateOf}
+use Rattle.run_arms.proofs.Keeping.{exact-all}
+use Rattle.run_steps.specs.Links.{answerIn, progressIn}
+use Rattle.run_loop.specs.Links.{Under}
+use Rattle.run_ends.specs.Links.{Begun}
 use Rattle.machine.specs.Links.{Granted}
 use Rattle.frames.proofs.Callers.{innermost-is, callers-are}
 use Rattle.machine.proofs.Granted.{lengths-of}

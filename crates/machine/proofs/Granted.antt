@@ -24,12 +24,12 @@ use Rattle.model.specs.Stores.{Stores, functionsFrom}
 use Rattle.model.specs.Orders.{programOk, cellsOk, stackOk, lastOk, functionOk, functionsOk, framesOk, frameStoreOk}
 use Rattle.model.specs.Machines.{Lent, frameRoom, runOrder, tooShort, refused, runAnswer, copyAfter, traceAfter, answerIn, RunPost}
 use Rattle.value.proofs.Coding.{and-left}
-use Rattle.rules.proofs.Programs.{Parts, length-functions, parts-of, code-size}
-use Rattle.rules.proofs.Frames.{some-frame}
-use Rattle.rules.proofs.Ordered.{order-of}
+use Rattle.laws_runs.proofs.Programs.{Parts, length-functions, parts-of, code-size}
+use Rattle.laws_runs.proofs.Frames.{some-frame}
+use Rattle.laws_runs.proofs.Ordered.{order-of}
 use Rattle.frames.specs.Links.{framesGood}
 use Rattle.frames.proofs.Meaning.{frames-are-good}
-use Rattle.ends.specs.Links.{restOrder}
+use Rattle.run_ends.specs.Links.{restOrder}
 use Rattle.machine.specs.Links.{Granted}
 
 -- ---- refusals change nothing

@@ -23,13 +23,13 @@ use Rattle.model.specs.Emission.{namesFrom}
 use Rattle.model.specs.Machines.{Lent, frameRoom, worldOf, runOrder}
 use Rattle.value.proofs.Coding.{and-left, and-right}
 use Rattle.program.specs.Links.{namesLent}
-use Rattle.rules.specs.Ordered.{CodeBytes}
-use Rattle.rules.proofs.Tests.{every-of}
-use Rattle.rules.proofs.Programs.{Parts, parts-of, within, length-functions, function-at}
-use Rattle.rules.proofs.Ordered.{order-of, order-world}
-use Rattle.arms.specs.declared.Fixed.{Fixed}
-use Rattle.steps.specs.Links as st
-use Rattle.turns.specs.Links.{codeIn}
+use Rattle.laws_runs.specs.Ordered.{CodeBytes}
+use Rattle.laws_runs.proofs.Tests.{every-of}
+use Rattle.laws_runs.proofs.Programs.{Parts, parts-of, within, length-functions, function-at}
+use Rattle.laws_runs.proofs.Ordered.{order-of, order-world}
+use Rattle.run_arms.specs.declared.Fixed.{Fixed}
+use Rattle.run_steps.specs.Links as st
+use Rattle.run_loop.specs.Links.{codeIn}
 
 -- the counts and rooms that no step changes
 pub record FixedIn (m : Vm) (l : Lent) (k : Fixed) : Type 0 where

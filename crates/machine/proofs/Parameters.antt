@@ -1,13 +1,13 @@
 -- What `run` and `go` are passed, by name: a machine, units, and thirteen slices. Of a slice `stack` there are where it is (`stack-at`), that its length
 -- fits (`stack-room`), and what it holds.
-use Rattle.frames.proofs.Walk.{refl, List, _∷_, [], ℕ, w64, vint, Lfts, Shares, u8, u32, u64, now, Room, Sl, sl, Arg, val, shr, mut, Kind, own, shared, unique, Passed, Known}
+use Rattle.laws_walks.proofs.Walk.{refl, List, _∷_, [], ℕ, w64, vint, Lfts, Shares, u8, u32, u64, now, Room, Sl, sl, Arg, val, shr, mut, Kind, own, shared, unique, Passed, Known}
 use denote.Plain.{uint-tells}
 use Rattle.model.specs.declared.Vm.{Vm}
 use Rattle.model.specs.declared.Frame.{Frame}
 use Rattle.model.specs.Stores.{Stores}
 use Rattle.model.specs.Machines.{Lent}
 use Rattle.frames.proofs.Frames.{R}
-use Rattle.ends.specs.Links.{programLent}
+use Rattle.run_ends.specs.Links.{programLent}
 use Rattle.machine.specs.Links.{runLent}
 use Rattle.machine.proofs.Rows.{VmRow, vmVal, vm-tells, ResultRow}
 

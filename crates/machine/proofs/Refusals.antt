@@ -17,7 +17,7 @@ use Rattle.model.specs.Values.{places}
 use Rattle.model.specs.Stores.{Stores}
 use Rattle.model.specs.Machines.{Lent, tooShort}
 use Rattle.frames.specs.Links.{framesGood}
-use Rattle.ends.specs.Links.{programLent, restOrder, ShortPost}
+use Rattle.run_ends.specs.Links.{programLent, restOrder, ShortPost}
 use Rattle.machine.specs.Links.{runLent, refusalBy, RunJudged}
 use Rattle.machine.proofs.Granted as gr
 

@@ -16,9 +16,9 @@ use Rattle.model.specs.declared.Vm.{Vm}
 use Rattle.model.specs.declared.Told.{Told}
 use Rattle.model.specs.declared.RunResult.{RunResult}
 use Rattle.model.specs.declared.Started.{Started}
-use Rattle.arms.specs.declared.Fixed.{Fixed}
-use Rattle.arms.specs.declared.Going.{Going}
-use Rattle.turns.specs.declared.Course.{Course}
+use Rattle.run_arms.specs.declared.Fixed.{Fixed}
+use Rattle.run_arms.specs.declared.Going.{Going}
+use Rattle.run_loop.specs.declared.Course.{Course}
 use Rattle.model.proofs.Vm as VM
 use Rattle.model.proofs.Vm.Laws as VM′
 use Rattle.model.proofs.Told as O
@@ -27,12 +27,12 @@ use Rattle.model.proofs.Started as B
 use Rattle.model.proofs.Started.Laws as B′
 use Rattle.model.proofs.RunResult as Q
 use Rattle.model.proofs.RunResult.Laws as Q′
-use Rattle.arms.proofs.Fixed as F
-use Rattle.arms.proofs.Fixed.Laws as F′
-use Rattle.arms.proofs.Going as G
-use Rattle.arms.proofs.Going.Laws as G′
-use Rattle.turns.proofs.Course as C
-use Rattle.turns.proofs.Course.Laws as C′
+use Rattle.run_arms.proofs.Fixed as F
+use Rattle.run_arms.proofs.Fixed.Laws as F′
+use Rattle.run_arms.proofs.Going as G
+use Rattle.run_arms.proofs.Going.Laws as G′
+use Rattle.run_loop.proofs.Course as C
+use Rattle.run_loop.proofs.Course.Laws as C′
 
 -- ---- a machine's counts
 

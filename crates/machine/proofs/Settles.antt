@@ -29,18 +29,18 @@ use Rattle.model.specs.Stores.{Stores, size, codeWord, functionsFrom, worldIn}
 use Rattle.model.specs.Machines.{Lent, frameRoom, machineIn, worldOf, runOrder, ran, runAnswer, copyAfter, entryWords, traceOfReply, traceAfter, entriesIn, ranAs, SameRooms, Left, RunPost}
 use Rattle.model.specs.Machines as mc
 use Rattle.cells.proofs.Stands.{exact-cut}
-use Rattle.rules.specs.Ordered.{Exact}
-use Rattle.rules.proofs.Programs.{Parts, parts-of, has-main, code-size}
-use Rattle.rules.proofs.Ordered.{order-of, order-exact, run-order}
+use Rattle.laws_runs.specs.Ordered.{Exact}
+use Rattle.laws_runs.proofs.Programs.{Parts, parts-of, has-main, code-size}
+use Rattle.laws_runs.proofs.Ordered.{order-of, order-exact, run-order}
 use Rattle.frames.specs.Links.{noFrame, callersOf, traceWords, TraceFits}
-use Rattle.arms.specs.declared.Fixed.{Fixed}
-use Rattle.arms.specs.declared.Going.{Going}
-use Rattle.arms.specs.Links.{frameIn, stateOf}
-use Rattle.arms.proofs.Keeping.{exact-at}
-use Rattle.steps.specs.Links.{answerIn, progressIn}
-use Rattle.turns.specs.declared.Course.{Course}
-use Rattle.turns.specs.Links.{Ends, over, stop, TurnsPost}
-use Rattle.ends.specs.Links.{vmEnded, resultBy, tallyOf, endedWith, vmFaulted, faultedWith}
+use Rattle.run_arms.specs.declared.Fixed.{Fixed}
+use Rattle.run_arms.specs.declared.Going.{Going}
+use Rattle.run_arms.specs.Links.{frameIn, stateOf}
+use Rattle.run_arms.proofs.Keeping.{exact-at}
+use Rattle.run_steps.specs.Links.{answerIn, progressIn}
+use Rattle.run_loop.specs.declared.Course.{Course}
+use Rattle.run_loop.specs.Links.{Ends, over, stop, TurnsPost}
+use Rattle.run_ends.specs.Links.{vmEnded, resultBy, tallyOf, endedWith, vmFaulted, faultedWith}
 use Rattle.machine.specs.Links.{runLent, Granted}
 use Rattle.frames.proofs.Callers.{innermost-is, callers-are, callers-kept, length-callers}
 use Rattle.machine.proofs.Copies.{restored-at, same-kind, same-payload, same-vals}

@@ -18,12 +18,12 @@ use Rattle.model.specs.Runs.{root}
 use Rattle.model.specs.Stores.{size, codeWord}
 use Rattle.model.specs.Machines.{frameRoom, worldOf, RunPost}
 use Rattle.frames.specs.Links.{noFrame, callersOf, traceWords, TraceFits}
-use Rattle.arms.specs.declared.Fixed.{Fixed}
-use Rattle.arms.specs.declared.Going.{Going}
-use Rattle.arms.specs.Links.{frameIn}
-use Rattle.turns.specs.declared.Course.{Course}
-use Rattle.turns.specs.Links.{Under, TurnsPost}
-use Rattle.ends.specs.Links.{programLent, Begun, endedWith, faultedWith}
+use Rattle.run_arms.specs.declared.Fixed.{Fixed}
+use Rattle.run_arms.specs.declared.Going.{Going}
+use Rattle.run_arms.specs.Links.{frameIn}
+use Rattle.run_loop.specs.declared.Course.{Course}
+use Rattle.run_loop.specs.Links.{Under, TurnsPost}
+use Rattle.run_ends.specs.Links.{programLent, Begun, endedWith, faultedWith}
 use Rattle.machine.specs.Links.{runLent, Granted}
 use Rattle.machine.proofs.Parameters.{Passing, m, units, constants, functions, text, main, mainPlaces, other, otherPlaces, stack, cells, frames, copy, backtrace, stores, lent₀}
 use Rattle.machine.proofs.Granted as gr

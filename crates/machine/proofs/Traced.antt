@@ -24,7 +24,7 @@ use Rattle.model.specs.Stores.{Stores, part, codeWord, functionIn, functionsFro
 use Rattle.model.specs.Machines.{entryWords, entriesIn}
 use Rattle.value.proofs.Coding.{and-left, and-right}
 use Rattle.cells.proofs.Order.{by-less}
-use Rattle.rules.proofs.Programs.{Parts, length-functions, function-at, part-size, code-size}
+use Rattle.laws_runs.proofs.Programs.{Parts, length-functions, function-at, part-size, code-size}
 use Rattle.frames.specs.Links.{noFrame, callersOf, placesOf, placeAt, traceWords, Readable}
 use Rattle.frames.proofs.Meaning.{AllKnown, trace-is-good, trace-is}
 use Rattle.image.proofs.Held.{written-front}

@@ -27,13 +27,13 @@ use Rattle.model.specs.Orders.{countsOk, textOk, insideText, constantsOk, funct
 use Rattle.model.specs.Loading.{OutRes, listOrder}
 use Rattle.model.specs.Machines.{entryWords, traceOrder, putTrace, backtraceIn}
 use Rattle.value.proofs.Coding.{and-left, and-right}
-use Rattle.rules.proofs.Tests.{every-of}
-use Rattle.rules.proofs.Programs.{Parts, length-functions, code-size}
-use Rattle.rules.proofs.Frames.{some-frame}
+use Rattle.laws_runs.proofs.Tests.{every-of}
+use Rattle.laws_runs.proofs.Programs.{Parts, length-functions, code-size}
+use Rattle.laws_runs.proofs.Frames.{some-frame}
 use Rattle.frames.specs.Links.{noFrame, frameGood, firstGood, callerGood, placeGood, framesGood, callersOf, traceWords, traceGood, TraceFits}
 use Rattle.frames.proofs.Orders.{function-known}
 use Rattle.frames.proofs.Meaning.{AllKnown, frames-are-good, known-callers, trace-is-good}
-use Rattle.ends.specs.Links.{programLent}
+use Rattle.run_ends.specs.Links.{programLent}
 use Rattle.machine.specs.Links.{traceProgram, framesIn, traceRefusal, Traceable, traceInto}
 use Rattle.machine.proofs.Granted.{functions-there}
 use Rattle.frames.proofs.Callers.{innermost-is, callers-are, length-callers}

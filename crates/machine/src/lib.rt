@@ -27,7 +27,7 @@ ghost use Rattle.model.specs.Machines.{backtraceIn, RunPost, loadMachineOf, new
 ghost use Rattle.model.specs.Stores.{Stores};
 ghost use Rattle.program.specs.Links.{namesLent};
 ghost use Rattle.image.specs.Fills.{lent};
-ghost use Rattle.ends.specs.Links.{programLent};
+ghost use Rattle.run_ends.specs.Links.{programLent};
 ghost use Rattle.machine.specs.Links.{runLent};
 
 // A run of the machine with `units`.

@@ -1,15 +1,5 @@
 // A run over lent stores: its judging, its beginning, its end, and what it leaves where a fault stops it.
 use crate::tracing::counted;
-use arms::Going;
-use ends::begin;
-use ends::copy_front;
-use ends::ended;
-use ends::faulted;
-use ends::fixed;
-use ends::innermost_at;
-use ends::judge;
-use ends::root_at;
-use ends::too_short;
 use frames::backtrace::trace;
 use frames::order::frames_ok;
 use frames::push_frame;
@@ -18,8 +8,18 @@ use layout::reads::room;
 use model::Frame;
 use model::RunResult;
 use model::Vm;
-use turns::frame_of;
-use turns::turns;
+use run_arms::Going;
+use run_ends::begin;
+use run_ends::copy_front;
+use run_ends::ended;
+use run_ends::faulted;
+use run_ends::fixed;
+use run_ends::innermost_at;
+use run_ends::judge;
+use run_ends::root_at;
+use run_ends::too_short;
+use run_loop::frame_of;
+use run_loop::turns;
 ghost use mathlib.Core.Path.{_≡_};
 ghost use mathlib.Core.List.{List, _∷_};
 ghost use Prim.Native.Nat.{ℕ, _-_, _*_, _<_, _≤_, _^_};
@@ -29,9 +29,9 @@ ghost use Rattle.model.specs.Runs.{root};
 ghost use Rattle.model.specs.Stores.{size, codeWord};
 ghost use Rattle.model.specs.Emission.{written};
 ghost use Rattle.model.specs.Machines.{RunPost};
-ghost use Rattle.arms.specs.Links.{frameIn};
+ghost use Rattle.run_arms.specs.Links.{frameIn};
 ghost use Rattle.frames.specs.Links.{noFrame, callersOf, traceWords, TraceFits};
-ghost use Rattle.ends.specs.Links.{programLent, Begun, endedWith, faultedWith};
+ghost use Rattle.run_ends.specs.Links.{programLent, Begun, endedWith, faultedWith};
 ghost use Rattle.machine.specs.Links.{runLent, Granted, refusalBy, RunJudged};
 
 // 19 or 17, or 0: by the good order of all but the frames, that of the frames, and whether a store is too short.

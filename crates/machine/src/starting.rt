@@ -1,5 +1,4 @@
 // Making a machine that has not run: all but its frame.
-use ends::fresh_vm;
 use image::Judgement;
 use image::judge;
 use image::load;
@@ -11,6 +10,7 @@ use model::Loaded;
 use model::NAME_LIMIT;
 use model::Started;
 use program::functions::new;
+use run_ends::fresh_vm;
 ghost use mathlib.Core.Path.{_≡_};
 ghost use Prim.Native.Nat.{ℕ};
 ghost use Rattle.model.specs.Runs.{root};

@@ -1,5 +1,4 @@
 // The backtrace of a machine's frames: judging what it is lent, and writing. Of the stack its room is looked at alone: bases lie within it.
-use ends::innermost_at;
 use frames::backtrace::trace;
 use frames::backtrace::traceable;
 use frames::order::frames_ok;
@@ -13,6 +12,7 @@ use program::order::functions_ok;
 use program::order::inside_codes;
 use program::order::main_ok;
 use program::order::text_ok;
+use run_ends::innermost_at;
 ghost use mathlib.Core.Path.{_≡_};
 ghost use mathlib.Core.Bool.{_&&_};
 ghost use mathlib.Core.List.{List};
@@ -21,7 +21,7 @@ ghost use lib.ListN.{length};
 ghost use Rattle.model.specs.declared.Told.the-variants as t;
 ghost use Rattle.model.specs.Basics.{if_then_else_};
 ghost use Rattle.model.specs.Machines.{traceOrder};
-ghost use Rattle.ends.specs.Links.{programLent};
+ghost use Rattle.run_ends.specs.Links.{programLent};
 ghost use Rattle.machine.specs.Links.{traceProgram, traceRefusal, Traceable, traceInto};
 
 // Good order of the program that a backtrace is lent.

@@ -22,9 +22,9 @@ use Rattle.model.specs.Programs.{newestFrom, firstFrom}
 use Rattle.model.specs.Stores.{Stores, pack, orderWord, structsFrom, withConstants, withStructs, withFunctions, withText}
 use Rattle.model.specs.Orders.{countsOk, textOk, constantsOk, nameInOrder, structsOk, codeStart, otherTaken, functionsOk, mainOk}
 use Rattle.model.specs.Emission.{counts, written, textRoom, withConstant, withTextConstant, constantAdded, constantOrder, addConstantOf, structNames, withStructName, structAdded, structFound, structOrder, addStructOf, functionOrder, begun, beginFunctionOf, namesFrom, toldName, functionIdxOf}
-use Rattle.ordering.specs.Sorted.{Edge, InOrder, Placed, structPut}
-use Rattle.ordering.proofs.Halves.{edge-spot, stands-yes, stands-no}
-use Rattle.ordering.proofs.Standing.{halves-find, halves-miss, put-named}
+use Rattle.laws_names.specs.Sorted.{Edge, InOrder, Placed, structPut}
+use Rattle.laws_names.proofs.Halves.{edge-spot, stands-yes, stands-no}
+use Rattle.laws_names.proofs.Standing.{halves-find, halves-miss, put-named}
 use Rattle.program.specs.Links.{Is, constantsLent, structsLent, namesLent}
 use Rattle.layout.proofs.Bools.{and-left, and-right}
 use Rattle.layout.proofs.Parts.{room-1, room-2}

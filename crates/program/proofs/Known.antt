@@ -14,7 +14,7 @@ use Rattle.model.specs.Values.{places, kindAt, payloadAt}
 use Rattle.model.specs.Programs.{before, codeLimit}
 use Rattle.model.specs.Stores.{start, size, structWord, orderWord, nameWord, codeWord, codeEnd}
 use Rattle.model.specs.Orders.{countsOk, textOk, insideText, constantOk, constantsOk, nameInOrder, structsOk, codeStart, functionOk, functionsOk, mainTaken, otherTaken, insideCodes}
-use Rattle.ordering.specs.Sorted.{InOrder}
+use Rattle.laws_names.specs.Sorted.{InOrder}
 use Rattle.layout.proofs.Bools.{either-way, and-left, and-right, and-both}
 use Rattle.layout.proofs.Parts.{room-1, room-2}
 use Rattle.program.proofs.Every.{passed, pass-all}

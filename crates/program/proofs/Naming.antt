@@ -18,10 +18,10 @@ use Rattle.model.specs.Programs.{Function, Program, mainName, firstFrom, among,
 use Rattle.model.specs.Stores.{Stores, start, size, pack, part, structWord, orderWord, nameWord, codeWord, codeEnd, constantsFrom, structsFrom, functionIn, functionsFrom, programIn, withStructs, withFunctions, withText}
 use Rattle.model.specs.Orders.{countsOk, textOk, insideText, constantsOk, nameInOrder, structsOk, codeStart, functionsOk, mainOk, mainTaken, otherTaken, insideCodes, programOk}
 use Rattle.model.specs.Emission.{Res, refuse, counts, oneStruct, oneFunction, written, textRoom, newOf, structNames, withStructName, structAdded, structFound, structOrder, addStructOf, functionOrder, begun, beginFunctionOf, endFunctionOf}
-use Rattle.ordering.specs.Sorted.{Spot, structPut}
-use Rattle.ordering.proofs.Halves.{edge-spot}
-use Rattle.ordering.proofs.Putting.{length-struct-put, new-word, old-word}
-use Rattle.ordering.proofs.Standing.{Somewhere, somewhere, none-among, put-named, stays-in-order}
+use Rattle.laws_names.specs.Sorted.{Spot, structPut}
+use Rattle.laws_names.proofs.Halves.{edge-spot}
+use Rattle.laws_names.proofs.Putting.{length-struct-put, new-word, old-word}
+use Rattle.laws_names.proofs.Standing.{Somewhere, somewhere, none-among, put-named, stays-in-order}
 use Rattle.layout.proofs.Bools.{either-way, and-left, and-right}
 use Rattle.layout.proofs.Parts.{room-1, room-2, places-same, start-pack, size-pack}
 use Rattle.program.proofs.Known.{Limited, limited, Structs, structs-known, structs-good, text-inside, constants-known, function-known}

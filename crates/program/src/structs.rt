@@ -17,7 +17,7 @@ use model::NAME_LIMIT;
 ghost use mathlib.Core.Path.{_≡_};
 ghost use Rattle.model.specs.Stores.{Stores};
 ghost use Rattle.model.specs.Emission.{structOrder, structAdded, addStructOf};
-ghost use Rattle.ordering.specs.Sorted.{Placed};
+ghost use Rattle.laws_names.specs.Sorted.{Placed};
 ghost use Rattle.program.specs.Links.{Is, structsLent};
 
 // Good order of what add_struct_info is lent.

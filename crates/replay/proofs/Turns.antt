@@ -1,7 +1,7 @@
 -- What becomes of a record, by its verdict.
 use mathlib.Core.Path.{_≡_}
 use mathlib.Core.Bool.{true, false, _&&_}
-use Rattle.compare.specs.declared.Verdict.{Verdict}
+use Rattle.replay_judge.specs.declared.Verdict.{Verdict}
 use Rattle.replay.specs.declared.Turn.the-variants.{Same, Differs}
 use Rattle.replay.specs.Turns.{turnIf, turnOf}
 

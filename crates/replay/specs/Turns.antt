@@ -3,8 +3,8 @@ use mathlib.Core.Bool.{Bool, true, false, _&&_}
 use mathlib.Core.List.{List}
 use Prim.Native.Nat.{ℕ, _-_}
 use lib.ListN.{take, drop}
-use Rattle.compare.specs.declared.Verdict.{Verdict}
-use Rattle.compare.specs.Compared.{verdictOf}
+use Rattle.replay_judge.specs.declared.Verdict.{Verdict}
+use Rattle.replay_judge.specs.Compared.{verdictOf}
 use Rattle.replay.specs.declared.Ends.{Ends}
 use Rattle.replay.specs.declared.Turn.{Turn}
 use Rattle.replay.specs.declared.Turn.the-variants.{Same, Differs}

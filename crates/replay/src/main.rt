@@ -1,7 +1,7 @@
 // Reads the oracle's records from standard input, up to its end, and says where the port answers something else.
-use compare::Verdict;
 use libc::STDIN_FILENO;
 use libc::STDOUT_FILENO;
+use replay_judge::Verdict;
 ghost use mathlib.Core.Path.{_≡_};
 ghost use Prim.Native.Nat.{_+_, _*_, _≤_};
 ghost use lib.ListN.{length};
@@ -57,7 +57,7 @@ fn judged(body: &[u8], e: Ends) -> Verdict
     let loading = e.loading;
     let running = e.running;
     let listing = e.listing;
-    compare::judge(
+    replay_judge::judge(
         &body[..image],
         &body[image..loading],
         &body[loading..running],

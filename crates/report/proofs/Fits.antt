@@ -30,12 +30,12 @@ use Rattle.model.specs.Emission.{written}
 use Rattle.model.specs.Loading.{mainOf, othersOf, laid, roomFor, loadJudged, loadOf}
 use Rattle.model.specs.Machines.{Lent, RunAnswer, ran, refused, runAnswer, fresh, startWith, loadMachineOf}
 use Rattle.model.specs.Reports.{hexFor, booleanText, valueText, entryLines, spentLines, replyLines, refusedLine, reportOf, emptyStores, emptyLent, startedText, started, runnerText, listedText, loadedText, listerText}
-use Rattle.rules.specs.Ordered.{CodeBytes}
+use Rattle.laws_runs.specs.Ordered.{CodeBytes}
 use Rattle.layout.proofs.Bools.{either-way}
 use Rattle.image.proofs.Codecs.{bytes-front, bytes-rest}
 use Rattle.image.proofs.Trip.{image-only, loaded-as}
 use Rattle.listing.proofs.Names as names
-use Rattle.texts.proofs.Digits.{short, five}
+use Rattle.printing.proofs.Digits.{short, five}
 use Rattle.report.proofs.Shown.{run-trace}
 
 -- ---- bytes

@@ -19,8 +19,8 @@ use Rattle.model.specs.Machines.{Lent, machineIn, entriesIn, answerIn}
 use Rattle.model.specs.Reports.{valueText, entryLines, spentLines, replyLines, refusedLine, reportOf}
 use Rattle.value.proofs.Stores.{length-vals}
 use Rattle.report.specs.Links.{Shows}
-use Rattle.texts.specs.Links.{Put}
-use Rattle.texts.proofs.Puts.{is, within, both, nothing}
+use Rattle.printing.specs.Links.{Put}
+use Rattle.printing.proofs.Puts.{is, within, both, nothing}
 
 -- ---- one line
 

@@ -17,8 +17,8 @@ use Rattle.model.specs.Heap.{Cell, item, head, headerOf, heapOf, isHead, headOf
 use Rattle.model.specs.Listings.{decimal}
 use Rattle.model.specs.Reports.{hexDigit, hexFor, booleanText, valueText}
 use Rattle.cells.proofs.Stands.{length-heap, kind-is, head-is}
-use Rattle.texts.specs.Links.{Put}
-use Rattle.texts.proofs.Puts.{is, within, both, nothing}
+use Rattle.printing.specs.Links.{Put}
+use Rattle.printing.proofs.Puts.{is, within, both, nothing}
 
 -- ---- hex digits
 

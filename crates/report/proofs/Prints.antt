@@ -11,7 +11,7 @@ use Rattle.model.specs.Emission.{written}
 use Rattle.layout.proofs.Bools.{either-way}
 use Rattle.image.proofs.Loads.{one-word}
 use Rattle.listing.proofs.Entry.{empty}
-use Rattle.texts.specs.Links.{Put}
+use Rattle.printing.specs.Links.{Put}
 use Rattle.report.specs.Links.{Printed, printed}
 
 module _ (bytes out : List ℕ) where

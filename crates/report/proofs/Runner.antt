@@ -21,7 +21,7 @@ use Rattle.model.specs.Loading.{loadOf}
 use Rattle.model.specs.Machines.{runAnswer, answerIn, RunPost, fresh, startWith, loadMachineOf}
 use Rattle.model.specs.Reports.{refusedLine, reportOf, emptyStores, emptyLent, startedText, started, runnerText, listerText}
 use Rattle.image.specs.Fills as whole
-use Rattle.ends.specs.Links.{programLent}
+use Rattle.run_ends.specs.Links.{programLent}
 use Rattle.machine.specs.Links.{runLent}
 use Rattle.report.specs.Links.{Shows, printed, imageText, PlayPost}
 use Rattle.report.proofs.Lists.{image-too-long}

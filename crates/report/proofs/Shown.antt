@@ -25,11 +25,11 @@ use Rattle.model.specs.Emission.{written}
 use Rattle.model.specs.Machines.{Lent, frameRoom, machineIn, worldOf, runOrder, tooShort, RunAnswer, ran, refused, runAnswer, entryWords, traceOfReply, traceAfter, entriesIn, answerIn, RunPost}
 use Rattle.value.proofs.Coding.{and-left}
 use Rattle.layout.proofs.Bools.{either-way}
-use Rattle.rules.specs.Sane.{SaneWorld, Sane}
-use Rattle.rules.specs.Ordered.{CodeBytes}
-use Rattle.rules.proofs.Runs.{path-sane}
-use Rattle.rules.proofs.Ordered.{order-of, order-world, order-sane}
-use Rattle.rules.proofs.Demands.{run-recovered, recovered-faults}
+use Rattle.laws_runs.specs.Sane.{SaneWorld, Sane}
+use Rattle.laws_runs.specs.Ordered.{CodeBytes}
+use Rattle.laws_runs.proofs.Runs.{path-sane}
+use Rattle.laws_runs.proofs.Ordered.{order-of, order-world, order-sane}
+use Rattle.laws_runs.proofs.Demands.{run-recovered, recovered-faults}
 use Rattle.machine.proofs.Traced.{length-trace}
 use Rattle.report.specs.Links.{Inside, Shows}
 

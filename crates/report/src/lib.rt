@@ -6,7 +6,6 @@ mod playing; // playing.rt: a run on call frames of its own
 use crate::playing::play;
 use crate::runs::put_refused;
 use crate::runs::put_report;
-use ends::fresh_vm;
 use image::load;
 use layout::reads::room;
 use listing::disassemble;
@@ -14,6 +13,7 @@ use model::Counts;
 use model::Loaded;
 use model::RunResult;
 use model::Told;
+use run_ends::fresh_vm;
 ghost use mathlib.Core.Path.{_≡_};
 ghost use mathlib.Core.Bool.{true};
 ghost use mathlib.Core.List.{List};
@@ -27,7 +27,7 @@ ghost use Rattle.model.specs.Loading.{listOrder};
 ghost use Rattle.model.specs.Machines.{runAnswer, answerIn, fresh, startWith};
 ghost use Rattle.model.specs.Reports.{refusedLine, reportOf, emptyStores, emptyLent, listedText, loadedText, listerText, started, runnerText};
 ghost use Rattle.listing.specs.Links.{lent};
-ghost use Rattle.ends.specs.Links.{programLent};
+ghost use Rattle.run_ends.specs.Links.{programLent};
 ghost use Rattle.report.specs.Links.{Shows, printed, Listable, imageText};
 
 // A refusal. It is measured first, with no room to write into.

@@ -3,7 +3,7 @@ use machine::run;
 use model::Frame;
 use model::RunResult;
 use model::Vm;
-ghost use Rattle.ends.specs.Links.{programLent};
+ghost use Rattle.run_ends.specs.Links.{programLent};
 ghost use Rattle.machine.specs.Links.{runLent};
 ghost use Rattle.report.specs.Links.{PlayPost};
 

@@ -2,10 +2,10 @@
 use crate::values::put_value;
 use model::RunResult;
 use model::Value;
-use texts::put_byte;
-use texts::put_count;
-use texts::put_line;
-use texts::put_text;
+use printing::put_byte;
+use printing::put_count;
+use printing::put_line;
+use printing::put_text;
 ghost use mathlib.Core.List.{List, _++_};
 ghost use Prim.Native.Nat.{ℕ, _+_, _*_, _≤_, _<_, _^_};
 ghost use lib.ListN.{length};
@@ -16,7 +16,7 @@ ghost use Rattle.model.specs.Listings.{decimal};
 ghost use Rattle.model.specs.Machines.{entriesIn, answerIn};
 ghost use Rattle.model.specs.Reports.{valueText, entryLines, refusedLine, reportOf};
 ghost use Rattle.report.specs.Links.{Shows};
-ghost use Rattle.texts.specs.Links.{Put};
+ghost use Rattle.printing.specs.Links.{Put};
 
 // The units spent, and how many values are on the stack.
 fn put_spent(units: u64, stack: usize, out: &mut [u8], at: usize) -> usize

@@ -1,9 +1,9 @@
 // A value as the runner prints it.
 use model::Header;
 use model::Value;
-use texts::put_byte;
-use texts::put_count;
-use texts::put_text;
+use printing::put_byte;
+use printing::put_count;
+use printing::put_text;
 use value::words;
 ghost use mathlib.Core.Path.{_≡_};
 ghost use mathlib.Core.List.{_++_};
@@ -13,7 +13,7 @@ ghost use Rattle.model.specs.Basics.{ascii};
 ghost use Rattle.model.specs.Heap.{heapOf, headIn};
 ghost use Rattle.model.specs.Listings.{decimal};
 ghost use Rattle.model.specs.Reports.{hexDigit, hexFor, valueText};
-ghost use Rattle.texts.specs.Links.{Put};
+ghost use Rattle.printing.specs.Links.{Put};
 
 // A digit below 16, as a capital.
 fn hex_digit(d: u64) -> u8

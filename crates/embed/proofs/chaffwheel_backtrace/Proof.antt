@@ -1,8 +1,8 @@
 -- `chaffwheel_backtrace` meets its contract: a walk of its MIR, by hand. Its slices are judged, then the backtrace is written.
 -- Assumes nothing.
-use Rattle.frames.proofs.Walk.{_≡_, refl, true, false, List, [], _∷_, ℕ, length, URA, w32, w64, Val, vint, SProp, ent, id⊢, Memory, Routine, Heap, Tables, WpFn, Atoms, Lfts, Shares, Fun, givenOf, tables, tablesOf, FmC, fmOf}
-use Rattle.frames.proofs.Walk.{Given, ‵, ⋆, _$_, _∵_, !, qed, by, keep, suffices, frame, done, agg, addr, of-opd, bin, Is, uint-makes, u8, u32, u64, usize, now, Room, owned, onEntry, tripleOf, Contract, Triple, cited, says, walkOf, ends-at}
-use Rattle.frames.proofs.Walk.{of, ofs, behind, sets, lands-in, enters, leaves, Sl, sl, Arg, val, shr, mut, peek, Holds, Toks, Owns, lfts, shares, denots, valss, values, passing, lent, takes, gives, Rule, call-with, unasked, unneeded, calls-on, returns-if, Kind, number, shared, unique, stays, Passed, Known, closed}
+use Rattle.laws_walks.proofs.Walk.{_≡_, refl, true, false, List, [], _∷_, ℕ, length, URA, w32, w64, Val, vint, SProp, ent, id⊢, Memory, Routine, Heap, Tables, WpFn, Atoms, Lfts, Shares, Fun, givenOf, tables, tablesOf, FmC, fmOf}
+use Rattle.laws_walks.proofs.Walk.{Given, ‵, ⋆, _$_, _∵_, !, qed, by, keep, suffices, frame, done, agg, addr, of-opd, bin, Is, uint-makes, u8, u32, u64, usize, now, Room, owned, onEntry, tripleOf, Contract, Triple, cited, says, walkOf, ends-at}
+use Rattle.laws_walks.proofs.Walk.{of, ofs, behind, sets, lands-in, enters, leaves, Sl, sl, Arg, val, shr, mut, peek, Holds, Toks, Owns, lfts, shares, denots, valss, values, passing, lent, takes, gives, Rule, call-with, unasked, unneeded, calls-on, returns-if, Kind, number, shared, unique, stays, Passed, Known, closed}
 use Rattle.model.specs.declared.Vm.{Vm}
 use Rattle.model.specs.declared.Frame.{Frame}
 use Rattle.model.specs.declared.Told.{Told}
@@ -11,26 +11,26 @@ use native.Mathlib.Omega.{arith}
 use Rattle.frames.proofs.Frames.{R, tells}
 use Rattle.machine.proofs.Rows.{VmRow, vmVal, IsVm, vm-tells, vm-typed, vm-makes, ToldRow, toldVal, IsTold, told-tells, told-typed, told-makes}
 use Rattle.model.specs.Machines.{backtraceIn}
-use Rattle.ends.specs.Links.{programLent}
+use Rattle.run_ends.specs.Links.{programLent}
 use Rattle.machine.proofs.Tests.{is-zero, not-zero}
-use Rattle.coding.specs.Coding.{vmIn, slicesRefusal, toldCoded, outThrough}
+use Rattle.embed_words.specs.Coding.{vmIn, slicesRefusal, toldCoded, outThrough}
 use Rattle.embed.proofs.Through.{out-through, out-refused}
-use Rattle.coding.proofs.slices_refusal as why
-use Rattle.coding.proofs.slices_refusal.Symbol as why-def
-use Rattle.coding.proofs.slices_refusal.Symbol.{name as #why}
-use Rattle.coding.proofs.slices_refusal.Met as why-thm
-use Rattle.coding.proofs.vm_of as rec
-use Rattle.coding.proofs.vm_of.Symbol as rec-def
-use Rattle.coding.proofs.vm_of.Symbol.{name as #rec}
-use Rattle.coding.proofs.vm_of.Met as rec-thm
+use Rattle.embed_words.proofs.slices_refusal as why
+use Rattle.embed_words.proofs.slices_refusal.Symbol as why-def
+use Rattle.embed_words.proofs.slices_refusal.Symbol.{name as #why}
+use Rattle.embed_words.proofs.slices_refusal.Met as why-thm
+use Rattle.embed_words.proofs.vm_of as rec
+use Rattle.embed_words.proofs.vm_of.Symbol as rec-def
+use Rattle.embed_words.proofs.vm_of.Symbol.{name as #rec}
+use Rattle.embed_words.proofs.vm_of.Met as rec-thm
 use Rattle.machine.proofs.backtrace as entry
 use Rattle.machine.proofs.backtrace.Symbol as entry-def
 use Rattle.machine.proofs.backtrace.Symbol.{name as #entry}
 use Rattle.machine.proofs.backtrace.Met as entry-thm
-use Rattle.coding.proofs.tell as tells
-use Rattle.coding.proofs.tell.Symbol as tells-def
-use Rattle.coding.proofs.tell.Symbol.{name as #tells}
-use Rattle.coding.proofs.tell.Met as tells-thm
+use Rattle.embed_words.proofs.tell as tells
+use Rattle.embed_words.proofs.tell.Symbol as tells-def
+use Rattle.embed_words.proofs.tell.Symbol.{name as #tells}
+use Rattle.embed_words.proofs.tell.Met as tells-thm
 use Rattle.embed.proofs.chaffwheel_backtrace.Key.{name as #me}
 use Rattle.embed.proofs.chaffwheel_backtrace as me
 use Rattle.embed.proofs.chaffwheel_backtrace.Statement as stated
@@ -305,11 +305,11 @@ chaffwheel-backtrace-spec 𝓤 H 𝓜 𝓖 𝓡 =
     closed kinds u32 𝓤 H 𝓜 𝓖 𝓡 code.env #me code.function (code.unfolded 𝓤 H 𝓜 𝓡) (me.clauses 𝓤 H (𝓖 .A) (𝓜 .mem) (𝓡 .run))
     (λ κs qs a g is. unneeded 𝓤 _
     (walk 𝓤 H (𝓖 .A) W (𝓜 .mem) (𝓡 .run) (tablesOf 𝓤 H 𝓜 (tables 𝓤 H 𝓜 𝓡 code.env))
-    (cited 𝓤 H (Why 𝓤 H (𝓖 .A) W (𝓜 .mem) (𝓡 .run)) 𝓜 𝓡 code.env #why why-def.routine code.calls-coding·slices-refusal
+    (cited 𝓤 H (Why 𝓤 H (𝓖 .A) W (𝓜 .mem) (𝓡 .run)) 𝓜 𝓡 code.env #why why-def.routine code.calls-embed-words·slices-refusal
     (why-thm.met 𝓤 H 𝓜 𝓖 𝓡))
-    (cited 𝓤 H (Rec 𝓤 H (𝓖 .A) W (𝓜 .mem) (𝓡 .run)) 𝓜 𝓡 code.env #rec rec-def.routine code.calls-coding·vm-of
+    (cited 𝓤 H (Rec 𝓤 H (𝓖 .A) W (𝓜 .mem) (𝓡 .run)) 𝓜 𝓡 code.env #rec rec-def.routine code.calls-embed-words·vm-of
     (rec-thm.met 𝓤 H 𝓜 𝓖 𝓡))
     (cited 𝓤 H (Entry 𝓤 H (𝓖 .A) W (𝓜 .mem) (𝓡 .run)) 𝓜 𝓡 code.env #entry entry-def.routine code.calls-machine·backtrace
     (entry-thm.met 𝓤 H 𝓜 𝓖 𝓡))
-    (cited 𝓤 H (Tells 𝓤 H (𝓖 .A) W (𝓜 .mem) (𝓡 .run)) 𝓜 𝓡 code.env #tells tells-def.routine code.calls-coding·tell
+    (cited 𝓤 H (Tells 𝓤 H (𝓖 .A) W (𝓜 .mem) (𝓡 .run)) 𝓜 𝓡 code.env #tells tells-def.routine code.calls-embed-words·tell
     (tells-thm.met 𝓤 H 𝓜 𝓖 𝓡)) κs qs a is))

@@ -1,14 +1,14 @@
 -- `frames::push_frame` meets its contract: a walk of its MIR, by hand. The slice is opened, the element is taken out and stored to, and the slice is shut at the list with the frame in it.
 -- Assumes nothing.
-use Rattle.frames.proofs.Walk.{refl, List, [], _∷_, none, some, ℕ, _*_, _<_, length, set, URA, fullShare, w64, Val, vunit, vint, vptr, SProp, ent, Memory, Routine, Heap, Tables, WpFn, Atoms, Lfts, Shares, Fun, givenOf, tables, tablesOf}
-use Rattle.frames.proofs.Walk.{Given, ‵, ⋆, _$_, _∵_, !, qed, by, move, keep, drop, rewrite, fsplit, fjoin, feqI, suffices, frame, done, look-in, store-raw, stop, hop, from, of-opd, bin, assigns, Is, shows, Nothing, uint-makes, usize, now, Room, owned, onEntry, says, needs, walkOf, ends-at}
-use Rattle.frames.proofs.Walk.{Locals, here, of, sets, enters, leaves, Sl, sl, sval, Arg, val, mut, Holds, Toks, Owns, lfts, shares, denots, valss, values, passing, takes, gives, Kind, own, number, unique, stays, Passed, Known, closed}
+use Rattle.laws_walks.proofs.Walk.{refl, List, [], _∷_, none, some, ℕ, _*_, _<_, length, set, URA, fullShare, w64, Val, vunit, vint, vptr, SProp, ent, Memory, Routine, Heap, Tables, WpFn, Atoms, Lfts, Shares, Fun, givenOf, tables, tablesOf}
+use Rattle.laws_walks.proofs.Walk.{Given, ‵, ⋆, _$_, _∵_, !, qed, by, move, keep, drop, rewrite, fsplit, fjoin, feqI, suffices, frame, done, look-in, store-raw, stop, hop, from, of-opd, bin, assigns, Is, shows, Nothing, uint-makes, usize, now, Room, owned, onEntry, says, needs, walkOf, ends-at}
+use Rattle.laws_walks.proofs.Walk.{Locals, here, of, sets, enters, leaves, Sl, sl, sval, Arg, val, mut, Holds, Toks, Owns, lfts, shares, denots, valss, values, passing, takes, gives, Kind, own, number, unique, stays, Passed, Known, closed}
 use lib.ListN.{length-set}
 use denote.Index.{elem-out, elem-put}
 use Rattle.model.specs.declared.Frame.{Frame}
 use Rattle.frames.specs.Links.{noFrame}
 use Rattle.frames.proofs.Frames.{R, fval, tells, place-frame, times-fits, frame-makes, frame-typed}
-use Rattle.frames.proofs.Lends.{opens, shuts}
+use Rattle.laws_walks.proofs.Lends.{opens, shuts}
 use Rattle.frames.proofs.push_frame.Key.{name as #me}
 use Rattle.frames.proofs.push_frame as me
 use Rattle.frames.proofs.push_frame.Statement as stated

@@ -1,8 +1,8 @@
 -- `frames::read_frame` meets its contract: a walk of its MIR, by hand. The place of the element is computed, the slice is looked into, and the element is taken out, read and put back.
 -- Assumes nothing.
-use Rattle.frames.proofs.Walk.{refl, List, [], _∷_, none, some, ℕ, _*_, _<_, length, getD, URA, w64, Val, vint, vptr, SProp, ent, Memory, Routine, Heap, Tables, WpFn, Atoms, Lfts, Shares, Fun, givenOf, tables, tablesOf}
-use Rattle.frames.proofs.Walk.{Given, ‵, ⋆, _$_, _∵_, !, qed, by, move, keep, rewrite, fsplit, fjoin, suffices, frame, done, look-in, look-raw, stop, hop, from, load, of-opd, bin, Is, shows, uint-makes, usize, now, Room, owned, onEntry, says, needs, walkOf, ends-at}
-use Rattle.frames.proofs.Walk.{Locals, here, of, sets, enters, leaves, Sl, sl, sval, Arg, val, shr, Holds, Toks, Owns, lfts, shares, denots, valss, values, passing, takes, gives, Kind, number, shared, stays, Passed, Known, closed}
+use Rattle.laws_walks.proofs.Walk.{refl, List, [], _∷_, none, some, ℕ, _*_, _<_, length, getD, URA, w64, Val, vint, vptr, SProp, ent, Memory, Routine, Heap, Tables, WpFn, Atoms, Lfts, Shares, Fun, givenOf, tables, tablesOf}
+use Rattle.laws_walks.proofs.Walk.{Given, ‵, ⋆, _$_, _∵_, !, qed, by, move, keep, rewrite, fsplit, fjoin, suffices, frame, done, look-in, look-raw, stop, hop, from, load, of-opd, bin, Is, shows, uint-makes, usize, now, Room, owned, onEntry, says, needs, walkOf, ends-at}
+use Rattle.laws_walks.proofs.Walk.{Locals, here, of, sets, enters, leaves, Sl, sl, sval, Arg, val, shr, Holds, Toks, Owns, lfts, shares, denots, valss, values, passing, takes, gives, Kind, number, shared, stays, Passed, Known, closed}
 use denote.Index.{elem-out, elem-back, looks-slice, shuts-slice}
 use Rattle.model.specs.declared.Frame.{Frame}
 use Rattle.frames.specs.Links.{noFrame}

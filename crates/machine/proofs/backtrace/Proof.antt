@@ -1,8 +1,8 @@
 -- `backtrace` meets its contract: a walk of its MIR, by hand. It is judged (19, 17), then the backtrace is written, or 16 comes back.
 -- Assumes nothing.
-use Rattle.frames.proofs.Walk.{_≡_, refl, ap, _∙_, Bool, true, false, not, List, [], _∷_, ℕ, length, URA, w64, Val, vbool, vint, SProp, ent, id⊢, Memory, Routine, Heap, Tables, WpFn, Atoms, Lfts, Shares, Fun, givenOf, tables, tablesOf, FmC, fmOf}
-use Rattle.frames.proofs.Walk.{Given, ‵, ⋆, _$_, _∵_, !, qed, by, keep, suffices, frame, done, agg, addr, of-opd, bin, Is, Boolean, bool-tells, uint-makes, u8, u32, u64, usize, now, Room, owned, onEntry, tripleOf, Contract, Triple, cited, says, walkOf, ends-at}
-use Rattle.frames.proofs.Walk.{of, ofs, behind, sets, lands-in, enters, leaves, Sl, sl, Arg, val, shr, mut, Holds, Toks, Owns, lfts, shares, denots, valss, values, passing, lent, takes, gives, Rule, call-with, asked, unasked, unneeded, calls-on, returns-if, Kind, own, shared, unique, stays, Passed, Known, closed}
+use Rattle.laws_walks.proofs.Walk.{_≡_, refl, ap, _∙_, Bool, true, false, not, List, [], _∷_, ℕ, length, URA, w64, Val, vbool, vint, SProp, ent, id⊢, Memory, Routine, Heap, Tables, WpFn, Atoms, Lfts, Shares, Fun, givenOf, tables, tablesOf, FmC, fmOf}
+use Rattle.laws_walks.proofs.Walk.{Given, ‵, ⋆, _$_, _∵_, !, qed, by, keep, suffices, frame, done, agg, addr, of-opd, bin, Is, Boolean, bool-tells, uint-makes, u8, u32, u64, usize, now, Room, owned, onEntry, tripleOf, Contract, Triple, cited, says, walkOf, ends-at}
+use Rattle.laws_walks.proofs.Walk.{of, ofs, behind, sets, lands-in, enters, leaves, Sl, sl, Arg, val, shr, mut, Holds, Toks, Owns, lfts, shares, denots, valss, values, passing, lent, takes, gives, Rule, call-with, asked, unasked, unneeded, calls-on, returns-if, Kind, own, shared, unique, stays, Passed, Known, closed}
 use Rattle.model.specs.declared.Vm.{Vm}
 use Rattle.model.specs.declared.Frame.{Frame}
 use Rattle.model.specs.declared.Told.{Told}
@@ -12,7 +12,7 @@ use Rattle.frames.proofs.Frames.{R}
 use Rattle.machine.proofs.Rows.{VmRow, vmVal, vm-tells, frames-fit, vm-typed, vm-makes, ToldRow, toldVal, told-tells, told-typed, told-makes}
 use Rattle.model.specs.declared.Told.the-variants as t
 use Rattle.model.specs.Machines.{traceOrder, backtraceIn}
-use Rattle.ends.specs.Links.{programLent}
+use Rattle.run_ends.specs.Links.{programLent}
 use Rattle.machine.specs.Links.{traceRefusal, Traceable, traceInto}
 use Rattle.machine.proofs.Tests.{is-zero, not-zero}
 use Rattle.machine.proofs.Tracings.{trace-ready, trace-is, trace-refused}

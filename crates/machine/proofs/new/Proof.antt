@@ -1,8 +1,8 @@
 -- `new` meets its contract: a walk of its MIR, by hand. The program is emitted, then the first frame is laid.
 -- Assumes nothing.
-use Rattle.frames.proofs.Walk.{_≡_, refl, sym, ap, _∙_, Bool, true, false, List, [], _∷_, ℕ, _<_, length, set, URA, w64, Val, vbool, vint, SProp, ent, id⊢, Memory, Routine, Heap, Tables, WpFn, Atoms, Lfts, Shares, Fun, givenOf, tables, tablesOf, FmC, fmOf}
-use Rattle.frames.proofs.Walk.{Given, ‵, ⋆, _$_, _∵_, !, qed, by, keep, suffices, frame, done, agg, addr, of-opd, Is, Boolean, bool-tells, uint-makes, u8, u64, usize, now, Room, owned, onEntry, tripleOf, Contract, Triple, cited, says, walkOf, ends-at}
-use Rattle.frames.proofs.Walk.{of, ofs, behind, sets, lands-in, enters, leaves, Sl, sl, Arg, val, mut, Holds, Toks, Owns, lfts, shares, denots, valss, values, passing, lent, takes, gives, Rule, call-with, unasked, unneeded, calls-on, returns-if, Kind, unique, stays, Passed, Known, closed}
+use Rattle.laws_walks.proofs.Walk.{_≡_, refl, sym, ap, _∙_, Bool, true, false, List, [], _∷_, ℕ, _<_, length, set, URA, w64, Val, vbool, vint, SProp, ent, id⊢, Memory, Routine, Heap, Tables, WpFn, Atoms, Lfts, Shares, Fun, givenOf, tables, tablesOf, FmC, fmOf}
+use Rattle.laws_walks.proofs.Walk.{Given, ‵, ⋆, _$_, _∵_, !, qed, by, keep, suffices, frame, done, agg, addr, of-opd, Is, Boolean, bool-tells, uint-makes, u8, u64, usize, now, Room, owned, onEntry, tripleOf, Contract, Triple, cited, says, walkOf, ends-at}
+use Rattle.laws_walks.proofs.Walk.{of, ofs, behind, sets, lands-in, enters, leaves, Sl, sl, Arg, val, mut, Holds, Toks, Owns, lfts, shares, denots, valss, values, passing, lent, takes, gives, Rule, call-with, unasked, unneeded, calls-on, returns-if, Kind, unique, stays, Passed, Known, closed}
 use Rattle.model.specs.declared.Frame.{Frame}
 use Rattle.model.specs.declared.Started.{Started}
 use native.Mathlib.Omega.{arith}

@@ -1,8 +1,8 @@
 -- `run` meets its contract: a walk of its MIR, by hand. It is judged (19, 17), then it goes.
 -- Assumes nothing.
-use Rattle.frames.proofs.Walk.{_≡_, refl, sym, subst, true, not, List, [], _∷_, ℕ, length, URA, w64, Val, vint, SProp, ent, id⊢, Memory, Routine, Heap, Tables, WpFn, Atoms, Fun, givenOf, tables, tablesOf, FmC, fmOf}
-use Rattle.frames.proofs.Walk.{Given, ‵, ⋆, _$_, _∵_, !, qed, by, keep, suffices, frame, done, agg, addr, of-opd, bin, Is, uint-makes, u8, u32, u64, usize, owned, onEntry, tripleOf, Contract, Triple, cited, says, walkOf, ends-at}
-use Rattle.frames.proofs.Walk.{of, ofs, behind, sets, lands-in, enters, leaves, Arg, val, shr, mut, peek, Holds, Toks, Owns, lfts, shares, denots, valss, values, passing, lent, takes, gives, Rule, call-with, asked, unasked, unneeded, calls-on, returns-if, stays, closed}
+use Rattle.laws_walks.proofs.Walk.{_≡_, refl, sym, subst, true, not, List, [], _∷_, ℕ, length, URA, w64, Val, vint, SProp, ent, id⊢, Memory, Routine, Heap, Tables, WpFn, Atoms, Fun, givenOf, tables, tablesOf, FmC, fmOf}
+use Rattle.laws_walks.proofs.Walk.{Given, ‵, ⋆, _$_, _∵_, !, qed, by, keep, suffices, frame, done, agg, addr, of-opd, bin, Is, uint-makes, u8, u32, u64, usize, owned, onEntry, tripleOf, Contract, Triple, cited, says, walkOf, ends-at}
+use Rattle.laws_walks.proofs.Walk.{of, ofs, behind, sets, lands-in, enters, leaves, Arg, val, shr, mut, peek, Holds, Toks, Owns, lfts, shares, denots, valss, values, passing, lent, takes, gives, Rule, call-with, asked, unasked, unneeded, calls-on, returns-if, stays, closed}
 use Rattle.model.specs.declared.Frame.{Frame}
 use Rattle.model.specs.declared.RunResult.{RunResult}
 use mir.Syntax.{w8}

@@ -1,8 +1,8 @@
 -- `act` meets its contract: a walk of its MIR, by hand. The frames are laid, the entry is called, and the frames are kept.
 -- Assumes nothing.
-use Rattle.frames.proofs.Walk.{_≡_, refl, true, false, List, [], _∷_, Option, none, some, ℕ, length, URA, w64, Val, vunit, vint, vptr, SProp, ent, id⊢, Memory, Routine, Heap, Tables, WpFn, Atoms, Lfts, Shares, Fun, givenOf, tables, tablesOf, FmC, fmOf}
-use Rattle.frames.proofs.Walk.{Given, Sq, ‵, ⋆, runs, atRet, _$_, _∵_, !, qed, by, keep, suffices, frame, done, agg, addr, of-opd, Is, Nothing, uint-makes, u8, u32, u64, now, Room, owned, onEntry, tripleOf, Contract, Triple, cited, says, walkOf, ends-at}
-use Rattle.frames.proofs.Walk.{Blocks, envAt, Locals, of, ofs, behind, sets, lands-in, enters, leaves, Sl, sl, sval, Arg, val, shr, mut, peek, Holds, Toks, Owns, lfts, shares, denots, valss, values, passing, lent, takes, gives, Rule, call-with, unasked, unneeded, calls-on, tag-of, payload-of, Kind, own, shared, unique, stays, Passed, Known, closed}
+use Rattle.laws_walks.proofs.Walk.{_≡_, refl, true, false, List, [], _∷_, Option, none, some, ℕ, length, URA, w64, Val, vunit, vint, vptr, SProp, ent, id⊢, Memory, Routine, Heap, Tables, WpFn, Atoms, Lfts, Shares, Fun, givenOf, tables, tablesOf, FmC, fmOf}
+use Rattle.laws_walks.proofs.Walk.{Given, Sq, ‵, ⋆, runs, atRet, _$_, _∵_, !, qed, by, keep, suffices, frame, done, agg, addr, of-opd, Is, Nothing, uint-makes, u8, u32, u64, now, Room, owned, onEntry, tripleOf, Contract, Triple, cited, says, walkOf, ends-at}
+use Rattle.laws_walks.proofs.Walk.{Blocks, envAt, Locals, of, ofs, behind, sets, lands-in, enters, leaves, Sl, sl, sval, Arg, val, shr, mut, peek, Holds, Toks, Owns, lfts, shares, denots, valss, values, passing, lent, takes, gives, Rule, call-with, unasked, unneeded, calls-on, tag-of, payload-of, Kind, own, shared, unique, stays, Passed, Known, closed}
 use Rattle.model.specs.declared.Vm.{Vm}
 use Rattle.model.specs.declared.Frame.{Frame}
 use Rattle.model.specs.declared.Started.{Started}
@@ -12,7 +12,7 @@ use Rattle.model.specs.Stores.{Stores}
 use Rattle.model.specs.Machines.{backtraceIn, RunPost, loadMachineOf, newMachineOf}
 use Rattle.program.specs.Links.{namesLent}
 use Rattle.image.specs.Fills.{lent as imageLent}
-use Rattle.ends.specs.Links.{programLent}
+use Rattle.run_ends.specs.Links.{programLent}
 use Rattle.machine.specs.Links.{runLent}
 use Rattle.console.specs.declared.bridge.Call.{Call}
 use Rattle.console.specs.declared.bridge.Call.the-variants.{New, Load, Run, Trace}
@@ -20,7 +20,7 @@ use Rattle.console.specs.declared.bridge.Answer.{Answer}
 use Rattle.console.specs.declared.bridge.Answer.the-variants as ans
 use Rattle.frames.proofs.Frames.{R}
 use Rattle.machine.proofs.Rows.{VmRow, vmVal, vm-tells, vm-typed, vm-makes, StartedRow, startedVal, IsStarted, started-tells, started-typed, started-makes, ResultRow, resultVal, IsResult, result-tells, result-typed, result-makes, ToldRow, toldVal, IsTold, told-tells, told-typed, told-makes}
-use Rattle.frames.proofs.Branches.{returns-match}
+use Rattle.laws_walks.proofs.Branches.{returns-match}
 use Rattle.console.proofs.Calls.{CallRow, callVal, IsCall, call-tells, call-typed, call-makes, AnswerRow, answerVal, IsAnswer, answer-tells, answer-typed, answer-makes, run-fits}
 use Rattle.console.proofs.bridge.lay as lay-of
 use Rattle.console.proofs.bridge.lay.Symbol as lay-def

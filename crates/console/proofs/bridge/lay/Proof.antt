@@ -1,8 +1,8 @@
 -- `lay` meets its contract: a walk of its MIR, by hand. A turn writes the frame that the covered `last_in` has read.
 -- Assumes nothing.
-use Rattle.frames.proofs.Walk.{_≡_, refl, List, [], _∷_, Option, none, some, ℕ, _<_, _≤_, _^_, T, length, URA, w64, Val, WT, hasTy, vunit, vint, SProp, ent, id⊢, Memory, Routine, Heap, Tables, WpFn, Atoms, Lfts, Shares, Fun, givenOf, tables, tablesOf, FmC, fmOf}
-use Rattle.frames.proofs.Walk.{Given, Sq, ‵, ⋆, runs, atRet, _$_, _∵_, !, qed, by, move, keep, feqI, suffices, frame, done, agg, addr, of-opd, Is, Nothing, uint-makes, u64, usize, now, Room, onEntry, tripleOf, Contract, Triple, cited, says, walkOf, ends-at}
-use Rattle.frames.proofs.Walk.{Blocks, envAt, Locals, of, ofs, behind, sets, sets-last, lands-in, enters, leaves, trims, Sl, sl, sval, Arg, val, shr, mut, Holds, Toks, Owns, lfts, shares, denots, valss, values, passing, lent, takes, gives, splits, joins, Rule, call-with, unasked, Loop, Turn, rounds, whiles, again, Kind, shared, unique, stays, Passed, Known, closed}
+use Rattle.laws_walks.proofs.Walk.{_≡_, refl, List, [], _∷_, Option, none, some, ℕ, _<_, _≤_, _^_, T, length, URA, w64, Val, WT, hasTy, vunit, vint, SProp, ent, id⊢, Memory, Routine, Heap, Tables, WpFn, Atoms, Lfts, Shares, Fun, givenOf, tables, tablesOf, FmC, fmOf}
+use Rattle.laws_walks.proofs.Walk.{Given, Sq, ‵, ⋆, runs, atRet, _$_, _∵_, !, qed, by, move, keep, feqI, suffices, frame, done, agg, addr, of-opd, Is, Nothing, uint-makes, u64, usize, now, Room, onEntry, tripleOf, Contract, Triple, cited, says, walkOf, ends-at}
+use Rattle.laws_walks.proofs.Walk.{Blocks, envAt, Locals, of, ofs, behind, sets, sets-last, lands-in, enters, leaves, trims, Sl, sl, sval, Arg, val, shr, mut, Holds, Toks, Owns, lfts, shares, denots, valss, values, passing, lent, takes, gives, splits, joins, Rule, call-with, unasked, Loop, Turn, rounds, whiles, again, Kind, shared, unique, stays, Passed, Known, closed}
 use base.Logic.{emp, via, fst∗}
 use native.Mathlib.Omega.{arith}
 use denote.Struct.Laws as LL

@@ -1,8 +1,8 @@
 -- `with_frames` meets its contract: a walk of its MIR, by hand. The frames are a local array, lent to `act` (`Lending.antt`).
 -- Assumes nothing.
-use Rattle.frames.proofs.Walk.{_≡_, refl, List, [], _∷_, Option, none, some, ℕ, length, URA, Val, vptr, SProp, ent, id⊢, Memory, Routine, Heap, Tables, WpFn, Atoms, Lfts, Shares, Fun, fullShare, givenOf, tables, tablesOf, fmOf}
-use Rattle.frames.proofs.Walk.{Given, ‵, ⋆, _$_, _∵_, !, qed, by, move, keep, fsplit, fjoin, suffices, frame, done, agg, addr, stop, from, load, look-in, Is, u8, u32, u64, now, Room, owned, onEntry, tripleOf, Contract, Triple, cited, says, shows, walkOf, ends-at}
-use Rattle.frames.proofs.Walk.{Blocks, here, of, ofs, behind, sets, lands-in, enters, leaves, Sl, sl, sval, Arg, val, shr, mut, Holds, Toks, Owns, Lists, Lens, lfts, shares, denots, valss, values, passing, lent, after, takes, gives, splits, joins, unasked, unneeded, Kind, own, shared, unique, stays, Passed, Known, closed}
+use Rattle.laws_walks.proofs.Walk.{_≡_, refl, List, [], _∷_, Option, none, some, ℕ, length, URA, Val, vptr, SProp, ent, id⊢, Memory, Routine, Heap, Tables, WpFn, Atoms, Lfts, Shares, Fun, fullShare, givenOf, tables, tablesOf, fmOf}
+use Rattle.laws_walks.proofs.Walk.{Given, ‵, ⋆, _$_, _∵_, !, qed, by, move, keep, fsplit, fjoin, suffices, frame, done, agg, addr, stop, from, load, look-in, Is, u8, u32, u64, now, Room, owned, onEntry, tripleOf, Contract, Triple, cited, says, shows, walkOf, ends-at}
+use Rattle.laws_walks.proofs.Walk.{Blocks, here, of, ofs, behind, sets, lands-in, enters, leaves, Sl, sl, sval, Arg, val, shr, mut, Holds, Toks, Owns, Lists, Lens, lfts, shares, denots, valss, values, passing, lent, after, takes, gives, splits, joins, unasked, unneeded, Kind, own, shared, unique, stays, Passed, Known, closed}
 use mathlib.Core.List.{_++_}
 use lib.Dec.{lit<}
 use lib.ListN.{replicate, take, drop}
@@ -24,7 +24,7 @@ use Rattle.console.specs.declared.bridge.Answer.{Answer}
 use Rattle.frames.specs.Links.{noFrame}
 use Rattle.frames.proofs.Frames.{R, fval, frame-copy, frame-makes, frame-typed}
 use Rattle.machine.proofs.Rows.{VmRow, vmVal, vm-tells, vm-typed, vm-makes}
-use Rattle.frames.proofs.Lending.{apart, whole, lend-array, back-array, calls-with}
+use Rattle.laws_walks.proofs.Lending.{apart, whole, lend-array, back-array, calls-with}
 use Rattle.console.proofs.Calls.{CallRow, callVal, call-tells, call-typed, call-makes, AnswerRow, answerVal, IsAnswer, answer-tells, answer-typed, answer-makes}
 use Rattle.console.proofs.bridge.act as it
 use Rattle.console.proofs.bridge.act.Symbol as it-def

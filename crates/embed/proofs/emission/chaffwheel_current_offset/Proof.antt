@@ -2,7 +2,7 @@
 use borrow.Author.Needs.{needs}
 use Rattle.model.specs.declared.Vm.{Vm}
 use Rattle.model.specs.Emission.{currentOffsetOf}
-use Rattle.coding.specs.Coding.{toldCoded}
+use Rattle.embed_words.specs.Coding.{toldCoded}
 use Rattle.embed.proofs.Through.{is-through, not-through}
 use Rattle.embed.proofs.emission.chaffwheel_current_offset.Statement.{statement}
 use Rattle.embed.proofs.emission.chaffwheel_current_offset.Tie as tie

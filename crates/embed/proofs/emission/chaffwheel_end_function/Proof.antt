@@ -2,7 +2,7 @@
 use borrow.Author.Needs.{needs}
 use Rattle.model.specs.declared.Vm.{Vm}
 use Rattle.model.specs.Emission.{endFunctionOf}
-use Rattle.coding.specs.Coding.{emittedCoded}
+use Rattle.embed_words.specs.Coding.{emittedCoded}
 use Rattle.embed.proofs.Through.{is-through, not-through}
 use Rattle.embed.proofs.emission.chaffwheel_end_function.Statement.{statement}
 use Rattle.embed.proofs.emission.chaffwheel_end_function.Tie as tie

@@ -5,7 +5,7 @@ use Rattle.model.specs.declared.Value.{Value}
 use Rattle.model.specs.declared.Vm.{Vm}
 use Rattle.model.specs.Values.{valueOf}
 use Rattle.model.specs.Readers.{blockHeaderOf}
-use Rattle.coding.specs.Coding.{headedCoded}
+use Rattle.embed_words.specs.Coding.{headedCoded}
 use Rattle.embed.proofs.Through.{is-through, not-through}
 use Rattle.embed.proofs.reading.chaffwheel_block_header.Statement.{statement}
 use Rattle.embed.proofs.reading.chaffwheel_block_header.Tie as tie

@@ -5,7 +5,7 @@ use Rattle.model.specs.declared.Value.{Value}
 use Rattle.model.specs.declared.Vm.{Vm}
 use Rattle.model.specs.Values.{valueOf}
 use Rattle.model.specs.Readers.{elementOf}
-use Rattle.coding.specs.Coding.{shownCoded}
+use Rattle.embed_words.specs.Coding.{shownCoded}
 use Rattle.embed.proofs.Through.{is-through, not-through}
 use Rattle.embed.proofs.reading.chaffwheel_element.Statement.{statement}
 use Rattle.embed.proofs.reading.chaffwheel_element.Tie as tie

@@ -1,8 +1,8 @@
 -- `frames::backtrace::trace` meets its contract: a walk of its MIR, by hand. The covered `put_entry` writes the innermost frame's entry, and then that of each caller, which a turn reads.
 -- Assumes nothing.
-use Rattle.frames.proofs.Walk.{_≡_, refl, sym, subst, List, [], _∷_, Option, none, some, ℕ, _+_, _*_, _<_, _≤_, _^_, T, length, getD, URA, w64, Val, WT, hasTy, vunit, vint, SProp, ent, id⊢, Memory, Routine, Heap, Tables, WpFn, Atoms, Lfts, Shares, Fun, givenOf, tables, tablesOf, FmC, fmOf}
-use Rattle.frames.proofs.Walk.{Given, Sq, ‵, ⋆, runs, atRet, _$_, _∵_, !, qed, by, move, keep, feqI, suffices, frame, done, agg, addr, of-opd, Is, Nothing, uint-makes, u32, u64, usize, now, Room, onEntry, tripleOf, Contract, Triple, cited, says, needs, walkOf, ends-at}
-use Rattle.frames.proofs.Walk.{Blocks, envAt, Locals, of, ofs, behind, sets, sets-last, lands-in, enters, leaves, trims, Sl, sl, sval, Arg, val, shr, mut, Holds, Toks, Owns, lfts, shares, denots, valss, values, passing, lent, takes, gives, splits, joins, Rule, call-with, asked, Loop, Turn, rounds, whiles, again, Kind, own, number, shared, unique, stays, Passed, Known, closed}
+use Rattle.laws_walks.proofs.Walk.{_≡_, refl, sym, subst, List, [], _∷_, Option, none, some, ℕ, _+_, _*_, _<_, _≤_, _^_, T, length, getD, URA, w64, Val, WT, hasTy, vunit, vint, SProp, ent, id⊢, Memory, Routine, Heap, Tables, WpFn, Atoms, Lfts, Shares, Fun, givenOf, tables, tablesOf, FmC, fmOf}
+use Rattle.laws_walks.proofs.Walk.{Given, Sq, ‵, ⋆, runs, atRet, _$_, _∵_, !, qed, by, move, keep, feqI, suffices, frame, done, agg, addr, of-opd, Is, Nothing, uint-makes, u32, u64, usize, now, Room, onEntry, tripleOf, Contract, Triple, cited, says, needs, walkOf, ends-at}
+use Rattle.laws_walks.proofs.Walk.{Blocks, envAt, Locals, of, ofs, behind, sets, sets-last, lands-in, enters, leaves, trims, Sl, sl, sval, Arg, val, shr, mut, Holds, Toks, Owns, lfts, shares, denots, valss, values, passing, lent, takes, gives, splits, joins, Rule, call-with, asked, Loop, Turn, rounds, whiles, again, Kind, own, number, shared, unique, stays, Passed, Known, closed}
 use native.Mathlib.Omega.{arith}
 use denote.Struct.Laws as LL
 use Rattle.model.specs.declared.Frame.{Frame}

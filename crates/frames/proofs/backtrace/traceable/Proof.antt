@@ -1,8 +1,8 @@
 -- `frames::backtrace::traceable` meets its contract: a walk of its MIR, by hand. The innermost frame goes to the covered `inside`, and so does each caller, which a turn reads.
 -- Assumes nothing.
-use Rattle.frames.proofs.Walk.{_≡_, refl, sym, ap, _∙_, subst, Bool, List, [], _∷_, Option, none, some, ℕ, _<_, _≤_, _^_, length, getD, URA, w64, Val, vbool, vint, SProp, ent, id⊢, Memory, Routine, Heap, Tables, WpFn, Atoms, Lfts, Shares, Fun, givenOf, tables, tablesOf, FmC, fmOf}
-use Rattle.frames.proofs.Walk.{Given, Sq, ‵, ⋆, runs, atRet, _$_, _∵_, !, qed, by, move, keep, feqI, suffices, frame, done, of-opd, Is, Boolean, uint-makes, u64, usize, now, Room, onEntry, tripleOf, Contract, Triple, cited, says, needs, walkOf, ends-at}
-use Rattle.frames.proofs.Walk.{Blocks, envAt, Locals, of, sets, sets-last, lands-in, enters, leaves, trims, Sl, sl, sval, Arg, val, shr, Holds, Toks, Owns, lfts, shares, denots, valss, values, passing, lent, takes, gives, splits, joins, Rule, call-with, unasked, Loop, Turn, rounds, whiles, again, Kind, own, number, shared, stays, Passed, Known, closed}
+use Rattle.laws_walks.proofs.Walk.{_≡_, refl, sym, ap, _∙_, subst, Bool, List, [], _∷_, Option, none, some, ℕ, _<_, _≤_, _^_, length, getD, URA, w64, Val, vbool, vint, SProp, ent, id⊢, Memory, Routine, Heap, Tables, WpFn, Atoms, Lfts, Shares, Fun, givenOf, tables, tablesOf, FmC, fmOf}
+use Rattle.laws_walks.proofs.Walk.{Given, Sq, ‵, ⋆, runs, atRet, _$_, _∵_, !, qed, by, move, keep, feqI, suffices, frame, done, of-opd, Is, Boolean, uint-makes, u64, usize, now, Room, onEntry, tripleOf, Contract, Triple, cited, says, needs, walkOf, ends-at}
+use Rattle.laws_walks.proofs.Walk.{Blocks, envAt, Locals, of, sets, sets-last, lands-in, enters, leaves, trims, Sl, sl, sval, Arg, val, shr, Holds, Toks, Owns, lfts, shares, denots, valss, values, passing, lent, takes, gives, splits, joins, Rule, call-with, unasked, Loop, Turn, rounds, whiles, again, Kind, own, number, shared, stays, Passed, Known, closed}
 use native.Mathlib.Omega.{arith}
 use Rattle.model.specs.declared.Frame.{Frame}
 use Rattle.frames.specs.declared.order.Scan.{Scan}

@@ -2,7 +2,7 @@
 use Prim.Native.Nat.{_-_}
 use lib.ListN.{length}
 use native.Mathlib.Omega.{arith}
-use Rattle.ordering.proofs.Before.{Comparing, comparing-start, second-ends, first-ends, differ-here, agree-here}
+use Rattle.laws_names.proofs.Before.{Comparing, comparing-start, second-ends, first-ends, differ-here, agree-here}
 use Rattle.layout.proofs.ordered.before.Statement.{statement}
 use Rattle.layout.proofs.ordered.before.Tie as tie
 

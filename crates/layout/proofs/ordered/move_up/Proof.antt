@@ -1,7 +1,7 @@
 -- `layout::ordered::move_up` meets its contract.
 use Prim.Native.Nat.{_-_}
 use native.Mathlib.Omega.{arith}
-use Rattle.ordering.proofs.Putting.{Moving, moving-start, moving-next, moving-done}
+use Rattle.laws_names.proofs.Putting.{Moving, moving-start, moving-next, moving-done}
 use borrow.Author.Needs.{needs}
 use Rattle.layout.proofs.ordered.move_up.Statement.{statement}
 use Rattle.layout.proofs.ordered.move_up.Tie as tie

@@ -1,6 +1,6 @@
 -- `layout::ordered::put_struct` meets its contract.
-use Rattle.ordering.specs.Sorted.{structPut}
-use Rattle.ordering.proofs.Putting.{put-keeps-length}
+use Rattle.laws_names.specs.Sorted.{structPut}
+use Rattle.laws_names.proofs.Putting.{put-keeps-length}
 use borrow.Author.Needs.{needs}
 use Rattle.layout.proofs.ordered.put_struct.Statement.{statement}
 use Rattle.layout.proofs.ordered.put_struct.Tie as tie

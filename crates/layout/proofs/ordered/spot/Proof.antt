@@ -2,7 +2,7 @@
 use Prim.Native.Nat.{_-_}
 use native.Mathlib.Omega.{arith}
 use Rattle.model.specs.Orders.{nameInOrder}
-use Rattle.ordering.proofs.Halves.{Halving, halving-start, halving-turn, halving-less, halving-met}
+use Rattle.laws_names.proofs.Halves.{Halving, halving-start, halving-turn, halving-less, halving-met}
 use Rattle.layout.proofs.Names.{middle-is}
 use Rattle.layout.proofs.ordered.spot.Statement.{statement}
 use Rattle.layout.proofs.ordered.spot.Tie as tie

@@ -6,8 +6,8 @@ use borrow.Author.Needs.{needs}
 use borrow.Fn.Kinds.{In}
 use borrow.Fn.PlainCycle.{Measures, is, falls, and}
 use Rattle.listing.proofs.Pieces.{no-operands, one-operand, more-operands}
-use Rattle.texts.proofs.put_byte.Reads as put-byte
-use Rattle.texts.proofs.write_decimal.Reads as write-decimal
+use Rattle.printing.proofs.put_byte.Reads as put-byte
+use Rattle.printing.proofs.write_decimal.Reads as write-decimal
 use Rattle.listing.proofs.lines.operand.Reads as operand
 use Rattle.listing.proofs.lines.write_operands.Reads as reads
 use Rattle.listing.proofs.lines.write_operands.Kinds as kinds

@@ -4,7 +4,7 @@ use native.Mathlib.Omega.{arith}
 use borrow.Author.Needs.{needs}
 use lib.ListN.{length, getD}
 use Rattle.model.specs.Opcodes.{opcodeAt}
-use Rattle.texts.proofs.Puts.{kept}
+use Rattle.printing.proofs.Puts.{kept}
 use Rattle.listing.proofs.Turns.{Turn, first-turn, last-turn, unknown, cut-short, next-turn, behind-is}
 use Rattle.listing.proofs.lines.write_lines.Statement.{statement}
 use Rattle.listing.proofs.lines.write_lines.Tie as tie

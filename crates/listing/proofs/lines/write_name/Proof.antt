@@ -6,7 +6,7 @@ use borrow.Author.Needs.{needs}
 use lib.ListN.{length}
 use Rattle.model.specs.Opcodes.{opcodeAt}
 use Rattle.model.specs.Listings.{paddedTo}
-use Rattle.texts.proofs.Puts.{Along, at-first, another, whole, within, kept}
+use Rattle.printing.proofs.Puts.{Along, at-first, another, whole, within, kept}
 use Rattle.listing.proofs.Names.{letter, goes-on, ends, short}
 use Rattle.listing.proofs.lines.write_name.Statement.{statement}
 use Rattle.listing.proofs.lines.write_name.Tie as tie

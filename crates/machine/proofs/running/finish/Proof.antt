@@ -1,29 +1,29 @@
 -- `finish` meets its contract: a walk of its MIR, by hand. The innermost frame is written.
 -- Assumes nothing.
-use Rattle.frames.proofs.Walk.{_≡_, refl, ap, _∙_, true, List, [], _∷_, ℕ, _<_, _≤_, _^_, length, set, URA, w64, Val, vint, SProp, ent, id⊢, Memory, Routine, Heap, Tables, WpFn, Atoms, Lfts, Shares, Fun, givenOf, tables, tablesOf, FmC, fmOf}
-use Rattle.frames.proofs.Walk.{Given, ‵, ⋆, _$_, _∵_, !, qed, by, keep, suffices, frame, done, agg, addr, of-opd, Is, uint-makes, u64, now, Room, owned, onEntry, tripleOf, Contract, Triple, cited, says, needs, walkOf, ends-at}
-use Rattle.frames.proofs.Walk.{of, ofs, behind, sets, lands-in, enters, leaves, Sl, sl, Arg, val, mut, Holds, Toks, Owns, lfts, shares, denots, valss, values, passing, lent, takes, gives, Rule, call-with, asked, unasked, calls-on, Kind, own, unique, stays, Passed, Known, closed}
+use Rattle.laws_walks.proofs.Walk.{_≡_, refl, ap, _∙_, true, List, [], _∷_, ℕ, _<_, _≤_, _^_, length, set, URA, w64, Val, vint, SProp, ent, id⊢, Memory, Routine, Heap, Tables, WpFn, Atoms, Lfts, Shares, Fun, givenOf, tables, tablesOf, FmC, fmOf}
+use Rattle.laws_walks.proofs.Walk.{Given, ‵, ⋆, _$_, _∵_, !, qed, by, keep, suffices, frame, done, agg, addr, of-opd, Is, uint-makes, u64, now, Room, owned, onEntry, tripleOf, Contract, Triple, cited, says, needs, walkOf, ends-at}
+use Rattle.laws_walks.proofs.Walk.{of, ofs, behind, sets, lands-in, enters, leaves, Sl, sl, Arg, val, mut, Holds, Toks, Owns, lfts, shares, denots, valss, values, passing, lent, takes, gives, Rule, call-with, asked, unasked, calls-on, Kind, own, unique, stays, Passed, Known, closed}
 use Rattle.model.specs.declared.Vm.{Vm}
 use Rattle.model.specs.declared.Frame.{Frame}
 use Rattle.model.specs.declared.RunResult.{RunResult}
-use Rattle.arms.specs.declared.Going.{Going}
+use Rattle.run_arms.specs.declared.Going.{Going}
 use denote.Plain.{uint-tells}
 use Rattle.frames.proofs.Frames.{R, fval, tells, frame-typed}
 use Rattle.frames.proofs.FrameCalls.{Write, call-write}
 use Rattle.machine.proofs.Rows.{VmRow, vmVal, vm-tells, vm-typed, vm-makes, ResultRow, resultVal, result-tells, result-typed, result-makes, GoingRow, goingVal, going-tells, going-typed, going-makes, callers-fit}
-use Rattle.arms.specs.Links.{frameIn}
-use Rattle.ends.specs.Links.{endedWith}
-use Rattle.turns.proofs.frame_of as current
-use Rattle.turns.proofs.frame_of.Symbol as current-def
-use Rattle.turns.proofs.frame_of.Symbol.{name as #current}
-use Rattle.turns.proofs.frame_of.Met as current-thm
+use Rattle.run_arms.specs.Links.{frameIn}
+use Rattle.run_ends.specs.Links.{endedWith}
+use Rattle.run_loop.proofs.frame_of as current
+use Rattle.run_loop.proofs.frame_of.Symbol as current-def
+use Rattle.run_loop.proofs.frame_of.Symbol.{name as #current}
+use Rattle.run_loop.proofs.frame_of.Met as current-thm
 use Rattle.frames.proofs.push_frame.Symbol as writef-def
 use Rattle.frames.proofs.push_frame.Symbol.{name as #writef}
 use Rattle.frames.proofs.push_frame.Met as writef-thm
-use Rattle.ends.proofs.ended as over
-use Rattle.ends.proofs.ended.Symbol as over-def
-use Rattle.ends.proofs.ended.Symbol.{name as #over}
-use Rattle.ends.proofs.ended.Met as over-thm
+use Rattle.run_ends.proofs.ended as over
+use Rattle.run_ends.proofs.ended.Symbol as over-def
+use Rattle.run_ends.proofs.ended.Symbol.{name as #over}
+use Rattle.run_ends.proofs.ended.Met as over-thm
 use Rattle.machine.proofs.running.finish.Key.{name as #me}
 use Rattle.machine.proofs.running.finish as me
 use Rattle.machine.proofs.running.finish.Statement as stated
@@ -125,9 +125,9 @@ finish-spec 𝓤 H 𝓜 𝓖 𝓡 =
     (λ κs qs a g is. needs 𝓤
     ((a .1 .1 .0 .units ≤ a .1 .0) × (a .1 .1 .0 .callers < 2 ^ 32) × (a .1 .1 .0 .callers < length (now (a .1 .1 .1 .0)))) _
     (walk 𝓤 H (𝓖 .A) W (𝓜 .mem) (𝓡 .run) (tablesOf 𝓤 H 𝓜 (tables 𝓤 H 𝓜 𝓡 code.env))
-    (cited 𝓤 H (Current 𝓤 H (𝓖 .A) W (𝓜 .mem) (𝓡 .run)) 𝓜 𝓡 code.env #current current-def.routine code.calls-turns·frame-of
+    (cited 𝓤 H (Current 𝓤 H (𝓖 .A) W (𝓜 .mem) (𝓡 .run)) 𝓜 𝓡 code.env #current current-def.routine code.calls-run-loop·frame-of
     (current-thm.met 𝓤 H 𝓜 𝓖 𝓡))
     (cited 𝓤 H (Write 𝓤 H (𝓖 .A) W (𝓜 .mem) (𝓡 .run)) 𝓜 𝓡 code.env #writef writef-def.routine code.calls-frames·push-frame
     (writef-thm.met 𝓤 H 𝓜 𝓖 𝓡))
-    (cited 𝓤 H (Over 𝓤 H (𝓖 .A) W (𝓜 .mem) (𝓡 .run)) 𝓜 𝓡 code.env #over over-def.routine code.calls-ends·ended
+    (cited 𝓤 H (Over 𝓤 H (𝓖 .A) W (𝓜 .mem) (𝓡 .run)) 𝓜 𝓡 code.env #over over-def.routine code.calls-run-ends·ended
     (over-thm.met 𝓤 H 𝓜 𝓖 𝓡)) κs qs a is))

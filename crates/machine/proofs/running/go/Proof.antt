@@ -1,13 +1,13 @@
 -- `go` meets its contract: a walk of its MIR, by hand. It begins, the loop runs, and it is finished or stopped.
 -- Assumes nothing.
-use Rattle.frames.proofs.Walk.{_≡_, refl, sym, subst, true, false, List, [], _∷_, ℕ, _-_, _*_, _<_, _≤_, _^_, length, getD, set, URA, w64, Val, vint, SProp, ent, id⊢, Memory, Routine, Heap, Tables, WpFn, Atoms, Fun, givenOf, tables, tablesOf, FmC, fmOf}
-use Rattle.frames.proofs.Walk.{Given, ‵, ⋆, _$_, _∵_, !, qed, by, move, keep, suffices, frame, done, agg, stop, addr, of-opd, bin, Is, uint-makes, u8, u32, u64, usize, now, owned, onEntry, tripleOf, Contract, Triple, cited, says, needs, walkOf, ends-at}
-use Rattle.frames.proofs.Walk.{of, ofs, behind, sets, lands-in, enters, leaves, Arg, val, shr, mut, peek, Holds, Toks, Owns, lfts, shares, denots, valss, values, passing, lent, takes, gives, Rule, call-with, asked, unasked, calls-on, bytes-known, returns-if, stays, closed}
+use Rattle.laws_walks.proofs.Walk.{_≡_, refl, sym, subst, true, false, List, [], _∷_, ℕ, _-_, _*_, _<_, _≤_, _^_, length, getD, set, URA, w64, Val, vint, SProp, ent, id⊢, Memory, Routine, Heap, Tables, WpFn, Atoms, Fun, givenOf, tables, tablesOf, FmC, fmOf}
+use Rattle.laws_walks.proofs.Walk.{Given, ‵, ⋆, _$_, _∵_, !, qed, by, move, keep, suffices, frame, done, agg, stop, addr, of-opd, bin, Is, uint-makes, u8, u32, u64, usize, now, owned, onEntry, tripleOf, Contract, Triple, cited, says, needs, walkOf, ends-at}
+use Rattle.laws_walks.proofs.Walk.{of, ofs, behind, sets, lands-in, enters, leaves, Arg, val, shr, mut, peek, Holds, Toks, Owns, lfts, shares, denots, valss, values, passing, lent, takes, gives, Rule, call-with, asked, unasked, calls-on, bytes-known, returns-if, stays, closed}
 use Rattle.model.specs.declared.Frame.{Frame}
 use Rattle.model.specs.declared.RunResult.{RunResult}
-use Rattle.arms.specs.declared.Fixed.{Fixed}
-use Rattle.arms.specs.declared.Going.{Going}
-use Rattle.turns.specs.declared.Course.{Course}
+use Rattle.run_arms.specs.declared.Fixed.{Fixed}
+use Rattle.run_arms.specs.declared.Going.{Going}
+use Rattle.run_loop.specs.declared.Course.{Course}
 use mir.Syntax.{w8}
 use denote.Plain.{uint-tells}
 use native.Mathlib.Omega.{arith}
@@ -19,21 +19,21 @@ use Rattle.model.specs.Runs.{root}
 use Rattle.model.specs.Steps.{World}
 use Rattle.model.specs.Stores.{size, codeWord}
 use Rattle.model.specs.Machines.{worldOf, RunPost}
-use Rattle.arms.specs.Links.{frameIn}
+use Rattle.run_arms.specs.Links.{frameIn}
 use Rattle.frames.specs.Links.{noFrame, callersOf, traceWords, TraceFits}
-use Rattle.turns.specs.Links.{Under, TurnsPost}
-use Rattle.ends.specs.Links.{programLent, FixedPost, Begun, endedWith, faultedWith}
+use Rattle.run_loop.specs.Links.{Under, TurnsPost}
+use Rattle.run_ends.specs.Links.{programLent, FixedPost, Begun, endedWith, faultedWith}
 use Rattle.machine.specs.Links.{runLent, Granted}
-use Rattle.frames.proofs.Picks.{picks, unpicks}
+use Rattle.laws_walks.proofs.Picks.{picks, unpicks}
 use Rattle.machine.proofs.Parameters.{kinds, Passing, m, units, constants, functions, text, main, mainPlaces, other, otherPlaces, stack, cells, frames, copy, backtrace, slices, xs, stores, lent₀, slices₀, xs₀, constants-at, functions-at, text-at, main-at, main-places-at, other-at, other-places-at, stack-at, cells-at, frames-at, copy-at, backtrace-at, constants-room, structs-room, functions-room, text-room, main-room, main-places-room, other-room, other-places-room, stack-room, cells-room, frames-room, copy-room, backtrace-room}
 use Rattle.machine.proofs.Tests.{is-zero, not-zero}
 use Rattle.machine.proofs.Begins.{Begins}
 use Rattle.machine.proofs.Settles.{Came}
 use Rattle.machine.proofs.Slices.{copy-ready, current-ready, begins, under, came, units-ready, callers-ready, frame-ready, trace-ready, back-ready, ended, faulted}
-use Rattle.ends.proofs.fixed as bounds
-use Rattle.ends.proofs.fixed.Symbol as bounds-def
-use Rattle.ends.proofs.fixed.Symbol.{name as #bounds}
-use Rattle.ends.proofs.fixed.Met as bounds-thm
+use Rattle.run_ends.proofs.fixed as bounds
+use Rattle.run_ends.proofs.fixed.Symbol as bounds-def
+use Rattle.run_ends.proofs.fixed.Symbol.{name as #bounds}
+use Rattle.run_ends.proofs.fixed.Met as bounds-thm
 use Rattle.machine.proofs.running.start as start
 use Rattle.machine.proofs.running.start.Symbol as start-def
 use Rattle.machine.proofs.running.start.Symbol.{name as #start}
@@ -42,10 +42,10 @@ use Rattle.machine.proofs.running.text_of as taken
 use Rattle.machine.proofs.running.text_of.Symbol as taken-def
 use Rattle.machine.proofs.running.text_of.Symbol.{name as #taken}
 use Rattle.machine.proofs.running.text_of.Met as taken-thm
-use Rattle.turns.proofs.turns as turns
-use Rattle.turns.proofs.turns.Symbol as turns-def
-use Rattle.turns.proofs.turns.Symbol.{name as #turns}
-use Rattle.turns.proofs.turns.Met as turns-thm
+use Rattle.run_loop.proofs.turns as turns
+use Rattle.run_loop.proofs.turns.Symbol as turns-def
+use Rattle.run_loop.proofs.turns.Symbol.{name as #turns}
+use Rattle.run_loop.proofs.turns.Met as turns-thm
 use Rattle.machine.proofs.running.finish as finish
 use Rattle.machine.proofs.running.finish.Symbol as finish-def
 use Rattle.machine.proofs.running.finish.Symbol.{name as #finish}
@@ -399,13 +399,13 @@ go-spec 𝓤 H 𝓜 𝓖 𝓡 =
     (λ κs qs a g is. needs 𝓤 (let p : Passing = record { κs = κs; qs = qs; a = a; is = is } in Granted (m p) (stores p) (lent₀ p))
     _
     (walk 𝓤 H (𝓖 .A) W (𝓜 .mem) (𝓡 .run) (tablesOf 𝓤 H 𝓜 (tables 𝓤 H 𝓜 𝓡 code.env))
-    (cited 𝓤 H (Bounds 𝓤 H (𝓖 .A) W (𝓜 .mem) (𝓡 .run)) 𝓜 𝓡 code.env #bounds bounds-def.routine code.calls-ends·fixed
+    (cited 𝓤 H (Bounds 𝓤 H (𝓖 .A) W (𝓜 .mem) (𝓡 .run)) 𝓜 𝓡 code.env #bounds bounds-def.routine code.calls-run-ends·fixed
     (bounds-thm.met 𝓤 H 𝓜 𝓖 𝓡))
     (cited 𝓤 H (Start 𝓤 H (𝓖 .A) W (𝓜 .mem) (𝓡 .run)) 𝓜 𝓡 code.env #start start-def.routine code.calls-machine·running·start
     (start-thm.met 𝓤 H 𝓜 𝓖 𝓡))
     (cited 𝓤 H (Taken 𝓤 H (𝓖 .A) W (𝓜 .mem) (𝓡 .run)) 𝓜 𝓡 code.env #taken taken-def.routine code.calls-machine·running·text-of
     (taken-thm.met 𝓤 H 𝓜 𝓖 𝓡))
-    (cited 𝓤 H (Turns 𝓤 H (𝓖 .A) W (𝓜 .mem) (𝓡 .run)) 𝓜 𝓡 code.env #turns turns-def.routine code.calls-turns·turns
+    (cited 𝓤 H (Turns 𝓤 H (𝓖 .A) W (𝓜 .mem) (𝓡 .run)) 𝓜 𝓡 code.env #turns turns-def.routine code.calls-run-loop·turns
     (turns-thm.met 𝓤 H 𝓜 𝓖 𝓡))
     (cited 𝓤 H (Finish 𝓤 H (𝓖 .A) W (𝓜 .mem) (𝓡 .run)) 𝓜 𝓡 code.env #finish finish-def.routine code.calls-machine·running·finish
     (finish-thm.met 𝓤 H 𝓜 𝓖 𝓡))

@@ -1,8 +1,8 @@
 -- `recover` meets its contract: a walk of its MIR, by hand. The copied stack is put back, and the root frame is written.
 -- Assumes nothing.
-use Rattle.frames.proofs.Walk.{_≡_, refl, ap, _∙_, true, false, List, [], _∷_, ℕ, _*_, _<_, _≤_, length, set, URA, w64, Val, vunit, vint, SProp, ent, id⊢, Memory, Routine, Heap, Tables, WpFn, Atoms, Lfts, Shares, Fun, givenOf, tables, tablesOf, FmC, fmOf}
-use Rattle.frames.proofs.Walk.{Given, ‵, ⋆, _$_, _∵_, !, qed, by, keep, suffices, frame, done, agg, addr, of-opd, Is, Nothing, uint-makes, u64, usize, now, Room, owned, onEntry, tripleOf, Contract, Triple, cited, says, needs, walkOf, ends-at}
-use Rattle.frames.proofs.Walk.{of, ofs, behind, sets, lands-in, enters, leaves, Sl, sl, Arg, val, shr, mut, Holds, Toks, Owns, lfts, shares, denots, valss, values, passing, lent, takes, gives, Rule, call-with, asked, unasked, calls-on, Kind, number, shared, unique, stays, Passed, Known, closed}
+use Rattle.laws_walks.proofs.Walk.{_≡_, refl, ap, _∙_, true, false, List, [], _∷_, ℕ, _*_, _<_, _≤_, length, set, URA, w64, Val, vunit, vint, SProp, ent, id⊢, Memory, Routine, Heap, Tables, WpFn, Atoms, Lfts, Shares, Fun, givenOf, tables, tablesOf, FmC, fmOf}
+use Rattle.laws_walks.proofs.Walk.{Given, ‵, ⋆, _$_, _∵_, !, qed, by, keep, suffices, frame, done, agg, addr, of-opd, Is, Nothing, uint-makes, u64, usize, now, Room, owned, onEntry, tripleOf, Contract, Triple, cited, says, needs, walkOf, ends-at}
+use Rattle.laws_walks.proofs.Walk.{of, ofs, behind, sets, lands-in, enters, leaves, Sl, sl, Arg, val, shr, mut, Holds, Toks, Owns, lfts, shares, denots, valss, values, passing, lent, takes, gives, Rule, call-with, asked, unasked, calls-on, Kind, number, shared, unique, stays, Passed, Known, closed}
 use Rattle.model.specs.declared.Frame.{Frame}
 use native.Mathlib.Omega.{arith}
 use Rattle.frames.proofs.Frames.{R, fval, tells, frame-typed}
@@ -16,10 +16,10 @@ use Rattle.machine.proofs.running.put_back as back
 use Rattle.machine.proofs.running.put_back.Symbol as back-def
 use Rattle.machine.proofs.running.put_back.Symbol.{name as #back}
 use Rattle.machine.proofs.running.put_back.Met as back-thm
-use Rattle.ends.proofs.root_at as end
-use Rattle.ends.proofs.root_at.Symbol as end-def
-use Rattle.ends.proofs.root_at.Symbol.{name as #end}
-use Rattle.ends.proofs.root_at.Met as end-thm
+use Rattle.run_ends.proofs.root_at as end
+use Rattle.run_ends.proofs.root_at.Symbol as end-def
+use Rattle.run_ends.proofs.root_at.Symbol.{name as #end}
+use Rattle.run_ends.proofs.root_at.Met as end-thm
 use Rattle.frames.proofs.push_frame.Symbol as writef-def
 use Rattle.frames.proofs.push_frame.Symbol.{name as #writef}
 use Rattle.frames.proofs.push_frame.Met as writef-thm
@@ -152,7 +152,7 @@ recover-spec 𝓤 H 𝓜 𝓖 𝓡 =
     (walk 𝓤 H (𝓖 .A) W (𝓜 .mem) (𝓡 .run) (tablesOf 𝓤 H 𝓜 (tables 𝓤 H 𝓜 𝓡 code.env))
     (cited 𝓤 H (Back 𝓤 H (𝓖 .A) W (𝓜 .mem) (𝓡 .run)) 𝓜 𝓡 code.env #back back-def.routine code.calls-machine·running·put-back
     (back-thm.met 𝓤 H 𝓜 𝓖 𝓡))
-    (cited 𝓤 H (End 𝓤 H (𝓖 .A) W (𝓜 .mem) (𝓡 .run)) 𝓜 𝓡 code.env #end end-def.routine code.calls-ends·root-at
+    (cited 𝓤 H (End 𝓤 H (𝓖 .A) W (𝓜 .mem) (𝓡 .run)) 𝓜 𝓡 code.env #end end-def.routine code.calls-run-ends·root-at
     (end-thm.met 𝓤 H 𝓜 𝓖 𝓡))
     (cited 𝓤 H (Write 𝓤 H (𝓖 .A) W (𝓜 .mem) (𝓡 .run)) 𝓜 𝓡 code.env #writef writef-def.routine code.calls-frames·push-frame
     (writef-thm.met 𝓤 H 𝓜 𝓖 𝓡)) κs qs a is))

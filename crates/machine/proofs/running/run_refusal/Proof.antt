@@ -1,8 +1,8 @@
 -- `run_refusal` meets its contract: a walk of its MIR, by hand. All but the frames is judged, then the frames, then the lengths.
 -- Assumes nothing.
-use Rattle.frames.proofs.Walk.{_≡_, refl, sym, ap, _∙_, subst, Bool, true, false, List, [], _∷_, ℕ, _*_, _<_, _≤_, _^_, length, URA, w64, Val, vbool, vint, SProp, ent, id⊢, Memory, Routine, Heap, Tables, WpFn, Atoms, Lfts, Shares, Fun, givenOf, tables, tablesOf, FmC, fmOf}
-use Rattle.frames.proofs.Walk.{Given, ‵, ⋆, _$_, _∵_, !, qed, by, keep, suffices, frame, done, of-opd, Is, Boolean, bool-tells, uint-makes, u8, u32, u64, usize, now, Room, owned, onEntry, tripleOf, Contract, Triple, cited, says, walkOf, ends-at}
-use Rattle.frames.proofs.Walk.{of, sets, lands-in, enters, leaves, Sl, sl, Arg, val, shr, Holds, Toks, Owns, lfts, shares, denots, valss, values, passing, lent, takes, gives, Rule, call-with, asked, unasked, unneeded, calls-on, Kind, own, number, shared, stays, Passed, Known, closed}
+use Rattle.laws_walks.proofs.Walk.{_≡_, refl, sym, ap, _∙_, subst, Bool, true, false, List, [], _∷_, ℕ, _*_, _<_, _≤_, _^_, length, URA, w64, Val, vbool, vint, SProp, ent, id⊢, Memory, Routine, Heap, Tables, WpFn, Atoms, Lfts, Shares, Fun, givenOf, tables, tablesOf, FmC, fmOf}
+use Rattle.laws_walks.proofs.Walk.{Given, ‵, ⋆, _$_, _∵_, !, qed, by, keep, suffices, frame, done, of-opd, Is, Boolean, bool-tells, uint-makes, u8, u32, u64, usize, now, Room, owned, onEntry, tripleOf, Contract, Triple, cited, says, walkOf, ends-at}
+use Rattle.laws_walks.proofs.Walk.{of, sets, lands-in, enters, leaves, Sl, sl, Arg, val, shr, Holds, Toks, Owns, lfts, shares, denots, valss, values, passing, lent, takes, gives, Rule, call-with, asked, unasked, unneeded, calls-on, Kind, own, number, shared, stays, Passed, Known, closed}
 use Rattle.model.specs.declared.Vm.{Vm}
 use Rattle.model.specs.declared.Frame.{Frame}
 use mir.Syntax.{w8}
@@ -13,13 +13,13 @@ use Rattle.machine.proofs.Rows.{VmRow, vmVal, vm-tells, frames-fit, vm-
 use Rattle.model.specs.Basics.{if_then_else_}
 use Rattle.model.specs.Values.{places}
 use Rattle.frames.specs.Links.{framesGood}
-use Rattle.ends.specs.Links.{programLent, restOrder, ShortPost}
+use Rattle.run_ends.specs.Links.{programLent, restOrder, ShortPost}
 use Rattle.machine.specs.Links.{runLent, refusalBy, RunJudged}
 use Rattle.machine.proofs.Refusals.{functions-counted, too-short, run-judged}
-use Rattle.ends.proofs.judge as judge
-use Rattle.ends.proofs.judge.Symbol as judge-def
-use Rattle.ends.proofs.judge.Symbol.{name as #judge}
-use Rattle.ends.proofs.judge.Met as judge-thm
+use Rattle.run_ends.proofs.judge as judge
+use Rattle.run_ends.proofs.judge.Symbol as judge-def
+use Rattle.run_ends.proofs.judge.Symbol.{name as #judge}
+use Rattle.run_ends.proofs.judge.Met as judge-thm
 use Rattle.machine.proofs.tracing.counted as count
 use Rattle.machine.proofs.tracing.counted.Symbol as count-def
 use Rattle.machine.proofs.tracing.counted.Symbol.{name as #count}
@@ -32,10 +32,10 @@ use Rattle.frames.proofs.order.frames_ok as good
 use Rattle.frames.proofs.order.frames_ok.Symbol as good-def
 use Rattle.frames.proofs.order.frames_ok.Symbol.{name as #good}
 use Rattle.frames.proofs.order.frames_ok.Met as good-thm
-use Rattle.ends.proofs.too_short as short
-use Rattle.ends.proofs.too_short.Symbol as short-def
-use Rattle.ends.proofs.too_short.Symbol.{name as #short}
-use Rattle.ends.proofs.too_short.Met as short-thm
+use Rattle.run_ends.proofs.too_short as short
+use Rattle.run_ends.proofs.too_short.Symbol as short-def
+use Rattle.run_ends.proofs.too_short.Symbol.{name as #short}
+use Rattle.run_ends.proofs.too_short.Met as short-thm
 use Rattle.machine.proofs.running.refusal as why
 use Rattle.machine.proofs.running.refusal.Symbol as why-def
 use Rattle.machine.proofs.running.refusal.Symbol.{name as #why}
@@ -389,7 +389,7 @@ run-refusal-spec 𝓤 H 𝓜 𝓖 𝓡 =
     closed kinds u8 𝓤 H 𝓜 𝓖 𝓡 code.env #me code.function (code.unfolded 𝓤 H 𝓜 𝓡) (me.clauses 𝓤 H (𝓖 .A) (𝓜 .mem) (𝓡 .run))
     (λ κs qs a g is. unneeded 𝓤 _
     (walk 𝓤 H (𝓖 .A) W (𝓜 .mem) (𝓡 .run) (tablesOf 𝓤 H 𝓜 (tables 𝓤 H 𝓜 𝓡 code.env))
-    (cited 𝓤 H (Judge 𝓤 H (𝓖 .A) W (𝓜 .mem) (𝓡 .run)) 𝓜 𝓡 code.env #judge judge-def.routine code.calls-ends·judge
+    (cited 𝓤 H (Judge 𝓤 H (𝓖 .A) W (𝓜 .mem) (𝓡 .run)) 𝓜 𝓡 code.env #judge judge-def.routine code.calls-run-ends·judge
     (judge-thm.met 𝓤 H 𝓜 𝓖 𝓡))
     (cited 𝓤 H (Count 𝓤 H (𝓖 .A) W (𝓜 .mem) (𝓡 .run)) 𝓜 𝓡 code.env #count count-def.routine code.calls-machine·tracing·counted
     (count-thm.met 𝓤 H 𝓜 𝓖 𝓡))
@@ -397,7 +397,7 @@ run-refusal-spec 𝓤 H 𝓜 𝓖 𝓡 =
     (slots-thm.met 𝓤 H 𝓜 𝓖 𝓡))
     (cited 𝓤 H (Good 𝓤 H (𝓖 .A) W (𝓜 .mem) (𝓡 .run)) 𝓜 𝓡 code.env #good good-def.routine code.calls-frames·order·frames-ok
     (good-thm.met 𝓤 H 𝓜 𝓖 𝓡))
-    (cited 𝓤 H (Short 𝓤 H (𝓖 .A) W (𝓜 .mem) (𝓡 .run)) 𝓜 𝓡 code.env #short short-def.routine code.calls-ends·too-short
+    (cited 𝓤 H (Short 𝓤 H (𝓖 .A) W (𝓜 .mem) (𝓡 .run)) 𝓜 𝓡 code.env #short short-def.routine code.calls-run-ends·too-short
     (short-thm.met 𝓤 H 𝓜 𝓖 𝓡))
     (cited 𝓤 H (Why 𝓤 H (𝓖 .A) W (𝓜 .mem) (𝓡 .run)) 𝓜 𝓡 code.env #why why-def.routine code.calls-machine·running·refusal
     (why-thm.met 𝓤 H 𝓜 𝓖 𝓡)) κs qs a is))

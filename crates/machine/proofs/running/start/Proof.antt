@@ -1,11 +1,11 @@
 -- `start` meets its contract: a walk of its MIR, by hand. The stack is copied, and the innermost frame is read.
 -- Assumes nothing.
-use Rattle.frames.proofs.Walk.{_≡_, refl, sym, ap, _∙_, subst, true, false, List, [], _∷_, ℕ, _-_, _*_, _<_, _≤_, length, getD, URA, w64, Val, vunit, vint, SProp, ent, id⊢, Memory, Routine, Heap, Tables, WpFn, Atoms, Lfts, Shares, Fun, givenOf, tables, tablesOf, FmC, fmOf}
-use Rattle.frames.proofs.Walk.{Given, ‵, ⋆, _$_, _∵_, !, qed, by, keep, suffices, frame, done, agg, addr, of-opd, Is, Nothing, uint-makes, u64, usize, now, Room, owned, onEntry, tripleOf, Contract, Triple, cited, says, needs, walkOf, ends-at}
-use Rattle.frames.proofs.Walk.{of, ofs, behind, sets, lands-in, enters, leaves, Sl, sl, Arg, val, shr, mut, Holds, Toks, Owns, lfts, shares, denots, valss, values, passing, lent, takes, gives, Rule, call-with, asked, unasked, calls-on, Kind, own, shared, unique, stays, Passed, Known, closed}
+use Rattle.laws_walks.proofs.Walk.{_≡_, refl, sym, ap, _∙_, subst, true, false, List, [], _∷_, ℕ, _-_, _*_, _<_, _≤_, length, getD, URA, w64, Val, vunit, vint, SProp, ent, id⊢, Memory, Routine, Heap, Tables, WpFn, Atoms, Lfts, Shares, Fun, givenOf, tables, tablesOf, FmC, fmOf}
+use Rattle.laws_walks.proofs.Walk.{Given, ‵, ⋆, _$_, _∵_, !, qed, by, keep, suffices, frame, done, agg, addr, of-opd, Is, Nothing, uint-makes, u64, usize, now, Room, owned, onEntry, tripleOf, Contract, Triple, cited, says, needs, walkOf, ends-at}
+use Rattle.laws_walks.proofs.Walk.{of, ofs, behind, sets, lands-in, enters, leaves, Sl, sl, Arg, val, shr, mut, Holds, Toks, Owns, lfts, shares, denots, valss, values, passing, lent, takes, gives, Rule, call-with, asked, unasked, calls-on, Kind, own, shared, unique, stays, Passed, Known, closed}
 use Rattle.model.specs.declared.Vm.{Vm}
 use Rattle.model.specs.declared.Frame.{Frame}
-use Rattle.arms.specs.declared.Going.{Going}
+use Rattle.run_arms.specs.declared.Going.{Going}
 use denote.Plain.{uint-tells}
 use Rattle.frames.proofs.Frames.{R, fval, frame-typed, frame-makes}
 use Rattle.frames.proofs.FrameCalls.{Read, call-read}
@@ -13,22 +13,22 @@ use Rattle.machine.proofs.Rows.{VmRow, vmVal, vm-tells, frames-fit, sta
 use lib.ListN.{take}
 use Rattle.model.specs.Emission.{written}
 use Rattle.frames.specs.Links.{noFrame}
-use Rattle.ends.specs.Links.{Begun}
-use Rattle.ends.proofs.copy_front as fill
-use Rattle.ends.proofs.copy_front.Symbol as fill-def
-use Rattle.ends.proofs.copy_front.Symbol.{name as #fill}
-use Rattle.ends.proofs.copy_front.Met as fill-thm
-use Rattle.ends.proofs.innermost_at as at
-use Rattle.ends.proofs.innermost_at.Symbol as at-def
-use Rattle.ends.proofs.innermost_at.Symbol.{name as #at}
-use Rattle.ends.proofs.innermost_at.Met as at-thm
+use Rattle.run_ends.specs.Links.{Begun}
+use Rattle.run_ends.proofs.copy_front as fill
+use Rattle.run_ends.proofs.copy_front.Symbol as fill-def
+use Rattle.run_ends.proofs.copy_front.Symbol.{name as #fill}
+use Rattle.run_ends.proofs.copy_front.Met as fill-thm
+use Rattle.run_ends.proofs.innermost_at as at
+use Rattle.run_ends.proofs.innermost_at.Symbol as at-def
+use Rattle.run_ends.proofs.innermost_at.Symbol.{name as #at}
+use Rattle.run_ends.proofs.innermost_at.Met as at-thm
 use Rattle.frames.proofs.read_frame.Symbol as read-def
 use Rattle.frames.proofs.read_frame.Symbol.{name as #read}
 use Rattle.frames.proofs.read_frame.Met as read-thm
-use Rattle.ends.proofs.begin as begin
-use Rattle.ends.proofs.begin.Symbol as begin-def
-use Rattle.ends.proofs.begin.Symbol.{name as #begin}
-use Rattle.ends.proofs.begin.Met as begin-thm
+use Rattle.run_ends.proofs.begin as begin
+use Rattle.run_ends.proofs.begin.Symbol as begin-def
+use Rattle.run_ends.proofs.begin.Symbol.{name as #begin}
+use Rattle.run_ends.proofs.begin.Met as begin-thm
 use Rattle.machine.proofs.running.start.Key.{name as #me}
 use Rattle.machine.proofs.running.start as me
 use Rattle.machine.proofs.running.start.Statement as stated
@@ -173,11 +173,11 @@ start-spec 𝓤 H 𝓜 𝓖 𝓡 =
     ((2 * a .0 .stack ≤ length (now (a .1 .1 .0))) × (2 * a .0 .stack ≤ length (now (a .1 .1 .1 .1 .0))) ×
     (a .0 .frames - 1 < length (now (a .1 .1 .1 .0)))) _
     (walk 𝓤 H (𝓖 .A) W (𝓜 .mem) (𝓡 .run) (tablesOf 𝓤 H 𝓜 (tables 𝓤 H 𝓜 𝓡 code.env))
-    (cited 𝓤 H (Fill 𝓤 H (𝓖 .A) W (𝓜 .mem) (𝓡 .run)) 𝓜 𝓡 code.env #fill fill-def.routine code.calls-ends·copy-front
+    (cited 𝓤 H (Fill 𝓤 H (𝓖 .A) W (𝓜 .mem) (𝓡 .run)) 𝓜 𝓡 code.env #fill fill-def.routine code.calls-run-ends·copy-front
     (fill-thm.met 𝓤 H 𝓜 𝓖 𝓡))
-    (cited 𝓤 H (At 𝓤 H (𝓖 .A) W (𝓜 .mem) (𝓡 .run)) 𝓜 𝓡 code.env #at at-def.routine code.calls-ends·innermost-at
+    (cited 𝓤 H (At 𝓤 H (𝓖 .A) W (𝓜 .mem) (𝓡 .run)) 𝓜 𝓡 code.env #at at-def.routine code.calls-run-ends·innermost-at
     (at-thm.met 𝓤 H 𝓜 𝓖 𝓡))
     (cited 𝓤 H (Read 𝓤 H (𝓖 .A) W (𝓜 .mem) (𝓡 .run)) 𝓜 𝓡 code.env #read read-def.routine code.calls-frames·read-frame
     (read-thm.met 𝓤 H 𝓜 𝓖 𝓡))
-    (cited 𝓤 H (Begin 𝓤 H (𝓖 .A) W (𝓜 .mem) (𝓡 .run)) 𝓜 𝓡 code.env #begin begin-def.routine code.calls-ends·begin
+    (cited 𝓤 H (Begin 𝓤 H (𝓖 .A) W (𝓜 .mem) (𝓡 .run)) 𝓜 𝓡 code.env #begin begin-def.routine code.calls-run-ends·begin
     (begin-thm.met 𝓤 H 𝓜 𝓖 𝓡)) κs qs a is))

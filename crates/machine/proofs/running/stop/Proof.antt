@@ -1,12 +1,12 @@
 -- `stop` meets its contract: a walk of its MIR, by hand. The backtrace is written, then the machine recovers.
 -- Assumes nothing.
-use Rattle.frames.proofs.Walk.{_≡_, refl, sym, ap, _∙_, subst, true, false, List, [], _∷_, ℕ, _*_, _<_, _≤_, _^_, length, set, URA, w64, Val, vunit, vint, SProp, ent, id⊢, Memory, Routine, Heap, Tables, WpFn, Atoms, Lfts, Shares, Fun, givenOf, tables, tablesOf, FmC, fmOf}
-use Rattle.frames.proofs.Walk.{Given, ‵, ⋆, _$_, _∵_, !, qed, by, keep, suffices, frame, done, agg, addr, of-opd, Is, Nothing, uint-makes, u8, u32, u64, usize, now, Room, owned, onEntry, tripleOf, Contract, Triple, cited, says, needs, walkOf, ends-at}
-use Rattle.frames.proofs.Walk.{of, ofs, behind, sets, lands-in, enters, leaves, Sl, sl, Arg, val, shr, mut, peek, Holds, Toks, Owns, lfts, shares, denots, valss, values, passing, lent, takes, gives, Rule, call-with, asked, unasked, calls-on, Kind, own, shared, unique, stays, Passed, Known, closed}
+use Rattle.laws_walks.proofs.Walk.{_≡_, refl, sym, ap, _∙_, subst, true, false, List, [], _∷_, ℕ, _*_, _<_, _≤_, _^_, length, set, URA, w64, Val, vunit, vint, SProp, ent, id⊢, Memory, Routine, Heap, Tables, WpFn, Atoms, Lfts, Shares, Fun, givenOf, tables, tablesOf, FmC, fmOf}
+use Rattle.laws_walks.proofs.Walk.{Given, ‵, ⋆, _$_, _∵_, !, qed, by, keep, suffices, frame, done, agg, addr, of-opd, Is, Nothing, uint-makes, u8, u32, u64, usize, now, Room, owned, onEntry, tripleOf, Contract, Triple, cited, says, needs, walkOf, ends-at}
+use Rattle.laws_walks.proofs.Walk.{of, ofs, behind, sets, lands-in, enters, leaves, Sl, sl, Arg, val, shr, mut, peek, Holds, Toks, Owns, lfts, shares, denots, valss, values, passing, lent, takes, gives, Rule, call-with, asked, unasked, calls-on, Kind, own, shared, unique, stays, Passed, Known, closed}
 use Rattle.model.specs.declared.Vm.{Vm}
 use Rattle.model.specs.declared.Frame.{Frame}
 use Rattle.model.specs.declared.RunResult.{RunResult}
-use Rattle.arms.specs.declared.Going.{Going}
+use Rattle.run_arms.specs.declared.Going.{Going}
 use mir.Syntax.{w8}
 use denote.Plain.{uint-tells}
 use Rattle.frames.proofs.Frames.{R, fval, tells, frame-typed, frame-makes}
@@ -15,13 +15,13 @@ use lib.ListN.{take}
 use Rattle.model.specs.Emission.{written}
 use Rattle.model.specs.Runs.{root}
 use Rattle.model.specs.Stores.{size, codeWord}
-use Rattle.arms.specs.Links.{frameIn}
+use Rattle.run_arms.specs.Links.{frameIn}
 use Rattle.frames.specs.Links.{callersOf, traceWords, TraceFits}
-use Rattle.ends.specs.Links.{faultedWith}
-use Rattle.turns.proofs.frame_of as current
-use Rattle.turns.proofs.frame_of.Symbol as current-def
-use Rattle.turns.proofs.frame_of.Symbol.{name as #current}
-use Rattle.turns.proofs.frame_of.Met as current-thm
+use Rattle.run_ends.specs.Links.{faultedWith}
+use Rattle.run_loop.proofs.frame_of as current
+use Rattle.run_loop.proofs.frame_of.Symbol as current-def
+use Rattle.run_loop.proofs.frame_of.Symbol.{name as #current}
+use Rattle.run_loop.proofs.frame_of.Met as current-thm
 use Rattle.frames.proofs.backtrace.trace as trace
 use Rattle.frames.proofs.backtrace.trace.Symbol as trace-def
 use Rattle.frames.proofs.backtrace.trace.Symbol.{name as #trace}
@@ -30,10 +30,10 @@ use Rattle.machine.proofs.running.recover as back
 use Rattle.machine.proofs.running.recover.Symbol as back-def
 use Rattle.machine.proofs.running.recover.Symbol.{name as #back}
 use Rattle.machine.proofs.running.recover.Met as back-thm
-use Rattle.ends.proofs.faulted as answer
-use Rattle.ends.proofs.faulted.Symbol as answer-def
-use Rattle.ends.proofs.faulted.Symbol.{name as #answer}
-use Rattle.ends.proofs.faulted.Met as answer-thm
+use Rattle.run_ends.proofs.faulted as answer
+use Rattle.run_ends.proofs.faulted.Symbol as answer-def
+use Rattle.run_ends.proofs.faulted.Symbol.{name as #answer}
+use Rattle.run_ends.proofs.faulted.Met as answer-thm
 use Rattle.machine.proofs.running.stop.Key.{name as #me}
 use Rattle.machine.proofs.running.stop as me
 use Rattle.machine.proofs.running.stop.Statement as stated
@@ -303,11 +303,11 @@ stop-spec 𝓤 H 𝓜 𝓖 𝓡 =
     (2 * a .0 .stack ≤ length (now (a .1 .1 .1 .1 .1 .1 .1 .1 .1 .0))) ×
     (2 * a .0 .stack ≤ length (now (a .1 .1 .1 .1 .1 .1 .1 .0))) × (0 < length (now (a .1 .1 .1 .1 .1 .1 .1 .1 .0)))) _
     (walk 𝓤 H (𝓖 .A) W (𝓜 .mem) (𝓡 .run) (tablesOf 𝓤 H 𝓜 (tables 𝓤 H 𝓜 𝓡 code.env))
-    (cited 𝓤 H (Current 𝓤 H (𝓖 .A) W (𝓜 .mem) (𝓡 .run)) 𝓜 𝓡 code.env #current current-def.routine code.calls-turns·frame-of
+    (cited 𝓤 H (Current 𝓤 H (𝓖 .A) W (𝓜 .mem) (𝓡 .run)) 𝓜 𝓡 code.env #current current-def.routine code.calls-run-loop·frame-of
     (current-thm.met 𝓤 H 𝓜 𝓖 𝓡))
     (cited 𝓤 H (Trace 𝓤 H (𝓖 .A) W (𝓜 .mem) (𝓡 .run)) 𝓜 𝓡 code.env #trace trace-def.routine code.calls-frames·backtrace·trace
     (trace-thm.met 𝓤 H 𝓜 𝓖 𝓡))
     (cited 𝓤 H (Back 𝓤 H (𝓖 .A) W (𝓜 .mem) (𝓡 .run)) 𝓜 𝓡 code.env #back back-def.routine code.calls-machine·running·recover
     (back-thm.met 𝓤 H 𝓜 𝓖 𝓡))
-    (cited 𝓤 H (Answer 𝓤 H (𝓖 .A) W (𝓜 .mem) (𝓡 .run)) 𝓜 𝓡 code.env #answer answer-def.routine code.calls-ends·faulted
+    (cited 𝓤 H (Answer 𝓤 H (𝓖 .A) W (𝓜 .mem) (𝓡 .run)) 𝓜 𝓡 code.env #answer answer-def.routine code.calls-run-ends·faulted
     (answer-thm.met 𝓤 H 𝓜 𝓖 𝓡)) κs qs a is))

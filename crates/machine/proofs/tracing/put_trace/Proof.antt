@@ -1,8 +1,8 @@
 -- `put_trace` meets its contract: a walk of its MIR, by hand. The innermost frame is read, all frames are judged, and their backtrace is written, or 16 comes back.
 -- Assumes nothing.
-use Rattle.frames.proofs.Walk.{_≡_, refl, Bool, true, false, List, [], _∷_, some, ℕ, _-_, _<_, _≤_, _^_, length, getD, URA, w64, Val, vunit, vbool, vint, SProp, ent, id⊢, Memory, Routine, Heap, Tables, WpFn, Atoms, Lfts, Shares, Fun, givenOf, tables, tablesOf, FmC, fmOf}
-use Rattle.frames.proofs.Walk.{Given, ‵, ⋆, _$_, _∵_, !, qed, by, keep, suffices, frame, done, agg, addr, of-opd, Is, Boolean, bool-tells, Nothing, uint-makes, u8, u32, u64, usize, now, Room, owned, onEntry, tripleOf, Contract, Triple, cited, says, needs, walkOf, ends-at}
-use Rattle.frames.proofs.Walk.{of, ofs, behind, sets, lands-in, enters, leaves, Sl, sl, Arg, val, shr, mut, Holds, Toks, Owns, lfts, shares, denots, valss, values, passing, lent, takes, gives, Rule, call-with, asked, unasked, calls-on, returns-if, Kind, number, shared, unique, stays, Passed, Known, closed}
+use Rattle.laws_walks.proofs.Walk.{_≡_, refl, Bool, true, false, List, [], _∷_, some, ℕ, _-_, _<_, _≤_, _^_, length, getD, URA, w64, Val, vunit, vbool, vint, SProp, ent, id⊢, Memory, Routine, Heap, Tables, WpFn, Atoms, Lfts, Shares, Fun, givenOf, tables, tablesOf, FmC, fmOf}
+use Rattle.laws_walks.proofs.Walk.{Given, ‵, ⋆, _$_, _∵_, !, qed, by, keep, suffices, frame, done, agg, addr, of-opd, Is, Boolean, bool-tells, Nothing, uint-makes, u8, u32, u64, usize, now, Room, owned, onEntry, tripleOf, Contract, Triple, cited, says, needs, walkOf, ends-at}
+use Rattle.laws_walks.proofs.Walk.{of, ofs, behind, sets, lands-in, enters, leaves, Sl, sl, Arg, val, shr, mut, Holds, Toks, Owns, lfts, shares, denots, valss, values, passing, lent, takes, gives, Rule, call-with, asked, unasked, calls-on, returns-if, Kind, number, shared, unique, stays, Passed, Known, closed}
 use mir.Syntax.{w8}
 use denote.Plain.{uint-tells}
 use native.Mathlib.Omega.{arith}
@@ -27,10 +27,10 @@ use Rattle.frames.proofs.backtrace.trace as write
 use Rattle.frames.proofs.backtrace.trace.Symbol as write-def
 use Rattle.frames.proofs.backtrace.trace.Symbol.{name as #write}
 use Rattle.frames.proofs.backtrace.trace.Met as write-thm
-use Rattle.ends.proofs.innermost_at as at
-use Rattle.ends.proofs.innermost_at.Symbol as at-def
-use Rattle.ends.proofs.innermost_at.Symbol.{name as #at}
-use Rattle.ends.proofs.innermost_at.Met as at-thm
+use Rattle.run_ends.proofs.innermost_at as at
+use Rattle.run_ends.proofs.innermost_at.Symbol as at-def
+use Rattle.run_ends.proofs.innermost_at.Symbol.{name as #at}
+use Rattle.run_ends.proofs.innermost_at.Met as at-thm
 use Rattle.machine.proofs.tracing.number as told
 use Rattle.machine.proofs.tracing.number.Symbol as told-def
 use Rattle.machine.proofs.tracing.number.Symbol.{name as #told}
@@ -228,7 +228,7 @@ put-trace-spec 𝓤 H 𝓜 𝓖 𝓡 =
     (Traceable (now (a .1 .0)) (now (a .1 .1 .0)) (now (a .1 .1 .1 .0)) (a .0) (now (a .1 .1 .1 .1 .0))
     (length (now (a .1 .1 .1 .1 .1 .0)))) _
     (walk 𝓤 H (𝓖 .A) W (𝓜 .mem) (𝓡 .run) (tablesOf 𝓤 H 𝓜 (tables 𝓤 H 𝓜 𝓡 code.env))
-    (cited 𝓤 H (At 𝓤 H (𝓖 .A) W (𝓜 .mem) (𝓡 .run)) 𝓜 𝓡 code.env #at at-def.routine code.calls-ends·innermost-at
+    (cited 𝓤 H (At 𝓤 H (𝓖 .A) W (𝓜 .mem) (𝓡 .run)) 𝓜 𝓡 code.env #at at-def.routine code.calls-run-ends·innermost-at
     (at-thm.met 𝓤 H 𝓜 𝓖 𝓡))
     (cited 𝓤 H (Read 𝓤 H (𝓖 .A) W (𝓜 .mem) (𝓡 .run)) 𝓜 𝓡 code.env #read read-def.routine code.calls-frames·read-frame
     (read-thm.met 𝓤 H 𝓜 𝓖 𝓡))

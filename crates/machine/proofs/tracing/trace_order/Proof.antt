@@ -1,8 +1,8 @@
 -- `trace_order` meets its contract: a walk of its MIR, by hand. The program is judged, then the frames over its functions.
 -- Assumes nothing.
-use Rattle.frames.proofs.Walk.{_≡_, refl, sym, ap, _∙_, subst, Bool, true, false, List, [], _∷_, ℕ, _*_, _<_, _≤_, _^_, length, URA, w64, Val, vbool, vint, SProp, ent, id⊢, Memory, Routine, Heap, Tables, WpFn, Atoms, Lfts, Shares, Fun, givenOf, tables, tablesOf, FmC, fmOf}
-use Rattle.frames.proofs.Walk.{Given, ‵, ⋆, _$_, _∵_, !, qed, by, keep, suffices, frame, done, of-opd, Is, Boolean, bool-tells, uint-makes, u8, u32, u64, usize, now, Room, owned, onEntry, tripleOf, Contract, Triple, cited, says, walkOf, ends-at}
-use Rattle.frames.proofs.Walk.{of, sets, lands-in, enters, leaves, Sl, sl, Arg, val, shr, Holds, Toks, Owns, lfts, shares, denots, valss, values, passing, lent, takes, gives, Rule, call-with, asked, unasked, unneeded, calls-on, Kind, own, shared, stays, Passed, Known, closed}
+use Rattle.laws_walks.proofs.Walk.{_≡_, refl, sym, ap, _∙_, subst, Bool, true, false, List, [], _∷_, ℕ, _*_, _<_, _≤_, _^_, length, URA, w64, Val, vbool, vint, SProp, ent, id⊢, Memory, Routine, Heap, Tables, WpFn, Atoms, Lfts, Shares, Fun, givenOf, tables, tablesOf, FmC, fmOf}
+use Rattle.laws_walks.proofs.Walk.{Given, ‵, ⋆, _$_, _∵_, !, qed, by, keep, suffices, frame, done, of-opd, Is, Boolean, bool-tells, uint-makes, u8, u32, u64, usize, now, Room, owned, onEntry, tripleOf, Contract, Triple, cited, says, walkOf, ends-at}
+use Rattle.laws_walks.proofs.Walk.{of, sets, lands-in, enters, leaves, Sl, sl, Arg, val, shr, Holds, Toks, Owns, lfts, shares, denots, valss, values, passing, lent, takes, gives, Rule, call-with, asked, unasked, unneeded, calls-on, Kind, own, shared, stays, Passed, Known, closed}
 use Rattle.model.specs.declared.Vm.{Vm}
 use Rattle.model.specs.declared.Frame.{Frame}
 use denote.Plain.{uint-tells, bool-makes}
@@ -14,7 +14,7 @@ use native.Mathlib.Omega.{arith}
 use Rattle.model.specs.Values.{places}
 use Rattle.model.specs.Machines.{traceOrder}
 use Rattle.frames.specs.Links.{framesGood}
-use Rattle.ends.specs.Links.{programLent}
+use Rattle.run_ends.specs.Links.{programLent}
 use Rattle.machine.specs.Links.{traceProgram}
 use Rattle.machine.proofs.Tracings.{functions-counted, frames-judged}
 use Rattle.machine.proofs.tracing.trace_program as whole

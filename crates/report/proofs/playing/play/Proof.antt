@@ -1,8 +1,8 @@
 -- `play` meets its contract: a walk of its MIR, by hand. The frames are a local array, lent to the run (`Lending.antt`).
 -- Assumes nothing.
-use Rattle.frames.proofs.Walk.{_≡_, refl, none, some, List, [], _∷_, ℕ, length, URA, fullShare, w64, Val, vint, vptr, SProp, ent, id⊢, Memory, Routine, Heap, Tables, WpFn, Atoms, Lfts, Shares, Fun, givenOf, tables, tablesOf, FmC, fmOf}
-use Rattle.frames.proofs.Walk.{Given, ‵, ⋆, _$_, _∵_, !, qed, by, move, keep, fsplit, fjoin, suffices, frame, done, agg, addr, of-opd, stop, from, load, look-in, Is, shows, uint-makes, u8, u32, u64, now, Room, owned, onEntry, tripleOf, Contract, Triple, cited, says, walkOf, ends-at}
-use Rattle.frames.proofs.Walk.{here, of, ofs, behind, sets, lands-in, enters, leaves, Sl, sl, sval, Arg, val, shr, mut, Holds, Toks, Owns, Lists, lfts, shares, denots, valss, values, passing, lent, takes, gives, splits, joins, unasked, unneeded, Kind, own, shared, unique, stays, Passed, Known, closed}
+use Rattle.laws_walks.proofs.Walk.{_≡_, refl, none, some, List, [], _∷_, ℕ, length, URA, fullShare, w64, Val, vint, vptr, SProp, ent, id⊢, Memory, Routine, Heap, Tables, WpFn, Atoms, Lfts, Shares, Fun, givenOf, tables, tablesOf, FmC, fmOf}
+use Rattle.laws_walks.proofs.Walk.{Given, ‵, ⋆, _$_, _∵_, !, qed, by, move, keep, fsplit, fjoin, suffices, frame, done, agg, addr, of-opd, stop, from, load, look-in, Is, shows, uint-makes, u8, u32, u64, now, Room, owned, onEntry, tripleOf, Contract, Triple, cited, says, walkOf, ends-at}
+use Rattle.laws_walks.proofs.Walk.{here, of, ofs, behind, sets, lands-in, enters, leaves, Sl, sl, sval, Arg, val, shr, mut, Holds, Toks, Owns, Lists, lfts, shares, denots, valss, values, passing, lent, takes, gives, splits, joins, unasked, unneeded, Kind, own, shared, unique, stays, Passed, Known, closed}
 use mathlib.Core.List.{_++_}
 use mathlib.Core.Option.{Option}
 use lib.Dec.{lit<}
@@ -26,7 +26,7 @@ use Rattle.model.specs.Runs.{root}
 use Rattle.model.specs.Stores.{Stores}
 use Rattle.model.specs.Machines.{Lent, RunPost}
 use Rattle.frames.proofs.Frames.{R, fval, frame-copy, frame-makes, frame-typed}
-use Rattle.ends.specs.Links.{programLent}
+use Rattle.run_ends.specs.Links.{programLent}
 use Rattle.machine.specs.Links.{runLent}
 use Rattle.machine.proofs.Rows.{VmRow, vmVal, vm-tells, vm-typed, vm-makes, ResultRow, resultVal, result-tells, result-typed, result-makes}
 use Rattle.machine.proofs.run as it
@@ -34,7 +34,7 @@ use Rattle.machine.proofs.run.Symbol as it-def
 use Rattle.machine.proofs.run.Symbol.{name as #it}
 use Rattle.machine.proofs.run.Met as it-thm
 use Rattle.report.specs.Links.{PlayPost}
-use Rattle.frames.proofs.Lending.{apart, whole, lend-array, back-array, calls-with}
+use Rattle.laws_walks.proofs.Lending.{apart, whole, lend-array, back-array, calls-with}
 use Rattle.report.proofs.playing.play.Key.{name as #me}
 use Rattle.report.proofs.playing.play as me
 use Rattle.report.proofs.playing.play.Statement as stated

@@ -1,7 +1,7 @@
 -- `put_entries`: an entry a turn.
 use Prim.Native.Nat.{_-_}
 use borrow.Author.Needs.{needs}
-use Rattle.texts.proofs.Puts.{kept}
+use Rattle.printing.proofs.Puts.{kept}
 use Rattle.report.proofs.Lines.{Traced, none-traced, one-more, all-traced}
 use Rattle.report.proofs.runs.put_entries.Statement.{statement}
 use Rattle.report.proofs.runs.put_entries.Tie as tie

@@ -6,7 +6,7 @@ use borrow.Author.Needs.{needs}
 use borrow.Fn.Kinds.{In}
 use borrow.Fn.PlainCycle.{Measures, is, falls, and}
 use Rattle.report.proofs.Pieces.{no-hex, more-hex}
-use Rattle.texts.proofs.put_byte.Reads as put-byte
+use Rattle.printing.proofs.put_byte.Reads as put-byte
 use Rattle.report.proofs.values.hex_digit.Reads as hex-digit
 use Rattle.report.proofs.values.write_hex.Reads as reads
 use Rattle.report.proofs.values.write_hex.Kinds as kinds

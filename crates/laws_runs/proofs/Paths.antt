@@ -1,0 +1,106 @@
+-- A run's end is that of the written steps, and of no others.
+use mathlib.Core.Path.{_≡_, refl, sym, ap, subst, _∙_}
+use mathlib.Core.Bool.{Bool, true, false}
+use Prim.Native.Nat.{ℕ, zero, suc, _+_, _≤_, _<_}
+use native.Mathlib.Omega.{arith}
+use Rattle.model.specs.declared.Value.{Value}
+use Rattle.model.specs.Steps.{World, State, Outcome, went, returned, faulted, stepOf}
+use Rattle.model.specs.Runs.{Progress, atStart, counted, Ended, ended, stopped, over, next, turn, runFor}
+use Rattle.laws_runs.specs.Paths.{Grows, Adds, endFrom, Steps, none, on, ret, rootReturns, By, Marked}
+use Rattle.laws_runs.proofs.Spends.{went-spends, returned-spends}
+use Rattle.laws_runs.proofs.Adds.{grows-none, grows-on, step-adds}
+use Rattle.laws_runs.proofs.Ends.{end-over, end-step}
+
+-- where a run starts, and where a root Return has completed
+pub marked : (s : State) → Marked (atStart s) s
+marked s = record { last = refl; heap = grows-none (s .heap) }
+
+marked-again : (v : Value) (m : Progress) (s : State) → Marked (counted v m s) s
+marked-again v m s = record { last = refl; heap = grows-none (s .heap) }
+
+module _ (w : World) where
+  -- ---- from a run to its steps
+
+  module _ (m : Progress) (s : State) (o : over w s ≡ false) where
+    by-on : (s' : State) → stepOf w s ≡ went s' → (e : Ended) → By w m s' e → By w m s e
+    by-on s' q (ended k t) r = record { steps = suc (r .steps); path = on o q (r .path); over = r .over }
+    by-on s' q (stopped n t k) r = record { steps = suc (r .steps); at = r .at; path = on o q (r .path); goes-on = r .goes-on; stops = r .stops }
+
+    by-ret : (x : Value) (s' : State) → stepOf w s ≡ returned x s' → (e : Ended) → By w (counted x m s') s' e → By w m s e
+    by-ret x s' q (ended k t) r = record { steps = suc (r .steps); path = ret o q (r .path); over = r .over }
+    by-ret x s' q (stopped n t k) r = record { steps = suc (r .steps); at = r .at; path = ret o q (r .path); goes-on = r .goes-on; stops = r .stops }
+
+  module _ (n : ℕ) (rest : (m : Progress) (s : State) → s .units < n → By w m s (runFor w n m s)) (m : Progress) (s : State) (h : s .units < suc n) where
+    by-step : over w s ≡ false → (x : Outcome) → stepOf w s ≡ x → By w m s (next (runFor w n) m x)
+    unfolding next
+    by-step o (went t) q = by-on m s o t q (runFor w n m t) (rest m t (let z = went-spends w s q in omega arith))
+    by-step o (returned x t) q = by-ret m s o x t q (runFor w n (counted x m t) t) (rest (counted x m t) t (let z = returned-spends w s q in omega arith))
+    by-step o (faulted i t) q = record { steps = 0; at = s; path = none; goes-on = o; stops = q }
+
+    by-turn : (b : Bool) → over w s ≡ b → By w m s (turn w (runFor w n) b m s)
+    unfolding turn
+    by-turn true o = record { steps = 0; path = none; over = o }
+    by-turn false o = by-step o (stepOf w s) refl
+
+  run-for : (n : ℕ) (m : Progress) (s : State) → s .units < n → By w m s (runFor w n m s)
+  unfolding runFor
+  run-for zero m s h = absurd (let y : ⊥ = omega arith in y)
+  run-for (suc n) m s h = by-turn n (run-for n) m s h (over w s) refl
+
+  pub run-by : (m : Progress) (s : State) → By w m s (endFrom w m s)
+  unfolding endFrom
+  run-by m s = run-for (suc (s .units)) m s (omega arith)
+
+  pub run-path : (m : Progress) (s : State) {e : Ended} → endFrom w m s ≡ e → By w m s e
+  run-path m s q = subst (By w m s) q (run-by m s)
+
+  -- ---- from steps to the run
+
+  pub path-end : {n : ℕ} {m k : Progress} {s t : State} → Steps w n m s k t → endFrom w m s ≡ endFrom w k t
+  unfolding next
+  path-end none = refl
+  path-end (on {m = m} {s = s} o q p) = end-step w m s o ∙ ap (next (endFrom w) m) q ∙ path-end p
+  path-end (ret {m = m} {s = s} o q p) = end-step w m s o ∙ ap (next (endFrom w) m) q ∙ path-end p
+
+  pub path-run : (m : Progress) (s : State) (e : Ended) → By w m s e → endFrom w m s ≡ e
+  unfolding next
+  path-run m s (ended k t) r = path-end (r .path) ∙ end-over w k t (r .over)
+  path-run m s (stopped n t k) r = path-end (r .path) ∙ end-step w k (r .at) (r .goes-on) ∙ ap (next (endFrom w) k) (r .stops)
+
+  -- ---- along a path
+
+  -- each step is paid for
+  pub path-spends : {n : ℕ} {m k : Progress} {s t : State} → Steps w n m s k t → n + t .units ≤ s .units
+  path-spends none = omega arith
+  path-spends (on {s = s} o q p) = let z = went-spends w s q in let y = path-spends p in omega arith
+  path-spends (ret {s = s} o q p) = let z = returned-spends w s q in let y = path-spends p in omega arith
+
+  -- the number that a run tells is that of the root Returns among its written steps
+  pub returns-counted : {n : ℕ} {m k : Progress} {s t : State} (p : Steps w n m s k t) → k .returns ≡ m .returns + rootReturns p
+  unfolding rootReturns
+  returns-counted none = omega arith
+  returns-counted (on o q p) = returns-counted p
+  returns-counted (ret o q p) = let z = returns-counted p in omega arith
+
+  went-adds : (s s' : State) → stepOf w s ≡ went s' → Adds (s .heap) (s .last) (went s')
+  went-adds s s' q = subst (Adds (s .heap) (s .last)) q (step-adds w s)
+
+  went-marked : {m : Progress} {s s' : State} → Marked m s → stepOf w s ≡ went s' → Marked m s'
+  went-marked {s = s} {s' = s'} k q = let z = went-adds s s' q in record { last = k .last ∙ sym (z .1); heap = grows-on (k .heap) (z .0) }
+
+  -- what a fault goes back to has the state's last result, and its cells are at the front of the state's heap
+  pub mark-last : {n : ℕ} {m k : Progress} {s t : State} → Marked m s → Steps w n m s k t → Marked k t
+  mark-last g none = g
+  mark-last g (on o q p) = mark-last (went-marked g q) p
+  mark-last g (ret {m = m} {s' = s'} {v = v} o q p) = mark-last (marked-again v m s') p
+
+  returned-grows : (m : Progress) (s s' : State) (x : Value) → Marked m s → stepOf w s ≡ returned x s' → Grows (m .heap) (s' .heap)
+  returned-grows m s s' x g q =
+      let z : Adds (s .heap) (s .last) (returned x s') = subst (Adds (s .heap) (s .last)) q (step-adds w s) in
+      subst (Grows (m .heap)) (sym (z .0)) (g .heap)
+
+  -- later it has the cells of earlier at its front
+  pub mark-grows : {n : ℕ} {m k : Progress} {s t : State} → Marked m s → Steps w n m s k t → Grows (m .heap) (k .heap)
+  mark-grows {m = m} g none = grows-none (m .heap)
+  mark-grows g (on o q p) = mark-grows (went-marked g q) p
+  mark-grows {m = m} g (ret {s = s} {s' = s'} {v = x} o q p) = grows-on (returned-grows m s s' x g q) (mark-grows (marked-again x m s') p)

@@ -1,0 +1,58 @@
+-- Every step that completes spends a unit, and without units there is none.
+use mathlib.Core.Path.{_≡_, subst}
+use Prim.Native.Nat.{ℕ, _-_, _≤_, _<_}
+use native.Mathlib.Omega.{arith}
+use borrow.Author.Tests.{eq-eqb}
+use Rattle.model.specs.declared.Value.{Value}
+use Rattle.model.specs.declared.Fault.{Fault}
+use Rattle.model.specs.declared.Fault.the-variants as f
+use Rattle.model.specs.Steps.{World, State, Outcome, went, returned, faulted, stepOf}
+use Rattle.laws_runs.specs.Paths.{Spends}
+use Rattle.laws_runs.proofs.Does.{Does, fault, spent, full, push, answer, compare, fall, leap, call, build, field, back, home, Stepped, unpaid, unread, ran, step-one}
+
+-- at most n units are left
+abbrev Left : ℕ → Outcome → Type 0
+Left n (went s) = s .units ≤ n
+Left n (returned x s) = s .units ≤ n
+Left n (faulted i s) = s .units ≤ n
+
+does-left : {w : World} {a : ℕ} {s t : State} {x y : Outcome} → Does w a s t x y → Left (s .units) x
+does-left (fault n) = omega arith
+does-left (spent x) = omega arith
+does-left (full b) = omega arith
+does-left (push h l) = omega arith
+does-left (answer b p) = omega arith
+does-left (compare b k l h) = omega arith
+does-left (fall b) = omega arith
+does-left (leap b) = omega arith
+does-left (call i n b l h g) = omega arith
+does-left (build b l) = omega arith
+does-left (field p i b e) = omega arith
+does-left (back b e) = omega arith
+does-left (home b e) = omega arith
+
+left-spends : (s : State) → 1 ≤ s .units → (x : Outcome) → Left (s .units - 1) x → Spends s x
+left-spends s h (went t) l = omega arith
+left-spends s h (returned v t) l = omega arith
+left-spends s h (faulted n t) l = omega arith
+
+stepped-spends : {w : World} {s t : State} {x y : Outcome} → Stepped w s t x y → Spends s x
+stepped-spends (unpaid e x) = omega arith
+stepped-spends (unread h n) = omega arith
+stepped-spends {s = s} {x = x} (ran i a h l k e d) = left-spends s h x (does-left d)
+
+pub step-spends : (w : World) (s : State) → Spends s (stepOf w s)
+step-spends w s = stepped-spends (step-one w s)
+
+pub went-spends : (w : World) (s : State) {s' : State} → stepOf w s ≡ went s' → s' .units < s .units
+went-spends w s e = subst (Spends s) e (step-spends w s)
+
+pub returned-spends : (w : World) (s : State) {s' : State} {x : Value} → stepOf w s ≡ returned x s' → s' .units < s .units
+returned-spends w s e = subst (Spends s) e (step-spends w s)
+
+pub faulted-spends : (w : World) (s : State) {s' : State} {n : Fault} → stepOf w s ≡ faulted n s' → s' .units ≤ s .units
+faulted-spends w s e = subst (Spends s) e (step-spends w s)
+
+pub no-units : (w : World) (s : State) → s .units ≡ 0 → stepOf w s ≡ faulted f.UnitsSpent s
+unfolding stepOf
+no-units w s e = rw (eq-eqb (s .units) 0 e)

@@ -1,0 +1,36 @@
+-- The copy of a stack, what no step changes, and the machine at its start.
+use mathlib.Core.Path.{_≡_, refl, sym}
+use mathlib.Core.List.{List}
+use Prim.Native.Nat.{ℕ, _+_, _≤_, _<_, min}
+use native.Mathlib.Omega.{arith}
+use lib.ListN.{length, getD, set, take}
+use lib.Seq.{getD-take, length-take-le}
+use Rattle.model.specs.declared.Vm.{Vm}
+use Rattle.model.specs.declared.Last.{Last}
+use Rattle.model.specs.Emission.{written}
+use Rattle.model.specs.Machines.{frameRoom}
+use Rattle.value.specs.Links.{lastIn, lastKind}
+use Rattle.layout.proofs.Writing.{Writing, another, whole}
+use Rattle.run_ends.specs.Links.{FixedPost}
+use Rattle.run_ends.proofs.Judging.{Room}
+
+-- ---- the first n words of one store at the front of another
+
+module _ (from to : List ℕ) (n : ℕ) (g : n ≤ length from) {t : List ℕ} {i : ℕ} (h : Writing to 0 (take n from) t i) where
+  pub copies : i < n → Writing to 0 (take n from) (set t i (getD from i 0)) (i + 1)
+  copies l = let z : 0 + i ≡ i = omega arith in rw z at (another h (getD from i 0) (sym (getD-take n from i 0 l)) (omega (arith, length-take-le n from g)))
+
+  pub copied : n ≤ i → t ≡ written to 0 (take n from)
+  copied l = whole h (omega (arith, length-take-le n from g))
+
+-- ---- what no step changes
+
+pub fixed-is : (m : Vm) (a b : ℕ) {ra rb : ℕ} → Room a ra → rb ≡ min b 0xFFFF_FFFF
+    → FixedPost m a b (record { constants = m .program .constants; structs = m .program .structs; functions = m .program .functions; slots = ra; frames = rb })
+unfolding frameRoom
+fixed-is m a b ha hb = record { constants = refl; structs = refl; functions = refl; slots = ha; frames = λ fs e. rw (hb, e) }
+
+-- ---- the last result, by its two words
+
+pub last-back : {last : Last} (k a : ℕ) → k ≡ lastKind last → lastIn (lastKind last) a ≡ last → lastIn k a ≡ last
+last-back k a e f = rw e f
