@@ -28,7 +28,7 @@ fn told(not: bool, same: bool) -> bool
 }
 
 // Equal, and NotEqual where `not` is true.
-pub fn equal(not: bool, k: Fixed, g: Going, text: &[u8], cells: &[u64], stack: &mut [u64]) -> Answer
+pub fn equal(k: Fixed, g: Going, not: bool, text: &[u8], cells: &[u64], stack: &mut [u64]) -> Answer
     requires { ⌜ Blocks (length (now text)) k g (now stack) (now cells) ⌝ }
     ensures { λ r. ⌜ ((w : World) → w .text ≡ now (text .entry) → BlockPost (equalStep (verdictBy not) w) k g (now (stack .entry)) (now (cells .entry)) r (now (stack .exit)) (now (cells .entry))) ⌝ }
 {
@@ -82,7 +82,7 @@ fn replace(list: bool, n: usize, built: Built, k: Fixed, g: Going, stack: &mut [
 }
 
 // BuildList n: n values popped, the new value pushed.
-pub fn build_list(n: usize, k: Fixed, g: Going, stack: &mut [u64], cells: &mut [u64]) -> Answer
+pub fn build_list(k: Fixed, g: Going, n: usize, cells: &mut [u64], stack: &mut [u64]) -> Answer
     requires { ⌜ ((t : ℕ) × Blocks t k g (now stack) (now cells)) × (n < 0x1_0000) ⌝ }
     ensures { λ r. ⌜ ((w : World) → Suits k w → w .cellRoom ≡ places 2 (now (cells .entry)) → BlockPost (buildStep w Value.List listElements 0 n) k g (now (stack .entry)) (now (cells .entry)) r (now (stack .exit)) (now (cells .exit))) ⌝ }
 {
@@ -96,12 +96,12 @@ pub fn build_list(n: usize, k: Fixed, g: Going, stack: &mut [u64], cells: &mut [
 
 // BuildStructInstance number n.
 pub fn build_struct(
-    number: usize,
-    n: usize,
     k: Fixed,
     g: Going,
-    stack: &mut [u64],
+    number: usize,
+    n: usize,
     cells: &mut [u64],
+    stack: &mut [u64],
 ) -> Answer
     requires { ⌜ ((t : ℕ) × Blocks t k g (now stack) (now cells)) × ((n < 0x1_0000) × (number < 0x1_0000)) ⌝ }
     ensures { λ r. ⌜ ((w : World) → Suits k w → w .cellRoom ≡ places 2 (now (cells .entry)) → BlockPost (structStep w number n) k g (now (stack .entry)) (now (cells .entry)) r (now (stack .exit)) (now (cells .exit))) ⌝ }

@@ -25,7 +25,7 @@ fn joined(and: bool, x: bool, y: bool) -> bool
 }
 
 // LogicalAnd, LogicalOr: both operands are popped in any case.
-pub fn logical(and: bool, k: Fixed, g: Going, stack: &mut [u64]) -> Answer
+pub fn logical(k: Fixed, g: Going, and: bool, stack: &mut [u64]) -> Answer
     requires { ⌜ Within k g (now stack) ⌝ }
     ensures { λ r. ⌜ ArmPost (logicStep (connective and)) k g (now (stack .entry)) r (now (stack .exit)) ⌝ }
 {

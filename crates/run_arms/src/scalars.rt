@@ -31,7 +31,7 @@ pub fn negate(k: Fixed, g: Going, stack: &mut [u64]) -> Answer
 }
 
 // Add, Subtract, Multiply, Divide.
-pub fn arithmetic(which: Arith, k: Fixed, g: Going, stack: &mut [u64]) -> Answer
+pub fn arithmetic(k: Fixed, g: Going, which: Arith, stack: &mut [u64]) -> Answer
     requires { ⌜ Within k g (now stack) ⌝ }
     ensures { λ r. ⌜ ArmPost (arithmeticStep which) k g (now (stack .entry)) r (now (stack .exit)) ⌝ }
 {
@@ -54,7 +54,7 @@ pub fn arithmetic(which: Arith, k: Fixed, g: Going, stack: &mut [u64]) -> Answer
 }
 
 // LessThan, GreaterThan, LessOrEqual, GreatorOrEqual.
-pub fn ordering(which: Order, k: Fixed, g: Going, stack: &mut [u64]) -> Answer
+pub fn ordering(k: Fixed, g: Going, which: Order, stack: &mut [u64]) -> Answer
     requires { ⌜ Within k g (now stack) ⌝ }
     ensures { λ r. ⌜ ArmPost (orderingStep which) k g (now (stack .entry)) r (now (stack .exit)) ⌝ }
 {

@@ -104,22 +104,22 @@ fn execute(
         Op::GetUpvalue => pushes::get_slot(k, g, a, stack),
         Op::GetLastResult => pushes::get_last_result(k, g, stack),
         Op::Negate => scalars::negate(k, g, stack),
-        Op::Arithmetic(which) => scalars::arithmetic(which, k, g, stack),
-        Op::Ordering(which) => scalars::ordering(which, k, g, stack),
+        Op::Arithmetic(which) => scalars::arithmetic(k, g, which, stack),
+        Op::Ordering(which) => scalars::ordering(k, g, which, stack),
         Op::Equal | Op::NotEqual => {
             let not = is_not_equal(o);
-            blocks::equal(not, k, g, text, cells, stack)
+            blocks::equal(k, g, not, text, cells, stack)
         }
-        Op::LogicalAnd => logic::logical(true, k, g, stack),
-        Op::LogicalOr => logic::logical(false, k, g, stack),
+        Op::LogicalAnd => logic::logical(k, g, true, stack),
+        Op::LogicalOr => logic::logical(k, g, false, stack),
         Op::LogicalNeg => logic::logical_neg(k, g, stack),
         Op::JumpIfFalse => logic::jump_if_false(k, g, a, stack),
         Op::Jump => logic::jump(k, g, a, stack),
         Op::Call => frames::call(k, g, a, b, stack),
         Op::CallCallable => frames::call_callable(k, g, a, functions, text, stack),
-        Op::BuildStructInstance => blocks::build_struct(a, b, k, g, stack, cells),
+        Op::BuildStructInstance => blocks::build_struct(k, g, a, b, cells, stack),
         Op::AccessStructField => blocks::access_struct_field(k, g, a, cells, stack),
-        Op::BuildList => blocks::build_list(a, k, g, stack, cells),
+        Op::BuildList => blocks::build_list(k, g, a, cells, stack),
         Op::Return => frames::go_back(k, g, stack),
     }
 }

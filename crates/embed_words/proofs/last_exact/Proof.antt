@@ -1,4 +1,4 @@
--- `coding::last_exact` meets its contract.
+-- `embed_words::last_exact` meets its contract.
 use borrow.Author.Needs.{needs}
 use Rattle.embed_words.proofs.Words.{exact-none, exact-some}
 use Rattle.embed_words.proofs.last_exact.Statement.{statement}

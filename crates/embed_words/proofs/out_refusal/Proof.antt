@@ -1,4 +1,4 @@
--- `coding::out_refusal` meets its contract.
+-- `embed_words::out_refusal` meets its contract.
 use Rattle.embed_words.proofs.Answers.{out-fits, out-short}
 use Rattle.embed_words.proofs.out_refusal.Statement.{statement}
 use Rattle.embed_words.proofs.out_refusal.Tie as tie

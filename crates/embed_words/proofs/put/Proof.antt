@@ -1,4 +1,4 @@
--- `coding::put` meets its contract.
+-- `embed_words::put` meets its contract.
 use borrow.Author.Needs.{needs}
 use Rattle.embed_words.proofs.Words.{put-past}
 use Rattle.embed_words.proofs.put.Statement.{statement}

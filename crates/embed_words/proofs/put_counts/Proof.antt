@@ -1,4 +1,4 @@
--- `coding::put_counts` meets its contract.
+-- `embed_words::put_counts` meets its contract.
 use borrow.Author.Needs.{needs}
 use Rattle.embed_words.proofs.Words.{counts-put}
 use Rattle.embed_words.proofs.put_counts.Statement.{statement}

@@ -1,4 +1,4 @@
--- `coding::put_run` meets its contract.
+-- `embed_words::put_run` meets its contract.
 use borrow.Author.Needs.{needs}
 use Rattle.embed_words.proofs.Words.{five-put}
 use Rattle.embed_words.proofs.put_run.Statement.{statement}

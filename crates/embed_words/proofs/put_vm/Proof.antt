@@ -1,4 +1,4 @@
--- `coding::put_vm` meets its contract.
+-- `embed_words::put_vm` meets its contract.
 use borrow.Author.Needs.{needs}
 use Rattle.embed_words.proofs.Words.{vm-put, vm-put-length}
 use Rattle.embed_words.proofs.put_vm.Statement.{statement}

@@ -1,4 +1,4 @@
--- `coding::record_ok` meets its contract.
+-- `embed_words::record_ok` meets its contract.
 use borrow.Author.Needs.{needs}
 use Rattle.embed_words.proofs.Words.{record-is}
 use Rattle.embed_words.proofs.record_ok.Statement.{statement}

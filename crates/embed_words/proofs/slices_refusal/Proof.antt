@@ -1,4 +1,4 @@
--- `coding::slices_refusal` meets its contract.
+-- `embed_words::slices_refusal` meets its contract.
 use borrow.Author.Needs.{needs}
 use Rattle.embed_words.proofs.Answers.{answer-short, no-record, slices-fit}
 use Rattle.embed_words.proofs.slices_refusal.Statement.{statement}

@@ -1,4 +1,4 @@
--- `coding::tell` meets its contract.
+-- `embed_words::tell` meets its contract.
 use borrow.Author.Needs.{needs}
 use Rattle.embed_words.proofs.Answers.{told-not, told-number}
 use Rattle.embed_words.proofs.tell.Statement.{statement}

@@ -1,4 +1,4 @@
--- `coding::tell_emitted` meets its contract.
+-- `embed_words::tell_emitted` meets its contract.
 use borrow.Author.Needs.{needs}
 use Rattle.embed_words.proofs.Answers.{emitted-done, emitted-refused}
 use Rattle.embed_words.proofs.tell_emitted.Statement.{statement}

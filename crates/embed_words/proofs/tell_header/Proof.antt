@@ -1,4 +1,4 @@
--- `coding::tell_header` meets its contract.
+-- `embed_words::tell_header` meets its contract.
 use borrow.Author.Needs.{needs}
 use Rattle.embed_words.proofs.Answers.{headed-is, headed-not}
 use Rattle.embed_words.proofs.tell_header.Statement.{statement}

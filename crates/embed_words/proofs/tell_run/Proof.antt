@@ -1,4 +1,4 @@
--- `coding::tell_run` meets its contract.
+-- `embed_words::tell_run` meets its contract.
 use borrow.Author.Needs.{needs}
 use Rattle.embed_words.proofs.Answers.{told-continue, told-fault, told-refused, told-value}
 use Rattle.embed_words.proofs.tell_run.Statement.{statement}

@@ -1,4 +1,4 @@
--- `coding::tell_shown` meets its contract.
+-- `embed_words::tell_shown` meets its contract.
 use borrow.Author.Needs.{needs}
 use Rattle.embed_words.proofs.Answers.{shown-not, shown-value}
 use Rattle.embed_words.proofs.tell_shown.Statement.{statement}

@@ -1,4 +1,4 @@
--- `coding::tell_started` meets its contract.
+-- `embed_words::tell_started` meets its contract.
 use borrow.Author.Needs.{needs}
 use Rattle.embed_words.proofs.Answers.{started-broken, started-done, started-refused}
 use Rattle.embed_words.proofs.tell_started.Statement.{statement}

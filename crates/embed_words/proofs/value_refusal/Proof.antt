@@ -1,4 +1,4 @@
--- `coding::value_refusal` meets its contract.
+-- `embed_words::value_refusal` meets its contract.
 use borrow.Author.Needs.{needs}
 use Rattle.embed_words.proofs.Answers.{value-exact, value-inexact}
 use Rattle.embed_words.proofs.value_refusal.Statement.{statement}

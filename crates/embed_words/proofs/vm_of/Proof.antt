@@ -1,4 +1,4 @@
--- `coding::vm_of` meets its contract.
+-- `embed_words::vm_of` meets its contract.
 use borrow.Author.Needs.{needs}
 use Rattle.embed_words.proofs.Words.{vm-is}
 use Rattle.embed_words.proofs.vm_of.Statement.{statement}

@@ -1,4 +1,4 @@
--- `coding::word` meets its contract.
+-- `embed_words::word` meets its contract.
 use borrow.Author.Needs.{needs}
 use Rattle.embed_words.proofs.Words.{word-past}
 use Rattle.embed_words.proofs.word.Statement.{statement}

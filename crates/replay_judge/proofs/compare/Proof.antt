@@ -1,4 +1,4 @@
--- `compare::compare` meets its contract.
+-- `replay_judge::compare` meets its contract.
 use borrow.Author.Needs.{needs}
 use Rattle.replay_judge.proofs.Answers.{all}
 use Rattle.replay_judge.proofs.compare.Statement.{statement}

@@ -1,4 +1,4 @@
--- `compare::judge` meets its contract.
+-- `replay_judge::judge` meets its contract.
 use borrow.Author.Needs.{needs}
 use Rattle.replay_judge.proofs.Answers.{judged}
 use Rattle.replay_judge.proofs.judge.Statement.{statement}

@@ -1,4 +1,4 @@
--- `compare::lists` meets its contract.
+-- `replay_judge::lists` meets its contract.
 use borrow.Author.Needs.{needs}
 use native.Mathlib.Omega.{arith}
 use Rattle.report.proofs.Lists.{bytes-of}

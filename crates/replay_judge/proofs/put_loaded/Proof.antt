@@ -1,4 +1,4 @@
--- `compare::put_loaded` meets its contract.
+-- `replay_judge::put_loaded` meets its contract.
 use borrow.Author.Needs.{needs}
 use Rattle.model.specs.Basics.{ascii}
 use Rattle.replay_judge.proofs.Lines.{loaded-is}

@@ -1,4 +1,4 @@
--- `compare::read` meets its contract.
+-- `replay_judge::read` meets its contract.
 use borrow.Author.Needs.{needs}
 use Rattle.replay_judge.proofs.Answers.{too-long, loads}
 use Rattle.replay_judge.proofs.read.Statement.{statement}

@@ -1,4 +1,4 @@
--- `compare::same_front` meets its contract.
+-- `replay_judge::same_front` meets its contract.
 use borrow.Author.Needs.{needs}
 use mathlib.Core.Path.{sym}
 use lib.Seq.{length-take-le}

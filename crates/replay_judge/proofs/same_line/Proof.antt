@@ -1,4 +1,4 @@
--- `compare::same_line` meets its contract.
+-- `replay_judge::same_line` meets its contract.
 use borrow.Author.Needs.{needs}
 use native.Mathlib.Omega.{arith}
 use Rattle.replay_judge.proofs.Lines.{same-line}

@@ -1,4 +1,4 @@
--- `compare::saves` meets its contract.
+-- `replay_judge::saves` meets its contract.
 use borrow.Author.Needs.{needs}
 use Rattle.replay_judge.proofs.Answers.{not-loaded, not-saved, saved-as}
 use Rattle.replay_judge.proofs.saves.Statement.{statement}

@@ -1,4 +1,4 @@
--- `ends::begin` meets its contract.
+-- `run_ends::begin` meets its contract.
 use borrow.Author.Needs.{needs}
 use mathlib.Core.Path.{refl}
 use Rattle.run_ends.proofs.Starting.{last-back}

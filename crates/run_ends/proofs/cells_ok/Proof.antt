@@ -1,4 +1,4 @@
--- `ends::cells_ok` meets its contract.
+-- `run_ends::cells_ok` meets its contract.
 use borrow.Author.Needs.{needs}
 use mathlib.Core.Path.{refl}
 use Rattle.run_ends.proofs.Judging.{words-room, cells-many, cells-is}

@@ -1,4 +1,4 @@
--- `ends::copy_front` meets its contract.
+-- `run_ends::copy_front` meets its contract.
 use borrow.Author.Needs.{needs}
 use Prim.Native.Nat.{_*_, _-_}
 use lib.ListN.{take}

@@ -1,4 +1,4 @@
--- `ends::ended` meets its contract.
+-- `run_ends::ended` meets its contract.
 use borrow.Author.Needs.{needs}
 use Rattle.run_ends.proofs.Answering.{ends-unanswered, ends-none, ends-some}
 use Rattle.run_ends.proofs.ended.Statement.{statement}

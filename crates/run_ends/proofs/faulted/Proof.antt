@@ -1,4 +1,4 @@
--- `ends::faulted` meets its contract.
+-- `run_ends::faulted` meets its contract.
 use borrow.Author.Needs.{needs}
 use Rattle.run_ends.proofs.Answering.{faults}
 use Rattle.run_ends.proofs.faulted.Statement.{statement}

@@ -1,4 +1,4 @@
--- `ends::fixed` meets its contract.
+-- `run_ends::fixed` meets its contract.
 use borrow.Author.Needs.{needs}
 use Rattle.run_ends.proofs.Starting.{fixed-is}
 use Rattle.run_ends.proofs.fixed.Statement.{statement}

@@ -1,4 +1,4 @@
--- `ends::judge` meets its contract.
+-- `run_ends::judge` meets its contract.
 use borrow.Author.Needs.{needs}
 use borrow.Author.Tests.{not-true, not-false}
 use Rattle.run_ends.proofs.Judging.{program-is, cells-fit, not-whole, not-exact, rest-is}

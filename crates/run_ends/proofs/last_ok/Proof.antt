@@ -1,4 +1,4 @@
--- `ends::last_ok` meets its contract.
+-- `run_ends::last_ok` meets its contract.
 use borrow.Author.Needs.{needs}
 use Rattle.run_ends.proofs.Judging.{no-last, some-last}
 use Rattle.run_ends.proofs.last_ok.Statement.{statement}

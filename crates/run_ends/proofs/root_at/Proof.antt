@@ -1,4 +1,4 @@
--- `ends::root_at` meets its contract.
+-- `run_ends::root_at` meets its contract.
 use borrow.Author.Needs.{needs}
 use Rattle.run_ends.proofs.Answering.{root-is}
 use Rattle.run_ends.proofs.root_at.Statement.{statement}

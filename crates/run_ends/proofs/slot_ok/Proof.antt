@@ -1,4 +1,4 @@
--- `ends::slot_ok` meets its contract.
+-- `run_ends::slot_ok` meets its contract.
 use borrow.Author.Needs.{needs}
 use Rattle.run_ends.proofs.Judging.{slot-is}
 use Rattle.run_ends.proofs.slot_ok.Statement.{statement}

@@ -1,4 +1,4 @@
--- `ends::stack_ok` meets its contract.
+-- `run_ends::stack_ok` meets its contract.
 use borrow.Author.Needs.{needs}
 use mathlib.Core.Path.{refl}
 use mathlib.Core.Bool.{_&&_}

@@ -1,4 +1,4 @@
--- `ends::too_short` meets its contract.
+-- `run_ends::too_short` meets its contract.
 use borrow.Author.Needs.{needs}
 use Rattle.run_ends.proofs.Judging.{short-is}
 use Rattle.run_ends.proofs.too_short.Statement.{statement}

@@ -1,4 +1,4 @@
--- `turns::stopped` meets its contract.
+-- `run_loop::stopped` meets its contract.
 use borrow.Author.Needs.{needs}
 use Rattle.run_loop.proofs.stopped.Statement.{statement}
 use Rattle.run_loop.proofs.stopped.Tie as tie

@@ -1,4 +1,4 @@
--- `steps::byte_at` meets its contract: past the code there is no byte.
+-- `run_steps::byte_at` meets its contract: past the code there is no byte.
 use borrow.Author.Needs.{needs}
 use mathlib.Core.Path.{sym}
 use native.Mathlib.Omega.{arith}

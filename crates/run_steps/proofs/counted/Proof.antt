@@ -1,4 +1,4 @@
--- `steps::counted` meets its contract.
+-- `run_steps::counted` meets its contract.
 use borrow.Author.Needs.{needs}
 use mathlib.Core.Path.{refl}
 use Rattle.run_steps.proofs.Following.{counts-it}

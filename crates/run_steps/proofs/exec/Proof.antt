@@ -1,4 +1,4 @@
--- `steps::exec` meets its contract. The loop's invariant: the run goes on from here as it did from the start. Each step spends a unit.
+-- `run_steps::exec` meets its contract. The loop's invariant: the run goes on from here as it did from the start. Each step spends a unit.
 use mathlib.Core.Path.{_≡_, refl, _∙_}
 use mathlib.Core.List.{List}
 use borrow.Author.Needs.{needs}

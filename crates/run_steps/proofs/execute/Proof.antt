@@ -1,4 +1,4 @@
--- `steps::execute` meets its contract: each instruction goes to its arm.
+-- `run_steps::execute` meets its contract: each instruction goes to its arm.
 use mathlib.Core.Path.{refl}
 use borrow.Author.Needs.{needs}
 use Rattle.model.specs.Steps.{execOf}

@@ -1,4 +1,4 @@
--- `steps::is_not_equal` meets its contract: no instruction is both equalities.
+-- `run_steps::is_not_equal` meets its contract: no instruction is both equalities.
 use mathlib.Core.Path.{refl}
 use borrow.Author.Needs.{needs}
 use Rattle.run_steps.proofs.Dispatch.{not-both, not-other}

@@ -1,4 +1,4 @@
--- `steps::operands_at` meets its contract: two bytes are a word, there or past the code.
+-- `run_steps::operands_at` meets its contract: two bytes are a word, there or past the code.
 use mathlib.Core.Path.{refl}
 use borrow.Author.Needs.{needs}
 use native.Mathlib.Omega.{arith}

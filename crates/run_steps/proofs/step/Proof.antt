@@ -1,4 +1,4 @@
--- `steps::step` meets its contract: each way out of the code is one of the rule.
+-- `run_steps::step` meets its contract: each way out of the code is one of the rule.
 use mathlib.Core.Path.{refl, sym, _∙_}
 use native.Mathlib.Omega.{arith}
 use borrow.Author.Needs.{needs}

@@ -1,4 +1,4 @@
--- `arms::blocks::access_struct_field` meets its contract.
+-- `run_arms::blocks::access_struct_field` meets its contract.
 use borrow.Author.Needs.{needs}
 use native.Mathlib.Omega.{arith}
 use Rattle.value.proofs.Operands.{got-some}

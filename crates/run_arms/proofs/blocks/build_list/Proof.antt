@@ -1,4 +1,4 @@
--- `arms::blocks::build_list` meets its contract.
+-- `run_arms::blocks::build_list` meets its contract.
 use borrow.Author.Needs.{needs}
 use native.Mathlib.Omega.{arith}
 use Rattle.run_arms.proofs.Cellwise.{cells-fit, builds-list, build-few, build-pre}

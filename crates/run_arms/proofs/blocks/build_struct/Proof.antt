@@ -1,4 +1,4 @@
--- `arms::blocks::build_struct` meets its contract.
+-- `run_arms::blocks::build_struct` meets its contract.
 use borrow.Author.Needs.{needs}
 use Rattle.run_arms.proofs.Cellwise.{cells-fit, unknown-struct, builds-struct, build-few, build-pre}
 use Rattle.run_arms.proofs.blocks.build_struct.Statement.{statement}

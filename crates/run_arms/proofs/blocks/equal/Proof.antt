@@ -1,4 +1,4 @@
--- `arms::blocks::equal` meets its contract.
+-- `run_arms::blocks::equal` meets its contract.
 use borrow.Author.Needs.{needs}
 use native.Mathlib.Omega.{arith}
 use Rattle.value.proofs.Operands.{got-some}

@@ -1,4 +1,4 @@
--- `arms::blocks::named` meets its contract.
+-- `run_arms::blocks::named` meets its contract.
 use Rattle.run_arms.specs.Links.{builtBy}
 use Rattle.run_arms.proofs.blocks.named.Statement.{statement}
 use Rattle.run_arms.proofs.blocks.named.Tie as tie

@@ -1,4 +1,4 @@
--- `arms::blocks::replace` meets its contract.
+-- `run_arms::blocks::replace` meets its contract.
 use mathlib.Core.Path.{refl}
 use borrow.Author.Needs.{needs}
 use native.Mathlib.Omega.{arith}

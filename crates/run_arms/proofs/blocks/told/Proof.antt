@@ -1,4 +1,4 @@
--- `arms::blocks::told` meets its contract.
+-- `run_arms::blocks::told` meets its contract.
 use Rattle.run_arms.specs.Links.{verdictBy}
 use Rattle.run_arms.proofs.blocks.told.Statement.{statement}
 use Rattle.run_arms.proofs.blocks.told.Tie as tie

@@ -1,4 +1,4 @@
--- `arms::frames::call` meets its contract.
+-- `run_arms::frames::call` meets its contract.
 use borrow.Author.Needs.{needs}
 use Rattle.run_arms.proofs.Posts.{no-number, calls}
 use Rattle.run_arms.proofs.frames.call.Statement.{statement}

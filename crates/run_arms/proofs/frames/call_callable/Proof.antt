@@ -1,4 +1,4 @@
--- `arms::frames::call_callable` meets its contract.
+-- `run_arms::frames::call_callable` meets its contract.
 use borrow.Author.Needs.{needs}
 use native.Mathlib.Omega.{arith}
 use Rattle.value.proofs.Operands.{got-some}

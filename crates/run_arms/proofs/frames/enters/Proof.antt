@@ -1,4 +1,4 @@
--- `arms::frames::enters` meets its contract.
+-- `run_arms::frames::enters` meets its contract.
 use borrow.Author.Needs.{needs}
 use Rattle.run_arms.proofs.Posts.{few, no-frame, enters}
 use Rattle.run_arms.proofs.frames.enters.Statement.{statement}

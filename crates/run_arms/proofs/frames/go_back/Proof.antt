@@ -1,4 +1,4 @@
--- `arms::frames::go_back` meets its contract.
+-- `run_arms::frames::go_back` meets its contract.
 use borrow.Author.Needs.{needs}
 use mathlib.Core.Path.{refl}
 use native.Mathlib.Omega.{arith}

@@ -1,4 +1,4 @@
--- `arms::logic::joined` meets its contract.
+-- `run_arms::logic::joined` meets its contract.
 use Rattle.run_arms.specs.Links.{connective}
 use Rattle.run_arms.proofs.logic.joined.Statement.{statement}
 use Rattle.run_arms.proofs.logic.joined.Tie as tie

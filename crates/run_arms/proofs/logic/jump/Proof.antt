@@ -1,4 +1,4 @@
--- `arms::logic::jump` meets its contract.
+-- `run_arms::logic::jump` meets its contract.
 use borrow.Author.Needs.{needs}
 use mathlib.Core.Path.{refl}
 use Rattle.run_arms.proofs.Posts.{jumps}

@@ -1,4 +1,4 @@
--- `arms::logic::jump_if_false` meets its contract.
+-- `run_arms::logic::jump_if_false` meets its contract.
 use borrow.Author.Needs.{needs}
 use mathlib.Core.Path.{refl}
 use native.Mathlib.Omega.{arith}

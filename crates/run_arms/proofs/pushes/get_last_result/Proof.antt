@@ -1,4 +1,4 @@
--- `arms::pushes::get_last_result` meets its contract.
+-- `run_arms::pushes::get_last_result` meets its contract.
 use borrow.Author.Needs.{needs}
 use Rattle.run_arms.proofs.Rules.{no-last, last}
 use Rattle.run_arms.proofs.Posts.{gets-last, missing, found}

@@ -1,4 +1,4 @@
--- `arms::pushes::get_slot` meets its contract.
+-- `run_arms::pushes::get_slot` meets its contract.
 use borrow.Author.Needs.{needs}
 use Rattle.run_arms.proofs.Rules.{no-slot, slot}
 use Rattle.run_arms.proofs.Posts.{gets-slot, missing, found}

@@ -1,4 +1,4 @@
--- `arms::pushes::load_constant` meets its contract.
+-- `run_arms::pushes::load_constant` meets its contract.
 use borrow.Author.Needs.{needs}
 use Rattle.run_arms.proofs.Rules.{no-constant, constant}
 use Rattle.run_arms.proofs.Posts.{loads, missing, found}

@@ -1,4 +1,4 @@
--- `arms::pushes::push` meets its contract.
+-- `run_arms::pushes::push` meets its contract.
 use borrow.Author.Needs.{needs}
 use native.Mathlib.Numerals.{add-one}
 use native.Mathlib.Omega.{arith}

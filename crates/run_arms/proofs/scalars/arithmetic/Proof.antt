@@ -1,4 +1,4 @@
--- `arms::scalars::arithmetic` meets its contract.
+-- `run_arms::scalars::arithmetic` meets its contract.
 use borrow.Author.Needs.{needs}
 use mathlib.Core.Path.{refl}
 use native.Mathlib.Omega.{arith}

@@ -1,4 +1,4 @@
--- `arms::scalars::negate` meets its contract.
+-- `run_arms::scalars::negate` meets its contract.
 use borrow.Author.Needs.{needs}
 use mathlib.Core.Path.{ap}
 use native.Mathlib.Omega.{arith}

@@ -1,4 +1,4 @@
--- `arms::scalars::ordering` meets its contract.
+-- `run_arms::scalars::ordering` meets its contract.
 use borrow.Author.Needs.{needs}
 use mathlib.Core.Path.{refl}
 use native.Mathlib.Omega.{arith}
