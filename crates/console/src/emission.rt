@@ -8,21 +8,20 @@ use crate::script::read_bytes;
 use crate::script::word;
 use crate::script::words_from;
 use crate::stores;
+use emission::constants::add_constant;
+use emission::functions::begin_function;
+use emission::functions::end_function;
+use emission::structs::add_struct_info;
 use layout::reads::same_bytes;
 use model::Constant;
 use model::Counts;
 use model::Emitted;
-use program::code;
-use program::constants::add_constant;
-use program::functions::begin_function;
-use program::functions::end_function;
-use program::structs::add_struct_info;
 ghost use mathlib.Core.Path.{_≡_};
 ghost use Prim.Native.Nat.{_%_};
 ghost use lib.Dec.{ltb};
 ghost use Rattle.model.specs.declared.Emitted.the-variants.{Refused};
 ghost use Rattle.model.specs.Stores.{Stores};
-ghost use Rattle.program.specs.Links.{Is, codeLent, bytesLent, constantsLent};
+ghost use Rattle.layout.specs.Links.{Is, codeLent, bytesLent, constantsLent};
 ghost use Rattle.console.specs.Emits.{opArgs, codeAsked, patchAsked, constantAsked, nameGiven, nameAsked, allNames};
 
 fn byte(n: u64) -> u8
@@ -92,7 +91,7 @@ pub fn emit_code(
     if same_bytes(what, b"op") {
         let n = op_args(line, 3);
         if n.good {
-            return code::add_op(
+            return emission_code::add_op(
                 c,
                 byte(n.a),
                 place(n.b),
@@ -110,7 +109,7 @@ pub fn emit_code(
         if !n.good | wide(n.b) {
             return unknown();
         }
-        return code::add_op1(
+        return emission_code::add_op1(
             c,
             byte(n.a),
             operand(n.b),
@@ -127,7 +126,7 @@ pub fn emit_code(
         if !n.good | wide(n.b) | wide(n.c) {
             return unknown();
         }
-        return code::add_op2(
+        return emission_code::add_op2(
             c,
             byte(n.a),
             operand(n.b),
@@ -144,7 +143,7 @@ pub fn emit_code(
     if !n.good | wide(n.b) | wide(n.c) | wide(n.d) {
         return unknown();
     }
-    code::add_op3(
+    emission_code::add_op3(
         c,
         byte(n.a),
         operand(n.b),
@@ -182,7 +181,14 @@ pub fn emit_patch(
         },
     );
     if n.good {
-        return code::patch_u16_value_at(c, operand(n.a), operand(n.b), functions, main, other);
+        return emission_code::patch_u16_value_at(
+            c,
+            operand(n.a),
+            operand(n.b),
+            functions,
+            main,
+            other,
+        );
     }
     unknown()
 }

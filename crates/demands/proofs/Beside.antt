@@ -22,11 +22,11 @@ use Rattle.model.specs.Emission.{structNames, withStructName, Res, done, refuse
 use Rattle.model.specs.Loading.{saveOf, listOrder, listOf}
 use Rattle.model.specs.Machines.{traceOrder, backtraceIn}
 use Rattle.layout.proofs.Bools.{either-way}
-use Rattle.program.proofs.Known.{limited, function-known}
-use Rattle.program.proofs.Keeping.{Good, good-of}
+use Rattle.laws_programs.proofs.Known.{limited, function-known}
+use Rattle.laws_programs.proofs.Keeping.{Good, good-of}
 use Rattle.layout.proofs.Writing.{length-written, length-words}
-use Rattle.program.proofs.Reading.{Reads, emit-reads, patch-reads, add-constant-reads}
-use Rattle.program.proofs.Naming.{struct-reads, begin-reads, end-reads}
+use Rattle.laws_programs.proofs.Reading.{Reads, emit-reads, patch-reads, add-constant-reads}
+use Rattle.laws_programs.proofs.Naming.{struct-reads, begin-reads, end-reads}
 use Rattle.laws_runs.proofs.Programs.{parts-of, code-size}
 use Rattle.laws_names.proofs.Putting.{length-put}
 use Rattle.demands.specs.Meant.{AsLong}

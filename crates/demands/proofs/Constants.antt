@@ -18,7 +18,7 @@ use Rattle.model.specs.Programs as p
 use Rattle.model.specs.Stores.{start, size, part, constantIn, constantsFrom}
 use Rattle.model.specs.Orders.{textOk, insideText, constantOk, constantsOk}
 use Rattle.layout.proofs.Bools.{either-way}
-use Rattle.program.proofs.Known.{text-within, text-inside, constants-known}
+use Rattle.laws_programs.proofs.Known.{text-within, text-inside, constants-known}
 use Rattle.laws_meaning.specs.Alike.{AlikeValues, none, more}
 use Rattle.laws_meaning.proofs.Texts.{text-kept}
 

@@ -21,8 +21,8 @@ use Rattle.model.specs.Orders.{otherTaken, programOk}
 use Rattle.model.specs.Emission.{Res, written, refuse, oneFunction, textRoom, sizeHere, endHere, codeRoom, appended, codeOrder, emitIn, emitOf, patchOrder, patched, patchOf, withConstant, withTextConstant, constantAdded, constantOrder, addConstantOf, structAdded, structFound, structOrder, addStructOf, functionOrder, begun, beginFunctionOf}
 use Rattle.layout.proofs.Bools.{either-way}
 use Rattle.layout.proofs.Parts.{room-2, size-pack}
-use Rattle.program.proofs.Keeping.{Good, good-of, now-longer}
-use Rattle.program.proofs.Growing.{words-other}
+use Rattle.laws_programs.proofs.Keeping.{Good, good-of, now-longer}
+use Rattle.laws_programs.proofs.Growing.{words-other}
 use Rattle.demands.specs.Kept.{Grew}
 
 -- what is written at i or behind it leaves the front

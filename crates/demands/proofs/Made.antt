@@ -17,7 +17,7 @@ use Rattle.model.specs.Stores.{Stores, programIn}
 use Rattle.model.specs.Emission.{counts, newOf}
 use Rattle.model.specs.Loading.{LoadRes, laid, countsFor, roomFor, loadJudged, loadOf}
 use Rattle.model.specs.Machines.{asLoaded}
-use Rattle.program.proofs.Naming.{new-reads}
+use Rattle.laws_programs.proofs.Naming.{new-reads}
 use Rattle.image.proofs.Trip.{image-only, loaded-stands}
 use Rattle.demands.specs.Meant.{AsLong}
 use Rattle.demands.proofs.Fronts.{places-alike}

@@ -15,7 +15,7 @@ use Rattle.model.specs.Machines.{frameRoom, machineIn, worldOf, tooShort, refus
 use Rattle.model.specs.Machines as m
 use Rattle.laws_runs.specs.Sane.{SaneWorld, Sane}
 use Rattle.laws_runs.proofs.Ordered.{order-world, order-sane}
-use Rattle.program.proofs.Keeping.{good-of}
+use Rattle.laws_programs.proofs.Keeping.{good-of}
 use Rattle.laws_meaning.specs.Alike.{laidOut, AlikeConstants}
 use Rattle.laws_meaning.specs.Answers.{meant, AlikeRan}
 use Rattle.laws_meaning.proofs.Runs.{run-alike}

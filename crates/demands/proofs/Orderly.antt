@@ -24,9 +24,9 @@ use Rattle.model.specs.Emission.{Res, counts, newOf, addOpOf, addOp1Of, addOp2O
 use Rattle.model.specs.Loading.{LoadRes, roomFor, laid, countsFor, loadJudged, loadOf}
 use Rattle.model.specs.Machines.{tooShort, startWith, asLoaded, fresh, newMachineOf, loadMachineOf}
 use Rattle.laws_runs.proofs.Ordered.{fresh-order}
-use Rattle.program.proofs.Keeping.{Kept, emit-keeps}
-use Rattle.program.proofs.Growing.{constant-keeps, patch-keeps, end-keeps}
-use Rattle.program.proofs.Naming.{struct-keeps, new-keeps, begin-keeps}
+use Rattle.laws_programs.proofs.Keeping.{Kept, emit-keeps}
+use Rattle.laws_programs.proofs.Growing.{constant-keeps, patch-keeps, end-keeps}
+use Rattle.laws_programs.proofs.Naming.{struct-keeps, new-keeps, begin-keeps}
 use Rattle.demands.specs.Host.{Held, Ask, new, load, addOp, addOp1, addOp2, addOp3, patch, addConstant, addStruct, beginFunction, endFunction, currentOffset, functionIdx, save, disassemble, backtrace, lastResult, stackValue, blockHeader, element, textBytes, Call, run, ask, Answer, started, Done, withFrames, emits, starts, looks, done, RanBy, vmAfter, After, Chain, none, more}
 use Rattle.image.proofs.Trip.{image-only, loaded-stands}
 use Rattle.demands.specs.Refusals.{Check, firstOf, checks, refusedEmitted, refusedBy}

@@ -22,7 +22,7 @@ ghost use Rattle.model.specs.declared.Vm.{Vm};
 ghost use Rattle.model.specs.Stores.{Stores};
 ghost use Rattle.model.specs.Loading.{saveOf, listOf};
 ghost use Rattle.model.specs.Machines.{backtraceIn, loadMachineOf, newMachineOf};
-ghost use Rattle.program.specs.Links.{namesLent};
+ghost use Rattle.layout.specs.Links.{namesLent};
 ghost use Rattle.image.specs.Fills.{lent};
 ghost use Rattle.listing.specs.Links.{lent as listed};
 ghost use Rattle.run_ends.specs.Links.{programLent};

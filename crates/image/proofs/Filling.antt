@@ -30,7 +30,7 @@ use Rattle.image.specs.declared.NextRun.the-variants as r
 use Rattle.laws_names.specs.Sorted.{Edge, structPut}
 use Rattle.laws_names.proofs.Laying.{Unlike, unlike-more, length-order, laid-length as structs-length, laid-more as structs-more}
 use Rattle.layout.proofs.Bools.{either-way}
-use Rattle.program.proofs.Growing.{split, below}
+use Rattle.laws_programs.proofs.Growing.{split, below}
 use Rattle.number.proofs.Codes.{never}
 use Rattle.image.proofs.Codecs.{got-value, then-only, made-only}
 use Rattle.image.proofs.Reading.{Along, along-start, along-end, along-within, along-bad, along-step, joined-length, joined-append, bad-first, bad-test, bad-tested, good-test, good-both, no-number, onto}

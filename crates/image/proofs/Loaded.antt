@@ -18,10 +18,10 @@ use Rattle.model.specs.Loading.{constantText, constantWords, constantsLaid, str
 use Rattle.model.specs.declared.Counts.{Counts}
 use Rattle.laws_names.specs.Sorted.{allDifferent}
 use Rattle.laws_names.proofs.Laying.{length-order, laid-length as structs-length, different-unlike, standing-of}
-use Rattle.program.proofs.Known.{structs-good}
+use Rattle.laws_programs.proofs.Known.{structs-good}
 use Rattle.layout.proofs.Parts.{one-word, two-words, places-same, start-pack, size-pack}
 use Rattle.layout.proofs.Bools.{either-way, both-true, and-both}
-use Rattle.program.proofs.Searching.{same-sym}
+use Rattle.laws_programs.proofs.Searching.{same-sym}
 use Rattle.image.proofs.Filling.{laid-length}
 use Rattle.image.proofs.Placing.{others-length}
 use Rattle.image.proofs.Loads.{Room, room-of}

@@ -20,8 +20,8 @@ use Rattle.model.specs.declared.Counts.{Counts}
 use Rattle.model.specs.declared.Told.{Told}
 use Rattle.model.specs.declared.Told.the-variants as t
 use Rattle.layout.proofs.Parts.{one-word}
-use Rattle.program.proofs.Known.{Limited, limited, text-inside, constants-known, structs-known, Known as KnownFunction, function-known, ascending}
-use Rattle.program.proofs.Keeping.{Good, good-of}
+use Rattle.laws_programs.proofs.Known.{Limited, limited, text-inside, constants-known, structs-known, Known as KnownFunction, function-known, ascending}
+use Rattle.laws_programs.proofs.Keeping.{Good, good-of}
 use Rattle.image.specs.Fills.{lent}
 use Rattle.image.specs.Puts.{Put, Near, Known, ConstantsPut, StructsPut, functionHere, Lies, FunctionPuts, functionsHere, FunctionsPut}
 use Rattle.layout.proofs.Bools.{either-way, both-true}

@@ -18,7 +18,7 @@ use Rattle.number.specs.Links.{NumPost}
 use Rattle.number.specs.declared.Num.{Num}
 use Rattle.number.specs.declared.Num.the-variants as n
 use Rattle.layout.proofs.Bools.{apart, either-way}
-use Rattle.program.proofs.Searching.{among-false}
+use Rattle.laws_programs.proofs.Searching.{among-false}
 use Rattle.image.specs.Links.{Good, Bad, partOf, TextAt, TextPost, constantAt, ItemPost, SectionAt, CheckPost}
 use Rattle.image.specs.Repeats.{placeOf, nameOf, namesTo, RowsPost, Again, RepeatPost}
 use Rattle.image.specs.declared.Text.{Text}

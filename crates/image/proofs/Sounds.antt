@@ -20,8 +20,8 @@ use Rattle.laws_names.proofs.Standing.{all-different}
 use Rattle.image.specs.Fills.{lent}
 use Rattle.image.specs.Puts.{Known}
 use Rattle.layout.proofs.Bools.{either-way, both-true}
-use Rattle.program.proofs.Searching.{same-sym}
-use Rattle.program.proofs.Known.{structs-known, Known as KnownFunction}
+use Rattle.laws_programs.proofs.Searching.{same-sym}
+use Rattle.laws_programs.proofs.Known.{structs-known, Known as KnownFunction}
 use Rattle.image.proofs.Loaded.{Clear}
 use Rattle.image.proofs.Orderly.{part-most, good, limits, text-small, constant-at, struct-at, function-at, ends-in}
 

@@ -19,7 +19,7 @@ use Rattle.model.specs.Orders.{countsOk, textOk, functionsOk, mainOk, insideCod
 use Rattle.model.specs.Emission.{written}
 use Rattle.model.specs.Loading.{OutRes, putOut, putListing, listOrder, listOf}
 use Rattle.layout.proofs.Bools.{and-left}
-use Rattle.program.proofs.Known.{limited}
+use Rattle.laws_programs.proofs.Known.{limited}
 use Rattle.listing.specs.Links.{Listing, toldOf, lent}
 use Rattle.listing.proofs.Judging.{wrote, not-wrote}
 

@@ -22,7 +22,7 @@ use Rattle.model.specs.Orders.{textOk, insideText, constantOk, constantsOk, cod
 use Rattle.model.specs.Emission.{namesFrom}
 use Rattle.model.specs.Machines.{Lent, frameRoom, worldOf, runOrder}
 use Rattle.value.proofs.Coding.{and-left, and-right}
-use Rattle.program.specs.Links.{namesLent}
+use Rattle.layout.specs.Links.{namesLent}
 use Rattle.laws_runs.specs.Ordered.{CodeBytes}
 use Rattle.laws_runs.proofs.Tests.{every-of}
 use Rattle.laws_runs.proofs.Programs.{Parts, parts-of, within, length-functions, function-at}

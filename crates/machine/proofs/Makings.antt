@@ -30,7 +30,7 @@ use Rattle.model.specs.Stores.{Stores}
 use Rattle.model.specs.Emission.{Res, newOf}
 use Rattle.model.specs.Loading.{LoadRes, laid, countsFor, roomFor, loadJudged, loadOf}
 use Rattle.model.specs.Machines.{StartRes, fresh, startWith, loadMachineOf, asLoaded, newMachineOf}
-use Rattle.program.specs.Links.{Is}
+use Rattle.layout.specs.Links.{Is}
 use Rattle.image.specs.Links.{JudgePost}
 use Rattle.image.specs.declared.Sizes.{Sizes}
 use Rattle.image.specs.declared.Judgement.{Judgement}

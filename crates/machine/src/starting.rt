@@ -1,4 +1,5 @@
 // Making a machine that has not run: all but its frame.
+use emission::functions::new;
 use image::Judgement;
 use image::judge;
 use image::load;
@@ -9,14 +10,13 @@ use model::Frame;
 use model::Loaded;
 use model::NAME_LIMIT;
 use model::Started;
-use program::functions::new;
 use run_ends::fresh_vm;
 ghost use mathlib.Core.Path.{_≡_};
 ghost use Prim.Native.Nat.{ℕ};
 ghost use Rattle.model.specs.Runs.{root};
 ghost use Rattle.model.specs.Stores.{Stores};
 ghost use Rattle.model.specs.Machines.{loadMachineOf, newMachineOf};
-ghost use Rattle.program.specs.Links.{namesLent};
+ghost use Rattle.layout.specs.Links.{namesLent};
 ghost use Rattle.image.specs.Fills.{lent};
 ghost use Rattle.machine.specs.Links.{isDone, Makes};
 

@@ -7,7 +7,7 @@ ghost use mathlib.Core.Path.{_≡_};
 ghost use Rattle.model.specs.Programs.{newestFrom};
 ghost use Rattle.model.specs.Stores.{Stores};
 ghost use Rattle.model.specs.Emission.{namesFrom, toldName};
-ghost use Rattle.program.specs.Links.{namesLent};
+ghost use Rattle.layout.specs.Links.{namesLent};
 
 // The newest of n functions that has the name, from the newest down.
 pub fn newest_function(n: usize, name: &[u8], functions: &[u64], text: &[u8]) -> Told

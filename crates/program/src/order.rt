@@ -27,7 +27,7 @@ ghost use Rattle.model.specs.Values.{places};
 ghost use Rattle.model.specs.Stores.{structWord, orderWord};
 ghost use Rattle.model.specs.Programs.{before};
 ghost use Rattle.model.specs.Orders.{countsOk, textOk, insideText, constantOk, constantsOk, nameInOrder, structsOk, functionOk, functionsOk, mainOk, insideCodes};
-ghost use Rattle.program.specs.Links.{WholeIs};
+ghost use Rattle.layout.specs.Links.{WholeIs};
 
 // Whether i is the last of n.
 fn last_of(i: usize, n: usize) -> bool

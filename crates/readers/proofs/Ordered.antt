@@ -21,7 +21,7 @@ use Rattle.model.specs.Loading.{putOut}
 use Rattle.model.specs.Readers.{valueShown, stackValueOf, reads, headerAt, headerShown, blockHeaderOf, elementShown, elementOf, readsText, textShown, textBytesOf}
 use Rattle.readers.specs.Links.{blockAt}
 use Rattle.layout.proofs.Bools.{and-left, and-right}
-use Rattle.program.proofs.Every.{passed-at}
+use Rattle.laws_programs.proofs.Every.{passed-at}
 use Rattle.cells.proofs.Order.{Element, good-of}
 use Rattle.cells.proofs.Stands.{kind-is, item-is, exact-at}
 use Rattle.cells.proofs.Scans.{placed-cut}

@@ -29,7 +29,7 @@ use Rattle.model.specs.Readers.{valueShown, stackValueOf, reads, headerAt, head
 use Rattle.readers.specs.Links.{toldHeader, blockAt, textPut}
 use Rattle.layout.proofs.Bools.{either-way, and-left, and-right}
 use Rattle.layout.proofs.Parts.{room-1, room-2}
-use Rattle.program.proofs.Known.{text-within}
+use Rattle.laws_programs.proofs.Known.{text-within}
 use Rattle.cells.proofs.Order.{Whole, Placed, list-of, struct-of}
 use Rattle.cells.proofs.Stands.{header-is, header-room}
 

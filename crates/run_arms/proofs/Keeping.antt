@@ -10,7 +10,7 @@ use Rattle.model.specs.Basics.{everyFrom}
 use Rattle.model.specs.Values.{kind, payload, kindAt, payloadAt, exactValue}
 use Rattle.model.specs.Heap.{item, putCell}
 use Rattle.value.specs.Links.{Written}
-use Rattle.program.proofs.Every.{passed, pass-all}
+use Rattle.laws_programs.proofs.Every.{passed, pass-all}
 use Rattle.value.proofs.Coding.{and-left, and-right, words-exact}
 use Rattle.value.proofs.Stores.{kind-same, payload-same, kind-other, payload-other, written-length}
 use Rattle.run_arms.specs.declared.Fixed.{Fixed}

@@ -24,7 +24,7 @@ use Rattle.model.specs.Emission.{namesFrom, toldName}
 use Rattle.model.specs.Steps.{World, constantOf, slotOf, lastOf, cut}
 use Rattle.value.proofs.Stores.{length-values, getD-values, length-vals, vals-slot, vals-drop}
 use Rattle.value.proofs.Operands.{none, got-top, on-scalars, on-booleans}
-use Rattle.program.specs.Links.{namesLent}
+use Rattle.layout.specs.Links.{namesLent}
 use Rattle.run_arms.specs.declared.Fixed.{Fixed}
 use Rattle.value.specs.Links.{lastIn, booleansOf, popOf, scalarsOf}
 use Rattle.run_arms.specs.Links.{Named}

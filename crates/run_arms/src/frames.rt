@@ -18,7 +18,7 @@ ghost use Rattle.model.specs.Values.{vals};
 ghost use Rattle.model.specs.Stores.{Stores};
 ghost use Rattle.model.specs.Steps.{World, enter, callStep, callCallableStep, returnStep};
 ghost use Rattle.run_arms.specs.Links.{Within, Suits, Named, ArmPost};
-ghost use Rattle.program.specs.Links.{namesLent};
+ghost use Rattle.layout.specs.Links.{namesLent};
 
 // The function entered with n of the first sp values of the stack as its arguments.
 fn enters(k: Fixed, g: Going, i: usize, n: usize, sp: usize, stack: &[u64]) -> Answer

@@ -18,9 +18,9 @@ use Rattle.model.specs.Stores.{Stores}
 use Rattle.model.specs.Orders.{programOk, cellsOk, stackOk, lastOk}
 use Rattle.model.specs.Machines.{frameRoom, tooShort}
 use Rattle.cells.proofs.Stands.{length-heap}
-use Rattle.program.specs.Links.{WholeIs}
+use Rattle.layout.specs.Links.{WholeIs}
 use Rattle.layout.proofs.Bools.{and-left}
-use Rattle.program.proofs.Every.{Judged}
+use Rattle.laws_programs.proofs.Every.{Judged}
 use Rattle.run_ends.specs.Links.{programLent, restOrder, ShortPost}
 
 -- ---- the program

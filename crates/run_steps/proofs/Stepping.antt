@@ -23,7 +23,7 @@ use Rattle.model.specs.Programs.{wordAt}
 use Rattle.model.specs.Steps.{World, State, Outcome, faulted, codeOf, execOf, operandsThen, decodedThen, fetched, stepOf}
 use Rattle.value.proofs.Stores.{length-vals, vals-slot}
 use Rattle.cells.proofs.Stands.{length-heap}
-use Rattle.program.specs.Links.{namesLent}
+use Rattle.layout.specs.Links.{namesLent}
 use Rattle.layout.proofs.Bools.{and-left, and-right}
 use Rattle.laws_runs.proofs.Spends.{no-units}
 use Rattle.laws_runs.proofs.Placed.{all-at}

@@ -15,7 +15,7 @@ use Rattle.model.specs.Programs.{functionAt}
 use Rattle.model.specs.Steps.{World, State, withFrames}
 use Rattle.model.specs.Runs.{Progress, Ended, ended, stopped, traceable}
 use Rattle.model.specs.Stores.{Stores}
-use Rattle.program.specs.Links.{namesLent}
+use Rattle.layout.specs.Links.{namesLent}
 use Rattle.laws_runs.specs.Sane.{Sane, SaneWorld}
 use Rattle.laws_runs.specs.Paths.{endFrom}
 use Rattle.run_arms.specs.declared.Fixed.{Fixed}

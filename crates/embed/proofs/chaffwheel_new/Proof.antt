@@ -11,7 +11,7 @@ use Rattle.frames.proofs.Frames.{R, tells}
 use Rattle.machine.proofs.Rows.{StartedRow, startedVal, IsStarted, started-tells, started-typed, started-makes}
 use Rattle.model.specs.Stores.{Stores}
 use Rattle.model.specs.Machines.{newMachineOf}
-use Rattle.program.specs.Links.{namesLent}
+use Rattle.layout.specs.Links.{namesLent}
 use Rattle.machine.proofs.Tests.{is-zero, not-zero}
 use Rattle.embed_words.specs.Coding.{outRefusal, startedCoded, startThrough}
 use Rattle.embed.proofs.Through.{start-through, start-refused}

@@ -13,7 +13,7 @@ use Rattle.machine.proofs.Rows.{StartedRow, startedVal, started-tells, 
 use Rattle.model.specs.Runs.{root}
 use Rattle.model.specs.Stores.{Stores}
 use Rattle.model.specs.Machines.{newMachineOf}
-use Rattle.program.specs.Links.{namesLent}
+use Rattle.layout.specs.Links.{namesLent}
 use Rattle.machine.specs.Links.{isDone, Makes}
 use Rattle.machine.proofs.Makings.{no-stores, new-starts, place-there, frame-laid, frame-not}
 use Rattle.machine.proofs.starting.new_program as made

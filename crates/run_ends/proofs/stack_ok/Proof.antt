@@ -9,7 +9,7 @@ use borrow.Author.Tests.{not-true, not-false}
 use Rattle.model.specs.Values.{kindAt, payloadAt, valueAt, exactValue}
 use Rattle.model.specs.Heap.{heapOf, placedBelow}
 use Rattle.model.specs.Orders.{stackOk}
-use Rattle.program.proofs.Every.{Passed, too-many, none-yet, all-passed, one-fails, one-more}
+use Rattle.laws_programs.proofs.Every.{Passed, too-many, none-yet, all-passed, one-fails, one-more}
 use Rattle.run_ends.proofs.Judging.{stack-judged}
 use Rattle.run_ends.proofs.stack_ok.Statement.{statement}
 use Rattle.run_ends.proofs.stack_ok.Tie as tie

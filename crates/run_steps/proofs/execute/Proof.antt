@@ -2,7 +2,7 @@
 use mathlib.Core.Path.{refl}
 use borrow.Author.Needs.{needs}
 use Rattle.model.specs.Steps.{execOf}
-use Rattle.program.specs.Links.{namesLent}
+use Rattle.layout.specs.Links.{namesLent}
 use Rattle.run_arms.specs.Links.{connective}
 use Rattle.run_arms.proofs.Cellwise.{same-block}
 use Rattle.run_steps.proofs.Dispatch.{by-arm, by-block, equalities, equality-is}

@@ -2,7 +2,7 @@ use borrow.Author.Needs.{needs}
 use Rattle.model.specs.Basics.{ascii}
 use mathlib.Core.List.{[]}
 use borrow.Author.Tests.{eq-eqb, ne-eqb}
-use Rattle.program.specs.Links.{structsLent, namesLent}
+use Rattle.layout.specs.Links.{structsLent, namesLent}
 use Rattle.console.specs.Emits.{notKnown, nameGiven, allNames}
 use Rattle.console.proofs.emission.named.Statement.{statement}
 use Rattle.console.proofs.emission.named.Tie as tie

@@ -2,7 +2,7 @@
 use borrow.Author.Needs.{needs}
 use Rattle.model.specs.declared.Vm.{Vm}
 use Rattle.model.specs.Emission.{functionIdxOf}
-use Rattle.program.specs.Links.{namesLent}
+use Rattle.layout.specs.Links.{namesLent}
 use Rattle.embed_words.specs.Coding.{toldCoded}
 use Rattle.embed.proofs.Through.{is-through, not-through}
 use Rattle.embed.proofs.emission.chaffwheel_get_function_idx.Statement.{statement}

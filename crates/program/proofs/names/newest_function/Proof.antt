@@ -1,6 +1,6 @@
 -- `program::names::newest_function` meets its contract.
 use native.Mathlib.Omega.{arith}
-use Rattle.program.proofs.Searching.{Newest, newest-start, newest-none, newest-here, newest-below}
+use Rattle.laws_programs.proofs.Searching.{Newest, newest-start, newest-none, newest-here, newest-below}
 use Rattle.program.proofs.names.newest_function.Statement.{statement}
 use Rattle.program.proofs.names.newest_function.Tie as tie
 

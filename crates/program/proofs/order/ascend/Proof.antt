@@ -4,8 +4,8 @@ use native.Mathlib.Omega.{arith}
 use mathlib.Core.Path.{refl}
 use borrow.Author.Tests.{not-true, not-false}
 use Rattle.model.specs.Basics.{everyFrom}
-use Rattle.program.proofs.Checks.{ascending, none-ascend, ascend-start, ascends-here}
-use Rattle.program.proofs.Every.{Passed, all-passed, one-fails, one-more}
+use Rattle.laws_programs.proofs.Checks.{ascending, none-ascend, ascend-start, ascends-here}
+use Rattle.laws_programs.proofs.Every.{Passed, all-passed, one-fails, one-more}
 use Rattle.program.proofs.order.ascend.Statement.{statement}
 use Rattle.program.proofs.order.ascend.Tie as tie
 

@@ -1,5 +1,5 @@
 -- `program::order::constant_ok` meets its contract.
-use Rattle.program.proofs.Checks.{kind-0, kind-1, kind-text, kind-none}
+use Rattle.laws_programs.proofs.Checks.{kind-0, kind-1, kind-text, kind-none}
 use Rattle.program.proofs.order.constant_ok.Statement.{statement}
 use Rattle.program.proofs.order.constant_ok.Tie as tie
 

@@ -1,13 +1,13 @@
 -- `program::order::constants_ok` meets its contract.
 use Rattle.model.specs.Orders.{constantOk, constantsOk}
 use Rattle.model.specs.Values.{kindAt, payloadAt}
-use Rattle.program.proofs.Checks.{constants-judged, constant-here}
+use Rattle.laws_programs.proofs.Checks.{constants-judged, constant-here}
 use borrow.Author.Tests.{not-true, not-false}
 use mathlib.Core.Path.{refl}
 use borrow.Author.Needs.{needs}
 use Prim.Native.Nat.{_-_}
 use native.Mathlib.Omega.{arith}
-use Rattle.program.proofs.Every.{Passed, too-many, none-yet, all-passed, one-fails, one-more}
+use Rattle.laws_programs.proofs.Every.{Passed, too-many, none-yet, all-passed, one-fails, one-more}
 use Rattle.program.proofs.order.constants_ok.Statement.{statement}
 use Rattle.program.proofs.order.constants_ok.Tie as tie
 

@@ -1,5 +1,5 @@
 -- `program::order::counts_ok` meets its contract.
-use Rattle.program.proofs.Checks.{counts-is}
+use Rattle.laws_programs.proofs.Checks.{counts-is}
 use Rattle.program.proofs.order.counts_ok.Statement.{statement}
 use Rattle.program.proofs.order.counts_ok.Tie as tie
 

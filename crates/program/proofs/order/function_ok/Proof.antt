@@ -1,5 +1,5 @@
 -- `program::order::function_ok` meets its contract.
-use Rattle.program.proofs.Checks.{function-is}
+use Rattle.laws_programs.proofs.Checks.{function-is}
 use Rattle.program.proofs.order.function_ok.Statement.{statement}
 use Rattle.program.proofs.order.function_ok.Tie as tie
 

@@ -1,7 +1,7 @@
 -- `program::order::functions_ok` meets its contract.
 use Rattle.model.specs.Orders.{functionOk, functionsOk}
-use Rattle.program.proofs.Checks.{functions-judged}
-use Rattle.program.proofs.Every.{Passed, too-many, none-yet, all-passed, one-fails, one-more}
+use Rattle.laws_programs.proofs.Checks.{functions-judged}
+use Rattle.laws_programs.proofs.Every.{Passed, too-many, none-yet, all-passed, one-fails, one-more}
 use borrow.Author.Tests.{not-true, not-false}
 use Prim.Native.Nat.{_-_}
 use native.Mathlib.Omega.{arith}

@@ -1,5 +1,5 @@
 -- `program::order::inside_codes` meets its contract.
-use Rattle.program.proofs.Checks.{codes-is}
+use Rattle.laws_programs.proofs.Checks.{codes-is}
 use borrow.Author.Needs.{needs}
 use Rattle.program.proofs.order.inside_codes.Statement.{statement}
 use Rattle.program.proofs.order.inside_codes.Tie as tie

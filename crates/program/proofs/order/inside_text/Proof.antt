@@ -1,5 +1,5 @@
 -- `program::order::inside_text` meets its contract.
-use Rattle.program.proofs.Checks.{inside-is}
+use Rattle.laws_programs.proofs.Checks.{inside-is}
 use borrow.Author.Needs.{needs}
 use Rattle.program.proofs.order.inside_text.Statement.{statement}
 use Rattle.program.proofs.order.inside_text.Tie as tie

@@ -1,5 +1,5 @@
 -- `program::order::main_ok` meets its contract.
-use Rattle.program.proofs.Checks.{main-is}
+use Rattle.laws_programs.proofs.Checks.{main-is}
 use Rattle.program.proofs.order.main_ok.Statement.{statement}
 use Rattle.program.proofs.order.main_ok.Tie as tie
 

@@ -1,5 +1,5 @@
 -- `program::order::program_ok` meets its contract.
-use Rattle.program.proofs.Checks.{whole-is}
+use Rattle.laws_programs.proofs.Checks.{whole-is}
 use Rattle.program.proofs.order.program_ok.Statement.{statement}
 use Rattle.program.proofs.order.program_ok.Tie as tie
 

@@ -9,8 +9,8 @@ use Rattle.model.specs.Basics.{everyFrom}
 use Rattle.model.specs.Values.{places}
 use Rattle.model.specs.Stores.{structWord, orderWord}
 use Rattle.model.specs.Orders.{insideText}
-use Rattle.program.proofs.Checks.{structs-judged, struct-here}
-use Rattle.program.proofs.Every.{Passed, too-many, none-yet, all-passed, one-fails, one-more}
+use Rattle.laws_programs.proofs.Checks.{structs-judged, struct-here}
+use Rattle.laws_programs.proofs.Every.{Passed, too-many, none-yet, all-passed, one-fails, one-more}
 use borrow.Author.Needs.{needs}
 use Rattle.program.proofs.order.structs_inside.Statement.{statement}
 use Rattle.program.proofs.order.structs_inside.Tie as tie

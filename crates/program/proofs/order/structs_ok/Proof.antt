@@ -1,5 +1,5 @@
 -- `program::order::structs_ok` meets its contract.
-use Rattle.program.proofs.Checks.{structs-is, structs-not}
+use Rattle.laws_programs.proofs.Checks.{structs-is, structs-not}
 use Rattle.program.proofs.order.structs_ok.Statement.{statement}
 use Rattle.program.proofs.order.structs_ok.Tie as tie
 

@@ -1,6 +1,6 @@
 -- `program::order::text_ok` meets its contract.
 use mathlib.Core.Path.{refl}
-use Rattle.program.proofs.Checks.{text-is}
+use Rattle.laws_programs.proofs.Checks.{text-is}
 use borrow.Author.Needs.{needs}
 use Rattle.program.proofs.order.text_ok.Statement.{statement}
 use Rattle.program.proofs.order.text_ok.Tie as tie

@@ -1,0 +1,166 @@
+-- `emission_code::patch_u16_value_at` meets its contract.
+use mathlib.Core.Path.{refl}
+use Rattle.model.specs.Emission.{u16}
+use Rattle.layout.specs.Links.{codeLent, bytesLent}
+use Rattle.laws_programs.proofs.Emitting.{patch-order-is, patch-in-main, patch-in-other, patch-19, patch-23, patched-main, patched-other}
+use borrow.Author.Needs.{needs}
+use Rattle.emission_code.proofs.patch_u16_value_at.Statement.{statement}
+use Rattle.emission_code.proofs.patch_u16_value_at.Tie as tie
+
+counts-ok-requires : tie.Need-counts-ok-requires
+counts-ok-requires c κs = search
+
+functions-ok-requires : tie.Need-functions-ok-requires
+functions-ok-requires c κs = search
+
+inside-codes-requires : tie.Need-inside-codes-requires
+inside-codes-requires c κs = search
+
+returns : tie.Need-returns
+returns c =
+    λ rest. patch-19 _ _ _ _ _
+    (patch-order-is _ _ _ _ _ _ _ (c .before .before .before .counts-ok .ensures) (c .before .before .functions-ok .ensures)
+    (c .before .inside-codes .ensures _ _ refl refl) rest) (c .if1 .taken)
+
+second-requires : tie.Need-second-requires
+second-requires c κs = search
+
+start-of-requires : tie.Need-start-of-requires
+start-of-requires c κs = search
+
+size-of-requires : tie.Need-size-of-requires
+size-of-requires c κs = search
+
+add-if2 : tie.Need-add-if2
+add-if2 c = search needs
+
+returns-2 : tie.Need-returns-2
+unfolding codeLent bytesLent
+returns-2 c =
+    let at-second = c .before .before .before in
+    let at-if1 = at-second .before in
+    let at-inside-codes = at-if1 .before in
+    let at-functions-ok = at-inside-codes .before in
+    let at-counts-ok = at-functions-ok .before in
+    λ rest. patch-23 _ _ _ _ _
+    (patch-order-is _ _ _ _ _ _ _ (at-counts-ok .counts-ok .ensures) (at-functions-ok .functions-ok .ensures)
+    (at-inside-codes .inside-codes .ensures _ _ refl refl) rest) (at-if1 .if1 .left) _ _ _ (at-second .second .ensures)
+    (c .before .before .start-of .ensures .0) (c .before .size-of .ensures .0) (c .if2 .taken)
+
+cast-t21 : tie.Need-cast-t21
+cast-t21 c = search needs
+
+cast-t23 : tie.Need-cast-t23
+cast-t23 c = search needs
+
+add-put-bytes : tie.Need-add-put-bytes
+add-put-bytes c = search needs
+
+slice-aggregate-put-bytes : tie.Need-slice-aggregate-put-bytes
+slice-aggregate-put-bytes c = search
+
+put-bytes-requires : tie.Need-put-bytes-requires
+put-bytes-requires c κs =
+    let at-if2 = c .before .before .before in
+    let at-size-of = at-if2 .before in
+    let at-start-of = at-size-of .before in
+    let at-second = at-start-of .before in
+    let at-if1 = at-second .before in
+    let at-inside-codes = at-if1 .before in
+    let at-functions-ok = at-inside-codes .before in
+    let at-counts-ok = at-functions-ok .before in
+    let at-start = at-counts-ok .before .before .before .before in
+    patch-in-main _ _ (at-start .args .main .now) (at-start .args .other .now) _ _ _ (at-counts-ok .counts-ok .ensures)
+    (at-functions-ok .functions-ok .ensures) (at-inside-codes .inside-codes .ensures _ _ refl refl) (at-if1 .if1 .left) _ _ _ _
+    (at-second .second .ensures) (at-start-of .start-of .ensures .0) (at-size-of .size-of .ensures .0) (at-if2 .if2 .left)
+    (c .before .before .if3 .taken)
+
+same-length : tie.Need-same-length
+same-length c = search
+
+returns-3 : tie.Need-returns-3
+unfolding codeLent bytesLent u16
+returns-3 c =
+    let at-if3 = c .before .before .before .before .before in
+    let at-if2 = at-if3 .before in
+    let at-size-of = at-if2 .before in
+    let at-start-of = at-size-of .before in
+    let at-second = at-start-of .before in
+    let at-if1 = at-second .before in
+    let at-inside-codes = at-if1 .before in
+    let at-functions-ok = at-inside-codes .before in
+    let at-counts-ok = at-functions-ok .before in
+    λ rest. patched-main _ _ _ _ _
+    (patch-order-is _ _ _ _ _ _ _ (at-counts-ok .counts-ok .ensures) (at-functions-ok .functions-ok .ensures)
+    (at-inside-codes .inside-codes .ensures _ _ refl refl) rest) (at-if1 .if1 .left) _ _ _ (at-second .second .ensures)
+    (at-start-of .start-of .ensures .0) (at-size-of .size-of .ensures .0) (at-if2 .if2 .left) _ (at-if3 .if3 .taken)
+    (c .before .before .put-bytes .ensures)
+
+add-put-bytes-2 : tie.Need-add-put-bytes-2
+add-put-bytes-2 c = search needs
+
+slice-aggregate-put-bytes-2 : tie.Need-slice-aggregate-put-bytes-2
+slice-aggregate-put-bytes-2 c = search
+
+put-bytes-requires-2 : tie.Need-put-bytes-requires-2
+put-bytes-requires-2 c κs =
+    let at-if2 = c .before .before .before in
+    let at-size-of = at-if2 .before in
+    let at-start-of = at-size-of .before in
+    let at-second = at-start-of .before in
+    let at-if1 = at-second .before in
+    let at-inside-codes = at-if1 .before in
+    let at-functions-ok = at-inside-codes .before in
+    let at-counts-ok = at-functions-ok .before in
+    let at-start = at-counts-ok .before .before .before .before in
+    patch-in-other _ _ (at-start .args .main .now) (at-start .args .other .now) _ _ _ (at-counts-ok .counts-ok .ensures)
+    (at-functions-ok .functions-ok .ensures) (at-inside-codes .inside-codes .ensures _ _ refl refl) (at-if1 .if1 .left) _ _ _ _
+    (at-second .second .ensures) (at-start-of .start-of .ensures .0) (at-size-of .size-of .ensures .0) (at-if2 .if2 .left)
+    (c .before .before .if3 .left)
+
+same-length-2 : tie.Need-same-length-2
+same-length-2 c = search
+
+returns-4 : tie.Need-returns-4
+unfolding codeLent bytesLent u16
+returns-4 c =
+    let at-if3 = c .before .before .before .before .before in
+    let at-if2 = at-if3 .before in
+    let at-size-of = at-if2 .before in
+    let at-start-of = at-size-of .before in
+    let at-second = at-start-of .before in
+    let at-if1 = at-second .before in
+    let at-inside-codes = at-if1 .before in
+    let at-functions-ok = at-inside-codes .before in
+    let at-counts-ok = at-functions-ok .before in
+    λ rest. patched-other _ _ _ _ _
+    (patch-order-is _ _ _ _ _ _ _ (at-counts-ok .counts-ok .ensures) (at-functions-ok .functions-ok .ensures)
+    (at-inside-codes .inside-codes .ensures _ _ refl refl) rest) (at-if1 .if1 .left) _ _ _ (at-second .second .ensures)
+    (at-start-of .start-of .ensures .0) (at-size-of .size-of .ensures .0) (at-if2 .if2 .left) _ (at-if3 .if3 .left)
+    (c .before .before .put-bytes2 .ensures)
+
+pub patch-u16-value-at-spec : {M : Type 1} → statement M
+patch-u16-value-at-spec =
+    tie.close
+    (tie.spec
+    counts-ok-requires
+    functions-ok-requires
+    inside-codes-requires
+    returns
+    second-requires
+    start-of-requires
+    size-of-requires
+    add-if2
+    returns-2
+    cast-t21
+    cast-t23
+    add-put-bytes
+    slice-aggregate-put-bytes
+    put-bytes-requires
+    same-length
+    returns-3
+    add-put-bytes-2
+    slice-aggregate-put-bytes-2
+    put-bytes-requires-2
+    same-length-2
+    returns-4)
