@@ -14,20 +14,20 @@ use Rattle.model.specs.Listings.{lineOf, Listed, text, unlisted, inFront, known
 
 unfoldable OneOrThree : Listed → Type 0
 OneOrThree (text bytes) = Unit
-OneOrThree (unlisted n) = (eqb n 1 || eqb n 3) ≡ true
+OneOrThree (unlisted l n) = (eqb n 1 || eqb n 3) ≡ true
 
 front-so : (l : List ℕ) (x : Listed) → OneOrThree x → OneOrThree (inFront l x)
 unfolding inFront OneOrThree
 front-so l (text r) h = tt
-front-so l (unlisted n) h = h
+front-so l (unlisted r n) h = h
 
 and-so : (x y : Listed) → OneOrThree x → OneOrThree y → OneOrThree (andListed x y)
 unfolding andListed OneOrThree
 and-so (text l) y h k = front-so l y k
-and-so (unlisted n) y h k = h
+and-so (unlisted l n) y h k = h
 
 module _ (k : ℕ → Listed) (so : (i : ℕ) → OneOrThree (k i)) (code : List ℕ) (i : ℕ) where
-  if-so : (b : Bool) (x : Listed) → OneOrThree x → OneOrThree (if b then x else unlisted 3)
+  if-so : (b : Bool) (x : Listed) → OneOrThree x → OneOrThree (if b then x else unlisted [] 3)
   unfolding OneOrThree
   if-so true x h = h
   if-so false x h = refl
@@ -57,6 +57,6 @@ unfolding listingFrom OneOrThree
 listing-so i [] = tt
 listing-so i (f ∷ fs) = front-so _ _ (and-so _ _ (lines-so (length (f .code)) (f .code) 0) (listing-so (suc i) fs))
 
-pub listing-numbers : (p : Program) (n : ℕ) → listingOf p ≡ unlisted n → (eqb n 1 || eqb n 3) ≡ true
+pub listing-numbers : (p : Program) (l : List ℕ) (n : ℕ) → listingOf p ≡ unlisted l n → (eqb n 1 || eqb n 3) ≡ true
 unfolding listingOf OneOrThree
-listing-numbers p n e = let h : OneOrThree (unlisted n) = rw e at (listing-so 0 (p .functions)) in h
+listing-numbers p l n e = let h : OneOrThree (unlisted l n) = rw e at (listing-so 0 (p .functions)) in h

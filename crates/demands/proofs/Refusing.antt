@@ -186,7 +186,7 @@ module _ (h : Held) where
   listing-says : (out : List ℕ) (x : Listed) → Says h (listChecks out x) (puts out (putListing x out))
   unfolding listChecks putListing
   listing-says out (text bytes) = out-says out bytes
-  listing-says out (unlisted n) = says-first (looked _ refl refl)
+  listing-says out (unlisted before n) = says-first (looked _ refl refl)
 
   trace-says : (out : List ℕ) (fs : List Function) (rs : List Frame) → Says h (must (traceable fs rs) 16 ∷ []) (puts out (putTrace (backtraceOf fs rs) out))
   unfolding backtraceOf putTrace

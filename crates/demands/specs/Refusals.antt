@@ -96,7 +96,7 @@ fitsOut out n = leb n (places 1 out)
 -- n is 1 or 3, as met first (`listing-numbers`)
 unfoldable pub listChecks : List ℕ → Listed → List Check
 listChecks out (text bytes) = must (fitsOut out (length bytes)) 17 ∷ []
-listChecks out (unlisted n) = always n ∷ []
+listChecks out (unlisted before n) = always n ∷ []
 
 abbrev pub noLast : Last → Bool
 noLast Nothing = true

@@ -26,19 +26,9 @@ use Rattle.image.specs.Fills.{lent}
 use Rattle.image.specs.Puts.{Put, Near, Known, ConstantsPut, StructsPut, functionHere, Lies, FunctionPuts, functionsHere, FunctionsPut}
 use Rattle.layout.proofs.Bools.{either-way, both-true}
 use Rattle.image.proofs.Formats.{bytes-length}
-use Rattle.image.proofs.Putting.{put-as, Split, front, back, both, Putting, putting-start, count-split, one-split, each-near, each-step, each-end, constants-open, constants-shut, structs-open, structs-shut}
+use Rattle.image.proofs.Putting.{digits-most, put-as, Split, front, back, both, Putting, putting-start, count-split, one-split, each-near, each-step, each-end, constants-open, constants-shut, structs-open, structs-shut}
 
 -- ---- how long a piece can be
-
-groups-most : (f v : ℕ) → length (groupsOf f v) ≤ suc f
-unfolding groupsOf
-groups-most zero v = omega arith
-groups-most (suc f) v = either-way (ltb v 128) (λ t. rw t (let z : 1 ≤ suc (suc f) = omega arith in z))
-    (λ t. rw t (let z = groups-most f (v / 128) in let y : suc (length (groupsOf f (v / 128))) ≤ suc (suc f) = omega arith in y))
-
-digits-most : (v : ℕ) → length (digits v) ≤ 5
-unfolding digits
-digits-most v = groups-most 4 v
 
 text-most : (t : List ℕ) → length (textImage t) ≤ 5 + length t
 unfolding textImage
@@ -363,7 +353,7 @@ module _ (c : Counts) (x : Stores) (out : List ℕ) (ok : Bool) (e : ok ≡ prog
           let q : Put (imageOf (programIn c x)) out 0 out′ j = subst (λ (y : List ℕ). Put (imageOf (programIn c x)) y 0 out′ j) unchanged w in
           let f : length (imageOf (programIn c x)) ≤ places 1 out = omega arith in
           let g = one-word (length (imageOf (programIn c x))) out f .0 in
-          rw (in-order, le-leb (length (imageOf (programIn c x))) (places 1 out) f) (same-out (ap t.Number a) (q .stored (omega arith)))
+          rw (in-order, le-leb (length (imageOf (programIn c x))) (places 1 out) f) (same-out (ap t.Number a) (q .stored))
         where
           same-out : {a b : Told} {u v : List ℕ} → a ≡ b → u ≡ v → _≡_ {A = OutRes} (record { answer = a; out = u }) (record { answer = b; out = v })
           same-out e f = rw (e, f)

@@ -5,7 +5,8 @@ use Prim.Native.Nat.{ℕ, zero, suc, _+_, _-_, _/_, _%_, _<_, _≤_, _^_}
 use native.Mathlib.Omega.{arith}
 use native.Mathlib.Numerals.{add-one}
 use lib.Dec.{ltb}
-use lib.ListN.{length, getD, set, length-append}
+use lib.ListN.{length, getD, set, take, length-append}
+use lib.Seq.{take-at, length-take-le}
 use borrow.Author.Tests.{ltb-true, ltb-false}
 use Rattle.model.specs.Numbers.{digits, groupsOf}
 use Rattle.model.specs.Values.{kindAt, payloadAt}
@@ -17,25 +18,18 @@ use Rattle.number.specs.Links.{WritePost}
 use Rattle.image.specs.Puts.{Put, Near, TextPuts, Known, ConstantPuts, ConstantsPut, StructsPut, SameRun}
 use Rattle.layout.proofs.Bools.{either-way}
 use Rattle.layout.proofs.Writing.{length-written}
-use Rattle.image.proofs.Written.{written-none, written-one, more-written}
+use Rattle.image.proofs.Written.{written-none, written-one, written-past, written-first, more-written, kept-length}
+use Rattle.image.proofs.Held.{written-front}
 
 -- ---- one piece
 
 pub put-is : (l out out′ : List ℕ) (at next : ℕ) → next ≡ at + length l → out′ ≡ written out at l → Put l out at out′ next
-put-is l out out′ at next e f = record { next = e; kept = ap length f ∙ length-written out at l; stored = λ h. f }
-
--- it does not fit, and is not written
-pub put-not : (l out : List ℕ) (at next : ℕ) → next ≡ at + length l → length out < next → Put l out at out next
-put-not l out at next e h = record { next = e; kept = refl; stored = λ g. absurd (let w : ⊥ = omega arith in w) }
+put-is l out out′ at next e f = record { next = e; kept = ap length f ∙ length-written out at l; stored = f }
 
 pub put-then : (x y out out₁ out₂ : List ℕ) (at mid next : ℕ) → Put x out at out₁ mid → Put y out₁ mid out₂ next → Put (x ++ y) out at out₂ next
 put-then x y out out₁ out₂ at mid next p q =
-    let a = p .next in let b = q .next in let l = length-append x y in let k = p .kept in
-    record {
-      next = omega arith;
-      kept = q .kept ∙ k;
-      stored = λ h. more-written out out₁ out₂ at mid x y (p .stored (omega arith)) (p .next) (q .stored (omega arith));
-    }
+    let a = p .next in let b = q .next in let l = length-append x y in
+    record { next = omega arith; kept = q .kept ∙ p .kept; stored = more-written out out₁ out₂ at mid x y (p .stored) a (q .stored) }
 
 pub put-as : (x y out out′ : List ℕ) (at next : ℕ) → x ≡ y → Put x out at out′ next → Put y out at out′ next
 put-as x y out out′ at next e p = subst (λ (z : List ℕ). Put z out at out′ next) e p
@@ -92,15 +86,36 @@ module _ (l out₀ : List ℕ) (at₀ : ℕ) (out : List ℕ) (at : ℕ) (rest :
 
 -- ---- numbers, bytes, texts
 
-pub number-fits : (at v k : ℕ) → Near at (digits v) → k ≡ length (digits v) → at + k < 2 ^ 62
-unfolding Near
-number-fits at v k h e = omega arith
+groups-most : (f v : ℕ) → length (groupsOf f v) ≤ suc f
+unfolding groupsOf
+groups-most zero v = omega arith
+groups-most (suc f) v = either-way (ltb v 128) (λ t. rw t (let z : 1 ≤ suc (suc f) = omega arith in z))
+    (λ t. rw t (let z = groups-most f (v / 128) in let y : suc (length (groupsOf f (v / 128))) ≤ suc (suc f) = omega arith in y))
 
-pub number-put : (out out′ : List ℕ) (at v next : ℕ) → WritePost (digits v) out at out′ next → Put (digits v) out at out′ next
-number-put out out′ at v next w = put-is (digits v) out out′ at next (w .next) (w .stored)
+pub digits-most : (v : ℕ) → length (digits v) ≤ 5
+unfolding digits
+digits-most v = groups-most 4 v
 
-pub number-not : (out : List ℕ) (at v k : ℕ) → k ≡ length (digits v) → length out < at + k → Put (digits v) out at out (at + k)
-number-not out at v k e h = put-not (digits v) out at (at + k) (ap (λ (z : ℕ). at + z) e) h
+-- a number, by way of five bytes
+module _ (v : ℕ) {five bytes : List ℕ} {k : ℕ} (n : length five ≡ 5) (w : WritePost (digits v) five 0 bytes k) where
+  pub number-inside : k ≤ length bytes
+  number-inside = let a = digits-most v in let b = w .next in let z = kept-length bytes five 0 (digits v) (w .stored) in omega arith
+
+  pub number-bytes : take k bytes ≡ digits v
+  number-bytes =
+      let a = digits-most v in
+      let b : length (digits v) ≡ k = let z = w .next in omega arith in
+      let fits : length (digits v) ≤ length five = omega arith in
+      rw (w .stored, written-front five (digits v) fits) (take-at (digits v) _ k b)
+
+  pub number-length : k ≡ length (take k bytes)
+  number-length = sym (length-take-le k bytes number-inside)
+
+  pub number-near : (at : ℕ) → Near at (digits v) → Near at (take k bytes)
+  number-near at h = rw number-bytes h
+
+  pub number-put : {out : List ℕ} {at : ℕ} {out′ : List ℕ} {r : ℕ} → Put (take k bytes) out at out′ r → Put (digits v) out at out′ r
+  number-put p = rw number-bytes at p
 
 pub byte-fits : (at b : ℕ) → Near at (b ∷ []) → at + 1 < 2 ^ 62
 unfolding Near
@@ -109,14 +124,25 @@ byte-fits at b h = h
 pub byte-put : (out : List ℕ) (at b : ℕ) → Put (b ∷ []) out at (set out at b) (at + 1)
 byte-put out at b = put-is (b ∷ []) out (set out at b) at (at + 1) refl (written-one out at b)
 
-pub byte-not : (out : List ℕ) (at b : ℕ) → length out < at + 1 → Put (b ∷ []) out at out (at + 1)
-byte-not out at b h = put-not (b ∷ []) out at (at + 1) refl h
+pub byte-past : (out : List ℕ) (at b : ℕ) → length out < at + 1 → Put (b ∷ []) out at out (at + 1)
+byte-past out at b h = put-is (b ∷ []) out out at (at + 1) refl (written-past out at (b ∷ []) (omega arith))
 
 pub part-put : (out out′ bytes : List ℕ) (at : ℕ) → out′ ≡ written out at bytes → Put bytes out at out′ (at + length bytes)
 part-put out out′ bytes at e = put-is bytes out out′ at (at + length bytes) refl e
 
-pub part-not : (out bytes : List ℕ) (at : ℕ) → length out < at + length bytes → Put bytes out at out (at + length bytes)
-part-not out bytes at h = put-not bytes out at (at + length bytes) refl h
+-- as much of it as there is room for
+module _ (out bytes : List ℕ) (at : ℕ) (more : length out < at + length bytes) (some : at < length out) where
+  pub cut-length : length out - at ≡ length (take (length out - at) bytes)
+  cut-length = sym (length-take-le (length out - at) bytes (omega arith))
+
+  pub cut-fits : at + length (take (length out - at) bytes) ≤ length out
+  cut-fits = let z = cut-length in omega arith
+
+  pub part-cut : {out′ : List ℕ} → out′ ≡ written out at (take (length out - at) bytes) → Put bytes out at out′ (at + length bytes)
+  part-cut e = part-put out _ bytes at (e ∙ written-first (length out - at) out at bytes (omega arith))
+
+pub part-past : (out bytes : List ℕ) (at : ℕ) → length out ≤ at → Put bytes out at out (at + length bytes)
+part-past out bytes at h = part-put out out bytes at (written-past out at bytes h)
 
 pub text-split : (t : List ℕ) → Split (textImage t) (digits (length t)) t
 unfolding textImage

@@ -1,10 +1,10 @@
 -- Stores that are written one piece behind another.
 use mathlib.Core.Path.{_≡_, refl, sym, ap, _∙_}
 use mathlib.Core.List.{List, [], _∷_, _++_}
-use Prim.Native.Nat.{ℕ, suc, _+_, _*_}
+use Prim.Native.Nat.{ℕ, zero, suc, _+_, _*_, _≤_}
 use native.Mathlib.Omega.{arith}
-use lib.ListN.{length, set}
-use lib.Seq.{sets}
+use lib.ListN.{length, set, take, length-set}
+use lib.Seq.{sets, set-out}
 use Rattle.model.specs.Values.{putWords}
 use Rattle.model.specs.Images.{joined}
 use Rattle.model.specs.Emission.{written}
@@ -30,6 +30,19 @@ written-one l i a = refl
 pub written-two : (l : List ℕ) (i a b : ℕ) → putWords l i a b ≡ written l (2 * i) (a ∷ b ∷ [])
 unfolding written putWords
 written-two l i a b = let z : 2 * i + 1 ≡ suc (2 * i) = omega arith in rw z
+
+-- past the end nothing is written
+pub written-past : (l : List ℕ) (i : ℕ) (x : List ℕ) → length l ≤ i → l ≡ written l i x
+unfolding written
+written-past l i [] h = refl
+written-past l i (a ∷ x) h = written-past l (suc i) x (omega arith) ∙ ap (λ (z : List ℕ). sets z (suc i) x) (sym (set-out l i a h))
+
+-- the first k numbers are all that is written, where no more fit
+pub written-first : (k : ℕ) (l : List ℕ) (i : ℕ) (x : List ℕ) → length l ≤ i + k → written l i (take k x) ≡ written l i x
+unfolding written
+written-first zero l i x h = written-past l i x (omega arith)
+written-first (suc k) l i [] h = refl
+written-first (suc k) l i (a ∷ x) h = let z : length (set l i a) ≡ length l = length-set l i a in written-first k (set l i a) (suc i) x (omega arith)
 
 -- a store that was written keeps its length
 pub kept-length : (l l₀ : List ℕ) (i : ℕ) (x : List ℕ) → l ≡ written l₀ i x → length l ≡ length l₀

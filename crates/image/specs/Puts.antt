@@ -10,11 +10,11 @@ use Rattle.model.specs.Stores.{part, structWord, nameWord, codeWord, start, siz
 use Rattle.model.specs.Emission.{written}
 use Rattle.image.specs.Fills.{lent}
 
--- the bytes l from place `at` on: r is the place behind them, and they are written where they fit
+-- the bytes l from place `at` on, as far as the store reaches; r is the place behind them
 pub record Put (l out : List ℕ) (at : ℕ) (out′ : List ℕ) (r : ℕ) : Type 0 where
   pub next : r ≡ at + length l
   pub kept : length out′ ≡ length out
-  pub stored : at + length l ≤ length out → out′ ≡ written out at l
+  pub stored : out′ ≡ written out at l
 
 -- the place behind them is a number of the machine
 unfoldable pub Near : ℕ → List ℕ → Type 0

@@ -24,11 +24,9 @@ fn put_number(out: &mut [u8], at: usize, n: u32) -> usize
     requires { ⌜ Near at (digits n) ⌝ }
     ensures { λ r. ⌜ Put (digits n) (now (out .entry)) at (now (out .exit)) r ⌝ }
 {
-    let next = at + number::groups(n);
-    if next <= out.len() {
-        return number::write_number(out, at, n);
-    }
-    next
+    let mut bytes = [0u8; 5];
+    let len = number::write_number(&mut bytes, 0, n);
+    put_part(out, at, &bytes[..len])
 }
 
 // A byte.
@@ -52,6 +50,11 @@ fn put_part(out: &mut [u8], at: usize, bytes: &[u8]) -> usize
     let next = at + bytes.len();
     if next <= out.len() {
         put_bytes(out, at, bytes);
+        return next;
+    }
+    if at < out.len() {
+        let left = out.len() - at;
+        put_bytes(out, at, &bytes[..left]);
         return next;
     }
     next

@@ -20,7 +20,7 @@ use Rattle.model.specs.Emission.{written}
 use Rattle.model.specs.Loading.{OutRes, putOut, putListing, listOrder, listOf}
 use Rattle.layout.proofs.Bools.{and-left}
 use Rattle.laws_programs.proofs.Known.{limited}
-use Rattle.listing.specs.Links.{Listing, toldOf, lent}
+use Rattle.listing.specs.Links.{Listing, toldOf, textOf, lent}
 use Rattle.listing.proofs.Judging.{wrote, not-wrote}
 
 pub empty : (x out : List ℕ) → length x ≡ 0 → x ++ out ≡ out
@@ -29,7 +29,7 @@ empty (y ∷ x) out z = absurd (let k : ⊥ = omega arith in k)
 
 -- ---- a listing put into a store
 
-refuses : {w : Listed} {n : ℕ} → w ≡ unlisted n → (out : List ℕ) → record { answer = Refused n; out = out } ≡ putListing w out
+refuses : {w : Listed} {l : List ℕ} {n : ℕ} → w ≡ unlisted l n → (out : List ℕ) → record { answer = Refused n; out = out } ≡ putListing w out
 unfolding putListing
 refuses e out = rw e
 
@@ -70,7 +70,7 @@ module _ (c : Counts) (fs t m o : List ℕ) {b : Bool} (ok : (rest : Stores) →
       pub refused : (told : Told) → OneOf (1 ∷ []) (tagOf the-type told) → ((rest : Stores) → Listing k (whole rest) s 0 x told) → (rest : Stores)
           → record { answer = told; out = x ++ out } ≡ listOf c (lent rest fs t m o) out
       refused (Number n) d h rest = absurd (miss (1 ∷ []) 0 tt d)
-      refused (Refused n) d h rest = rw (empty x out z) (refuses (not-wrote _ (h rest)) out ∙ in-order rest)
+      refused (Refused n) d h rest = rw (empty x out z) (refuses (not-wrote _ (h rest) .is-refused) out ∙ in-order rest)
 
       module _ {told : Told} {n : ℕ} (d : told ≡ Number n) (h : (rest : Stores) → Listing k (whole rest) s 0 x told) (r : ℕ) (f : r ≡ places 1 (x ++ out)) where
         pub no-room : r < n → (rest : Stores) → record { answer = Refused 17; out = x ++ out } ≡ listOf c (lent rest fs t m o) out
@@ -89,7 +89,7 @@ module _ (c : Counts) (fs t m o : List ℕ) {b : Bool} (ok : (rest : Stores) →
             let w = p .is-text in
             let u : 0 + length (p .l) ≡ length (p .l) = omega arith in
             let a = q rest .means ∙ ap (toldOf 0) w ∙ ap Number u in
-            let j = q rest .stored (p .l) w ∙ ap (λ (i : List ℕ). written i 0 (p .l)) (empty x out z) in
+            let j = q rest .stored ∙ ap (λ (v : Listed). written (x ++ out) 0 (textOf v)) w ∙ ap (λ (i : List ℕ). written i 0 (p .l)) (empty x out z) in
             rw (a, j) (puts w out (omega arith) ∙ in-order rest)
 
 -- no second answer fits

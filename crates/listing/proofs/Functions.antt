@@ -50,7 +50,9 @@ module _ (fs t m o : List ℕ) where
           → Listing (65536 * 2 ^ 40) (from n 0 rest) s 0 u told
       unfolding andListed
       one-stops (Number q) x l rest = absurd (miss (1 ∷ []) 0 tt x)
-      one-stops (Refused q) x l rest = stops (h .so-far rest) (ahead rest ∙ ap (λ (y : Listed). andListed y (from (n - suc i) (suc i) rest)) (not-wrote _ l))
+      one-stops (Refused q) x l rest =
+          let z = not-wrote _ l in
+          stops (h .so-far rest) (ahead rest ∙ ap (λ (y : Listed). andListed y (from (n - suc i) (suc i) rest)) (z .is-refused)) (z .stored)
 
       pub one-more : {k : ℕ} {u : List ℕ} {told : Told} {q : ℕ} → Listing k (one i name code) s' r u told → told ≡ Number q → k ≤ 2 ^ 40 → Passed n s u (i + 1) q
       unfolding andListed

@@ -3,32 +3,37 @@ use mathlib.Core.Path.{_≡_, refl, sym, ap, _∙_}
 use mathlib.Core.List.{List, [], _++_, append-assoc, append-nil}
 use Prim.Native.Nat.{ℕ, _+_, _≤_}
 use native.Mathlib.Omega.{arith}
+use lib.ListN.{length}
 use Rattle.model.specs.declared.Told.{Told}
 use Rattle.model.specs.declared.Told.the-variants.{Number, Refused}
 use Rattle.model.specs.Listings.{Listed, text, unlisted, inFront, andListed}
 use Rattle.model.specs.Emission.{written}
 use Rattle.listing.specs.Links.{Listing}
+use Rattle.layout.proofs.Writing.{length-written}
 use Rattle.printing.specs.Links.{Put}
-use Rattle.printing.proofs.Puts.{within, both, nothing}
+use Rattle.printing.proofs.Puts.{written-both, within, both, nothing}
 
 -- ---- the model's joints
 
 front-none : (x : Listed) → inFront [] x ≡ x
 unfolding inFront
 front-none (text l) = refl
-front-none (unlisted n) = refl
+front-none (unlisted l n) = refl
 
 front-front : (a b : List ℕ) (x : Listed) → inFront a (inFront b x) ≡ inFront (a ++ b) x
 unfolding inFront
 front-front a b (text l) = ap text (sym (append-assoc a b l))
-front-front a b (unlisted n) = refl
+front-front a b (unlisted l n) = ap (λ (x : List ℕ). unlisted x n) (sym (append-assoc a b l))
 
 pub front-and : (a : List ℕ) (x y : Listed) → inFront a (andListed x y) ≡ andListed (inFront a x) y
 unfolding inFront andListed
 front-and a (text l) y = front-front a l y
-front-and a (unlisted n) y = refl
+front-and a (unlisted l n) y = refl
 
 -- ---- an answer taken apart, and put together
+
+pub same-room : {k : ℕ} {w : Listed} {s : List ℕ} {i : ℕ} {s' : List ℕ} {r : Told} → Listing k w s i s' r → length s' ≡ length s
+same-room {s = s} {i} h = ap length (h .stored) ∙ length-written s i _
 
 -- the whole is a text, and it was put
 pub record Wrote (k : ℕ) (w : Listed) (s : List ℕ) (i : ℕ) (s' : List ℕ) (r : ℕ) : Type 0 where
@@ -37,24 +42,28 @@ pub record Wrote (k : ℕ) (w : Listed) (s : List ℕ) (i : ℕ) (s' : List ℕ)
   pub put : Put k l s i s' r
 
 pub wrote : {k : ℕ} (w : Listed) {s : List ℕ} {i : ℕ} {s' : List ℕ} {r : ℕ} → Listing k w s i s' (Number r) → Wrote k w s i s' r
-wrote (text l) h = record { l = l; is-text = refl; put = record { stored = h .stored l refl; next = let e = h .means in cc; near = h .near } }
-wrote (unlisted n) h = absurd (let e = h .means in let z : _≡_ {A = ℕ} 0 1 = cc in let y : ⊥ = omega arith in y)
+wrote (text l) h = record { l = l; is-text = refl; put = record { stored = h .stored; next = let e = h .means in cc; near = h .near } }
+wrote (unlisted l n) h = absurd (let e = h .means in let z : _≡_ {A = ℕ} 0 1 = cc in let y : ⊥ = omega arith in y)
 
-pub not-wrote : {k : ℕ} (w : Listed) {s : List ℕ} {i : ℕ} {s' : List ℕ} {n : ℕ} → Listing k w s i s' (Refused n) → w ≡ unlisted n
+-- the whole is refused, behind a text that was put
+pub record NotWrote (w : Listed) (s : List ℕ) (i : ℕ) (s' : List ℕ) (n : ℕ) : Type 0 where
+  pub l : List ℕ
+  pub is-refused : w ≡ unlisted l n
+  pub stored : s' ≡ written s i l
+
+pub not-wrote : {k : ℕ} (w : Listed) {s : List ℕ} {i : ℕ} {s' : List ℕ} {n : ℕ} → Listing k w s i s' (Refused n) → NotWrote w s i s' n
 not-wrote (text l) h = absurd (let e = h .means in let z : _≡_ {A = ℕ} 0 1 = cc in let y : ⊥ = omega arith in y)
-not-wrote (unlisted n) h = let e = h .means in cc
+not-wrote (unlisted l n) h = record { l = l; is-refused = let e = h .means in cc; stored = h .stored }
 
 pub listed : {k : ℕ} {w : Listed} {l s : List ℕ} {i : ℕ} {s' : List ℕ} {r : ℕ} → w ≡ text l → Put k l s i s' r → Listing k w s i s' (Number r)
-listed {l = l} {s} {i} e p = record {
-  means = rw e (ap Number (p .next));
-  stored = λ m f. let z : l ≡ m = cc in p .stored ∙ ap (written s i) z;
-  near = p .near;
-}
+listed e p = record { means = rw e (ap Number (p .next)); stored = rw e (p .stored); near = p .near }
 
-pub not-listed : {k : ℕ} {w : Listed} {n : ℕ} {s : List ℕ} {i : ℕ} {s' : List ℕ} → w ≡ unlisted n → Listing k w s i s' (Refused n)
-not-listed e = record {
+-- a text that was put, and a refusal behind it
+not-listed : (l : List ℕ) {k m : ℕ} {w : Listed} {a : List ℕ} {n : ℕ} {s : List ℕ} {i : ℕ} {s' : List ℕ} {j : ℕ} {t : List ℕ}
+    → w ≡ unlisted (a ++ l) n → Put k a s i s' j → t ≡ written s' j l → Listing m w s i t (Refused n)
+not-listed l {a = a} {s = s} {i} e p q = record {
   means = rw e;
-  stored = λ m f. absurd (let z : _≡_ {A = ℕ} 0 1 = cc in let y : ⊥ = omega arith in y);
+  stored = rw (e, q, p .stored, p .next) (written-both s i a l);
   near = tt;
 }
 
@@ -62,7 +71,7 @@ not-listed e = record {
 pub then : {k m : ℕ} {a : List ℕ} {w : Listed} {s : List ℕ} {i : ℕ} {s' : List ℕ} {j : ℕ} {t : List ℕ} (r : Told) → Put k a s i s' j → Listing m w s' j t r → Listing (k + m) (inFront a w) s i t r
 unfolding inFront
 then (Number r) p h = let q = wrote _ h in listed (ap (inFront _) (q .is-text)) (both p (q .put))
-then (Refused n) p h = not-listed (ap (inFront _) (not-wrote _ h))
+then (Refused n) p h = let q = not-wrote _ h in not-listed (q .l) (ap (inFront _) (q .is-refused)) p (q .stored)
 
 -- ---- a loop
 
@@ -83,9 +92,10 @@ module _ {k : ℕ} {w x : Listed} {s : List ℕ} {at : ℕ} {s' : List ℕ} {r :
     splits = h .splits ∙ ap (inFront (h .done)) e ∙ front-front (h .done) l y;
   }
 
-  pub stops : {n : ℕ} → x ≡ unlisted n → {m : ℕ} {t : List ℕ} → Listing m w s at t (Refused n)
+  -- what is left is refused, behind a text that was put
+  pub stops : {l t : List ℕ} {n : ℕ} → x ≡ unlisted l n → t ≡ written s' r l → {m : ℕ} → Listing m w s at t (Refused n)
   unfolding inFront
-  stops e = not-listed (h .splits ∙ ap (inFront (h .done)) e)
+  stops {l} e q = not-listed l (h .splits ∙ ap (inFront (h .done)) e) (h .put) q
 
   pub completes : x ≡ text [] → (n : ℕ) → k ≤ n → Listing n w s at s' (Number r)
   unfolding inFront

@@ -14,6 +14,7 @@ use Rattle.model.specs.declared.Told.the-variants.{Number, Refused}
 use Rattle.model.specs.Opcodes.{Opcode, opcodeAt}
 use Rattle.model.specs.Programs.{behind}
 use Rattle.model.specs.Listings.{Listed, text, lineOf, knownThen, opcodeThen, lineThen, linesFor}
+use Rattle.model.specs.Emission.{written}
 use Rattle.listing.specs.Links.{Listing}
 use Rattle.printing.specs.Links.{Put}
 use Rattle.listing.proofs.Judging.{Sofar, at-start, onward, stops, completes}
@@ -65,20 +66,20 @@ module _ {code s : List ℕ} {at : ℕ} {s' : List ℕ} {i r : ℕ} (h : Turn co
     some-left : h .left ≡ suc (h .left - 1)
     some-left = let z = h .enough in omega arith
 
-    pub unknown : d ≡ Unknown → {t : List ℕ} → Listing (64 * length code) (linesFor (length code) code 0) s at t (Refused 1)
-    unfolding opcodeThen
-    unknown f = stops (h .so-far) (one-fewer some-left ∙ rw f)
+    pub unknown : d ≡ Unknown → Listing (64 * length code) (linesFor (length code) code 0) s at s' (Refused 1)
+    unfolding opcodeThen written
+    unknown f = stops (h .so-far) {l = []} (one-fewer some-left ∙ rw f) refl
 
     module _ (k : Known d) (n : ℕ) (w : n ≡ opcodeAt (getD code i 0) .listed) where
       known : linesFor (h .left) code i ≡ knownThen (linesFor (h .left - 1) code) code i (opcodeAt (getD code i 0))
       known = one-fewer some-left ∙ known-then (linesFor (h .left - 1) code) code i (opcodeAt (getD code i 0)) d k
 
-      pub cut-short : (length code - i - 1) / 2 < n → {t : List ℕ} → Listing (64 * length code) (linesFor (length code) code 0) s at t (Refused 3)
-      unfolding knownThen
+      pub cut-short : (length code - i - 1) / 2 < n → Listing (64 * length code) (linesFor (length code) code 0) s at s' (Refused 3)
+      unfolding knownThen written
       cut-short f =
           let b = behind-is i n in
           let z : length code < behind i n = omega arith in
-          stops (h .so-far) (known ∙ rw (← w, lt-leb _ _ z))
+          stops (h .so-far) {l = []} (known ∙ rw (← w, lt-leb _ _ z)) refl
 
       pub next-turn : n ≤ (length code - i - 1) / 2 → {t : List ℕ} {q : ℕ}
           → Put (64 + 21 * opcodeAt (getD code i 0) .listed) (lineOf code i (opcodeAt (getD code i 0))) s' r t q → Turn code s at t (i + 1 + 2 * n) q

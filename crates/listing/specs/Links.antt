@@ -12,17 +12,22 @@ use Rattle.model.specs.Emission.{written}
 -- the answer where a listing begins at place i: the place behind it, or its refusal
 abbrev pub toldOf : ℕ → Listed → Told
 toldOf i (text l) = Number (i + length l)
-toldOf i (unlisted n) = Refused n
+toldOf i (unlisted l n) = Refused n
+
+-- the text that is put: all of it, or what stands before the refusal
+abbrev pub textOf : Listed → List ℕ
+textOf (text l) = l
+textOf (unlisted l n) = l
 
 -- a place that is told is at most m
 abbrev pub Near : ℕ → Told → Type 0
 Near m (Number n) = n ≤ m
 Near m (Refused n) = Unit
 
--- a listing was put into s from place i on, or refused; r answers, at most k further
+-- a listing was put into s from place i on, as far as s reaches and up to what is refused; r answers, at most k further
 pub record Listing (k : ℕ) (w : Listed) (s : List ℕ) (i : ℕ) (s' : List ℕ) (r : Told) : Type 0 where
   pub means : r ≡ toldOf i w
-  pub stored : (l : List ℕ) → w ≡ text l → s' ≡ written s i l
+  pub stored : s' ≡ written s i (textOf w)
   pub near : Near (i + k) r
 
 -- functions, text and the code of main and of the others, over any rest

@@ -70,7 +70,7 @@ fn write_line(code: &[u8], i: usize, b: u8, out: &mut [u8], at: usize) -> usize
     put_byte(b'\n', out, end)
 }
 
-// All lines of a code; an unknown opcode is refused 1, and one whose operands are cut short 3, as met first.
+// All lines of a code; an unknown opcode is refused 1, and one whose operands are cut short 3, as met first, with the lines before it put.
 pub fn write_lines(code: &[u8], out: &mut [u8], at: usize) -> Told
     requires { ⌜ at + 64 * length (now code) < 2 ^ 64 ⌝ }
     ensures { λ r. ⌜ Listing (64 * length (now (code .entry))) (linesFor (length (now (code .entry))) (now (code .entry)) 0) (now (out .entry)) at (now (out .exit)) r ⌝ }

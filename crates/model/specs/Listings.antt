@@ -41,23 +41,23 @@ lineOf code i c = ascii "  " ++ digitsOrMore 4 i ++ (32 ∷ paddedTo 13 (c .name
 unfoldable pub headerLine : ℕ → List ℕ → List ℕ
 headerLine i name = ascii ".CODE " ++ decimal i ++ ascii " (" ++ name ++ ascii ")\n"
 
--- the text, or a refusal
+-- the text; or a refusal, and the text of what stands before it
 pub data Listed : Type 0 where
   text : List ℕ → Listed
-  unlisted : ℕ → Listed
+  unlisted : List ℕ → ℕ → Listed
 
 unfoldable pub inFront : List ℕ → Listed → Listed
 inFront l (text r) = text (l ++ r)
-inFront l (unlisted n) = unlisted n
+inFront l (unlisted r n) = unlisted (l ++ r) n
 
 -- an opcode at i whose operands are all there, and the lines behind it; 3 where the code ends inside
 unfoldable pub knownThen : (ℕ → Listed) → List ℕ → ℕ → Opcode → Listed
-knownThen k code i c = if leb (behind i (c .listed)) (length code) then inFront (lineOf code i c) (k (behind i (c .listed))) else unlisted 3
+knownThen k code i c = if leb (behind i (c .listed)) (length code) then inFront (lineOf code i c) (k (behind i (c .listed))) else unlisted [] 3
 
 unfoldable pub opcodeThen : (ℕ → Listed) → List ℕ → ℕ → Opcode → Decoded → Listed
 opcodeThen k code i c (d.Carried p) = knownThen k code i c
 opcodeThen k code i c d.NotCarried = knownThen k code i c
-opcodeThen k code i c d.Unknown = unlisted 1
+opcodeThen k code i c d.Unknown = unlisted [] 1
 
 unfoldable pub lineThen : (ℕ → Listed) → List ℕ → ℕ → Bool → Listed
 lineThen k code i true = opcodeThen k code i (opcodeAt (getD code i 0)) (opcodeAt (getD code i 0) .what)
@@ -70,7 +70,7 @@ linesFor (suc f) code i = lineThen (linesFor f code) code i (ltb i (length code)
 
 unfoldable pub andListed : Listed → Listed → Listed
 andListed (text l) r = inFront l r
-andListed (unlisted n) r = unlisted n
+andListed (unlisted l n) r = unlisted l n
 
 -- function i and those after it
 unfoldable pub listingFrom : ℕ → List Function → Listed

@@ -125,7 +125,7 @@ saveOf c s out = if programOk c s then putOut (imageOf (programIn c s)) out else
 
 unfoldable pub putListing : Listed → List ℕ → OutRes
 putListing (text bytes) out = putOut bytes out
-putListing (unlisted n) out = record { answer = t.Refused n; out = out }
+putListing (unlisted before n) out = record { answer = t.Refused n; out = out }
 
 -- the listing is lent functions, text and code
 unfoldable pub listOrder : Counts → Stores → Bool

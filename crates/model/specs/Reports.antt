@@ -100,7 +100,7 @@ runnerText image = if ltb 16384 (length image) then refusedLine 22 else started 
 
 unfoldable pub listedText : Listed → List ℕ
 listedText (text bytes) = bytes
-listedText (unlisted n) = refusedLine n
+listedText (unlisted before n) = refusedLine n
 
 unfoldable pub loadedText : Loaded → Stores → List ℕ
 loadedText (l.Done c) s = listedText (listingOf (programIn c s))

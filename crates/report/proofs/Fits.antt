@@ -214,17 +214,17 @@ operands-short (suc (suc n)) code i =
 -- a listing of at most k bytes, or a refusal
 abbrev Within : ℕ → Listed → Type 0
 Within k (text b) = length b ≤ k
-Within k (unlisted n) = Unit
+Within k (unlisted l n) = Unit
 
 within-front : (b : List ℕ) (w : Listed) (k n : ℕ) → Within k w → length b + k ≤ n → Within n (inFront b w)
 unfolding inFront
 within-front b (text r) k n h g = simp length-append (omega arith)
-within-front b (unlisted e) k n h g = tt
+within-front b (unlisted l e) k n h g = tt
 
 within-and : (v w : Listed) (j k : ℕ) → Within j v → Within k w → Within (j + k) (andListed v w)
 unfolding andListed
 within-and (text b) w j k h g = within-front b w k (j + k) g (omega arith)
-within-and (unlisted e) w j k h g = tt
+within-and (unlisted l e) w j k h g = tt
 
 module _ (code : List ℕ) (bytes : Bytes code) (small : length code ≤ 16384) where
   line-short : (i : ℕ) → i < length code → length (lineOf code i (opcodeAt (getD code i 0))) ≤ 32 + 21 * opcodeAt (getD code i 0) .listed
@@ -282,12 +282,12 @@ listing-within i (f ∷ fs) h g =
 
 within-more : (w : Listed) (j k : ℕ) → Within j w → j ≤ k → Within k w
 within-more (text b) j k h g = omega arith
-within-more (unlisted n) j k h g = tt
+within-more (unlisted l n) j k h g = tt
 
 listed-short : (w : Listed) → Within 524288 w → length (listedText w) ≤ 524288
 unfolding listedText
 listed-short (text b) h = h
-listed-short (unlisted n) h = let z = refused-short n in omega arith
+listed-short (unlisted l n) h = let z = refused-short n in omega arith
 
 -- ---- both texts fit
 

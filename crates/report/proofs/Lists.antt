@@ -37,17 +37,17 @@ use Rattle.report.proofs.Prints.{too-long, fits}
 
 abbrev Small : Listed → Type 0
 Small (text b) = Unit
-Small (unlisted n) = n < 17
+Small (unlisted l n) = n < 17
 
 small-front : (b : List ℕ) (w : Listed) → Small w → Small (inFront b w)
 unfolding inFront
 small-front b (text r) h = tt
-small-front b (unlisted n) h = h
+small-front b (unlisted l n) h = h
 
 small-and : (v w : Listed) → Small v → Small w → Small (andListed v w)
 unfolding andListed
 small-and (text b) w h k = small-front b w k
-small-and (unlisted n) w h k = h
+small-and (unlisted l n) w h k = h
 
 module _ (k : ℕ → Listed) (h : (j : ℕ) → Small (k j)) (code : List ℕ) (i : ℕ) where
   small-known : (c : Opcode) → Small (knownThen k code i c)
@@ -83,14 +83,14 @@ small-from i (f ∷ fs) =
 
 abbrev Says : List ℕ → Listed → Told → List ℕ → Type 0
 Says out w (t.Number n) out' = record { count = n; out = out' } ≡ printed (listedText w) out
-Says out w (t.Refused n) out' = (n ≡ 17 → record { count = 0; out = out' } ≡ printed (listedText w) out) × ((n ≡ 17 → ⊥) → (w ≡ unlisted n) × (out' ≡ out))
+Says out w (t.Refused n) out' = (n ≡ 17 → record { count = 0; out = out' } ≡ printed (listedText w) out) × ((n ≡ 17 → ⊥) → (listedText w ≡ refusedLine n) × (out' ≡ out))
 
 says-put : (out : List ℕ) (w : Listed) → Small w → Says out w (putListing w out .answer) (putListing w out .out)
 unfolding putListing putOut listedText
 says-put out (text b) h =
     either-way (leb (length b) (places 1 out)) (λ e. rw e (fits b out (leb-true _ _ e)))
     (λ e. rw e (λ k. too-long b out (leb-false _ _ e), λ k. absurd (k refl)))
-says-put out (unlisted n) h = (λ e. absurd (let z : ⊥ = omega arith in z), λ k. (refl, refl))
+says-put out (unlisted l n) h = (λ e. absurd (let z : ⊥ = omega arith in z), λ k. (refl, refl))
 
 module _ (c : Counts) (s : Stores) (ok : listOrder c s ≡ true) (out : List ℕ) where
   abbrev listing : Listed
@@ -114,7 +114,6 @@ module _ (c : Counts) (s : Stores) (ok : listOrder c s ≡ true) (out : List ℕ
       did-not-fit g = said .0 g
 
       pub not-listed : (n ≡ 17 → ⊥) → {r : ℕ} {out'' : List ℕ} → record { count = r; out = out'' } ≡ printed (refusedLine n) out' → record { count = r; out = out'' } ≡ printed (listedText listing) out
-      unfolding listedText
       not-listed g p = let z = said .1 g in rw (z .0) (rw (z .1) at p)
 
 -- ---- what was loaded

@@ -4,7 +4,9 @@ use native.Mathlib.Omega.{arith}
 use borrow.Author.Needs.{needs}
 use Rattle.model.specs.Listings.{listingOf}
 use Rattle.model.specs.Stores.{programIn}
+use mathlib.Core.Path.{_∙_}
 use Rattle.listing.proofs.Lent.{short}
+use Rattle.listing.proofs.Judging.{same-room}
 use Rattle.listing.proofs.Functions.{Passed, none-yet, all-passed, one-stops, one-more}
 use Rattle.listing.proofs.write_all.Statement.{statement}
 use Rattle.listing.proofs.write_all.Tie as tie
@@ -37,7 +39,10 @@ enum-told : tie.Need-enum-told Inv-loop μ-loop
 enum-told c = search
 
 same-length : tie.Need-same-length Inv-loop μ-loop
-same-length c = search
+same-length c =
+    let at-function = c .before .before .before .before in
+    let at-loop = at-function .before .before .before .before .before .before in
+    same-room (at-function .write-function .ensures) ∙ at-loop .loop .inv .same
 
 returns : tie.Need-returns Inv-loop μ-loop
 unfolding listingOf programIn

@@ -3,7 +3,7 @@ use borrow.Author.Needs.{needs}
 use Rattle.image.proofs.saving.put_byte.Statement.{statement}
 use Rattle.image.proofs.saving.put_byte.Tie as tie
 use native.Mathlib.Omega.{arith}
-use Rattle.image.proofs.Putting.{byte-fits, byte-put, byte-not}
+use Rattle.image.proofs.Putting.{byte-fits, byte-put, byte-past}
 
 -- src/saving.rt:35:16
 add-next : tie.Need-add-next
@@ -23,7 +23,7 @@ returns c = byte-put _ _ _
 
 -- src/saving.rt:31:1
 returns-2 : tie.Need-returns-2
-returns-2 c = byte-not _ _ _ (c .if1 .left)
+returns-2 c = byte-past _ _ _ (c .if1 .left)
 
 pub put-byte-spec : {M : Type 1} → statement M
 put-byte-spec = tie.close (tie.spec add-next slice-write-out same-length returns returns-2)
