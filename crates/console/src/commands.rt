@@ -255,7 +255,7 @@ fn save(
     space: &mut [u8],
     number: u64,
 ) {
-    let told = image::save(
+    let told = image_save::save(
         c,
         constants,
         structs,

@@ -26,7 +26,7 @@ use Rattle.model.specs.Emission as e
 use Rattle.model.specs.Machines.{startWith, newMachineOf, loadMachineOf}
 use Rattle.model.specs.Loading.{LoadRes, mainOf, othersOf, laid, countsFor, roomFor, loadJudged, loadOf}
 use Rattle.layout.proofs.Bools.{either-way}
-use Rattle.image.proofs.Codecs.{bytes-front, bytes-rest}
+use Rattle.laws_images.proofs.Codecs.{bytes-front, bytes-rest}
 use Rattle.image.proofs.Trip.{image-only}
 use Rattle.laws_runs.specs.Ordered.{CodeBytes}
 use Rattle.demands.specs.Host.{Held, Ask, new, load, addOp, addOp1, addOp2, addOp3, patch, addConstant, addStruct, beginFunction, endFunction, currentOffset, functionIdx, save, disassemble, backtrace, lastResult, stackValue, blockHeader, element, textBytes, Call, run, ask, Answer, Done, emits, starts, looks, done, After}

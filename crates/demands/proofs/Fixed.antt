@@ -22,7 +22,7 @@ use Rattle.value.proofs.Coding.{and-left, exact-kind, exact-payload, exact-cell
 use Rattle.value.proofs.Stores.{length-vals, vals-slot, getD-cells}
 use Rattle.cells.proofs.Stands.{length-heap, exact-at}
 use Rattle.layout.proofs.Bools.{either-way}
-use Rattle.image.proofs.Loads.{two-words}
+use Rattle.image_load.proofs.Loads.{two-words}
 use Rattle.laws_runs.specs.Ordered.{Exact}
 use Rattle.laws_runs.proofs.Ordered.{order-of, order-sane, order-exact}
 use Rattle.demands.specs.Agree.{Alike, Rooms, LentAlike}

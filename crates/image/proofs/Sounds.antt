@@ -17,13 +17,13 @@ use Rattle.model.specs.Orders.{mainOk, programOk}
 use Rattle.model.specs.declared.Counts.{Counts}
 use Rattle.laws_names.specs.Sorted.{allDifferent}
 use Rattle.laws_names.proofs.Standing.{all-different}
-use Rattle.image.specs.Fills.{lent}
-use Rattle.image.specs.Puts.{Known}
+use Rattle.model.specs.Stores.{storesOf as lent}
+use Rattle.image_save.specs.Puts.{Known}
 use Rattle.layout.proofs.Bools.{either-way, both-true}
 use Rattle.laws_programs.proofs.Searching.{same-sym}
 use Rattle.laws_programs.proofs.Known.{structs-known, Known as KnownFunction}
-use Rattle.image.proofs.Loaded.{Clear}
-use Rattle.image.proofs.Orderly.{part-most, good, limits, text-small, constant-at, struct-at, function-at, ends-in}
+use Rattle.image_load.proofs.Loaded.{Clear}
+use Rattle.image_save.proofs.Orderly.{part-most, good, limits, text-small, constant-at, struct-at, function-at, ends-in}
 
 -- every number of a store is below b: what the type of a slice says
 abbrev pub Below : ℕ → List ℕ → Type 0

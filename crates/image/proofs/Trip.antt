@@ -14,8 +14,8 @@ use Rattle.model.specs.Loading.{laid, countsFor, roomFor, LoadRes, loadJudged, 
 use Rattle.model.specs.declared.Counts.{Counts}
 use Rattle.model.specs.declared.Loaded.the-variants as l
 use Rattle.layout.proofs.Bools.{either-way}
-use Rattle.image.proofs.Formats.{judge-back, judge-only}
-use Rattle.image.proofs.Loaded.{laid-again}
+use Rattle.laws_images.proofs.Formats.{judge-back, judge-only}
+use Rattle.image_load.proofs.Loaded.{laid-again}
 use Rattle.image.proofs.Sounds.{Below, order-sound}
 
 pub image-back : (p : Program) → Sound p → judge (imageOf p) ≡ fine p

@@ -10,7 +10,7 @@ use lib.ListN.{length, getD, take, drop, List·getD-append}
 use lib.Seq.{length-take-le, take-at, getD-take}
 use Rattle.model.specs.Basics.{written}
 use Rattle.model.specs.Values.{kindAt, payloadAt, valueAt, vals}
-use Rattle.image.proofs.Held.{written-front}
+use Rattle.laws_images.proofs.Held.{written-front}
 
 module _ (n : ℕ) (from to : List ℕ) (f : n ≤ length from) (t : n ≤ length to) where
   fits : length (take n from) ≤ length to

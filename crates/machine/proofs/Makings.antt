@@ -31,11 +31,11 @@ use Rattle.model.specs.Emission.{Res, newOf}
 use Rattle.model.specs.Loading.{LoadRes, laid, countsFor, roomFor, loadJudged, loadOf}
 use Rattle.model.specs.Machines.{StartRes, fresh, startWith, loadMachineOf, asLoaded, newMachineOf}
 use Rattle.layout.specs.Links.{Is}
-use Rattle.image.specs.Links.{JudgePost}
-use Rattle.image.specs.declared.Sizes.{Sizes}
-use Rattle.image.specs.declared.Judgement.{Judgement}
-use Rattle.image.specs.declared.Judgement.the-variants as j
-use Rattle.image.proofs.Loads.{limits-by, judged-not, judged-is}
+use Rattle.image_judge.specs.Links.{JudgePost}
+use Rattle.image_judge.specs.declared.Sizes.{Sizes}
+use Rattle.image_judge.specs.declared.Judgement.{Judgement}
+use Rattle.image_judge.specs.declared.Judgement.the-variants as j
+use Rattle.image_load.proofs.Loads.{limits-by, judged-not, judged-is}
 use Rattle.machine.specs.Links.{isDone, Makes}
 
 -- ---- whether a machine was made

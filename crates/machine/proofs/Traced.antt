@@ -27,7 +27,7 @@ use Rattle.cells.proofs.Order.{by-less}
 use Rattle.laws_runs.proofs.Programs.{Parts, length-functions, function-at, part-size, code-size}
 use Rattle.frames.specs.Links.{noFrame, callersOf, placesOf, placeAt, traceWords, Readable}
 use Rattle.frames.proofs.Meaning.{AllKnown, trace-is-good, trace-is}
-use Rattle.image.proofs.Held.{written-front}
+use Rattle.laws_images.proofs.Held.{written-front}
 use Rattle.machine.proofs.Granted.{functions-there}
 
 -- ---- frames whose places lie inside their codes

@@ -26,7 +26,7 @@ ghost use Prim.Native.Nat.{ℕ};
 ghost use Rattle.model.specs.Machines.{backtraceIn, RunPost, loadMachineOf, newMachineOf};
 ghost use Rattle.model.specs.Stores.{Stores};
 ghost use Rattle.layout.specs.Links.{namesLent};
-ghost use Rattle.image.specs.Fills.{lent};
+ghost use Rattle.model.specs.Stores.{storesOf as lent};
 ghost use Rattle.run_ends.specs.Links.{programLent};
 ghost use Rattle.machine.specs.Links.{runLent};
 

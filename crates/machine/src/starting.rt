@@ -1,8 +1,8 @@
 // Making a machine that has not run: all but its frame.
 use emission::functions::new;
-use image::Judgement;
-use image::judge;
-use image::load;
+use image_judge::Judgement;
+use image_judge::judge;
+use image_load::load;
 use model::CONSTANT_LIMIT;
 use model::Counts;
 use model::Emitted;
@@ -17,7 +17,7 @@ ghost use Rattle.model.specs.Runs.{root};
 ghost use Rattle.model.specs.Stores.{Stores};
 ghost use Rattle.model.specs.Machines.{loadMachineOf, newMachineOf};
 ghost use Rattle.layout.specs.Links.{namesLent};
-ghost use Rattle.image.specs.Fills.{lent};
+ghost use Rattle.model.specs.Stores.{storesOf as lent};
 ghost use Rattle.machine.specs.Links.{isDone, Makes};
 
 // The first frame: function 0, base 0, position 0.

@@ -1,6 +1,6 @@
 // What loading, saving, running and listing an image answer, held against texts that say what they should.
-use image::load;
-use image::save;
+use image_load::load;
+use image_save::save;
 use layout::reads::lesser;
 use layout::reads::same_bytes;
 use model::Counts;
@@ -14,7 +14,7 @@ ghost use mathlib.Core.Path.{_≡_};
 ghost use lib.ListN.{take};
 ghost use Rattle.model.specs.Equality.{sameBytes};
 ghost use Rattle.model.specs.Reports.{listerText, runnerText};
-ghost use Rattle.image.specs.Fills.{lent};
+ghost use Rattle.model.specs.Stores.{storesOf as lent};
 ghost use Rattle.printing.specs.Links.{Put};
 ghost use Rattle.replay_judge.specs.Compared.{loaded, loadText, readOf, savingOf, compareOf, verdictOf};
 

@@ -32,7 +32,7 @@ use Rattle.model.specs.Machines.{Lent, RunAnswer, ran, refused, runAnswer, fres
 use Rattle.model.specs.Reports.{hexFor, booleanText, valueText, entryLines, spentLines, replyLines, refusedLine, reportOf, emptyStores, emptyLent, startedText, started, runnerText, listedText, loadedText, listerText}
 use Rattle.laws_runs.specs.Ordered.{CodeBytes}
 use Rattle.layout.proofs.Bools.{either-way}
-use Rattle.image.proofs.Codecs.{bytes-front, bytes-rest}
+use Rattle.laws_images.proofs.Codecs.{bytes-front, bytes-rest}
 use Rattle.image.proofs.Trip.{image-only, loaded-as}
 use Rattle.listing.proofs.Names as names
 use Rattle.printing.proofs.Digits.{short, five}

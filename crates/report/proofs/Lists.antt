@@ -27,7 +27,7 @@ use Rattle.model.specs.Orders.{countsOk, textOk, constantsOk, structsOk, functi
 use Rattle.model.specs.Loading.{loadOf, OutRes, putOut, putListing, listOrder, listOf}
 use Rattle.model.specs.Reports.{emptyStores, refusedLine, listedText, loadedText, listerText}
 use Rattle.layout.proofs.Bools.{either-way, and-left, and-right, and-both}
-use Rattle.image.specs.Fills as whole
+use Rattle.model.specs.Stores.{storesOf}
 use Rattle.image.proofs.Trip.{loaded-as}
 use Rattle.listing.specs.Links.{lent}
 use Rattle.report.specs.Links.{printed, Listable}
@@ -156,12 +156,12 @@ bytes-of [] h = tt
 bytes-of (x ∷ b) h = (h 0, bytes-of b (λ i. h (suc i)))
 
 module _ (image : List ℕ) (small : (i : ℕ) → getD image i 0 < 256) (cs ss fs tx mn mp ot op : List ℕ) where
-  pub loads-listable : (x : Stores) (a : Loaded) → record { answer = a; stores = whole.lent cs ss fs tx mn mp ot op } ≡ loadOf image x
+  pub loads-listable : (x : Stores) (a : Loaded) → record { answer = a; stores = storesOf cs ss fs tx mn mp ot op } ≡ loadOf image x
       → (rest : Stores) → Listable a (lent rest fs tx mn ot)
   unfolding programOk listOrder lent
   loads-listable x (l.Done c) e rest =
       fewer (countsOk c) (textOk c tx) (constantsOk c cs) (structsOk c ss tx) (functionsOk c fs) (mainOk fs tx) (insideCodes c fs mn ot) (insideCodes c fs mp op)
-      (loaded-as image x (whole.lent cs ss fs tx mn mp ot op) c (bytes-of image small) (sym e) .1)
+      (loaded-as image x (storesOf cs ss fs tx mn mp ot op) c (bytes-of image small) (sym e) .1)
   loads-listable x (l.Broken i) e rest = tt
   loads-listable x (l.Refused n) e rest = tt
 
@@ -170,7 +170,7 @@ module _ (image out : List ℕ) {r : ℕ} {out' : List ℕ} where
   unfolding listerText
   image-too-long h p = rw (lt-ltb 16384 (length image) h) p
 
-  pub image-listed : length image ≤ 16384 → (a : Loaded) (cs ss fs tx mn mp ot op : List ℕ) → record { answer = a; stores = whole.lent cs ss fs tx mn mp ot op } ≡ loadOf image emptyStores
+  pub image-listed : length image ≤ 16384 → (a : Loaded) (cs ss fs tx mn mp ot op : List ℕ) → record { answer = a; stores = storesOf cs ss fs tx mn mp ot op } ≡ loadOf image emptyStores
       → ((rest : Stores) → record { count = r; out = out' } ≡ printed (loadedText a (lent rest fs tx mn ot)) out) → record { count = r; out = out' } ≡ printed (listerText image) out
   unfolding listerText lent
-  image-listed h a cs ss fs tx mn mp ot op e p = rw (le-ltb 16384 (length image) h, ← e) (p (whole.lent cs ss fs tx mn mp ot op))
+  image-listed h a cs ss fs tx mn mp ot op e p = rw (le-ltb 16384 (length image) h, ← e) (p (storesOf cs ss fs tx mn mp ot op))

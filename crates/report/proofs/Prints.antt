@@ -9,7 +9,7 @@ use borrow.Author.Tests.{le-leb, lt-leb, leb-true}
 use Rattle.model.specs.Values.{places}
 use Rattle.model.specs.Emission.{written}
 use Rattle.layout.proofs.Bools.{either-way}
-use Rattle.image.proofs.Loads.{one-word}
+use Rattle.image_load.proofs.Loads.{one-word}
 use Rattle.listing.proofs.Entry.{empty}
 use Rattle.printing.specs.Links.{Put}
 use Rattle.report.specs.Links.{Printed, printed}

@@ -20,7 +20,7 @@ use Rattle.model.specs.Stores.{Stores}
 use Rattle.model.specs.Loading.{loadOf}
 use Rattle.model.specs.Machines.{runAnswer, answerIn, RunPost, fresh, startWith, loadMachineOf}
 use Rattle.model.specs.Reports.{refusedLine, reportOf, emptyStores, emptyLent, startedText, started, runnerText, listerText}
-use Rattle.image.specs.Fills as whole
+use Rattle.model.specs.Stores.{storesOf}
 use Rattle.run_ends.specs.Links.{programLent}
 use Rattle.machine.specs.Links.{runLent}
 use Rattle.report.specs.Links.{Shows, printed, imageText, PlayPost}
@@ -79,7 +79,7 @@ module _ (image out : List ℕ) {r : ℕ} {out' : List ℕ} where
   unfolding runnerText
   run-too-long h p = rw (lt-ltb 16384 (length image) h) p
 
-  pub image-run : length image ≤ 16384 → (a : Loaded) (cs ss fs tx mn mp ot op : List ℕ) → record { answer = a; stores = whole.lent cs ss fs tx mn mp ot op } ≡ loadOf image emptyStores
+  pub image-run : length image ≤ 16384 → (a : Loaded) (cs ss fs tx mn mp ot op : List ℕ) → record { answer = a; stores = storesOf cs ss fs tx mn mp ot op } ≡ loadOf image emptyStores
       → record { count = r; out = out' } ≡ printed (textOf a (programLent ss cs fs tx mn mp ot op)) out → record { count = r; out = out' } ≡ printed (runnerText image) out
   unfolding runnerText loadMachineOf programLent
   image-run h a cs ss fs tx mn mp ot op e p = rw (le-ltb 16384 (length image) h, ← e) p

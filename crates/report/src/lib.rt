@@ -6,7 +6,7 @@ mod playing; // playing.rt: a run on call frames of its own
 use crate::playing::play;
 use crate::runs::put_refused;
 use crate::runs::put_report;
-use image::load;
+use image_load::load;
 use layout::reads::room;
 use listing::disassemble;
 use model::Counts;

@@ -10,7 +10,7 @@ use native.Mathlib.Omega.{arith}
 use Rattle.frames.proofs.Frames.{R, tells}
 use Rattle.machine.proofs.Rows.{StartedRow, startedVal, IsStarted, started-tells, started-typed, started-makes}
 use Rattle.model.specs.Machines.{loadMachineOf}
-use Rattle.image.specs.Fills.{lent as stored}
+use Rattle.model.specs.Stores.{storesOf as stored}
 use Rattle.machine.proofs.Tests.{is-zero, not-zero}
 use Rattle.embed_words.specs.Coding.{outRefusal, startedCoded, startThrough}
 use Rattle.embed.proofs.Through.{start-through, start-refused}

@@ -12,7 +12,7 @@ use Rattle.frames.proofs.FrameCalls.{Write, call-write}
 use Rattle.machine.proofs.Rows.{StartedRow, startedVal, started-tells, started-typed, started-makes}
 use Rattle.model.specs.Runs.{root}
 use Rattle.model.specs.Machines.{loadMachineOf}
-use Rattle.image.specs.Fills.{lent as stored}
+use Rattle.model.specs.Stores.{storesOf as stored}
 use Rattle.machine.specs.Links.{isDone, Makes}
 use Rattle.machine.proofs.Makings.{load-starts, place-there, frame-laid, frame-not}
 use Rattle.machine.proofs.starting.load_program as made

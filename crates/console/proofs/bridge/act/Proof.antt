@@ -11,7 +11,7 @@ use Rattle.model.specs.declared.Told.{Told}
 use Rattle.model.specs.Stores.{Stores}
 use Rattle.model.specs.Machines.{backtraceIn, RunPost, loadMachineOf, newMachineOf}
 use Rattle.layout.specs.Links.{namesLent}
-use Rattle.image.specs.Fills.{lent as imageLent}
+use Rattle.model.specs.Stores.{storesOf as imageLent}
 use Rattle.run_ends.specs.Links.{programLent}
 use Rattle.machine.specs.Links.{runLent}
 use Rattle.console.specs.declared.bridge.Call.{Call}

@@ -1,6 +1,6 @@
 -- `load_program`: loaded where there is a place for a frame.
 use Rattle.machine.proofs.Makings.{without-place, made-loaded, not-loaded, broken-loaded}
-use Rattle.image.specs.Fills.{lent}
+use Rattle.model.specs.Stores.{storesOf as lent}
 use borrow.Author.Needs.{needs}
 use Rattle.machine.proofs.starting.load_program.Statement.{statement}
 use Rattle.machine.proofs.starting.load_program.Tie as tie

@@ -1,0 +1,4 @@
+-- What saving writes.
+pub mod Putting
+pub mod Imaging
+pub mod Orderly

@@ -1,0 +1,2 @@
+-- What saving asks for, and what it leaves.
+pub mod Puts
