@@ -118,6 +118,7 @@ equal-add-read-value-3 t c = search (room-y, needs)
 
 equal-add-read-value-4 : (t : ℕ) → equal-lts.Need-add-read-value-4 (callees t) (equal-at t) equal.Post equal-Inv-loop equal-μ-loop
 equal-add-read-value-4 t c =
+    let at-good = c .before .before .before .before .before .before .before .before .before .before .before .before .before .before .before .before .before in
     let r =
     let at-loop = c .before .before .before in
     let at-if2 = at-loop .before in
@@ -132,8 +133,7 @@ equal-add-read-value-4 t c =
     (at-loop .loop .inv) (c .before .before .loop-test .taken) in
     omega (
       arith,
-      c .before .before .before .before .before .before .before .before .before .before .before .before .before .before .before
-          .before .before .good .1 .0 .0,
+      at-good .good .1 .0 .0,
     )
 
 equal-read-value-requires-2 : (t : ℕ) → equal-lts.Need-read-value-requires-2 (callees t) (equal-at t) equal.Post equal-Inv-loop equal-μ-loop

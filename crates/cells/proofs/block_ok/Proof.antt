@@ -51,31 +51,33 @@ read-value-requires c κs = search element-room
 
 placed-requires : tie.Need-placed-requires Inv-loop μ-loop
 placed-requires c κs =
-    let a = c .before .before .before .before .before .before .before .before .before .pre .0 in
-    let b = c .before .before .before .before .before .before .before .before .before .pre .1 in
+    let at-start = c .before .before .before .before .before .before .before .before .before in
+    let a = at-start .pre .0 in
+    let b = at-start .pre .1 in
     omega arith
 
 returns-3 : tie.Need-returns-3 Inv-loop μ-loop
 returns-3 c = search bad-place
 
 depth-requires : tie.Need-depth-requires Inv-loop μ-loop
-depth-requires c κs = (
-  (let a = c .before .before .before .before .before .before .before .before .before .before .before .pre .0 in
-      let b = c .before .before .before .before .before .before .before .before .before .before .before .pre .1 in
-      omega arith),
-  let at-if2 = c .before .before .before in
-      let at-is-header = at-if2 .before in
-      let at-loop-test = at-is-header .before in
-      let at-loop = at-loop-test .before in
-      let at-read-header = at-loop .before in
-      let at-if1 = at-read-header .before in
-      let at-whole = at-if1 .before in
-      let at-start = at-whole .before .before in
-      held (at-start .args .texts) (at-start .args .cells .now) (at-start .args .used) (at-start .args .p) _
-      (at-whole .whole .ensures) (at-if1 .if1 .left) _ (at-read-header .read-header .ensures) _ _ (at-loop .loop .inv)
-      (at-loop-test .loop-test .taken) _ (at-is-header .is-header .ensures) (at-if2 .if2 .left) _
-      (c .before .before .read-value .ensures) _ (c .before .placed .ensures) (c .if3 .left),
-)
+depth-requires c κs =
+    let at-start = c .before .before .before .before .before .before .before .before .before .before .before in (
+      (let a = at-start .pre .0 in
+          let b = at-start .pre .1 in
+          omega arith),
+      let at-if2 = c .before .before .before in
+          let at-is-header = at-if2 .before in
+          let at-loop-test = at-is-header .before in
+          let at-loop = at-loop-test .before in
+          let at-read-header = at-loop .before in
+          let at-if1 = at-read-header .before in
+          let at-whole = at-if1 .before in
+          let at-start = at-whole .before .before in
+          held (at-start .args .texts) (at-start .args .cells .now) (at-start .args .used) (at-start .args .p) _
+          (at-whole .whole .ensures) (at-if1 .if1 .left) _ (at-read-header .read-header .ensures) _ _ (at-loop .loop .inv)
+          (at-loop-test .loop-test .taken) _ (at-is-header .is-header .ensures) (at-if2 .if2 .left) _
+          (c .before .before .read-value .ensures) _ (c .before .placed .ensures) (c .if3 .left),
+    )
 
 add-i : tie.Need-add-i Inv-loop μ-loop
 add-i c = search needs

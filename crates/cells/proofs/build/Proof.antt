@@ -33,13 +33,15 @@ add-copy : tie.Need-add-copy
 add-copy c = search needs
 
 write-header-requires : tie.Need-write-header-requires
-write-header-requires c κs = (
-  search room-head,
-  c .before .before .before .before .before .before .before .before .before .pre .0 .count,
-  c .before .before .before .before .before .before .before .before .before .pre .1,
-  let l = c .before .before .before .before .if1 .left in
-      omega arith,
-)
+write-header-requires c κs =
+    let at-if1 = c .before .before .before .before in
+    let at-start = at-if1 .before .before .before .before .before in (
+      search room-head,
+      at-start .pre .0 .count,
+      at-start .pre .1,
+      let l = at-if1 .if1 .left in
+          omega arith,
+    )
 
 add-copy-2 : tie.Need-add-copy-2
 add-copy-2 c = search needs

@@ -23,7 +23,9 @@ loop-holds : tie.Need-loop-holds Inv-loop μ-loop
 loop-holds c = scan-start _ _ _
 
 block-ok-requires : tie.Need-block-ok-requires Inv-loop μ-loop
-block-ok-requires c κs = (c .before .before .before .before .before .pre, c .loop-test .taken)
+block-ok-requires c κs =
+    let at-start = c .before .before .before .before .before in
+    (at-start .pre, c .loop-test .taken)
 
 returns-2 : tie.Need-returns-2 Inv-loop μ-loop
 returns-2 c = search scan-bad

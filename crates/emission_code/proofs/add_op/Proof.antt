@@ -26,7 +26,9 @@ same-length-5 c = search
 
 returns : tie.Need-returns
 unfolding addOpOf
-returns c = c .before .before .before .before .before .before .before .before .before .before .emit .ensures
+returns c =
+    let at-emit = c .before .before .before .before .before .before .before .before .before .before in
+    at-emit .emit .ensures
 
 pub add-op-spec : {M : Type 1} → statement M
 add-op-spec =

@@ -39,7 +39,9 @@ same-length-5 c = search
 
 returns : tie.Need-returns
 unfolding addOp2Of u16
-returns c = c .before .before .before .before .before .before .before .before .before .before .emit .ensures
+returns c =
+    let at-emit = c .before .before .before .before .before .before .before .before .before .before in
+    at-emit .emit .ensures
 
 pub add-op2-spec : {M : Type 1} → statement M
 add-op2-spec =

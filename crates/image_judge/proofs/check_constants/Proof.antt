@@ -28,8 +28,9 @@ wide-requires c κs = search
 
 loop-holds : tie.Need-loop-holds Inv-loop μ-loop
 loop-holds c =
+    let at-read-number = c .before .before .before .before in
     constants-start _ _ _
-    (counted-at _ _ _ (c .before .before .before .before .read-number .ensures) _ _ _ (c .before .before .n .given .1)
+    (counted-at _ _ _ (at-read-number .read-number .ensures) _ _ _ (c .before .before .n .given .1)
     (c .wide .ensures) .within)
 
 read-constant-requires : tie.Need-read-constant-requires Inv-loop μ-loop
@@ -60,10 +61,14 @@ returns-2 : tie.Need-returns-2 Inv-loop μ-loop
 returns-2 c = search (constants-bad, counted-at)
 
 add-i : tie.Need-add-i Inv-loop μ-loop
-add-i c = let z = c .before .before .before .before .before .loop-test .taken in omega arith
+add-i c = let z =
+    let at-loop-test = c .before .before .before .before .before in
+    at-loop-test .loop-test .taken in omega arith
 
 loop-less : tie.Need-loop-less Inv-loop μ-loop
-loop-less c = let z = c .before .before .before .before .before .loop-test .taken in omega arith
+loop-less c = let z =
+    let at-loop-test = c .before .before .before .before .before in
+    at-loop-test .loop-test .taken in omega arith
 
 loop-again : tie.Need-loop-again Inv-loop μ-loop
 loop-again c =

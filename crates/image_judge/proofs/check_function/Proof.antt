@@ -12,7 +12,8 @@ enum-known-h c = search
 
 add-runs : tie.Need-add-runs
 add-runs c =
-    let z = span-runs _ _ _ _ (c .before .before .before .before .read-head .ensures) _ (c .before .before .h .given .1) in
+    let at-read-head = c .before .before .before .before in
+    let z = span-runs _ _ _ _ (at-read-head .read-head .ensures) _ (c .before .before .h .given .1) in
     omega arith
 
 check-runs-requires : tie.Need-check-runs-requires

@@ -48,10 +48,14 @@ returns : tie.Need-returns Inv-loop μ-loop
 returns c = search others-bad
 
 add-i : tie.Need-add-i Inv-loop μ-loop
-add-i c = let z = c .before .before .before .before .before .before .before .loop-test .taken in omega arith
+add-i c = let z =
+    let at-loop-test = c .before .before .before .before .before .before .before in
+    at-loop-test .loop-test .taken in omega arith
 
 loop-less : tie.Need-loop-less Inv-loop μ-loop
-loop-less c = let z = c .before .before .before .before .before .before .before .loop-test .taken in omega arith
+loop-less c = let z =
+    let at-loop-test = c .before .before .before .before .before .before .before in
+    at-loop-test .loop-test .taken in omega arith
 
 loop-again : tie.Need-loop-again Inv-loop μ-loop
 loop-again c = search others-step

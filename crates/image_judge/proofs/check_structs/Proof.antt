@@ -28,7 +28,8 @@ wide-requires c κs = search
 
 rows-requires : tie.Need-rows-requires Inv-loop μ-loop
 rows-requires c κs =
-    (counted-at _ _ _ (c .before .before .before .before .read-number .ensures) _ _ _ (c .before .before .n .given .1)
+    let at-read-number = c .before .before .before .before in
+    (counted-at _ _ _ (at-read-number .read-number .ensures) _ _ _ (c .before .before .n .given .1)
     (c .wide .ensures)) .within
 
 first-repeat-requires : tie.Need-first-repeat-requires Inv-loop μ-loop
@@ -102,10 +103,14 @@ add-next c =
     omega arith
 
 add-i : tie.Need-add-i Inv-loop μ-loop
-add-i c = let z = c .before .before .before .before .before .loop-test .taken in omega arith
+add-i c = let z =
+    let at-loop-test = c .before .before .before .before .before in
+    at-loop-test .loop-test .taken in omega arith
 
 loop-less : tie.Need-loop-less Inv-loop μ-loop
-loop-less c = let z = c .before .before .before .before .before .loop-test .taken in omega arith
+loop-less c = let z =
+    let at-loop-test = c .before .before .before .before .before in
+    at-loop-test .loop-test .taken in omega arith
 
 loop-again : tie.Need-loop-again Inv-loop μ-loop
 loop-again c =

@@ -24,8 +24,9 @@ add-byte c = let y = c .before .loop .inv .most in let z = c .before .before .be
 
 shared-slice-read-byte : tie.Need-shared-slice-read-byte Inv-loop μ-loop
 shared-slice-read-byte c =
+    let at-start = c .before .before .before .before in
     let y = c .before .before .loop .inv .most in
-    let z = c .before .before .before .before .pre in
+    let z = at-start .pre in
     let t = c .before .loop-test .taken in
     omega arith
 

@@ -119,8 +119,7 @@ same-length-8 c = search
 
 returns-4 : tie.Need-returns-4
 returns-4 c =
-    let at-load-all = c .before .before .before .before .before .before .before .before .before .before .before .before .before
-    .before .before .before in
+    let at-load-all = c .before .before .before .before .before .before .before .before .before .before .before .before .before .before .before .before in
     let at-if2 = at-load-all .before .before .before .before .before .before .before .before .before in
     let at-room8 = at-if2 .before .before in
     let at-room7 = at-room8 .before .before in

@@ -33,9 +33,12 @@ same-length c = search
 
 returns-2 : tie.Need-returns-2
 returns-2 c =
-    refused _ _ _ _ _ (c .before .before .before .before .before .before .before .list-order .ensures) _
-    (not-false _ (c .before .before .before .before .before .before .if1 .left)) (search needs) _ (c .before .match .keys2)
-    (c .before .before .before .before .write-all .ensures)
+    let at-write-all = c .before .before .before .before in
+    let at-if1 = at-write-all .before .before in
+    let at-list-order = at-if1 .before in
+    refused _ _ _ _ _ (at-list-order .list-order .ensures) _
+    (not-false _ (at-if1 .if1 .left)) (search needs) _ (c .before .match .keys2)
+    (at-write-all .write-all .ensures)
 
 room-requires : tie.Need-room-requires
 room-requires c κs = search needs
@@ -45,10 +48,13 @@ same-length-2 c = search
 
 returns-3 : tie.Need-returns-3
 returns-3 c =
-    no-room _ _ _ _ _ (c .before .before .before .before .before .before .before .before .before .before .list-order .ensures) _
-    (not-false _ (c .before .before .before .before .before .before .before .before .before .if1 .left)) (search needs)
+    let at-write-all = c .before .before .before .before .before .before .before in
+    let at-if1 = at-write-all .before .before in
+    let at-list-order = at-if1 .before in
+    no-room _ _ _ _ _ (at-list-order .list-order .ensures) _
+    (not-false _ (at-if1 .if1 .left)) (search needs)
     (c .before .before .before .measured .given .1)
-    (c .before .before .before .before .before .before .before .write-all .ensures) _ (c .before .room .ensures _ refl)
+    (at-write-all .write-all .ensures) _ (c .before .room .ensures _ refl)
     (c .if2 .taken)
 
 write-all-requires-2 : tie.Need-write-all-requires-2
@@ -62,14 +68,20 @@ same-length-3 c = search
 
 returns-4 : tie.Need-returns-4
 returns-4 c =
+    let at-if2 = c .before .before .before .before in
+    let at-room = at-if2 .before in
+    let at-measured = at-room .before .before in
+    let at-write-all = at-measured .before .before .before .before in
+    let at-if1 = at-write-all .before .before in
+    let at-list-order = at-if1 .before in
     room-for _ _ _ _ _
-    (c .before .before .before .before .before .before .before .before .before .before .before .before .before .before .list-order
+    (at-list-order .list-order
     .ensures) _
     (not-false _
-    (c .before .before .before .before .before .before .before .before .before .before .before .before .before .if1 .left))
-    (search needs) (c .before .before .before .before .before .before .before .measured .given .1)
-    (c .before .before .before .before .before .before .before .before .before .before .before .write-all .ensures) _
-    (c .before .before .before .before .before .room .ensures _ refl) (c .before .before .before .before .if2 .left)
+    (at-if1 .if1 .left))
+    (search needs) (at-measured .measured .given .1)
+    (at-write-all .write-all .ensures) _
+    (at-room .room .ensures _ refl) (at-if2 .if2 .left)
     (c .before .before .write-all2 .ensures)
 
 pub disassemble-spec : {M : Type 1} → statement M

@@ -56,16 +56,22 @@ loop-less c = search needs
 
 loop-again : tie.Need-loop-again Inv-loop μ-loop
 loop-again c =
-    one-more _ _ _ _ (c .before .before .before .before .before .before .before .before .before .before .before .loop .inv)
-    (c .before .before .before .before .before .before .before .before .before .before .loop-test .taken) _
-    (c .before .before .before .before .before .before .before .before .before .first .ensures) _ _
-    (c .before .before .before .before .before .before .before .before .part .ensures)
-    (c .before .before .before .before .before .before .before .code-of .ensures .0)
-    (c .before .before .before .before .before .write-function .ensures) (c .before .told .given .1)
+    let at-write-function = c .before .before .before .before .before in
+    let at-code-of = at-write-function .before .before in
+    let at-part = at-code-of .before in
+    let at-first = at-part .before in
+    let at-loop-test = at-first .before in
+    let at-loop = at-loop-test .before in
+    one-more _ _ _ _ (at-loop .loop .inv)
+    (at-loop-test .loop-test .taken) _
+    (at-first .first .ensures) _ _
+    (at-part .part .ensures)
+    (at-code-of .code-of .ensures .0)
+    (at-write-function .write-function .ensures) (c .before .told .given .1)
     (omega (
       arith,
-      short _ _ (search needs) _ (c .before .before .before .before .before .before .before .before .part .ensures),
-      c .before .before .before .before .before .before .before .code-of .ensures .1,
+      short _ _ (search needs) _ (at-part .part .ensures),
+      at-code-of .code-of .ensures .1,
     ))
 
 same-length-2 : tie.Need-same-length-2 Inv-loop μ-loop

@@ -24,9 +24,13 @@ below t = and 1 kinds.ps (falls 1 kinds.ps _<_ μ t) reads.Pre
 -- a group in front of others, which the sum's bounds use too
 joins : (t : ℕ) → lts.Need-returns-6 (below t, reads.Post) (here t) reads.Post
 joins t c =
-    joined _ _ _ (c .before .before .before .before .before .before .before .before .if1 .left)
-    (c .before .before .before .before .before .before .if2 .left) (c .before .before .before .before .before .if4 .left) _
-    (c .before .before .before .before .read-groups .ensures) _ _ (c .before .before .others .given .1)
+    let at-read-groups = c .before .before .before .before in
+    let at-if4 = at-read-groups .before in
+    let at-if2 = at-if4 .before in
+    let at-if1 = at-if2 .before .before in
+    joined _ _ _ (at-if1 .if1 .left)
+    (at-if2 .if2 .left) (at-if4 .if4 .left) _
+    (at-read-groups .read-groups .ensures) _ _ (c .before .before .others .given .1)
     (omega (
       arith,
       let at-shared-slice-known2 = c .before .before .before .before .before .before .before in
@@ -44,15 +48,27 @@ pub +read-groups-spec : {M : Type 1} → statement M
     (λ c. pos-of-ne-zero (c .before .if2 .left))
     (λ c κs. let h : 0 < _ = pos-of-ne-zero (c .before .if2 .left) in (omega arith, omega arith)) (λ c. search needs)
     (λ c. search needs)
-    (λ c. broken _ _ _ (c .before .before .before .before .before .before .if1 .left)
-    (c .before .before .before .before .if2 .left) (c .before .before .before .if4 .left) _
+    (λ c.
+    let at-if2 = c .before .before .before .before in
+    let at-if1 = at-if2 .before .before in
+    broken _ _ _ (at-if1 .if1 .left)
+    (at-if2 .if2 .left) (c .before .before .before .if4 .left) _
     (c .before .before .read-groups .ensures) (c .enum-told .given .1))
-    (λ c. let h : _ < 2 ^ 32 = fits _ _ _ _ _
-    (c .before .before .before .before .before .before .before .before .before .before .pre .1) (joins t c) in
+    (λ c.
+    let at-start = c .before .before .before .before .before .before .before .before .before .before in
+    let h : _ < 2 ^ 32 = fits _ _ _ _ _
+    (at-start .pre .1) (joins t c) in
     omega arith)
-    (λ c. let h : _ < 2 ^ 32 = fits _ _ _ _ _
-    (c .before .before .before .before .before .before .before .before .before .before .pre .1) (joins t c) in
+    (λ c.
+    let at-start = c .before .before .before .before .before .before .before .before .before .before in
+    let h : _ < 2 ^ 32 = fits _ _ _ _ _
+    (at-start .pre .1) (joins t c) in
     omega arith) (joins t)
-    (λ c. padded _ _ _ (c .before .before .before .before .before .before .before .before .if1 .left)
-    (c .before .before .before .before .before .before .if2 .left) (c .before .before .before .before .before .if4 .left) _
-    (c .before .before .before .before .read-groups .ensures) _ _ (c .before .before .others .given .1) (c .if5 .left))
+    (λ c.
+    let at-read-groups = c .before .before .before .before in
+    let at-if4 = at-read-groups .before in
+    let at-if2 = at-if4 .before in
+    let at-if1 = at-if2 .before .before in
+    padded _ _ _ (at-if1 .if1 .left)
+    (at-if2 .if2 .left) (at-if4 .if4 .left) _
+    (at-read-groups .read-groups .ensures) _ _ (c .before .before .others .given .1) (c .if5 .left))

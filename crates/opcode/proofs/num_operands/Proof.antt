@@ -26,7 +26,8 @@ returns-2 c = in-range listed arms 5 21 tt _ (c .before .before .match .rest) (o
 returns-3 : tie.Need-returns-3
 unfolding ascii opcodes opcodeAt
 returns-3 c =
-    in-range listed arms 37 219 tt _ (c .before .before .before .before .before .match .rest) (omega arith) (omega arith)
+    let at-match = c .before .before .before .before .before in
+    in-range listed arms 37 219 tt _ (at-match .match .rest) (omega arith) (omega arith)
 
 returns-4 : tie.Need-returns-4
 unfolding ascii opcodes opcodeAt
@@ -38,7 +39,9 @@ returns-5 c = in-range listed arms 26 2 tt _ (c .before .before .before .match .
 
 returns-6 : tie.Need-returns-6
 unfolding ascii opcodes opcodeAt
-returns-6 c = in-range listed arms 30 7 tt _ (c .before .before .before .before .before .match .rest) (omega arith) (omega arith)
+returns-6 c =
+    let at-match = c .before .before .before .before .before in
+    in-range listed arms 30 7 tt _ (at-match .match .rest) (omega arith) (omega arith)
 
 returns-7 : tie.Need-returns-7
 unfolding ascii opcodes opcodeAt
@@ -46,7 +49,9 @@ returns-7 c = at-keys listed (2 ∷ 34 ∷ []) tt _ (c .match .keys1)
 
 returns-8 : tie.Need-returns-8
 unfolding ascii opcodes opcodeAt
-returns-8 c = in-range listed arms 28 2 tt _ (c .before .before .before .before .match .rest) (omega arith) (omega arith)
+returns-8 c =
+    let at-match = c .before .before .before .before in
+    in-range listed arms 28 2 tt _ (at-match .match .rest) (omega arith) (omega arith)
 
 pub num-operands-spec : {M : Type 1} → statement M
 num-operands-spec = tie.close (tie.spec returns returns-2 returns-3 returns-4 returns-5 returns-6 returns-7 returns-8)

@@ -21,7 +21,9 @@ returns c = at-keys read (2 ∷ 28 ∷ 31 ∷ 34 ∷ []) tt _ (c .match .keys2)
 
 returns-2 : tie.Need-returns-2
 unfolding ascii opcodes opcodeAt
-returns-2 c = in-range read arms 28 3 tt _ (c .before .before .before .before .match .rest) (omega arith) (omega arith)
+returns-2 c =
+    let at-match = c .before .before .before .before in
+    in-range read arms 28 3 tt _ (at-match .match .rest) (omega arith) (omega arith)
 
 returns-3 : tie.Need-returns-3
 unfolding ascii opcodes opcodeAt
@@ -29,7 +31,9 @@ returns-3 c = in-range read arms 5 21 tt _ (c .before .before .match .rest) (ome
 
 returns-4 : tie.Need-returns-4
 unfolding ascii opcodes opcodeAt
-returns-4 c = in-range read arms 37 219 tt _ (c .before .before .before .before .before .match .rest) (omega arith) (omega arith)
+returns-4 c =
+    let at-match = c .before .before .before .before .before in
+    in-range read arms 37 219 tt _ (at-match .match .rest) (omega arith) (omega arith)
 
 returns-5 : tie.Need-returns-5
 unfolding ascii opcodes opcodeAt
@@ -45,7 +49,9 @@ returns-7 c = in-range read arms 26 2 tt _ (c .before .before .before .match .re
 
 returns-8 : tie.Need-returns-8
 unfolding ascii opcodes opcodeAt
-returns-8 c = in-range read arms 31 6 tt _ (c .before .before .before .before .before .match .rest) (omega arith) (omega arith)
+returns-8 c =
+    let at-match = c .before .before .before .before .before in
+    in-range read arms 31 6 tt _ (at-match .match .rest) (omega arith) (omega arith)
 
 pub operands-read-spec : {M : Type 1} → statement M
 operands-read-spec = tie.close (tie.spec returns returns-2 returns-3 returns-4 returns-5 returns-6 returns-7 returns-8)

@@ -27,8 +27,11 @@ pub +write-decimal-spec : {M : Type 1} → statement M
     (λ c. omega (arith, digit (c .before .before .args .like) (c .before .before .args .n) (c .if1 .taken)))
     (λ c. omega (arith, digit (c .before .before .args .like) (c .before .before .args .n) (c .if1 .taken)))
     (λ c κs. search needs) (λ c. search needs)
-    (λ c. one-digit (c .before .before .before .before .before .before .args .like)
-    (c .before .before .before .before .before .before .args .n) (c .before .before .before .before .if1 .taken)
+    (λ c.
+    let at-if1 = c .before .before .before .before in
+    let at-start = at-if1 .before .before in
+    one-digit (at-start .args .like)
+    (at-start .args .n) (at-if1 .if1 .taken)
     (c .before .before .put-byte .ensures))
     (λ c κs. (
       omega (
@@ -38,13 +41,20 @@ pub +write-decimal-spec : {M : Type 1} → statement M
       ),
       search needs,
     )) (λ c. search needs) (λ c. search needs)
-    (λ c κs. omega (
+    (λ c κs.
+    let at-if1 = c .before .before .before .before .before in
+    let at-start = at-if1 .before .before in
+    omega (
       arith,
-      last-fits (c .before .before .before .before .before .before .before .args .like)
-          (c .before .before .before .before .before .before .before .args .n) (search needs) (search needs)
-          (c .before .before .before .before .before .if1 .left) (c .before .before .before .write-decimal .ensures),
+      last-fits (at-start .args .like)
+          (at-start .args .n) (search needs) (search needs)
+          (at-if1 .if1 .left) (c .before .before .before .write-decimal .ensures),
     )) (λ c. search needs)
-    (λ c. more-digits (c .before .before .before .before .before .before .before .before .before .before .args .like)
-    (c .before .before .before .before .before .before .before .before .before .before .args .n) (search needs) (search needs)
-    (c .before .before .before .before .before .before .before .before .if1 .left)
-    (c .before .before .before .before .before .before .write-decimal .ensures) (c .before .before .put-byte2 .ensures))
+    (λ c.
+    let at-write-decimal = c .before .before .before .before .before .before in
+    let at-if1 = at-write-decimal .before .before in
+    let at-start = at-if1 .before .before in
+    more-digits (at-start .args .like)
+    (at-start .args .n) (search needs) (search needs)
+    (at-if1 .if1 .left)
+    (at-write-decimal .write-decimal .ensures) (c .before .before .put-byte2 .ensures))

@@ -15,7 +15,8 @@ room-requires c κs = search needs
 
 returns-2 : tie.Need-returns-2
 returns-2 c =
-    text-long _ _ _ _ _ (c .before .before .before .before .before .before .before .pre) (c .before .before .if1 .left)
+    let at-start = c .before .before .before .before .before .before .before in
+    text-long _ _ _ _ _ (at-start .pre) (c .before .before .if1 .left)
     (c .before .room .ensures _ refl) (c .if2 .taken)
 
 sub-put-bytes : tie.Need-sub-put-bytes

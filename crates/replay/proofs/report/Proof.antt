@@ -32,10 +32,14 @@ say-requires-4 : tie.Need-say-requires-4
 say-requires-4 c κs = search needs
 
 returns-2 : tie.Need-returns-2
-returns-2 c = differs _ (c .before .before .before .before .before .before .before .before .before .before .if1 .left)
+returns-2 c =
+    let at-if1 = c .before .before .before .before .before .before .before .before .before .before in
+    differs _ (at-if1 .if1 .left)
 
 returns-3 : tie.Need-returns-3
-returns-3 c = differs _ (c .before .before .before .before .before .before .before .before .if1 .left)
+returns-3 c =
+    let at-if1 = c .before .before .before .before .before .before .before .before in
+    differs _ (at-if1 .if1 .left)
 
 pub report-spec : {M : Type 1} → statement M
 report-spec =

@@ -15,8 +15,8 @@ saves-requires c κs = search needs
 
 same-length : tie.Need-same-length
 same-length c =
-    c .before .before .before .before .before .before .before .before .before .before .before .before .before .before .before
-    .before .before .before .before .before .before .before .before .before .before .before .before .before .constants .given
+    let at-constants = c .before .before .before .before .before .before .before .before .before .before .before .before .before .before .before .before .before .before .before .before .before .before .before .before .before .before .before .before in
+    at-constants .constants .given
 
 same-length-2 : tie.Need-same-length-2
 same-length-2 c = search needs
@@ -45,8 +45,7 @@ same-length-9 c = search needs
 returns : tie.Need-returns
 returns c =
     let at-same-line = c .before .before .before .before .before .before .before .before .before .before .before .before in
-    let at-read = at-same-line .before .before .before .before .before .before .before .before .before .before .before .before
-    .before .before .before .before .before in
+    let at-read = at-same-line .before .before .before .before .before .before .before .before .before .before .before .before .before .before .before .before .before in
     all _ _ _ _ (at-read .read .ensures) (at-same-line .same-line .ensures) (c .before .before .saves .ensures)
 
 pub compare-spec : {M : Type 1} → statement M

@@ -42,7 +42,8 @@ lists-requires c κs = search needs
 
 returns : tie.Need-returns
 returns c =
-    judged _ _ _ _ (c .before .before .before .before .before .before .before .before .before .before .before .compare .ensures)
+    let at-compare = c .before .before .before .before .before .before .before .before .before .before .before in
+    judged _ _ _ _ (at-compare .compare .ensures)
     (c .before .runs .ensures) (c .lists .ensures)
 
 pub judge-spec : {M : Type 1} → statement M

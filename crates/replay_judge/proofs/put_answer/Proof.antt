@@ -36,7 +36,9 @@ same-length : tie.Need-same-length
 same-length c = search needs
 
 returns : tie.Need-returns
-returns c = line-done (c .before .before .before .before .before .answer .given .1) (c .before .before .put-loaded .ensures)
+returns c =
+    let at-answer = c .before .before .before .before .before in
+    line-done (at-answer .answer .given .1) (c .before .before .put-loaded .ensures)
 
 same-length-2 : tie.Need-same-length-2
 same-length-2 c = search needs
@@ -44,7 +46,8 @@ same-length-2 c = search needs
 returns-2 : tie.Need-returns-2
 unfolding ascii
 returns-2 c =
-    line-broken (c .before .before .before .before .before .before .answer2 .given .1) (c .before .before .put-line .ensures)
+    let at-answer2 = c .before .before .before .before .before .before in
+    line-broken (at-answer2 .answer2 .given .1) (c .before .before .put-line .ensures)
 
 same-length-3 : tie.Need-same-length-3
 same-length-3 c = search needs
@@ -52,7 +55,8 @@ same-length-3 c = search needs
 returns-3 : tie.Need-returns-3
 unfolding ascii
 returns-3 c =
-    line-refused (c .before .before .before .before .before .before .answer3 .given .1) (c .before .before .put-line2 .ensures)
+    let at-answer3 = c .before .before .before .before .before .before in
+    line-refused (at-answer3 .answer3 .given .1) (c .before .before .put-line2 .ensures)
 
 pub put-answer-spec : {M : Type 1} → statement M
 put-answer-spec =

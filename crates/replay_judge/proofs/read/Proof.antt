@@ -36,8 +36,7 @@ same-length-8 c = search needs
 
 returns-2 : tie.Need-returns-2
 returns-2 c =
-    let at-load = c .before .before .before .before .before .before .before .before .before .before .before .before .before
-    .before .before .before in
+    let at-load = c .before .before .before .before .before .before .before .before .before .before .before .before .before .before .before .before in
     let at-if1 = at-load .before .before .before .before .before .before .before .before .before in
     loads _ _ (at-if1 .if1 .left) (at-load .load .ensures)
 

@@ -21,9 +21,10 @@ same-front-requires c κs = search needs
 
 returns : tie.Need-returns
 returns c =
+    let at-shared-slice-known = c .before .before .before .before .before .before in
     told 32768 _ _ (omega arith)
     (runner-fits _
-    (bytes-of _ (λ i. omega (arith, c .before .before .before .before .before .before .shared-slice-known .given i))))
+    (bytes-of _ (λ i. omega (arith, at-shared-slice-known .shared-slice-known .given i))))
     (c .before .before .before .run-image .ensures) _ (c .same-front .ensures)
 
 pub runs-spec : {M : Type 1} → statement M

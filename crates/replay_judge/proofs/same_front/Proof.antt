@@ -11,14 +11,16 @@ lesser-requires c κs = search needs
 
 slice-aggregate-same-bytes : tie.Need-slice-aggregate-same-bytes
 slice-aggregate-same-bytes c =
-    sym (length-take-le _ (c .before .before .before .before .args .s .now) (cut _ _ (c .before .lesser .ensures)))
+    let at-start = c .before .before .before .before in
+    sym (length-take-le _ (at-start .args .s .now) (cut _ _ (c .before .lesser .ensures)))
 
 same-bytes-requires : tie.Need-same-bytes-requires
 same-bytes-requires c κs = search needs
 
 returns : tie.Need-returns
 returns c =
-    same-front _ _ (c .before .before .before .before .before .args .s .now) _ (c .before .before .lesser .ensures) _
+    let at-start = c .before .before .before .before .before in
+    same-front _ _ (at-start .args .s .now) _ (c .before .before .lesser .ensures) _
     (c .same-bytes .ensures)
 
 pub same-front-spec : {M : Type 1} → statement M

@@ -9,7 +9,8 @@ enum-known-loaded c = search
 
 list-program-requires : tie.Need-list-program-requires
 list-program-requires c κs =
-    λ rest. can-list _ (c .before .before .before .before .before .before .before .before .before .pre rest)
+    let at-start = c .before .before .before .before .before .before .before .before .before in
+    λ rest. can-list _ (at-start .pre rest)
     (c .before .before .loaded .given .1)
 
 enum-told : tie.Need-enum-told
@@ -29,7 +30,8 @@ same-length c = search
 
 returns : tie.Need-returns
 returns c =
-    λ rest. done-printed _ _ (c .before .before .before .before .before .loaded .given .1)
+    let at-loaded = c .before .before .before .before .before in
+    λ rest. done-printed _ _ (at-loaded .loaded .given .1)
     (c .before .before .list-program .ensures rest)
 
 same-length-2 : tie.Need-same-length-2

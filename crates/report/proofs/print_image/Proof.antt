@@ -91,13 +91,14 @@ slice-aggregate-list-loaded-4 c = search needs
 
 list-loaded-requires : tie.Need-list-loaded-requires
 list-loaded-requires c κs =
+    let at-load = c .before .before .before .before .before .before .before .before .before .before .before .before .before .before in
+    let at-shared-slice-known = at-load .before .before .before .before .before .before .before .before .before .before .before in
     loads-listable _
     (λ i. omega (
       arith,
-      c .before .before .before .before .before .before .before .before .before .before .before .before .before .before .before
-          .before .before .before .before .before .before .before .before .before .before .shared-slice-known .given i,
+      at-shared-slice-known .shared-slice-known .given i,
     )) _ _ _ _ _ _ _ _ _ _
-    (c .before .before .before .before .before .before .before .before .before .before .before .before .before .before .load
+    (at-load .load
     .ensures)
 
 same-length-3 : tie.Need-same-length-3

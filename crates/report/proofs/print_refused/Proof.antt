@@ -22,7 +22,8 @@ same-length c = search
 
 returns : tie.Need-returns
 returns c =
-    no-room _ _ (search needs) (c .before .before .before .before .put-refused .ensures) _ (c .before .room .ensures _ refl)
+    let at-put-refused = c .before .before .before .before in
+    no-room _ _ (search needs) (at-put-refused .put-refused .ensures) _ (c .before .room .ensures _ refl)
     (c .if1 .taken)
 
 put-refused-requires-2 : tie.Need-put-refused-requires-2
@@ -33,8 +34,11 @@ same-length-2 c = search
 
 returns-2 : tie.Need-returns-2
 returns-2 c =
-    room-for _ _ (search needs) (c .before .before .before .before .before .before .before .before .put-refused .ensures) _
-    (c .before .before .before .before .before .room .ensures _ refl) (c .before .before .before .before .if1 .left)
+    let at-if1 = c .before .before .before .before in
+    let at-room = at-if1 .before in
+    let at-put-refused = at-room .before .before .before in
+    room-for _ _ (search needs) (at-put-refused .put-refused .ensures) _
+    (at-room .room .ensures _ refl) (at-if1 .if1 .left)
     (c .before .before .put-refused2 .ensures)
 
 pub print-refused-spec : {M : Type 1} → statement M

@@ -12,7 +12,9 @@ slice-aggregate-put-report : tie.Need-slice-aggregate-put-report
 slice-aggregate-put-report c = search
 
 put-report-requires : tie.Need-put-report-requires
-put-report-requires c κs = c .before .before .before .before .pre
+put-report-requires c κs =
+    let at-start = c .before .before .before .before in
+    at-start .pre
 
 room-requires : tie.Need-room-requires
 room-requires c κs = search needs
@@ -22,20 +24,26 @@ same-length c = search
 
 returns : tie.Need-returns
 returns c =
-    λ stack frames copy. no-room _ _ (search needs) (c .before .before .before .before .put-report .ensures stack frames copy) _
+    let at-put-report = c .before .before .before .before in
+    λ stack frames copy. no-room _ _ (search needs) (at-put-report .put-report .ensures stack frames copy) _
     (c .before .room .ensures _ refl) (c .if1 .taken)
 
 put-report-requires-2 : tie.Need-put-report-requires-2
-put-report-requires-2 c κs = c .before .before .before .before .before .before .before .before .before .before .pre
+put-report-requires-2 c κs =
+    let at-start = c .before .before .before .before .before .before .before .before .before .before in
+    at-start .pre
 
 same-length-2 : tie.Need-same-length-2
 same-length-2 c = search
 
 returns-2 : tie.Need-returns-2
 returns-2 c =
+    let at-if1 = c .before .before .before .before in
+    let at-room = at-if1 .before in
+    let at-put-report = at-room .before .before .before in
     λ stack frames copy. room-for _ _ (search needs)
-    (c .before .before .before .before .before .before .before .before .put-report .ensures stack frames copy) _
-    (c .before .before .before .before .before .room .ensures _ refl) (c .before .before .before .before .if1 .left)
+    (at-put-report .put-report .ensures stack frames copy) _
+    (at-room .room .ensures _ refl) (at-if1 .if1 .left)
     (c .before .before .put-report2 .ensures stack frames copy)
 
 pub print-report-spec : {M : Type 1} → statement M

@@ -31,18 +31,20 @@ slice-aggregate-print-report-2 c = search needs
 
 print-report-requires : tie.Need-print-report-requires
 print-report-requires c κs =
+    let at-play = c .before .before .before .before .before .before .before in
+    let at-fresh-vm = at-play .before .before .before .before .before in
+    let at-shared-slice-known7 = at-fresh-vm .before .before .before in
+    let at-shared-slice-known5 = at-shared-slice-known7 .before .before in
     can-print _ _ _ _ _ _ _ _ _ _
-    (c .before .before .before .before .before .before .before .before .before .before .before .before .fresh-vm .ensures) _ _ _ _
-    _ (c .before .before .before .before .before .before .before .play .ensures)
+    (at-fresh-vm .fresh-vm .ensures) _ _ _ _
+    _ (at-play .play .ensures)
     (λ j. omega (
       arith,
-      c .before .before .before .before .before .before .before .before .before .before .before .before .before .before .before
-          .before .before .shared-slice-known5 .given j,
+      at-shared-slice-known5 .shared-slice-known5 .given j,
     ))
     (λ j. omega (
       arith,
-      c .before .before .before .before .before .before .before .before .before .before .before .before .before .before .before
-          .shared-slice-known7 .given j,
+      at-shared-slice-known7 .shared-slice-known7 .given j,
     ))
 
 same-length : tie.Need-same-length

@@ -33,7 +33,9 @@ loop-holds : tie.Need-loop-holds Inv-loop μ-loop
 loop-holds c = none-yet (stack-judged _ _ _ _) _ (c .before .room .ensures _ refl) (c .if1 .left)
 
 slot-ok-requires : tie.Need-slot-ok-requires Inv-loop μ-loop
-slot-ok-requires c κs = c .before .before .before .before .before .before .pre
+slot-ok-requires c κs =
+    let at-start = c .before .before .before .before .before .before in
+    at-start .pre
 
 returns-2 : tie.Need-returns-2 Inv-loop μ-loop
 returns-2 c = search (one-fails, not-true)

@@ -248,8 +248,9 @@ same-length-15 c = search
 returns-14 : tie.Need-returns-14
 unfolding execOf
 returns-14 c =
+    let at-start = c .before .before .before .before .before .before .before .before .before in
     λ w l. by-arm w _ _ (c .before .before .enum-told11 .given .1) (λ cs. refl)
-    (c .before .before .before .before .before .before .before .before .before .pre .1 .0 .cells) (c .call .ensures w (l .suits))
+    (at-start .pre .1 .0 .cells) (c .call .ensures w (l .suits))
 
 same-length-16 : tie.Need-same-length-16
 same-length-16 c = search
@@ -257,8 +258,9 @@ same-length-16 c = search
 returns-15 : tie.Need-returns-15
 unfolding execOf
 returns-15 c =
+    let at-start = c .before .before .before .before .before .before .before .before .before in
     λ w l. by-arm w _ _ (c .before .before .enum-told12 .given .1) (λ cs. refl)
-    (c .before .before .before .before .before .before .before .before .before .pre .1 .0 .cells)
+    (at-start .pre .1 .0 .cells)
     (c .call-callable .ensures w (l .rest) (l .suits) (l .named))
 
 same-length-17 : tie.Need-same-length-17

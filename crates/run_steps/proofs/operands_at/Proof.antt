@@ -73,14 +73,16 @@ word-requires-4 : tie.Need-word-requires-4
 word-requires-4 c κs = search
 
 returns-2 : tie.Need-returns-2
-returns-2 c = (
-  (
-    word-is _ _ (omega arith) (c .before .before .before .before .before .byte-at .ensures)
-        (c .before .before .before .before .byte-at2 .ensures) (c .before .before .before .word3 .ensures .0),
-    word-is _ _ (omega arith) (c .before .before .byte-at3 .ensures) (c .before .byte-at4 .ensures) (c .word4 .ensures .0),
-  ),
-  (c .before .before .before .word3 .ensures .1, c .word4 .ensures .1),
-)
+returns-2 c =
+    let at-byte-at2 = c .before .before .before .before in
+    let at-byte-at = at-byte-at2 .before in (
+      (
+        word-is _ _ (omega arith) (at-byte-at .byte-at .ensures)
+            (at-byte-at2 .byte-at2 .ensures) (c .before .before .before .word3 .ensures .0),
+        word-is _ _ (omega arith) (c .before .before .byte-at3 .ensures) (c .before .byte-at4 .ensures) (c .word4 .ensures .0),
+      ),
+      (c .before .before .before .word3 .ensures .1, c .word4 .ensures .1),
+    )
 
 pub operands-at-spec : {M : Type 1} → statement M
 operands-at-spec =

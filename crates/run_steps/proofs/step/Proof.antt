@@ -39,12 +39,13 @@ mul-behind c = omega (arith, read-few _ (c .operands-read .ensures))
 
 add-behind : tie.Need-add-behind
 add-behind c =
+    let at-start = c .before .before .before .before .before .before .before .before .before .before .before .before .before in
     omega (
       arith,
       read-few _ (c .operands-read .ensures),
       code-short
-          (c .before .before .before .before .before .before .before .before .before .before .before .before .before .pre .0 .2),
-      c .before .before .before .before .before .before .before .before .before .before .before .before .before .pre .1,
+          (at-start .pre .0 .2),
+      at-start .pre .1,
     )
 
 returns-2 : tie.Need-returns-2
@@ -59,40 +60,39 @@ operands-at-requires : tie.Need-operands-at-requires
 operands-at-requires c κs = search needs
 
 execute-requires : tie.Need-execute-requires
-execute-requires c κs = (
-  let at-start = c .before .before .before .before .before .before .before .before .before .before .before .before .before .before
-      .before .before .before in
-      (at-start .pre .0 .0, (at-start .pre .0 .2) .lent),
-  (
-    blocks-at
-        (c .before .before .before .before .before .before .before .before .before .before .before .before .before .before .before
-        .before .before .pre .0 .2) _ _,
-    (
-      omega (
-        arith,
-        code-short
-            (c .before .before .before .before .before .before .before .before .before .before .before .before .before .before
-            .before .before .before .pre .0 .2),
+execute-requires c κs =
+    let at-start-2 = c .before .before .before .before .before .before .before .before .before .before .before .before .before .before .before .before .before in (
+      let at-start = c .before .before .before .before .before .before .before .before .before .before .before .before .before .before .before .before .before in
+          (at-start .pre .0 .0, (at-start .pre .0 .2) .lent),
+      (
+        blocks-at
+            (at-start-2 .pre .0 .2) _ _,
+        (
+          omega (
+            arith,
+            code-short
+                (at-start-2 .pre .0 .2),
+          ),
+          base-fits
+              (at-start-2 .pre .0 .2),
+          c .before .before .operands-at .ensures .1 .0,
+          c .before .before .operands-at .ensures .1 .1,
+        ),
       ),
-      base-fits
-          (c .before .before .before .before .before .before .before .before .before .before .before .before .before .before
-          .before .before .before .pre .0 .2),
-      c .before .before .operands-at .ensures .1 .0,
-      c .before .before .operands-at .ensures .1 .1,
-    ),
-  ),
-)
+    )
 
 returns-3 : tie.Need-returns-3
 unfolding decodedThen
 returns-3 c =
-    λ w cs at. unread at (c .before .before .before .before .if1 .left) refl
+    let at-if1 = c .before .before .before .before in
+    λ w cs at. unread at (at-if1 .if1 .left) refl
     (sym (c .enum-told .given .1) ∙ c .before .before .decode .ensures) (λ st h p. refl)
 
 returns-4 : tie.Need-returns-4
 unfolding decodedThen
 returns-4 c =
-    λ w cs at. unread at (c .before .before .before .before .if1 .left) refl
+    let at-if1 = c .before .before .before .before in
+    λ w cs at. unread at (at-if1 .if1 .left) refl
     (sym (c .enum-told2 .given .1) ∙ c .before .before .decode .ensures) (λ st h p. refl)
 
 same-length : tie.Need-same-length

@@ -15,7 +15,9 @@ loop-holds : tie.Need-loop-holds Inv-loop μ-loop
 loop-holds c = looking-start _ _ _ _ _ _ (c .before .before .pre)
 
 read-text-requires : tie.Need-read-text-requires Inv-loop μ-loop
-read-text-requires c κs = looking-within _ _ _ _ _ _ (c .before .before .before .before .pre) _ _ (c .before .loop .inv)
+read-text-requires c κs =
+    let at-start = c .before .before .before .before in
+    looking-within _ _ _ _ _ _ (at-start .pre) _ _ (c .before .loop .inv)
 
 enum-known-here : tie.Need-enum-known-here Inv-loop μ-loop
 enum-known-here c = search
@@ -61,11 +63,14 @@ part-spot-end c =
     omega arith
 
 sub-spot-2 : tie.Need-sub-spot-2 Inv-loop μ-loop
-sub-spot-2 c = let w = c .before .before .before .before .before .before .before .before .before .pre .0 .within in omega arith
+sub-spot-2 c = let w =
+    let at-start = c .before .before .before .before .before .before .before .before .before in
+    at-start .pre .0 .within in omega arith
 
 part-spot-start-2 : tie.Need-part-spot-start-2 Inv-loop μ-loop
 part-spot-start-2 c =
-    let w = c .before .before .before .before .before .before .before .before .before .pre .0 .within in
+    let at-start = c .before .before .before .before .before .before .before .before .before in
+    let w = at-start .pre .0 .within in
     omega arith
 
 part-spot-end-2 : tie.Need-part-spot-end-2 Inv-loop μ-loop
@@ -94,12 +99,14 @@ part-stands-end c =
 
 sub-stands-2 : tie.Need-sub-stands-2 Inv-loop μ-loop
 sub-stands-2 c =
-    let w = c .before .before .before .before .before .before .before .before .before .before .before .before .pre .0 .within in
+    let at-start = c .before .before .before .before .before .before .before .before .before .before .before .before in
+    let w = at-start .pre .0 .within in
     omega arith
 
 part-stands-start-2 : tie.Need-part-stands-start-2 Inv-loop μ-loop
 part-stands-start-2 c =
-    let w = c .before .before .before .before .before .before .before .before .before .before .before .before .pre .0 .within in
+    let at-start = c .before .before .before .before .before .before .before .before .before .before .before .before in
+    let w = at-start .pre .0 .within in
     omega arith
 
 part-stands-end-2 : tie.Need-part-stands-end-2 Inv-loop μ-loop
@@ -122,12 +129,14 @@ returns-2 c =
 
 add-i : tie.Need-add-i Inv-loop μ-loop
 add-i c =
-    let z = c .before .before .before .before .before .before .before .before .before .before .before .loop-test .taken in
+    let at-loop-test = c .before .before .before .before .before .before .before .before .before .before .before in
+    let z = at-loop-test .loop-test .taken in
     omega arith
 
 loop-less : tie.Need-loop-less Inv-loop μ-loop
 loop-less c =
-    let z = c .before .before .before .before .before .before .before .before .before .before .before .loop-test .taken in
+    let at-loop-test = c .before .before .before .before .before .before .before .before .before .before .before in
+    let z = at-loop-test .loop-test .taken in
     omega arith
 
 loop-again : tie.Need-loop-again Inv-loop μ-loop
@@ -143,7 +152,9 @@ loop-again c =
     (c .if1 .left)
 
 returns-3 : tie.Need-returns-3 Inv-loop μ-loop
-returns-3 c = looking-end _ _ _ _ _ _ (c .before .before .before .before .pre) _ _ (c .before .loop .inv) (c .loop-test .left)
+returns-3 c =
+    let at-start = c .before .before .before .before in
+    looking-end _ _ _ _ _ _ (at-start .pre) _ _ (c .before .loop .inv) (c .loop-test .left)
 
 pub look-in-spec : {M : Type 1} → statement M
 look-in-spec =

@@ -22,13 +22,14 @@ sub-left : tie.Need-sub-left Inv-loop μ-loop
 sub-left c = let z = c .loop-test .taken in omega arith
 
 against-chunk-requires : tie.Need-against-chunk-requires Inv-loop μ-loop
-against-chunk-requires c κs = (
-  repeating-rows _ _ _ (c .before .before .before .before .before .pre .0) _ _ _ (c .before .before .loop .inv .1)
-      (c .before .loop-test .taken),
-  let z = c .before .before .loop .inv .0 in
-      let y = c .before .before .before .before .before .pre .1 in
-      omega arith,
-)
+against-chunk-requires c κs =
+    let at-start = c .before .before .before .before .before in (
+      repeating-rows _ _ _ (at-start .pre .0) _ _ _ (c .before .before .loop .inv .1)
+          (c .before .loop-test .taken),
+      let z = c .before .before .loop .inv .0 in
+          let y = at-start .pre .1 in
+          omega arith,
+    )
 
 add-repeat : tie.Need-add-repeat Inv-loop μ-loop
 add-repeat c =
@@ -78,7 +79,9 @@ same-length : tie.Need-same-length Inv-loop μ-loop
 same-length c = c .before .loop .inv .0
 
 returns : tie.Need-returns Inv-loop μ-loop
-returns c = repeating-end _ _ _ (c .before .before .before .before .pre .0) _ _ _ (c .before .loop .inv .1) (c .loop-test .left)
+returns c =
+    let at-start = c .before .before .before .before in
+    repeating-end _ _ _ (at-start .pre .0) _ _ _ (c .before .loop .inv .1) (c .loop-test .left)
 
 pub over-chunks-spec : {M : Type 1} → statement M
 over-chunks-spec =

@@ -32,7 +32,9 @@ enum-told : tie.Need-enum-told Inv-loop μ-loop
 enum-told c = search
 
 same-length : tie.Need-same-length Inv-loop μ-loop
-same-length c = c .before .before .before .before .loop .inv .same
+same-length c =
+    let at-loop = c .before .before .before .before in
+    at-loop .loop .inv .same
 
 returns : tie.Need-returns Inv-loop μ-loop
 returns c = search taking-never
@@ -69,12 +71,14 @@ part-spot-end c =
 
 sub-spot-2 : tie.Need-sub-spot-2 Inv-loop μ-loop
 sub-spot-2 c =
-    let w = c .before .before .before .before .before .before .before .before .before .before .before .pre .within in
+    let at-start = c .before .before .before .before .before .before .before .before .before .before .before in
+    let w = at-start .pre .within in
     omega arith
 
 part-spot-start-2 : tie.Need-part-spot-start-2 Inv-loop μ-loop
 part-spot-start-2 c =
-    let w = c .before .before .before .before .before .before .before .before .before .before .before .pre .within in
+    let at-start = c .before .before .before .before .before .before .before .before .before .before .before in
+    let w = at-start .pre .within in
     omega arith
 
 part-spot-end-2 : tie.Need-part-spot-end-2 Inv-loop μ-loop
@@ -104,14 +108,14 @@ part-stands-end c =
 
 sub-stands-2 : tie.Need-sub-stands-2 Inv-loop μ-loop
 sub-stands-2 c =
-    let w = c .before .before .before .before .before .before .before .before .before .before .before .before .before .before
-    .before .pre .within in
+    let at-start = c .before .before .before .before .before .before .before .before .before .before .before .before .before .before .before in
+    let w = at-start .pre .within in
     omega arith
 
 part-stands-start-2 : tie.Need-part-stands-start-2 Inv-loop μ-loop
 part-stands-start-2 c =
-    let w = c .before .before .before .before .before .before .before .before .before .before .before .before .before .before
-    .before .pre .within in
+    let at-start = c .before .before .before .before .before .before .before .before .before .before .before .before .before .before .before in
+    let w = at-start .pre .within in
     omega arith
 
 part-stands-end-2 : tie.Need-part-stands-end-2 Inv-loop μ-loop
@@ -122,7 +126,8 @@ stands-requires c κs = search
 
 same-length-2 : tie.Need-same-length-2 Inv-loop μ-loop
 same-length-2 c =
-    c .before .before .before .before .before .before .before .before .before .before .before .before .before .before .loop .inv
+    let at-loop = c .before .before .before .before .before .before .before .before .before .before .before .before .before .before in
+    at-loop .loop .inv
     .same
 
 returns-2 : tie.Need-returns-2 Inv-loop μ-loop
@@ -151,8 +156,8 @@ sub-start c =
 
 same-length-3 : tie.Need-same-length-3 Inv-loop μ-loop
 same-length-3 c =
-    c .before .before .before .before .before .before .before .before .before .before .before .before .before .before .before
-    .loop .inv .same
+    let at-loop = c .before .before .before .before .before .before .before .before .before .before .before .before .before .before .before in
+    at-loop .loop .inv .same
 
 returns-3 : tie.Need-returns-3 Inv-loop μ-loop
 returns-3 c =
@@ -195,14 +200,14 @@ put-struct-requires c κs =
 
 add-i : tie.Need-add-i Inv-loop μ-loop
 add-i c =
-    let z = c .before .before .before .before .before .before .before .before .before .before .before .before .before .before
-    .before .before .before .before .before .loop-test .taken in
+    let at-loop-test = c .before .before .before .before .before .before .before .before .before .before .before .before .before .before .before .before .before .before .before in
+    let z = at-loop-test .loop-test .taken in
     omega arith
 
 loop-less : tie.Need-loop-less Inv-loop μ-loop
 loop-less c =
-    let z = c .before .before .before .before .before .before .before .before .before .before .before .before .before .before
-    .before .before .before .before .before .loop-test .taken in
+    let at-loop-test = c .before .before .before .before .before .before .before .before .before .before .before .before .before .before .before .before .before .before .before in
+    let z = at-loop-test .loop-test .taken in
     omega arith
 
 loop-again : tie.Need-loop-again Inv-loop μ-loop

@@ -17,8 +17,7 @@ load-functions-requires : tie.Need-load-functions-requires
 load-functions-requires c κs =
     let at-load-structs = c .before .before .before .before .before .before .before .before .before .before in
     let at-load-constants = at-load-structs .before .before .before .before .before .before .before in
-    let at-start = at-load-constants .before .before .before .before .before .before .before .before .before .before .before
-    .before in
+    let at-start = at-load-constants .before .before .before .before .before .before .before .before .before .before .before .before in
     fit-functions (at-start .args .image .now) (at-start .args .constants .now) (at-start .args .structs .now)
     (at-start .args .functions .now) (at-start .args .text .now) (at-start .args .main .now) (at-start .args .main-places .now)
     (at-start .args .other .now) (at-start .args .other-places .now) (at-start .pre) _ _ _
@@ -60,11 +59,9 @@ same-length-8 c = search
 returns : tie.Need-returns
 returns c =
     let at-load-functions = c .before .before .before .before .before .before .before .before .before .before .before .before in
-    let at-load-structs = at-load-functions .before .before .before .before .before .before .before .before .before .before
-    .before in
+    let at-load-structs = at-load-functions .before .before .before .before .before .before .before .before .before .before .before in
     let at-load-constants = at-load-structs .before .before .before .before .before .before .before in
-    let at-start = at-load-constants .before .before .before .before .before .before .before .before .before .before .before
-    .before in
+    let at-start = at-load-constants .before .before .before .before .before .before .before .before .before .before .before .before in
     all-laid (at-start .args .image .now) (at-start .args .constants .now) (at-start .args .structs .now)
     (at-start .args .functions .now) (at-start .args .text .now) (at-start .args .main .now) (at-start .args .main-places .now)
     (at-start .args .other .now) (at-start .args .other-places .now) (at-start .pre) _ _ _

@@ -110,26 +110,32 @@ payload-requires c κs = (
 -- src/loading.rt:57:9
 put-words-requires : tie.Need-put-words-requires Inv-loop μ-loop
 put-words-requires c κs =
+    let at-read-constant = c .before .before .before .before .before in
+    let at-loop-test = at-read-constant .before in
+    let at-loop = at-loop-test .before in
+    let at-start = at-loop .before .before .before .before .before .before .before .before .before in
     let z = constants-room _ _ _ _
-    (c .before .before .before .before .before .before .before .before .before .before .before .before .before .before .before
-    .before .pre) _ _ (search counted-at) _ _ _ _ _ (c .before .before .before .before .before .before .before .loop .inv)
-    (c .before .before .before .before .before .before .loop-test .taken) _
-    (c .before .before .before .before .before .read-constant .ensures) _ (c .before .before .before .p .given .1) .1 .1 in
+    (at-start .pre) _ _ (search counted-at) _ _ _ _ _ (at-loop .loop .inv)
+    (at-loop-test .loop-test .taken) _
+    (at-read-constant .read-constant .ensures) _ (c .before .before .before .p .given .1) .1 .1 in
     let y = constants-same _ _ _ _
-    (c .before .before .before .before .before .before .before .before .before .before .before .before .before .before .before
-    .before .pre) _ _ (search counted-at) _ _ _ _ _ (c .before .before .before .before .before .before .before .loop .inv) .0 in
+    (at-start .pre) _ _ (search counted-at) _ _ _ _ _ (at-loop .loop .inv) .0 in
     omega arith
 
 -- src/loading.rt:59:19
 add-end : tie.Need-add-end Inv-loop μ-loop
 add-end c =
+    let at-p = c .before .before .before .before .before .before .before in
+    let at-read-constant = at-p .before .before in
+    let at-loop-test = at-read-constant .before in
+    let at-loop = at-loop-test .before in
+    let at-start = at-loop .before .before .before .before .before .before .before .before .before in
     let z = entry-inside _ _ _ _
-    (c .before .before .before .before .before .before .before .before .before .before .before .before .before .before .before
-    .before .before .before .before .before .pre) _ _ (search counted-at) _ _ _ _ _
-    (c .before .before .before .before .before .before .before .before .before .before .before .loop .inv)
-    (c .before .before .before .before .before .before .before .before .before .before .loop-test .taken) _
-    (c .before .before .before .before .before .before .before .before .before .read-constant .ensures) _
-    (c .before .before .before .before .before .before .before .p .given .1) in
+    (at-start .pre) _ _ (search counted-at) _ _ _ _ _
+    (at-loop .loop .inv)
+    (at-loop-test .loop-test .taken) _
+    (at-read-constant .read-constant .ensures) _
+    (at-p .p .given .1) in
     omega arith
 
 -- src/loading.rt:60:28
@@ -143,67 +149,74 @@ part-put-bytes-start c = search (entry-inside, counted-at, needs)
 -- src/loading.rt:60:28
 part-put-bytes-end : tie.Need-part-put-bytes-end Inv-loop μ-loop
 part-put-bytes-end c =
+    let at-p = c .before .before .before .before .before .before .before .before in
+    let at-read-constant = at-p .before .before in
+    let at-loop-test = at-read-constant .before in
+    let at-loop = at-loop-test .before in
+    let at-start = at-loop .before .before .before .before .before .before .before .before .before in
     let z = entry-inside _ _ _ _
-    (c .before .before .before .before .before .before .before .before .before .before .before .before .before .before .before
-    .before .before .before .before .before .before .pre) _ _ (search counted-at) _ _ _ _ _
-    (c .before .before .before .before .before .before .before .before .before .before .before .before .loop .inv)
-    (c .before .before .before .before .before .before .before .before .before .before .before .loop-test .taken) _
-    (c .before .before .before .before .before .before .before .before .before .before .read-constant .ensures) _
-    (c .before .before .before .before .before .before .before .before .p .given .1) in
+    (at-start .pre) _ _ (search counted-at) _ _ _ _ _
+    (at-loop .loop .inv)
+    (at-loop-test .loop-test .taken) _
+    (at-read-constant .read-constant .ensures) _
+    (at-p .p .given .1) in
     omega arith
 
 -- src/loading.rt:60:9
 put-bytes-requires : tie.Need-put-bytes-requires Inv-loop μ-loop
 put-bytes-requires c κs =
+    let at-p = c .before .before .before .before .before .before .before .before .before in
+    let at-read-constant = at-p .before .before in
+    let at-loop-test = at-read-constant .before in
+    let at-loop = at-loop-test .before in
+    let at-start = at-loop .before .before .before .before .before .before .before .before .before in
     let z = constants-room _ _ _ _
-    (c .before .before .before .before .before .before .before .before .before .before .before .before .before .before .before
-    .before .before .before .before .before .before .before .pre) _ _ (search counted-at) _ _ _ _ _
-    (c .before .before .before .before .before .before .before .before .before .before .before .before .before .loop .inv)
-    (c .before .before .before .before .before .before .before .before .before .before .before .before .loop-test .taken) _
-    (c .before .before .before .before .before .before .before .before .before .before .before .read-constant .ensures) _
-    (c .before .before .before .before .before .before .before .before .before .p .given .1) .0 in
+    (at-start .pre) _ _ (search counted-at) _ _ _ _ _
+    (at-loop .loop .inv)
+    (at-loop-test .loop-test .taken) _
+    (at-read-constant .read-constant .ensures) _
+    (at-p .p .given .1) .0 in
     let y = constants-same _ _ _ _
-    (c .before .before .before .before .before .before .before .before .before .before .before .before .before .before .before
-    .before .before .before .before .before .before .before .pre) _ _ (search counted-at) _ _ _ _ _
-    (c .before .before .before .before .before .before .before .before .before .before .before .before .before .loop .inv) .1 in
+    (at-start .pre) _ _ (search counted-at) _ _ _ _ _
+    (at-loop .loop .inv) .1 in
     let w = slice-length _ _ _ _
-    (c .before .before .before .before .before .before .before .before .before .before .before .before .before .before .before
-    .before .before .before .before .before .before .before .pre) _ _ (search counted-at) _ _ _ _ _
-    (c .before .before .before .before .before .before .before .before .before .before .before .before .before .loop .inv)
-    (c .before .before .before .before .before .before .before .before .before .before .before .before .loop-test .taken) _
-    (c .before .before .before .before .before .before .before .before .before .before .before .read-constant .ensures) _
-    (c .before .before .before .before .before .before .before .before .before .p .given .1) in
+    (at-start .pre) _ _ (search counted-at) _ _ _ _ _
+    (at-loop .loop .inv)
+    (at-loop-test .loop-test .taken) _
+    (at-read-constant .read-constant .ensures) _
+    (at-p .p .given .1) in
     omega arith
 
 -- src/loading.rt:61:13
 add-t : tie.Need-add-t Inv-loop μ-loop
 add-t c =
+    let at-p = c .before .before .before .before .before .before .before .before .before .before .before .before .before in
+    let at-read-constant = at-p .before .before in
+    let at-loop-test = at-read-constant .before in
+    let at-loop = at-loop-test .before in
+    let at-start = at-loop .before .before .before .before .before .before .before .before .before in
     let z = constants-room _ _ _ _
-    (c .before .before .before .before .before .before .before .before .before .before .before .before .before .before .before
-    .before .before .before .before .before .before .before .before .before .before .before .pre) _ _ (search counted-at) _ _ _ _
+    (at-start .pre) _ _ (search counted-at) _ _ _ _
     _
-    (c .before .before .before .before .before .before .before .before .before .before .before .before .before .before .before
-    .before .before .loop .inv)
-    (c .before .before .before .before .before .before .before .before .before .before .before .before .before .before .before
-    .before .loop-test .taken) _
-    (c .before .before .before .before .before .before .before .before .before .before .before .before .before .before .before
-    .read-constant .ensures) _
-    (c .before .before .before .before .before .before .before .before .before .before .before .before .before .p .given .1) .1 .0
+    (at-loop .loop .inv)
+    (at-loop-test .loop-test .taken) _
+    (at-read-constant .read-constant .ensures) _
+    (at-p .p .given .1) .1 .0
     in
     omega arith
 
 -- src/loading.rt:63:13
 add-i : tie.Need-add-i Inv-loop μ-loop
 add-i c =
-    let z = c .before .before .before .before .before .before .before .before .before .before .before .before .before .before
-    .before .before .loop-test .taken in
+    let at-loop-test = c .before .before .before .before .before .before .before .before .before .before .before .before .before .before .before .before in
+    let z = at-loop-test .loop-test .taken in
     omega arith
 
 -- src/loading.rt:52:5
 loop-less : tie.Need-loop-less Inv-loop μ-loop
 loop-less c =
-    let z = c .before .before .before .before .before .before .before .before .before .before .before .before .before .before
-    .before .before .loop-test .taken in
+    let at-loop-test = c .before .before .before .before .before .before .before .before .before .before .before .before .before .before .before .before in
+    let z = at-loop-test .loop-test .taken in
     omega arith
 
 -- src/loading.rt:52:5

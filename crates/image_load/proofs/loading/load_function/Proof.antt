@@ -106,8 +106,7 @@ part-put-bytes-end-2 c =
 -- src/loading.rt:137:5
 put-bytes-requires-2 : tie.Need-put-bytes-requires-2
 put-bytes-requires-2 c κs =
-    let at-h = c .before .before .before .before .before .before .before .before .before .before .before .before .before .before
-    in
+    let at-h = c .before .before .before .before .before .before .before .before .before .before .before .before .before .before in
     let at-read-head = at-h .before .before in
     let at-start = at-read-head .before .before .before .before .before .before in
     function-room _ _ _ _ _ _ _ _ _ _ (at-start .pre) _ (at-read-head .read-head .ensures) _ (at-h .h .given .1) .1

@@ -55,21 +55,21 @@ sub-load-others c = search needs
 -- src/loading.rt:178:60
 add-load-others : tie.Need-add-load-others
 add-load-others c =
+    let at-load-function = c .before .before .before .before .before .before .before .before .before .before .before in
+    let at-if1 = at-load-function .before .before .before .before .before in
+    let at-read-number = at-if1 .before .before .before .before .before in
+    let at-start = at-read-number .before .before .before .before .before .before .before .before in
     let z = others-at _ _ _ _ _ _ _ _ _
-    (c .before .before .before .before .before .before .before .before .before .before .before .before .before .before .before
-    .before .before .before .before .before .before .before .before .before .before .before .before .before .before .pre) _
-    (c .before .before .before .before .before .before .before .before .before .before .before .before .before .before .before
-    .before .before .before .before .before .before .read-number .ensures) _ _ (search counted-at)
-    (c .before .before .before .before .before .before .before .before .before .before .before .before .before .before .before
-    .before .if1 .left) _ _ _ _ _
-    (c .before .before .before .before .before .before .before .before .before .before .before .load-function .ensures) in
+    (at-start .pre) _
+    (at-read-number .read-number .ensures) _ _ (search counted-at)
+    (at-if1 .if1 .left) _ _ _ _ _
+    (at-load-function .load-function .ensures) in
     omega arith
 
 -- src/loading.rt:178:5
 load-others-requires : tie.Need-load-others-requires
 load-others-requires c κs =
-    let at-load-function = c .before .before .before .before .before .before .before .before .before .before .before .before
-    .before in
+    let at-load-function = c .before .before .before .before .before .before .before .before .before .before .before .before .before in
     let at-if1 = at-load-function .before .before .before .before .before in
     let at-wide = at-if1 .before in
     let at-n = at-wide .before .before in
@@ -107,8 +107,7 @@ same-length-6 c = search
 returns-3 : tie.Need-returns-3
 returns-3 c =
     let at-load-others = c .before .before .before .before .before .before .before .before in
-    let at-load-function = at-load-others .before .before .before .before .before .before .before .before .before .before .before
-    .before .before .before in
+    let at-load-function = at-load-others .before .before .before .before .before .before .before .before .before .before .before .before .before .before in
     let at-if1 = at-load-function .before .before .before .before .before in
     let at-wide = at-if1 .before in
     let at-n = at-wide .before .before in

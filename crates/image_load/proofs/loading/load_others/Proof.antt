@@ -51,8 +51,8 @@ add-c c =
 -- src/loading.rt:155:5
 loop-less : tie.Need-loop-less Inv-loop μ-loop
 loop-less c =
-    let z = c .before .before .before .before .before .before .before .before .before .before .before .before .before .before
-    .before .loop-test .taken in
+    let at-loop-test = c .before .before .before .before .before .before .before .before .before .before .before .before .before .before .before in
+    let z = at-loop-test .loop-test .taken in
     omega arith
 
 -- src/loading.rt:155:5
@@ -62,25 +62,29 @@ loop-again c = search others-next
 -- src/loading.rt:147:1
 same-length : tie.Need-same-length Inv-loop μ-loop
 same-length c =
-    others-same _ _ _ _ _ _ _ _ (c .before .before .before .before .before .before .before .pre) _ _ _ _ _ _ _ _
+    let at-start = c .before .before .before .before .before .before .before in
+    others-same _ _ _ _ _ _ _ _ (at-start .pre) _ _ _ _ _ _ _ _
     (c .before .loop .inv) .0
 
 -- src/loading.rt:147:1
 same-length-2 : tie.Need-same-length-2 Inv-loop μ-loop
 same-length-2 c =
-    others-same _ _ _ _ _ _ _ _ (c .before .before .before .before .before .before .before .pre) _ _ _ _ _ _ _ _
+    let at-start = c .before .before .before .before .before .before .before in
+    others-same _ _ _ _ _ _ _ _ (at-start .pre) _ _ _ _ _ _ _ _
     (c .before .loop .inv) .1 .0
 
 -- src/loading.rt:147:1
 same-length-3 : tie.Need-same-length-3 Inv-loop μ-loop
 same-length-3 c =
-    others-same _ _ _ _ _ _ _ _ (c .before .before .before .before .before .before .before .pre) _ _ _ _ _ _ _ _
+    let at-start = c .before .before .before .before .before .before .before in
+    others-same _ _ _ _ _ _ _ _ (at-start .pre) _ _ _ _ _ _ _ _
     (c .before .loop .inv) .1 .1 .0
 
 -- src/loading.rt:147:1
 same-length-4 : tie.Need-same-length-4 Inv-loop μ-loop
 same-length-4 c =
-    others-same _ _ _ _ _ _ _ _ (c .before .before .before .before .before .before .before .pre) _ _ _ _ _ _ _ _
+    let at-start = c .before .before .before .before .before .before .before in
+    others-same _ _ _ _ _ _ _ _ (at-start .pre) _ _ _ _ _ _ _ _
     (c .before .loop .inv) .1 .1 .1
 
 -- src/loading.rt:147:1

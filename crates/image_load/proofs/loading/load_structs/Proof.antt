@@ -194,39 +194,38 @@ pack-requires c κs = (
 )
 
 put-struct-requires : tie.Need-put-struct-requires Inv-loop μ-loop
-put-struct-requires c κs = (
-  c .before .before .before .before .before .before .before .spot .ensures .most,
-  let z =
-      let at-here = c .before .before .before .before .before .before .before .before .before .before .before .before in
-      let at-read-text = at-here .before .before in
-      let at-loop-test = at-read-text .before in
-      let at-loop = at-loop-test .before in
-      let at-wide = at-loop .before in
-      let at-n = at-wide .before .before in
-      let at-read-number = at-n .before .before in
-      let at-start = at-read-number .before .before .before .before in
-      structs-room _ _ _ _ _ (at-start .pre) _ _
-      (counted-at _ _ _ (at-read-number .read-number .ensures) _ _ _ (at-n .n .given .1) (at-wide .wide .ensures)) _ _ _ _ _
-      (at-loop .loop .inv) (at-loop-test .loop-test .taken) _ (at-read-text .read-text .ensures) _ _
-      (at-here .here .given .1) .1 .1 in
-      let y =
-      let at-loop = c .before .before .before .before .before .before .before .before .before .before .before .before .before
-      .before .before .before in
-      let at-wide = at-loop .before in
-      let at-n = at-wide .before .before in
-      let at-read-number = at-n .before .before in
-      let at-start = at-read-number .before .before .before .before in
-      structs-same _ _ _ _ _ (at-start .pre) _ _
-      (counted-at _ _ _ (at-read-number .read-number .ensures) _ _ _ (at-n .n .given .1) (at-wide .wide .ensures)) _ _ _ _ _
-      (at-loop .loop .inv) .0 in
-      omega arith,
-)
+put-struct-requires c κs =
+    let at-spot = c .before .before .before .before .before .before .before in (
+      at-spot .spot .ensures .most,
+      let z =
+          let at-here = c .before .before .before .before .before .before .before .before .before .before .before .before in
+          let at-read-text = at-here .before .before in
+          let at-loop-test = at-read-text .before in
+          let at-loop = at-loop-test .before in
+          let at-wide = at-loop .before in
+          let at-n = at-wide .before .before in
+          let at-read-number = at-n .before .before in
+          let at-start = at-read-number .before .before .before .before in
+          structs-room _ _ _ _ _ (at-start .pre) _ _
+          (counted-at _ _ _ (at-read-number .read-number .ensures) _ _ _ (at-n .n .given .1) (at-wide .wide .ensures)) _ _ _ _ _
+          (at-loop .loop .inv) (at-loop-test .loop-test .taken) _ (at-read-text .read-text .ensures) _ _
+          (at-here .here .given .1) .1 .1 in
+          let y =
+          let at-loop = c .before .before .before .before .before .before .before .before .before .before .before .before .before .before .before .before in
+          let at-wide = at-loop .before in
+          let at-n = at-wide .before .before in
+          let at-read-number = at-n .before .before in
+          let at-start = at-read-number .before .before .before .before in
+          structs-same _ _ _ _ _ (at-start .pre) _ _
+          (counted-at _ _ _ (at-read-number .read-number .ensures) _ _ _ (at-n .n .given .1) (at-wide .wide .ensures)) _ _ _ _ _
+          (at-loop .loop .inv) .0 in
+          omega arith,
+    )
 
 add-t : tie.Need-add-t Inv-loop μ-loop
 add-t c =
     let z =
-    let at-here = c .before .before .before .before .before .before .before .before .before .before .before .before .before
-    .before .before in
+    let at-here = c .before .before .before .before .before .before .before .before .before .before .before .before .before .before .before in
     let at-read-text = at-here .before .before in
     let at-loop-test = at-read-text .before in
     let at-loop = at-loop-test .before in
@@ -242,14 +241,14 @@ add-t c =
 
 add-i : tie.Need-add-i Inv-loop μ-loop
 add-i c =
-    let z = c .before .before .before .before .before .before .before .before .before .before .before .before .before .before
-    .before .before .before .before .loop-test .taken in
+    let at-loop-test = c .before .before .before .before .before .before .before .before .before .before .before .before .before .before .before .before .before .before in
+    let z = at-loop-test .loop-test .taken in
     omega arith
 
 loop-less : tie.Need-loop-less Inv-loop μ-loop
 loop-less c =
-    let z = c .before .before .before .before .before .before .before .before .before .before .before .before .before .before
-    .before .before .before .before .loop-test .taken in
+    let at-loop-test = c .before .before .before .before .before .before .before .before .before .before .before .before .before .before .before .before .before .before in
+    let z = at-loop-test .loop-test .taken in
     omega arith
 
 loop-again : tie.Need-loop-again Inv-loop μ-loop

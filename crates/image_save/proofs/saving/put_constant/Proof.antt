@@ -28,7 +28,8 @@ returns c = search scalar-put
 -- src/saving.rt:104:20
 cast-flag : tie.Need-cast-flag
 cast-flag c =
-    let z = c .before .before .before .before .before .before .before .before .pre .known .flag (c .if2 .taken) in
+    let at-start = c .before .before .before .before .before .before .before .before in
+    let z = at-start .pre .known .flag (c .if2 .taken) in
     omega arith
 
 -- src/saving.rt:105:9

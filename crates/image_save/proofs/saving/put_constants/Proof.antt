@@ -37,11 +37,15 @@ put-constant-requires c κs = search constants-each
 
 -- src/saving.rt:122:13
 add-i : tie.Need-add-i Inv-loop μ-loop
-add-i c = let z = c .before .before .before .before .before .before .loop-test .taken in omega arith
+add-i c = let z =
+    let at-loop-test = c .before .before .before .before .before .before in
+    at-loop-test .loop-test .taken in omega arith
 
 -- src/saving.rt:118:5
 loop-less : tie.Need-loop-less Inv-loop μ-loop
-loop-less c = let z = c .before .before .before .before .before .before .loop-test .taken in omega arith
+loop-less c = let z =
+    let at-loop-test = c .before .before .before .before .before .before in
+    at-loop-test .loop-test .taken in omega arith
 
 -- src/saving.rt:118:5
 loop-again : tie.Need-loop-again Inv-loop μ-loop

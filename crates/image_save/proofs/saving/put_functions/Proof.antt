@@ -14,7 +14,9 @@ abbrev μ-loop : tie.MeasureT-loop
 
 -- src/saving.rt:218:17
 cast-count : tie.Need-cast-count Inv-loop μ-loop
-cast-count c = let z = c .before .before .before .before .before .before .before .pre .count in omega arith
+cast-count c = let z =
+    let at-start = c .before .before .before .before .before .before .before in
+    at-start .pre .count in omega arith
 
 -- src/saving.rt:219:9
 put-number-requires : tie.Need-put-number-requires Inv-loop μ-loop
@@ -39,11 +41,15 @@ put-function-requires-2 c κs =
 
 -- src/saving.rt:224:13
 add-i : tie.Need-add-i Inv-loop μ-loop
-add-i c = let z = c .before .before .before .before .loop-test .taken in omega arith
+add-i c = let z =
+    let at-loop-test = c .before .before .before .before in
+    at-loop-test .loop-test .taken in omega arith
 
 -- src/saving.rt:222:5
 loop-less : tie.Need-loop-less Inv-loop μ-loop
-loop-less c = let z = c .before .before .before .before .loop-test .taken in omega arith
+loop-less c = let z =
+    let at-loop-test = c .before .before .before .before in
+    at-loop-test .loop-test .taken in omega arith
 
 -- src/saving.rt:222:5
 loop-again : tie.Need-loop-again Inv-loop μ-loop

@@ -35,8 +35,10 @@ mul-place c = search needs
 -- src/saving.rt:170:21
 shared-slice-read-place : tie.Need-shared-slice-read-place Inv-loop μ-loop
 shared-slice-read-place c =
-    let z = c .before .before .before .before .before .before .before .before .before .before .pre .inside in
-    let y = c .before .before .before .before .before .before .loop-test .taken in
+    let at-loop-test = c .before .before .before .before .before .before in
+    let at-start = at-loop-test .before .before .before .before in
+    let z = at-start .pre .inside in
+    let y = at-loop-test .loop-test .taken in
     omega arith
 
 -- src/saving.rt:171:9

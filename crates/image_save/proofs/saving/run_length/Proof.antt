@@ -47,7 +47,8 @@ returns c = search same-last
 -- src/saving.rt:143:13
 add-k-2 : tie.Need-add-k-2 Inv-loop μ-loop
 add-k-2 c =
-    let z = c .before .before .before .before .before .pre .1 in
+    let at-start = c .before .before .before .before .before in
+    let z = at-start .pre .1 in
     let y = c .before .before .loop-test .taken in
     omega arith
 

@@ -32,7 +32,9 @@ before-requires : tie.Need-before-requires Inv-loop μ-loop
 before-requires c κs = search
 
 add-pick : tie.Need-add-pick Inv-loop μ-loop
-add-pick c = let i = c .before .before .before .before .loop .inv in omega arith
+add-pick c = let i =
+    let at-loop = c .before .before .before .before in
+    at-loop .loop .inv in omega arith
 
 pick-requires : tie.Need-pick-requires Inv-loop μ-loop
 pick-requires c κs = search

@@ -37,19 +37,35 @@ pub +write-operands-spec : {M : Type 1} → statement M
       reads.Post,
     ) (here t) reads.Post (λ c. no-operands _ _ _ (c .if1 .taken)) (λ c κs. omega (arith, pos-of-ne-zero (c .if1 .left)))
     (λ c κs. omega (arith, pos-of-ne-zero (c .before .before .if1 .left))) (λ c. search needs)
-    (λ c. one-operand _ _ _ (c .before .before .before .before .before .operand .ensures)
+    (λ c.
+    let at-operand = c .before .before .before .before .before in
+    one-operand _ _ _ (at-operand .operand .ensures)
     (c .before .before .before .write-decimal .ensures) _ (c .if2 .taken))
-    (λ c κs. omega (arith, pos-of-ne-zero (c .before .before .before .before .before .before .before .if1 .left)))
-    (λ c. omega
-    (arith, pos-of-ne-zero (c .before .before .before .before .before .before .before .before .before .before .if1 .left)))
-    (λ c. omega
-    (arith, pos-of-ne-zero (c .before .before .before .before .before .before .before .before .before .before .if1 .left)))
-    (λ c κs. let h : 0 < _ = pos-of-ne-zero
-    (c .before .before .before .before .before .before .before .before .before .before .before .if1 .left) in
+    (λ c κs.
+    let at-if1 = c .before .before .before .before .before .before .before in
+    omega (arith, pos-of-ne-zero (at-if1 .if1 .left)))
+    (λ c.
+    let at-if1 = c .before .before .before .before .before .before .before .before .before .before in
+    omega
+    (arith, pos-of-ne-zero (at-if1 .if1 .left)))
+    (λ c.
+    let at-if1 = c .before .before .before .before .before .before .before .before .before .before in
+    omega
+    (arith, pos-of-ne-zero (at-if1 .if1 .left)))
+    (λ c κs.
+    let at-if1 = c .before .before .before .before .before .before .before .before .before .before .before in
+    let h : 0 < _ = pos-of-ne-zero
+    (at-if1 .if1 .left) in
     (omega arith, (omega arith, omega arith))) (λ c. search needs)
-    (λ c. more-operands _ _ _
-    (c .before .before .before .before .before .before .before .before .before .before .before .before .before .operand .ensures)
-    (c .before .before .before .before .before .before .before .before .before .before .before .write-decimal .ensures) _
-    (c .before .before .before .before .before .before .before .before .before .before .before .before .before .before .if1 .left)
-    (c .before .before .before .before .before .before .before .before .if2 .left)
-    (c .before .before .before .before .before .before .put-byte .ensures) (c .before .before .write-operands .ensures))
+    (λ c.
+    let at-put-byte = c .before .before .before .before .before .before in
+    let at-if2 = at-put-byte .before .before in
+    let at-write-decimal = at-if2 .before .before .before in
+    let at-operand = at-write-decimal .before .before in
+    let at-if1 = at-operand .before in
+    more-operands _ _ _
+    (at-operand .operand .ensures)
+    (at-write-decimal .write-decimal .ensures) _
+    (at-if1 .if1 .left)
+    (at-if2 .if2 .left)
+    (at-put-byte .put-byte .ensures) (c .before .before .write-operands .ensures))

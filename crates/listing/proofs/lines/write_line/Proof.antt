@@ -29,8 +29,7 @@ add-write-operands : tie.Need-add-write-operands
 add-write-operands c =
     omega (
       arith,
-      let at-start = c .before .before .before .before .before .before .before .before .before .before .before .before .before
-          .before .before .before .before .before .before .before .before .before .before in
+      let at-start = c .before .before .before .before .before .before .before .before .before .before .before .before .before .before .before .before .before .before .before .before .before .before .before in
           behind-is (at-start .args .i) (opcodeAt (at-start .args .b) .listed),
     )
 
@@ -40,8 +39,7 @@ num-operands-requires c κs = search
 write-operands-requires : tie.Need-write-operands-requires
 write-operands-requires c κs =
     let h =
-    let at-start = c .before .before .before .before .before .before .before .before .before .before .before .before .before
-    .before .before .before .before .before .before .before .before .before .before .before .before in
+    let at-start = c .before .before .before .before .before .before .before .before .before .before .before .before .before .before .before .before .before .before .before .before .before .before .before .before .before in
     behind-is (at-start .args .i) (opcodeAt (at-start .args .b) .listed) in
     (omega arith, omega arith)
 

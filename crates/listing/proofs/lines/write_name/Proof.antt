@@ -28,9 +28,10 @@ name-byte-requires c κs = search
 
 put-byte-requires : tie.Need-put-byte-requires Inv-loop μ-loop
 put-byte-requires c κs =
+    let at-start = c .before .before .before .before .before .before in
     omega (
       arith,
-      short (c .before .before .before .before .before .before .args .b) (search needs),
+      short (at-start .args .b) (search needs),
       let at-loop = c .before .before .before in
           let at-name-len = at-loop .before in
           let at-start = at-name-len .before .before in
@@ -40,9 +41,10 @@ put-byte-requires c κs =
 
 add-i : tie.Need-add-i Inv-loop μ-loop
 add-i c =
+    let at-start = c .before .before .before .before .before .before .before .before .before in
     omega (
       arith,
-      short (c .before .before .before .before .before .before .before .before .before .args .b) (search needs),
+      short (at-start .args .b) (search needs),
       let at-loop-test = c .before .before .before .before .before in
           let at-loop = at-loop-test .before in
           let at-name-len = at-loop .before in

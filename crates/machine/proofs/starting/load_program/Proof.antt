@@ -58,8 +58,7 @@ same-length-8 c = search
 
 returns-2 : tie.Need-returns-2
 returns-2 c =
-    let at-load = c .before .before .before .before .before .before .before .before .before .before .before .before .before
-    .before .before .before .before .before .before .before in
+    let at-load = c .before .before .before .before .before .before .before .before .before .before .before .before .before .before .before .before .before .before .before .before in
     let at-if1 = at-load .before .before .before .before .before .before .before .before .before in
     let at-start = at-if1 .before .before .before .before .before .before .before .before .before .before in
     made-loaded (at-start .args .image .now)

@@ -40,7 +40,8 @@ same-length-4 c = search
 
 returns-3 : tie.Need-returns-3
 returns-3 c =
-    λ rest. not-new _ (c .before .before .before .before .before .before .before .new .ensures rest) _
+    let at-new = c .before .before .before .before .before .before .before in
+    λ rest. not-new _ (at-new .new .ensures rest) _
     (c .before .emitted2 .given .1)
 
 pub new-program-spec : {M : Type 1} → statement M

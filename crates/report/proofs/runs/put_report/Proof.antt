@@ -44,17 +44,18 @@ put-spent-requires-3 c κs = search needs
 
 put-entries-requires : tie.Need-put-entries-requires
 put-entries-requires c κs =
+    let at-put-line = c .before .before .before .before .before .before .before in
+    let at-start = at-put-line .before .before .before .before .before .before .before .before .before in
     let h =
     let at-r3 = c .before .before .before .before .before .before .before .before .before .before .before in
     let at-start = at-r3 .before .before .before .before .before in
     entries-inside (at-start .pre) (at-r3 .r3 .given .1) in
-    let l = c .before .before .before .before .before .before .before .before .before .before .before .before .before .before
-    .before .before .pre .small in (
+    let l = at-start .pre .small in (
       h,
       omega (
         arith,
         c .before .before .before .put-spent3 .ensures .near,
-        c .before .before .before .before .before .before .before .put-line .ensures .near,
+        at-put-line .put-line .ensures .near,
       ),
     )
 

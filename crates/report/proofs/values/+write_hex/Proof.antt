@@ -29,6 +29,10 @@ pub +write-hex-spec : {M : Type 1} → statement M
     reads.Post (λ c. no-hex _ _ (c .if1 .taken)) (λ c. omega (arith, pos-of-ne-zero (c .if1 .left)))
     (λ c κs. let h : 0 < _ = pos-of-ne-zero (c .before .if1 .left) in (omega arith, omega arith)) (λ c κs. search needs)
     (λ c κs. search needs) (λ c. search needs)
-    (λ c. more-hex _ _ (c .before .before .before .before .before .before .before .before .before .if1 .left) _
-    (c .before .before .before .before .hex-digit .ensures)
-    (c .before .before .before .before .before .before .before .write-hex .ensures) (c .before .before .put-byte .ensures))
+    (λ c.
+    let at-hex-digit = c .before .before .before .before in
+    let at-write-hex = at-hex-digit .before .before .before in
+    let at-if1 = at-write-hex .before .before in
+    more-hex _ _ (at-if1 .if1 .left) _
+    (at-hex-digit .hex-digit .ensures)
+    (at-write-hex .write-hex .ensures) (c .before .before .put-byte .ensures))

@@ -48,15 +48,14 @@ sub-write-value c = search (got-some, needs)
 
 write-value-requires : tie.Need-write-value-requires
 write-value-requires c κs =
+    let at-start = c .before .before .before .before .before .before .before .before .before .before .before .before .before .before .before in
     omega (
       arith,
       let at-v = c .before .before .before .before .before .before .before .before .before in
           let at-pop = at-v .before .before in
           got-some _ _ (at-pop .pop .ensures) (at-v .v .given .1),
-      c .before .before .before .before .before .before .before .before .before .before .before .before .before .before .before
-          .pre .1 .stack .count,
-      c .before .before .before .before .before .before .before .before .before .before .before .before .before .before .before
-          .pre .1 .stack .room,
+      at-start .pre .1 .stack .count,
+      at-start .pre .1 .stack .room,
     )
 
 same-length-3 : tie.Need-same-length-3

@@ -56,15 +56,14 @@ sub-write-value c = search (got-some, needs)
 
 write-value-requires : tie.Need-write-value-requires
 write-value-requires c κs =
+    let at-start = c .before .before .before .before .before .before .before .before .before .before .before .before .before .before .before .before .before .before .before in
     omega (
       arith,
       let at-x = c .before .before .before .before .before .before .before in
           let at-pop2 = at-x .before .before in
           got-some _ _ (at-pop2 .pop2 .ensures) (at-x .x .given .1),
-      c .before .before .before .before .before .before .before .before .before .before .before .before .before .before .before
-          .before .before .before .before .pre .stack .count,
-      c .before .before .before .before .before .before .before .before .before .before .before .before .before .before .before
-          .before .before .before .before .pre .stack .room,
+      at-start .pre .stack .count,
+      at-start .pre .stack .room,
     )
 
 same-length-3 : tie.Need-same-length-3

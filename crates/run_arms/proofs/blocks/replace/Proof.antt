@@ -23,7 +23,9 @@ named-requires : tie.Need-named-requires
 named-requires c κs = search
 
 push-requires : tie.Need-push-requires
-push-requires c κs = fewer (c .before .before .before .before .before .before .before .before .pre .0) (omega arith) refl
+push-requires c κs =
+    let at-start = c .before .before .before .before .before .before .before .before in
+    fewer (at-start .pre .0) (omega arith) refl
 
 returns : tie.Need-returns
 returns c = search build-bad

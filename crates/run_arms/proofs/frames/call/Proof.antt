@@ -11,7 +11,9 @@ enters-requires : tie.Need-enters-requires
 enters-requires c κs = search needs
 
 returns-2 : tie.Need-returns-2
-returns-2 c = λ u d. calls (c .before .before .before .before .pre) d _ _ (c .before .if1 .left) (c .enters .ensures u d)
+returns-2 c =
+    let at-start = c .before .before .before .before in
+    λ u d. calls (at-start .pre) d _ _ (c .before .if1 .left) (c .enters .ensures u d)
 
 pub call-spec : {M : Type 1} → statement M
 call-spec = tie.close (tie.spec returns enters-requires returns-2)

@@ -19,7 +19,8 @@ enum-told c = search
 
 returns : tie.Need-returns
 returns c =
-    λ u rest d e. one-none (c .before .before .before .before .before .before .pre) (c .before .before .pop .ensures)
+    let at-start = c .before .before .before .before .before .before in
+    λ u rest d e. one-none (at-start .pre) (c .before .before .pop .ensures)
     (calls-named u _) (c .enum-told .given .1)
 
 enum-known-v-2 : tie.Need-enum-known-v-2
@@ -55,12 +56,16 @@ enum-told-2 c = search
 
 returns-3 : tie.Need-returns-3
 returns-3 c =
+    let at-pack = c .before .before .before .before in
+    let at-v2 = at-pack .before .before in
+    let at-v = at-v2 .before .before .before in
+    let at-pop = at-v .before .before in
+    let at-start = at-pop .before .before .before .before in
     λ u rest d e. no-name
-    (c .before .before .before .before .before .before .before .before .before .before .before .before .before .before .before
-    .pre) (c .before .before .before .before .before .before .before .before .before .before .before .pop .ensures)
-    (c .before .before .before .before .before .before .before .before .before .v .given .1)
-    (c .before .before .before .before .before .before .v2 .given .1) u _
-    (named-as u _ _ _ rest e _ _ (search needs) (c .before .before .before .before .pack .ensures)
+    (at-start .pre) (at-pop .pop .ensures)
+    (at-v .v .given .1)
+    (at-v2 .v2 .given .1) u _
+    (named-as u _ _ _ rest e _ _ (search needs) (at-pack .pack .ensures)
     (c .before .before .before .part .ensures) (c .before .before .newest-function .ensures rest)) (c .enum-told2 .given .1)
 
 sub-below : tie.Need-sub-below
@@ -71,14 +76,20 @@ enters-requires c κs = search needs
 
 returns-4 : tie.Need-returns-4
 returns-4 c =
+    let at-newest-function = c .before .before .before .before in
+    let at-part = at-newest-function .before in
+    let at-pack = at-part .before in
+    let at-v2 = at-pack .before .before in
+    let at-v = at-v2 .before .before .before in
+    let at-pop = at-v .before .before in
+    let at-start = at-pop .before .before .before .before in
     λ u rest d e. calls-name
-    (c .before .before .before .before .before .before .before .before .before .before .before .before .before .before .before
-    .before .before .pre)
-    (c .before .before .before .before .before .before .before .before .before .before .before .before .before .pop .ensures)
-    (c .before .before .before .before .before .before .before .before .before .before .before .v .given .1)
-    (c .before .before .before .before .before .before .before .before .v2 .given .1) u _
-    (named-as u _ _ _ rest e _ _ (search needs) (c .before .before .before .before .before .before .pack .ensures)
-    (c .before .before .before .before .before .part .ensures) (c .before .before .before .before .newest-function .ensures rest))
+    (at-start .pre)
+    (at-pop .pop .ensures)
+    (at-v .v .given .1)
+    (at-v2 .v2 .given .1) u _
+    (named-as u _ _ _ rest e _ _ (search needs) (at-pack .pack .ensures)
+    (at-part .part .ensures) (at-newest-function .newest-function .ensures rest))
     (c .before .before .i .given .1) (c .enters .ensures u d)
 
 pub call-callable-spec : {M : Type 1} → statement M

@@ -18,7 +18,8 @@ enum-told c = search
 
 returns : tie.Need-returns
 returns c =
-    one-none (c .before .before .before .before .pre .0) (c .before .before .pop .ensures) (jumps-if-false _)
+    let at-start = c .before .before .before .before in
+    one-none (at-start .pre .0) (c .before .before .pop .ensures) (jumps-if-false _)
     (c .enum-told .given .1)
 
 enum-known-v-2 : tie.Need-enum-known-v-2

@@ -21,7 +21,8 @@ sub-count c = omega (arith, two-booleans _ _ (c .before .before .before .two-boo
 
 sub-write-value : tie.Need-sub-write-value
 sub-write-value c =
-    omega (arith, two-booleans _ _ (c .before .before .before .before .two-booleans .ensures) (c .before .before .x .given .1))
+    let at-two-booleans = c .before .before .before .before in
+    omega (arith, two-booleans _ _ (at-two-booleans .two-booleans .ensures) (c .before .before .x .given .1))
 
 joined-requires : tie.Need-joined-requires
 joined-requires c κs = search

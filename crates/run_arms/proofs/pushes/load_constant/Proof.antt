@@ -7,7 +7,8 @@ use Rattle.run_arms.proofs.pushes.load_constant.Tie as tie
 
 returns : tie.Need-returns
 returns c =
-    λ u d e. missing (c .before .before .before .before .pre .0) d (loads u _) (λ x cs. no-constant _ _ _ e (c .if1 .taken))
+    let at-start = c .before .before .before .before in
+    λ u d e. missing (at-start .pre .0) d (loads u _) (λ x cs. no-constant _ _ _ e (c .if1 .taken))
 
 read-value-requires : tie.Need-read-value-requires
 read-value-requires c κs = search needs

@@ -21,7 +21,8 @@ sub-count c = omega (arith, two-scalars _ _ (c .before .before .before .two-scal
 
 sub-write-value : tie.Need-sub-write-value
 sub-write-value c =
-    omega (arith, two-scalars _ _ (c .before .before .before .before .two-scalars .ensures) (c .before .before .x .given .1))
+    let at-two-scalars = c .before .before .before .before in
+    omega (arith, two-scalars _ _ (at-two-scalars .two-scalars .ensures) (c .before .before .x .given .1))
 
 ordering-requires : tie.Need-ordering-requires
 ordering-requires c κs = search

@@ -26,8 +26,9 @@ enum-known-right-2 c = search
 returns-2 : tie.Need-returns-2
 unfolding scalarsOf poppingScalar
 returns-2 c =
+    let at-pop = c .before .before .before .before in
     wrong-right ifScalar s.Bad s.Two
-    (got-top _ _ (c .before .before .before .before .pop .ensures) (c .before .before .right .given .1))
+    (got-top _ _ (at-pop .pop .ensures) (c .before .before .right .given .1))
     (no-scalar _ (c .match2 .keys2))
 
 sub-pop : tie.Need-sub-pop
