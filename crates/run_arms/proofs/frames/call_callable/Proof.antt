@@ -76,20 +76,14 @@ enters-requires c κs = search needs
 
 returns-4 : tie.Need-returns-4
 returns-4 c =
-    let at-newest-function = c .before .before .before .before in
-    let at-part = at-newest-function .before in
-    let at-pack = at-part .before in
+    let at-newest = c .before .before .before .before in
+    let at-pack = at-newest .before .before in
     let at-v2 = at-pack .before .before in
-    let at-v = at-v2 .before .before .before in
-    let at-pop = at-v .before .before in
+    let at-pop = at-v2 .before .before .before .before .before in
     let at-start = at-pop .before .before .before .before in
-    λ u rest d e. calls-name
-    (at-start .pre)
-    (at-pop .pop .ensures)
-    (at-v .v .given .1)
-    (at-v2 .v2 .given .1) u _
-    (named-as u _ _ _ rest e _ _ (search needs) (at-pack .pack .ensures)
-    (at-part .part .ensures) (at-newest-function .newest-function .ensures rest))
+    λ u rest d e. calls-name (at-start .pre) (at-pop .pop .ensures) (at-v2 .before .before .before .v .given .1) (at-v2 .v2 .given .1) u _
+    (named-as u _ _ _ rest e _ _ (at-pack .before .known-told2 .given .0 .1) (at-pack .pack .ensures)
+    (at-newest .before .part .ensures) (at-newest .newest-function .ensures rest))
     (c .before .before .i .given .1) (c .enters .ensures u d)
 
 pub call-callable-spec : {M : Type 1} → statement M
