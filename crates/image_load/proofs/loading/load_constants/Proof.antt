@@ -113,13 +113,17 @@ put-words-requires c κs =
     let at-read-constant = c .before .before .before .before .before in
     let at-loop-test = at-read-constant .before in
     let at-loop = at-loop-test .before in
-    let at-start = at-loop .before .before .before .before .before .before .before .before .before in
+    let at-wide = at-loop .before in
+    let at-n = at-wide .before .before in
+    let at-read-number = at-n .before .before in
+    let at-start = at-read-number .before .before .before .before in
+    let counted = counted-at _ _ _ (at-read-number .read-number .ensures) _ _ _ (at-n .n .given .1) (at-wide .wide .ensures) in
     let z = constants-room _ _ _ _
-    (at-start .pre) _ _ (search counted-at) _ _ _ _ _ (at-loop .loop .inv)
+    (at-start .pre) _ _ counted _ _ _ _ _ (at-loop .loop .inv)
     (at-loop-test .loop-test .taken) _
     (at-read-constant .read-constant .ensures) _ (c .before .before .before .p .given .1) .1 .1 in
     let y = constants-same _ _ _ _
-    (at-start .pre) _ _ (search counted-at) _ _ _ _ _ (at-loop .loop .inv) .0 in
+    (at-start .pre) _ _ counted _ _ _ _ _ (at-loop .loop .inv) .0 in
     omega arith
 
 -- src/loading.rt:59:19
@@ -129,9 +133,13 @@ add-end c =
     let at-read-constant = at-p .before .before in
     let at-loop-test = at-read-constant .before in
     let at-loop = at-loop-test .before in
-    let at-start = at-loop .before .before .before .before .before .before .before .before .before in
+    let at-wide = at-loop .before in
+    let at-n = at-wide .before .before in
+    let at-read-number = at-n .before .before in
+    let at-start = at-read-number .before .before .before .before in
+    let counted = counted-at _ _ _ (at-read-number .read-number .ensures) _ _ _ (at-n .n .given .1) (at-wide .wide .ensures) in
     let z = entry-inside _ _ _ _
-    (at-start .pre) _ _ (search counted-at) _ _ _ _ _
+    (at-start .pre) _ _ counted _ _ _ _ _
     (at-loop .loop .inv)
     (at-loop-test .loop-test .taken) _
     (at-read-constant .read-constant .ensures) _
@@ -153,9 +161,13 @@ part-put-bytes-end c =
     let at-read-constant = at-p .before .before in
     let at-loop-test = at-read-constant .before in
     let at-loop = at-loop-test .before in
-    let at-start = at-loop .before .before .before .before .before .before .before .before .before in
+    let at-wide = at-loop .before in
+    let at-n = at-wide .before .before in
+    let at-read-number = at-n .before .before in
+    let at-start = at-read-number .before .before .before .before in
+    let counted = counted-at _ _ _ (at-read-number .read-number .ensures) _ _ _ (at-n .n .given .1) (at-wide .wide .ensures) in
     let z = entry-inside _ _ _ _
-    (at-start .pre) _ _ (search counted-at) _ _ _ _ _
+    (at-start .pre) _ _ counted _ _ _ _ _
     (at-loop .loop .inv)
     (at-loop-test .loop-test .taken) _
     (at-read-constant .read-constant .ensures) _
@@ -169,18 +181,22 @@ put-bytes-requires c κs =
     let at-read-constant = at-p .before .before in
     let at-loop-test = at-read-constant .before in
     let at-loop = at-loop-test .before in
-    let at-start = at-loop .before .before .before .before .before .before .before .before .before in
+    let at-wide = at-loop .before in
+    let at-n = at-wide .before .before in
+    let at-read-number = at-n .before .before in
+    let at-start = at-read-number .before .before .before .before in
+    let counted = counted-at _ _ _ (at-read-number .read-number .ensures) _ _ _ (at-n .n .given .1) (at-wide .wide .ensures) in
     let z = constants-room _ _ _ _
-    (at-start .pre) _ _ (search counted-at) _ _ _ _ _
+    (at-start .pre) _ _ counted _ _ _ _ _
     (at-loop .loop .inv)
     (at-loop-test .loop-test .taken) _
     (at-read-constant .read-constant .ensures) _
     (at-p .p .given .1) .0 in
     let y = constants-same _ _ _ _
-    (at-start .pre) _ _ (search counted-at) _ _ _ _ _
+    (at-start .pre) _ _ counted _ _ _ _ _
     (at-loop .loop .inv) .1 in
     let w = slice-length _ _ _ _
-    (at-start .pre) _ _ (search counted-at) _ _ _ _ _
+    (at-start .pre) _ _ counted _ _ _ _ _
     (at-loop .loop .inv)
     (at-loop-test .loop-test .taken) _
     (at-read-constant .read-constant .ensures) _
@@ -194,15 +210,17 @@ add-t c =
     let at-read-constant = at-p .before .before in
     let at-loop-test = at-read-constant .before in
     let at-loop = at-loop-test .before in
-    let at-start = at-loop .before .before .before .before .before .before .before .before .before in
+    let at-wide = at-loop .before in
+    let at-n = at-wide .before .before in
+    let at-read-number = at-n .before .before in
+    let at-start = at-read-number .before .before .before .before in
+    let counted = counted-at _ _ _ (at-read-number .read-number .ensures) _ _ _ (at-n .n .given .1) (at-wide .wide .ensures) in
     let z = constants-room _ _ _ _
-    (at-start .pre) _ _ (search counted-at) _ _ _ _
-    _
+    (at-start .pre) _ _ counted _ _ _ _ _
     (at-loop .loop .inv)
     (at-loop-test .loop-test .taken) _
     (at-read-constant .read-constant .ensures) _
-    (at-p .p .given .1) .1 .0
-    in
+    (at-p .p .given .1) .1 .0 in
     omega arith
 
 -- src/loading.rt:63:13
