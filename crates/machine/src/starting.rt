@@ -1,5 +1,5 @@
 // Making a machine that has not run: all but its frame.
-use emission::functions::new;
+use emission_tables::functions::new;
 use image_judge::Judgement;
 use image_judge::judge;
 use image_load::load;

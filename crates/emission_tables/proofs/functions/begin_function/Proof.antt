@@ -1,12 +1,12 @@
--- `emission::functions::begin_function` meets its contract.
+-- `emission_tables::functions::begin_function` meets its contract.
 use mathlib.Core.Path.{refl}
 use native.Mathlib.Omega.{arith}
 use Rattle.layout.specs.Links.{namesLent}
 use Rattle.layout.proofs.Rooms.{lent-fits}
 use Rattle.laws_programs.proofs.Adding.{pair-fits, behind-fits, begin-19, begin-22, begin-21, begin-text-21, begin-done}
 use borrow.Author.Needs.{needs}
-use Rattle.emission.proofs.functions.begin_function.Statement.{statement}
-use Rattle.emission.proofs.functions.begin_function.Tie as tie
+use Rattle.emission_tables.proofs.functions.begin_function.Statement.{statement}
+use Rattle.emission_tables.proofs.functions.begin_function.Tie as tie
 
 function-order-requires : tie.Need-function-order-requires
 function-order-requires c κs = search

@@ -1,9 +1,9 @@
--- `emission::structs::add_struct_info` meets its contract.
+-- `emission_tables::structs::add_struct_info` meets its contract.
 use Rattle.layout.specs.Links.{structsLent}
 use Rattle.laws_programs.proofs.Adding.{structs-ordered, new-placed, struct-19, struct-known, struct-new}
 use borrow.Author.Needs.{needs}
-use Rattle.emission.proofs.structs.add_struct_info.Statement.{statement}
-use Rattle.emission.proofs.structs.add_struct_info.Tie as tie
+use Rattle.emission_tables.proofs.structs.add_struct_info.Statement.{statement}
+use Rattle.emission_tables.proofs.structs.add_struct_info.Tie as tie
 
 struct-order-requires : tie.Need-struct-order-requires
 struct-order-requires c κs = search needs

@@ -1,7 +1,7 @@
--- `emission::functions::end_function` meets its contract.
+-- `emission_tables::functions::end_function` meets its contract.
 use Rattle.laws_programs.proofs.Entered.{ended, not-ended}
-use Rattle.emission.proofs.functions.end_function.Statement.{statement}
-use Rattle.emission.proofs.functions.end_function.Tie as tie
+use Rattle.emission_tables.proofs.functions.end_function.Statement.{statement}
+use Rattle.emission_tables.proofs.functions.end_function.Tie as tie
 
 counts-ok-requires : tie.Need-counts-ok-requires
 counts-ok-requires c κs = search

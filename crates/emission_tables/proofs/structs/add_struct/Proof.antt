@@ -1,12 +1,12 @@
--- `emission::structs::add_struct` meets its contract.
+-- `emission_tables::structs::add_struct` meets its contract.
 use mathlib.Core.Path.{refl}
 use native.Mathlib.Omega.{arith}
 use Rattle.layout.specs.Links.{structsLent}
 use Rattle.layout.proofs.Rooms.{lent-fits}
 use Rattle.laws_programs.proofs.Adding.{pair-fits, struct-22, struct-21, struct-text-21, struct-added}
 use borrow.Author.Needs.{needs}
-use Rattle.emission.proofs.structs.add_struct.Statement.{statement}
-use Rattle.emission.proofs.structs.add_struct.Tie as tie
+use Rattle.emission_tables.proofs.structs.add_struct.Statement.{statement}
+use Rattle.emission_tables.proofs.structs.add_struct.Tie as tie
 
 returns : tie.Need-returns
 returns c = λ rest. struct-22 _ _ _ (c .if1 .taken)

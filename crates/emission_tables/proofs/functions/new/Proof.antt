@@ -1,10 +1,10 @@
--- `emission::functions::new` meets its contract.
+-- `emission_tables::functions::new` meets its contract.
 use mathlib.Core.Path.{refl}
 use native.Mathlib.Omega.{arith}
 use Rattle.laws_programs.proofs.Entered.{new-fits, new-done, new-refused}
 use borrow.Author.Needs.{needs}
-use Rattle.emission.proofs.functions.new.Statement.{statement}
-use Rattle.emission.proofs.functions.new.Tie as tie
+use Rattle.emission_tables.proofs.functions.new.Statement.{statement}
+use Rattle.emission_tables.proofs.functions.new.Tie as tie
 
 room-requires : tie.Need-room-requires
 room-requires c κs = search needs

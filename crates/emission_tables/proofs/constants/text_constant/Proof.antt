@@ -1,12 +1,12 @@
--- `emission::constants::text_constant` meets its contract.
+-- `emission_tables::constants::text_constant` meets its contract.
 use mathlib.Core.Path.{refl}
 use native.Mathlib.Omega.{arith}
 use Rattle.layout.specs.Links.{constantsLent}
 use Rattle.layout.proofs.Rooms.{lent-fits}
 use Rattle.laws_programs.proofs.Adding.{text-21, text-added}
 use borrow.Author.Needs.{needs}
-use Rattle.emission.proofs.constants.text_constant.Statement.{statement}
-use Rattle.emission.proofs.constants.text_constant.Tie as tie
+use Rattle.emission_tables.proofs.constants.text_constant.Statement.{statement}
+use Rattle.emission_tables.proofs.constants.text_constant.Tie as tie
 
 text-room-requires : tie.Need-text-room-requires
 text-room-requires c κs = search

@@ -1,9 +1,9 @@
--- `emission::constants::plain` meets its contract.
+-- `emission_tables::constants::plain` meets its contract.
 use Rattle.layout.specs.Links.{constantsLent}
 use Rattle.laws_programs.proofs.Adding.{plain-added}
 use borrow.Author.Needs.{needs}
-use Rattle.emission.proofs.constants.plain.Statement.{statement}
-use Rattle.emission.proofs.constants.plain.Tie as tie
+use Rattle.emission_tables.proofs.constants.plain.Statement.{statement}
+use Rattle.emission_tables.proofs.constants.plain.Tie as tie
 
 put-words-requires : tie.Need-put-words-requires
 put-words-requires c κs = search

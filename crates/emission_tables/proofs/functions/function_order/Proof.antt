@@ -1,7 +1,7 @@
--- `emission::functions::function_order` meets its contract.
+-- `emission_tables::functions::function_order` meets its contract.
 use Rattle.laws_programs.proofs.Adding.{function-order-is}
-use Rattle.emission.proofs.functions.function_order.Statement.{statement}
-use Rattle.emission.proofs.functions.function_order.Tie as tie
+use Rattle.emission_tables.proofs.functions.function_order.Statement.{statement}
+use Rattle.emission_tables.proofs.functions.function_order.Tie as tie
 
 counts-ok-requires : tie.Need-counts-ok-requires
 counts-ok-requires c κs = search

@@ -1,7 +1,7 @@
--- `emission::functions::get_function_idx` meets its contract.
+-- `emission_tables::functions::get_function_idx` meets its contract.
 use Rattle.laws_programs.proofs.Adding.{index-19, index-told}
-use Rattle.emission.proofs.functions.get_function_idx.Statement.{statement}
-use Rattle.emission.proofs.functions.get_function_idx.Tie as tie
+use Rattle.emission_tables.proofs.functions.get_function_idx.Statement.{statement}
+use Rattle.emission_tables.proofs.functions.get_function_idx.Tie as tie
 
 function-order-requires : tie.Need-function-order-requires
 function-order-requires c κs = search

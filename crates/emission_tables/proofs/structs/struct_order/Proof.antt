@@ -1,7 +1,7 @@
--- `emission::structs::struct_order` meets its contract.
+-- `emission_tables::structs::struct_order` meets its contract.
 use Rattle.laws_programs.proofs.Adding.{struct-order-is, struct-order-not}
-use Rattle.emission.proofs.structs.struct_order.Statement.{statement}
-use Rattle.emission.proofs.structs.struct_order.Tie as tie
+use Rattle.emission_tables.proofs.structs.struct_order.Statement.{statement}
+use Rattle.emission_tables.proofs.structs.struct_order.Tie as tie
 
 counts-ok-requires : tie.Need-counts-ok-requires
 counts-ok-requires c κs = search

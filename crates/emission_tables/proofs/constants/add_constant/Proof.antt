@@ -1,10 +1,10 @@
--- `emission::constants::add_constant` meets its contract.
+-- `emission_tables::constants::add_constant` meets its contract.
 use mathlib.Core.Path.{refl}
 use Rattle.layout.specs.Links.{constantsLent}
 use Rattle.laws_programs.proofs.Adding.{constant-order-is, pair-fits, constant-19, constant-22, constant-21, scalar-in, boolean-in, string-in, reference-in}
 use borrow.Author.Needs.{needs}
-use Rattle.emission.proofs.constants.add_constant.Statement.{statement}
-use Rattle.emission.proofs.constants.add_constant.Tie as tie
+use Rattle.emission_tables.proofs.constants.add_constant.Statement.{statement}
+use Rattle.emission_tables.proofs.constants.add_constant.Tie as tie
 
 counts-ok-requires : tie.Need-counts-ok-requires
 counts-ok-requires c κs = search
