@@ -214,3 +214,8 @@ unfolding from coded program alone p1 p1-flat p1-image p1-listing p3 p4 p5 p6 p7
     reports.computes Ieee.ofBits Ieee.ofFields Ieee.odd Ieee.add Ieee.sum Ieee.round Ieee.units Ieee.size Ieee.span Ieee.climb Ieee.div Ieee.eq
     Ieee.toBits
 examples-hold = refl
+
+-- what other examples compute with of these
+unfoldable pub computes : Type 1
+unfolding from coded world loaded scalarOf
+computes = Type 0

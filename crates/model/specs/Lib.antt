@@ -28,3 +28,5 @@ pub mod Readers
 pub mod Reports
 -- the examples to hold
 pub mod Examples
+-- for each of the mistakes that invite themselves, an answer that shows it
+pub mod Mistakes

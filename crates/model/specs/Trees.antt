@@ -97,3 +97,8 @@ unfoldable mutual
   pub sameTrees : Trees → Trees → Same
   sameTrees none us = said true
   sameTrees (more t ts) us = isMore us (λ u us′. andNext (sameTree t u) (sameTrees ts us′))
+
+-- all that an example computes with here
+unfoldable pub computes : Type 1
+unfolding treesOf treeOf meaningTo meaning
+computes = Type 0
