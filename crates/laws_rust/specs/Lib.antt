@@ -1,0 +1,4 @@
+-- The Rust, as it is.
+pub mod Vm
+-- What it is to do the same.
+pub mod Same
