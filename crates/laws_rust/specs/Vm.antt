@@ -3,7 +3,7 @@
 -- Decided differences: the sign of a zero that Add or Subtract gives, and a list compared with itself (docs/DIFFERENCES.md, 1 and 2).
 use mathlib.Core.Bool.{Bool, true, false, not, _&&_, _||_, Bool·beq}
 use mathlib.Core.List.{List, [], _∷_, reverse}
-use mathlib.Core.Option.{Option, none, some}
+use mathlib.Core.Option.{Option, none, some, Option·map}
 use Prim.Native.Nat.{ℕ, zero, suc, _+_, _-_, _*_}
 use lib.Dec.{eqb, ltb, leb}
 use lib.ListN.{length, drop}
@@ -49,71 +49,52 @@ with-stack vs vm = vm-with vm (vm .last-result) (vm .frames) vs
 abbrev pub with-last : Value → Vm → Vm
 with-last v vm = vm-with vm (some v) (vm .frames) (vm .stack)
 
--- what an arm does
-pub data Did : Type 0 where
-  -- it has run
-  went : Vm → Did
-  -- it has run, and `result_last_statement` is this value
-  returned : Value → Vm → Did
-  -- `return Err(..)`: DivisionByZero, the one error of the carried arms
-  division-by-zero : Vm → Did
-  -- `unwrap`, `expect`, an index out of range, a subtraction below zero
-  panic : Did
-  -- 697: the `transmute` of a byte that is no `Op`
-  cast : Did
-  -- an arm that is not carried
-  not-carried : Did
+pub data Did : Type 0 where  -- what an arm does
+  went : Vm → Did  -- it has run
+  returned : Value → Vm → Did  -- it has run, and `result_last_statement` is this value
+  division-by-zero : Vm → Did  -- `return Err(..)`: DivisionByZero, the one error of the carried arms
+  panic : Did  -- `unwrap`, `expect`, an index out of range, a subtraction below zero
+  cast : Did  -- 697: the `transmute` of a byte that is no `Op`
+  not-carried : Did  -- an arm that is not carried
 
 -- ---- 610 to 666: the helpers for execution. `k` is what comes next
-
--- `s[i]`
-unfoldable pub index : {A : Type 0} → List A → ℕ → (A → Did) → Did
+unfoldable pub index : {A : Type 0} → List A → ℕ → (A → Did) → Did  -- `s[i]`
 index [] i k = panic
 index (x ∷ xs) zero k = k x
 index (x ∷ xs) (suc i) k = index xs i k
 
--- `self.stack[i]`: from the bottom
-unfoldable pub stack-at : Vm → ℕ → (Value → Did) → Did
+unfoldable pub stack-at : Vm → ℕ → (Value → Did) → Did  -- `self.stack[i]`: from the bottom
 stack-at vm i k = index (reverse (vm .stack)) i k
 
--- `a - b`
-unfoldable pub sub : ℕ → ℕ → (ℕ → Did) → Did
+unfoldable pub sub : ℕ → ℕ → (ℕ → Did) → Did  -- `a - b`
 sub a b k = if ltb a b then panic else k (a - b)
 
 unfoldable pub unwrap : {A : Type 0} → Option A → (A → Did) → Did
 unwrap none k = panic
 unwrap (some x) k = k x
 
--- 610
-unfoldable pub current-frame : List CallFrame → (CallFrame → List CallFrame → Did) → Did
+unfoldable pub current-frame : List CallFrame → (CallFrame → List CallFrame → Did) → Did  -- 610
 current-frame [] k = panic
 current-frame (f ∷ fs) k = k f fs
 
-abbrev pub ip-plus : CallFrame → ℕ → CallFrame
-ip-plus f n = record { function-idx = f .function-idx; ip = f .ip + n; fp = f .fp }
+unfoldable pub move-ip : ℕ → Vm → (Vm → Did) → Did  -- `self.current_frame_mut().ip += n`
+move-ip n vm k =
+    current-frame (vm .frames) (λ f fs. k (with-frames (record { function-idx = f .function-idx; ip = f .ip + n; fp = f .fp } ∷ fs) vm))
 
--- `self.current_frame_mut().ip += n`
-unfoldable pub move-ip : ℕ → Vm → (Vm → Did) → Did
-move-ip n vm k = current-frame (vm .frames) (λ f fs. k (with-frames (ip-plus f n ∷ fs) vm))
-
--- 618
-unfoldable pub read-byte : Vm → (ℕ → Vm → Did) → Did
+unfoldable pub read-byte : Vm → (ℕ → Vm → Did) → Did  -- 618
 read-byte vm k =
     current-frame (vm .frames) (λ f fs.
     index (vm .bytecode) (f .function-idx) (λ chunk.
     index (chunk .code) (f .ip) (λ byte.
     move-ip 1 vm (λ vm'. k byte vm'))))
 
--- 625: low byte first
-unfoldable pub read-u16 : Vm → (ℕ → Vm → Did) → Did
+unfoldable pub read-u16 : Vm → (ℕ → Vm → Did) → Did  -- 625: low byte first
 read-u16 vm k = read-byte vm (λ lo vm'. read-byte vm' (λ hi vm''. k (lo + 256 * hi) vm''))
 
--- 638
-unfoldable pub push : Vm → Value → Vm
+unfoldable pub push : Vm → Value → Vm  -- 638
 push vm v = with-stack (v ∷ vm .stack) vm
 
--- 664
-unfoldable pub pop-from : List Value → Vm → (Value → Vm → Did) → Did
+unfoldable pub pop-from : List Value → Vm → (Value → Vm → Did) → Did  -- 664
 pop-from [] vm k = panic
 pop-from (v ∷ vs) vm k = k v (with-stack vs vm)
 
@@ -147,15 +128,13 @@ if-list v k e = by-kind v (λ x. e) (λ x. e) (λ x. e) (λ x. e) k (λ n vs. e)
 unfoldable pub if-struct-instance : {A : Type 0} → Value → (ℕ → Trees → A) → A → A
 if-struct-instance v k e = by-kind v (λ x. e) (λ x. e) (λ x. e) (λ x. e) (λ vs. e) k
 
--- 643, 651; value.rs 58
-unfoldable pub pop-quantity : Vm → (Float → Vm → Did) → Did
+unfoldable pub pop-quantity : Vm → (Float → Vm → Did) → Did  -- 643
 pop-quantity vm k = pop vm (λ v vm'. if-quantity v (λ x. k x vm') panic)
 
-unfoldable pub pop-bool : Vm → (Bool → Vm → Did) → Did
+unfoldable pub pop-bool : Vm → (Bool → Vm → Did) → Did  -- 651; value.rs 58
 pop-bool vm k = pop vm (λ v vm'. if-boolean v (λ x. k x vm') panic)
 
 -- ---- value.rs 34: `==`, derived; list.rs 36
-
 unfoldable pub eq-str : List ℕ → List ℕ → Bool
 eq-str [] [] = true
 eq-str [] (y ∷ ys) = false
@@ -180,7 +159,6 @@ unfoldable mutual
   eqs (more v vs) us = if-more us (λ u rest. eq v u && eqs vs rest) false
 
 -- ---- 32: `Op`, in its order, from number 0 on; `Other` where the arm is not carried
-
 pub data Op : Type 0 where
   LoadConstant GetLocal GetUpvalue GetLastResult Negate Add Subtract Multiply Divide LessThan GreaterThan LessOrEqual GreatorOrEqual : Op
   Equal NotEqual LogicalAnd LogicalOr LogicalNeg JumpIfFalse Jump Call CallCallable BuildStructInstance AccessStructField BuildList Return : Op
@@ -199,10 +177,9 @@ transmute (o ∷ os) zero k = k o
 transmute (o ∷ os) (suc byte) k = transmute os byte k
 
 -- ---- 499: `get_function_idx`, a search from the last on
-
 unfoldable pub position : List ℕ → List Chunk → Option ℕ
 position name [] = none
-position name (c ∷ cs) = if eq-str (c .name) name then some 0 else (elim (position name cs) as (λ x. Option ℕ) [ none ↦ none | some i ↦ some (suc i) ])
+position name (c ∷ cs) = if eq-str (c .name) name then some 0 else Option·map suc (position name cs)
 
 unfoldable pub get-function-idx : Vm → List ℕ → (ℕ → Did) → Did
 get-function-idx vm name k =
@@ -212,8 +189,7 @@ get-function-idx vm name k =
     if leb position' 65535 then k position' else panic)))
 
 -- ---- 699 to 1186: the arms, in the order of `Op`
-
--- 749: `let rhs = self.pop_quantity(); let lhs = self.pop_quantity();`
+-- 755, 832: `let rhs = self.pop_quantity(); let lhs = self.pop_quantity();`
 unfoldable pub two-quantities : Vm → (Float → Float → Vm → Did) → Did
 two-quantities vm k = pop-quantity vm (λ rhs vm'. pop-quantity vm' (λ lhs vm''. k lhs rhs vm''))
 
@@ -234,12 +210,10 @@ ordering less equal greater vm =
     (if f64.lt lhs rhs then less else
     (if f64.eq lhs rhs then equal else greater))))))
 
--- 858
-unfoldable pub comparison : (Bool → Bool) → Vm → Did
+unfoldable pub comparison : (Bool → Bool) → Vm → Did  -- 858
 comparison verdict vm = pop vm (λ rhs vm'. pop vm' (λ lhs vm''. went (push vm'' (boolean (verdict (eq lhs rhs))))))
 
--- 869
-unfoldable pub logic : (Bool → Bool → Bool) → Vm → Did
+unfoldable pub logic : (Bool → Bool → Bool) → Vm → Did  -- 869
 logic op vm = pop-bool vm (λ rhs vm'. pop-bool vm' (λ lhs vm''. went (push vm'' (boolean (op lhs rhs)))))
 
 -- 922, 992: `self.frames.push(CallFrame { function_idx, ip: 0, fp: self.stack.len() - num_args })`
@@ -252,8 +226,7 @@ unfoldable pub truncate : ℕ → List Value → List Value
 truncate fp [] = []
 truncate fp (v ∷ vs) = if ltb fp (suc (length vs)) then truncate fp vs else v ∷ vs
 
--- 1129
-unfoldable pub return : List CallFrame → Vm → Did
+unfoldable pub return : List CallFrame → Vm → Did  -- 1129
 return [] vm = panic
 return (f ∷ []) vm = pop vm (λ return-value vm'. returned return-value (with-last return-value vm'))
 return (discarded-frame ∷ f ∷ fs) vm =
@@ -276,56 +249,41 @@ swap-remove (more v vs) zero k = k v
 swap-remove (more v vs) (suc i) k = swap-remove vs i k
 
 unfoldable pub arm : Op → Vm → Did
--- 700
-arm LoadConstant vm = read-u16 vm (λ constant-idx vm'. index (vm' .constants) constant-idx (λ c. went (push vm' c)))
--- 737
-arm GetLocal vm = read-u16 vm (λ slot-idx vm'. current-frame (vm' .frames) (λ f fs. stack-at vm' (f .fp + slot-idx) (λ v. went (push vm' v))))
--- 742
-arm GetUpvalue vm = read-u16 vm (λ stack-idx vm'. stack-at vm' stack-idx (λ v. went (push vm' v)))
--- 746
-arm GetLastResult vm = unwrap (vm .last-result) (λ v. went (push vm v))
--- 758 to 763
-arm Add vm = arithmetic (f64.add binary64) vm
-arm Subtract vm = arithmetic (f64.sub binary64) vm
-arm Multiply vm = arithmetic (f64.mul binary64) vm
-arm Divide vm = checked-div vm
--- 828
-arm LessThan vm = ordering true false false vm
-arm GreaterThan vm = ordering false false true vm
-arm LessOrEqual vm = ordering true true false vm
-arm GreatorOrEqual vm = ordering false true true vm
--- 858
-arm Equal vm = comparison (λ same. same) vm
-arm NotEqual vm = comparison not vm
--- 869, 880, 884
-arm LogicalAnd vm = logic _&&_ vm
-arm LogicalOr vm = logic _||_ vm
-arm LogicalNeg vm = pop-bool vm (λ rhs vm'. went (push vm' (boolean (not rhs))))
-arm Negate vm = pop-quantity vm (λ rhs vm'. went (push vm' (scalar (f64.neg rhs))))
--- 909, 915
-arm JumpIfFalse vm = read-u16 vm (λ offset vm'. pop-bool vm' (λ b vm''. if not b then move-ip offset vm'' went else went vm''))
-arm Jump vm = read-u16 vm (λ offset vm'. move-ip offset vm' went)
--- 919
-arm Call vm = read-u16 vm (λ function-idx vm'. read-u16 vm' (λ num-args vm''. push-frame function-idx num-args vm''))
--- 982
-arm CallCallable vm =
+arm LoadConstant vm = read-u16 vm (λ constant-idx vm'. index (vm' .constants) constant-idx (λ c. went (push vm' c)))  -- 700
+arm GetLocal vm = read-u16 vm (λ slot-idx vm'. current-frame (vm' .frames) (λ f fs. stack-at vm' (f .fp + slot-idx) (λ v. went (push vm' v))))  -- 737
+arm GetUpvalue vm = read-u16 vm (λ stack-idx vm'. stack-at vm' stack-idx (λ v. went (push vm' v)))  -- 742
+arm GetLastResult vm = unwrap (vm .last-result) (λ v. went (push vm v))  -- 746
+arm Add vm = arithmetic (f64.add binary64) vm  -- 758
+arm Subtract vm = arithmetic (f64.sub binary64) vm  -- 759
+arm Multiply vm = arithmetic (f64.mul binary64) vm  -- 760
+arm Divide vm = checked-div vm  -- 761
+arm LessThan vm = ordering true false false vm  -- 828
+arm GreaterThan vm = ordering false false true vm  -- 828
+arm LessOrEqual vm = ordering true true false vm  -- 828
+arm GreatorOrEqual vm = ordering false true true vm  -- 828
+arm Equal vm = comparison (λ same. same) vm  -- 863
+arm NotEqual vm = comparison not vm  -- 864
+arm LogicalAnd vm = logic _&&_ vm  -- 874
+arm LogicalOr vm = logic _||_ vm  -- 875
+arm LogicalNeg vm = pop-bool vm (λ rhs vm'. went (push vm' (boolean (not rhs))))  -- 880
+arm Negate vm = pop-quantity vm (λ rhs vm'. went (push vm' (scalar (f64.neg rhs))))  -- 884
+arm JumpIfFalse vm = read-u16 vm (λ offset vm'. pop-bool vm' (λ b vm''. if not b then move-ip offset vm'' went else went vm''))  -- 909
+arm Jump vm = read-u16 vm (λ offset vm'. move-ip offset vm' went)  -- 915
+arm Call vm = read-u16 vm (λ function-idx vm'. read-u16 vm' (λ num-args vm''. push-frame function-idx num-args vm''))  -- 919
+arm CallCallable vm =  -- 982
     read-u16 vm (λ num-args vm'.
     read-u16 vm' (λ call-args-idx vm''.
     pop vm'' (λ callable vm‴.
     if-function-reference callable (λ name. get-function-idx vm‴ name (λ function-idx. push-frame function-idx num-args vm‴)) panic)))
--- 1129
-arm Return vm = return (vm .frames) vm
--- 1151
-arm BuildStructInstance vm =
+arm Return vm = return (vm .frames) vm  -- 1129
+arm BuildStructInstance vm =  -- 1151
     read-u16 vm (λ info-idx vm'.
     if ltb info-idx (vm' .struct-infos)
     then read-u16 vm' (λ num-args vm''. push-each num-args vm'' (λ content vm‴. went (push vm‴ (struct info-idx content))))
     else panic)
--- 1168
-arm AccessStructField vm =
+arm AccessStructField vm =  -- 1168
     read-u16 vm (λ field-idx vm'. pop vm' (λ v vm''. if-struct-instance v (λ n fields. swap-remove fields field-idx (λ x. went (push vm'' x))) panic))
--- 1176
-arm BuildList vm = read-u16 vm (λ length' vm'. push-front-each length' end vm' (λ l vm''. went (push vm'' (list l))))
+arm BuildList vm = read-u16 vm (λ length' vm'. push-front-each length' end vm' (λ l vm''. went (push vm'' (list l))))  -- 1176
 arm Other vm = not-carried
 
 -- 697 and what follows: one turn of the loop
@@ -333,7 +291,6 @@ unfoldable pub turn : Vm → Did
 turn vm = read-byte vm (λ byte vm'. transmute ops byte (λ op. arm op vm'))
 
 -- ---- 688 to 1212: the loop, and `run`
-
 -- 688: `ip` is at or past the code's length; `none` where the Rust panics, as there is no frame or no such function
 unfoldable pub past : ℕ → ℕ → List Chunk → Option Bool
 past i ip [] = none
@@ -354,8 +311,7 @@ pub data Result : Type 0 where
   err : Vm → Result
   panics casts leaves goes-on : Result
 
--- behind a turn
-unfoldable pub behind : (loop : Option Value → Vm → Result) → Option Value → Did → Result
+unfoldable pub behind : (loop : Option Value → Vm → Result) → Option Value → Did → Result  -- behind a turn
 behind loop r (went vm) = loop r vm
 behind loop r (returned v vm) = loop (some v) vm
 behind loop r (division-by-zero vm) = err vm
@@ -369,15 +325,12 @@ test loop r vm none = panics
 test loop r vm (some true) = ok r vm
 test loop r vm (some false) = behind loop r (turn vm)
 
-unfoldable pub loop : (turns : ℕ) → Option Value → Vm → Result
-loop zero r vm = goes-on
-loop (suc turns) r vm = test (loop turns) r vm (is-at-the-end vm)
+-- 692: `r` is `result_last_statement`
+unfoldable pub run-without-cleanup : (turns : ℕ) → (r : Option Value) → Vm → Result
+run-without-cleanup zero r vm = goes-on
+run-without-cleanup (suc turns) r vm = test (run-without-cleanup turns) r vm (is-at-the-end vm)
 
--- 692
-unfoldable pub run-without-cleanup : (turns : ℕ) → Vm → Result
-run-without-cleanup turns vm = loop turns none vm
-
--- 676 to 683: after an error the stack is that of the start, and there is one frame, at the end of main. The last result is not put back
+-- 677 to 683: after an error the stack is that of the start, and there is one frame, at the end of main. The last result is not put back
 unfoldable pub main-length : List Chunk → ℕ
 main-length [] = 0
 main-length (c ∷ cs) = length (c .code)
@@ -393,6 +346,5 @@ clean-up old casts = casts
 clean-up old leaves = leaves
 clean-up old goes-on = goes-on
 
--- 668
-unfoldable pub run : (turns : ℕ) → Vm → Result
-run turns vm = clean-up vm (run-without-cleanup turns vm)
+unfoldable pub run : (turns : ℕ) → Vm → Result  -- 668
+run turns vm = clean-up vm (run-without-cleanup turns none vm)
