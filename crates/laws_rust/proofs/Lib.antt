@@ -8,3 +8,7 @@ pub mod Equal
 pub mod Stacks
 -- names
 pub mod Names
+-- the arms
+pub mod Arms
+-- a step, and a turn of the loop
+pub mod Turns

@@ -19,7 +19,8 @@ use Rattle.model.specs.Steps.{World, State, Outcome, faulted, withUnits, at, po
 use Rattle.model.specs.Runs.{over}
 use Rattle.cells.proofs.Order.{by-less}
 use Rattle.laws_runs.specs.Sane.{AllPlaced, LastPlaced, Sane}
-use Rattle.laws_rust.specs.Vm.{Vm, Chunk, Did, panic, index, current-frame, move-ip, read-byte, read-u16, is-at-the-end, at-end-of, past}
+use Rattle.laws_rust.specs.Vm as rust
+use Rattle.laws_rust.specs.Vm.{arm, Vm, Chunk, Did, panic, index, current-frame, move-ip, read-byte, read-u16, is-at-the-end, at-end-of, past}
 use Rattle.laws_rust.specs.Same.{chunkOf, rustOf, rustAt, Panics, FaultsAs, Agrees}
 
 -- what these laws ask of a state in good order: its values are placed, and its function is one
@@ -127,11 +128,11 @@ module _ (w : World) (s : State) (h : Orderly w s) (inside : position s ≤ leng
       on true e = read (leb-true _ _ e)
       on false e = agrees-as w (faulted f.CodeEnds s) (short (leb-false _ _ e)) tt
 
-  pub reads-none : (body : Vm → Did) → ((t : State) → Orderly w t → (a b : ℕ) → Agrees w (execOf w p a b t) (body (rustAt w t))) → Agrees w (operandsThen w p 0 s) (body (rustAt w s))
+  pub reads-none : (y : rust.Op) → ((t : State) → Orderly w t → (a b : ℕ) → Agrees w (execOf w p a b t) (arm y (rustAt w t))) → Agrees w (operandsThen w p 0 s) (arm y (rustAt w s))
   unfolding rustOf
-  reads-none body same =
+  reads-none y same =
       let here : position s + 2 * 0 ≡ position s = omega arith in
-      operands-same 0 (body (rustAt w s)) (λ l. rw here (same (at (position s) s) (orderly-at (position s) (s .units) h) _ _)) (λ l. absurd (let z : ⊥ = omega arith in z))
+      operands-same 0 (arm y (rustAt w s)) (λ l. rw here (same (at (position s) s) (orderly-at (position s) (s .units) h) _ _)) (λ l. absurd (let z : ⊥ = omega arith in z))
 
   pub reads-one : (body : ℕ → Vm → Did) → ((t : State) → Orderly w t → (a b : ℕ) → Agrees w (execOf w p a b t) (body a (rustAt w t)))
       → Agrees w (operandsThen w p 1 s) (read-u16 (rustAt w s) body)
