@@ -12,3 +12,6 @@ pub mod Names
 pub mod Arms
 -- a step, and a turn of the loop
 pub mod Turns
+-- a run
+pub mod Loop
+pub mod Back

@@ -1,19 +1,21 @@
 -- [same] What it is that the rules and the Rust do the same: the Rust's state is what the rules' state means.
 use mathlib.Core.Path.{_≡_}
-use mathlib.Core.Bool.{Bool, true, false}
+use mathlib.Core.Bool.{Bool, true, false, _&&_, _||_}
 use mathlib.Core.List.{List, [], _∷_, map}
 use mathlib.Core.Option.{Option, none, some}
 use Prim.Native.Nat.{ℕ}
+use lib.Dec.{leb, eqb}
 use Rattle.model.specs.declared.Last.{Last}
 use Rattle.model.specs.declared.Last.the-variants.{Nothing, Is}
 use Rattle.model.specs.declared.Fault.{Fault}
 use Rattle.model.specs.declared.Fault.the-variants as f
 use Rattle.model.specs.declared.Frame.{Frame}
+use Rattle.model.specs.Values.{faultNumber}
 use Rattle.model.specs.Heap.{Cell}
 use Rattle.model.specs.Trees.{Tree, meaning}
 use Rattle.model.specs.Programs.{Function}
 use Rattle.model.specs.Steps.{World, State, Outcome, went, returned, faulted}
-use Rattle.model.specs.Runs.{Machine, Ended, ended, stopped}
+use Rattle.model.specs.Runs.{Machine, Ended, ended, stopped, Reply, value, continue, fault, Ran}
 use Rattle.laws_rust.specs.Vm as rust
 use Rattle.laws_rust.specs.Vm.{Vm, Chunk, CallFrame, Did, Result}
 
@@ -100,3 +102,43 @@ RunAs w left (stopped f.CellsFull s k) r = Unit {0}
 RunAs w left (stopped f.TooDeep s k) r = Unit {0}
 RunAs w left (stopped f.UnitsSpent s k) r = Unit {0}
 RunAs w left (stopped f.NoFunction s k) r = r ≡ rust.panics
+
+-- ---- the other way: what the rules answer, by what `run` comes to
+
+-- the loop comes to an end within the turns that it is looked at for
+abbrev pub Ends : Result → Type 0
+Ends (rust.ok r vm) = Unit
+Ends (rust.err vm) = Unit
+Ends rust.panics = Unit
+Ends rust.casts = Unit
+Ends rust.leaves = Unit
+Ends rust.goes-on = ⊥
+
+-- no limit is met: the rules' run does not stop by 9 to 13
+unfoldable pub Unlimited : Ended → Type 0
+Unlimited (ended k s) = Unit {0}
+Unlimited (stopped n s k) = leb 9 (faultNumber n) && leb (faultNumber n) 13 ≡ false
+
+-- the answer is that value, or "continue" if there is none
+unfoldable pub Means : World → Machine → Reply → Option Tree → Type 0
+Means w left (value x t) r = r ≡ some (meaning (w .text) (left .heap) x)
+Means w left (continue t) r = r ≡ none
+Means w left (fault n t es) r = ⊥
+
+-- the answer is a fault of such a number
+unfoldable pub IsFault : (ℕ → Bool) → Reply → Type 0
+IsFault such (value x t) = ⊥
+IsFault such (continue t) = ⊥
+IsFault such (fault n t es) = such n ≡ true
+
+-- the faults of the rules where the Rust panics
+abbrev pub isPanic : ℕ → Bool
+isPanic n = (leb 3 n && leb n 7) || eqb n 14
+
+unfoldable pub AnswersAs : World → Ran → Result → Type 0
+AnswersAs w ran (rust.ok r vm) = Means w (ran .machine) (ran .reply) r × (vm ≡ rustOf w (ran .machine))
+AnswersAs w ran (rust.err vm) = IsFault (λ n. eqb n 8) (ran .reply) × (vm ≡ rustOf w (ran .machine))
+AnswersAs w ran rust.panics = IsFault isPanic (ran .reply)
+AnswersAs w ran rust.casts = IsFault (λ n. eqb n 1) (ran .reply)
+AnswersAs w ran rust.leaves = IsFault (λ n. eqb n 2) (ran .reply)
+AnswersAs w ran rust.goes-on = Unit {0}
