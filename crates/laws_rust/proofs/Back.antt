@@ -12,7 +12,7 @@ use Rattle.model.specs.declared.Fault.the-variants as f
 use Rattle.model.specs.Values.{faultNumber}
 use Rattle.model.specs.Trees.{Tree}
 use Rattle.model.specs.Steps.{World, State}
-use Rattle.model.specs.Runs.{Machine, begin, Progress, Ended, ended, stopped, endOf, machineOf, answered, settle, runOf}
+use Rattle.model.specs.Runs.{Machine, begin, Ended, ended, stopped, endOf, machineOf, answered, settle, runOf}
 use Rattle.laws_runs.specs.Sane.{SaneWorld, Sane}
 use Rattle.laws_rust.specs.Vm as rust
 use Rattle.laws_rust.specs.Vm.{Vm, Did, Result, run-without-cleanup}

@@ -1,5 +1,5 @@
 -- Equality of trees, which the rules count pairs of, is the Rust's `==`.
-use mathlib.Core.Path.{_≡_, refl, ap, subst, sym}
+use mathlib.Core.Path.{_≡_, refl, ap}
 use mathlib.Core.Bool.{Bool, true, false, _&&_, and-false}
 use mathlib.Core.List.{List, [], _∷_}
 use Prim.Native.Nat.{ℕ, suc}
@@ -9,7 +9,8 @@ use lib.Dec.{eqb}
 use lib.Ieee.{Float}
 use Rattle.model.specs.Basics.{if_then_else_}
 use Rattle.model.specs.Equality.{Same, same, said, sameBytes, andNext}
-use Rattle.model.specs.Trees.{Tree, Trees, scalar, boolean, string, reference, list, struct, none, more, size, byTree, isScalar, isBoolean, isString, isReference, isList, isStruct, isMore, sameTree, sameTrees}
+use Rattle.model.specs.Trees.{Tree, Trees, scalar, boolean, string, reference, list, struct, none, more, size, byTree, isScalar, isBoolean, isString, isReference, isList, isStruct}
+use Rattle.model.specs.Trees.{isMore, sameTree, sameTrees}
 use Rattle.laws_rust.specs.Vm.{by-kind, if-quantity, if-boolean, if-string, if-function-reference, if-list, if-struct-instance, eq-str, if-more, eq, eqs}
 
 -- the verdict, whatever the pairs

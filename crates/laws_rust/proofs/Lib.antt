@@ -10,6 +10,8 @@ pub mod Stacks
 pub mod Names
 -- the arms
 pub mod Arms
+pub mod Calls
+pub mod Builds
 -- a step, and a turn of the loop
 pub mod Turns
 -- a run

@@ -3,16 +3,13 @@ use mathlib.Core.Path.{_≡_, refl, sym, ap, subst, _∙_}
 use mathlib.Core.Bool.{true, false}
 use mathlib.Core.List.{List, [], _∷_, map}
 use mathlib.Core.Option.{Option, none, some}
-use Prim.Native.Nat.{ℕ, zero, suc, _+_, _-_, _≤_, _<_}
+use Prim.Native.Nat.{ℕ, zero, suc, _+_, _-_, _≤_}
 use native.Mathlib.Omega.{arith}
 use lib.ListN.{length}
 use Rattle.model.specs.declared.Value.{Value}
-use Rattle.model.specs.declared.Last.the-variants.{Nothing, Is}
-use Rattle.model.specs.declared.Last.{Last}
 use Rattle.model.specs.declared.Fault.{Fault}
 use Rattle.model.specs.declared.Fault.the-variants as f
-use Rattle.model.specs.Heap.{Cell}
-use Rattle.model.specs.Trees.{Tree, meaning}
+use Rattle.model.specs.Trees.{Tree}
 use Rattle.model.specs.Programs.{Function, functionAt}
 use Rattle.model.specs.Steps.{World, State, Outcome, went, returned, faulted, stepOf}
 use Rattle.model.specs.Runs.{Machine, begin, Progress, atStart, counted, Ended, ended, stopped, over, endOf, recovered, settle, runOf}
@@ -26,7 +23,7 @@ use Rattle.laws_runs.proofs.Paths.{marked, run-path, path-spends, mark-last, ma
 use Rattle.laws_runs.proofs.Placed.{last-grows}
 use Rattle.laws_runs.proofs.Runs.{mark-sane, path-sane, path-mark}
 use Rattle.laws_rust.specs.Vm as rust
-use Rattle.laws_rust.specs.Vm.{Vm, Did, Result, run-without-cleanup}
+use Rattle.laws_rust.specs.Vm.{Did, run-without-cleanup}
 use Rattle.laws_rust.specs.Same.{chunkOf, lastIn, rustOf, rustAt, Panics, DividesByZero, FaultsAs, Agrees, RunAs}
 use Rattle.laws_rust.proofs.Reading.{end-is-over}
 use Rattle.laws_rust.proofs.Stacks.{stack-grown, last-grown}

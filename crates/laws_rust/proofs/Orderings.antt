@@ -6,7 +6,7 @@ use Prim.Native.Nat.{ℕ, zero, suc, _+_, _*_, _<_, _≤_}
 use native.Mathlib.Omega.{arith}
 use borrow.Author.Tests.{lt-ltb, le-ltb, eq-eqb, ne-eqb}
 use lib.Dec.{eqb, ltb}
-use lib.Ieee.{Float, nan, inf, fin, up, down, below, level, lt, eq, le, isNan}
+use lib.Ieee.{Float, nan, inf, fin, up, down, below, level, lt, eq, isNan}
 use Rattle.model.specs.Basics.{if_then_else_}
 use Rattle.cells.proofs.Order.{by-less}
 

@@ -1,22 +1,19 @@
 -- Lists of values and lists of what they mean: the bottom's slots, the shortened stack, what a build pops; and cells added above change none of it.
-use mathlib.Core.Path.{_≡_, refl, sym, ap, subst, _∙_}
-use mathlib.Core.Bool.{Bool, true, false}
-use mathlib.Core.List.{List, [], _∷_, _++_, map, reverse, reverseAux}
+use mathlib.Core.Path.{_≡_, refl, sym, ap, _∙_}
+use mathlib.Core.Bool.{true, false}
+use mathlib.Core.List.{List, [], _∷_, map, reverse, reverseAux}
 use mathlib.Core.Logic.{⊎-elim}
-use mathlib.Core.Option.{Option, none, some}
+use mathlib.Core.Option.{some}
 use Prim.Native.Nat.{ℕ, zero, suc, _+_, _-_, _≤_, _<_}
 use native.Mathlib.Omega.{arith}
 use borrow.Author.Tests.{lt-ltb, le-ltb}
-use lib.Dec.{ltb}
 use lib.ListN.{length, getD, take, drop, length-map, length-reverseAux, List·getD-map}
-use lib.Seq.{getD-append-add}
 use Rattle.model.specs.declared.Value.{Value}
 use Rattle.model.specs.declared.Value.the-variants as v
 use Rattle.model.specs.declared.Last.{Last}
 use Rattle.model.specs.declared.Last.the-variants.{Nothing, Is}
-use Rattle.model.specs.Basics.{if_then_else_}
 use Rattle.model.specs.Heap.{Cell, heapOk}
-use Rattle.model.specs.Trees.{Tree, Trees, treesOf, meaning, none as end, more}
+use Rattle.model.specs.Trees.{Tree, Trees, treesOf, meaning, more}
 use Rattle.cells.proofs.Order.{by-less}
 use Rattle.cells.proofs.Meaning.{meaning-kept, At, here, later}
 use Rattle.laws_runs.specs.Sane.{AllPlaced, LastPlaced}

@@ -1,13 +1,11 @@
 -- THE STEP: from a state in good order the rules' step and a turn of the Rust's loop do the same.
-use mathlib.Core.Path.{_≡_, refl, sym, subst}
+use mathlib.Core.Path.{_≡_, refl}
 use mathlib.Core.Bool.{Bool, true, false, not, _&&_, _||_}
 use mathlib.Core.List.{List, [], _∷_}
 use Prim.Native.Nat.{ℕ, zero, suc, _+_, _-_, _≤_, _<_}
-use native.Mathlib.Omega.{arith}
 use borrow.Author.Tests.{leb-false}
 use lib.Dec.{eqb, ltb}
 use lib.ListN.{length, getD}
-use lib.Ieee.{binary64}
 use Rattle.model.specs.declared.Arith.the-variants as a
 use Rattle.model.specs.declared.Order.the-variants as c
 use Rattle.model.specs.declared.Op.{Op}
@@ -16,13 +14,15 @@ use Rattle.model.specs.declared.Decoded.the-variants as d
 use Rattle.model.specs.declared.Fault.the-variants as f
 use Rattle.model.specs.Basics.{if_then_else_, ascii}
 use Rattle.model.specs.Opcodes.{Opcode, op, opcodes, opcodeAt}
-use Rattle.model.specs.Steps.{World, State, Outcome, faulted, withUnits, at, position, codeOf, execOf, operandsThen, decodedThen, fetched, stepOf}
+use Rattle.model.specs.Steps.{World, State, faulted, withUnits, at, position, codeOf, execOf, operandsThen, decodedThen, fetched, stepOf}
 use Rattle.model.specs.Runs.{over}
 use Rattle.laws_runs.specs.Sane.{SaneWorld, Sane}
 use Rattle.laws_rust.specs.Vm as rust
 use Rattle.laws_rust.specs.Same.{rustOf, rustAt, FaultsAs, Agrees}
 use Rattle.laws_rust.proofs.Reading.{Orderly, sane-orderly, orderly-at, byte-there, agrees-as, reads-none, reads-one, reads-two}
 use Rattle.laws_rust.proofs.Arms as arms
+use Rattle.laws_rust.proofs.Calls as calls
+use Rattle.laws_rust.proofs.Builds as builds
 
 -- ---- the opcodes
 
@@ -121,20 +121,20 @@ module _ (w : World) (good : SaneWorld w) (few : length (w .functions) ≤ 65536
     does-the-same (o.Ordering c.GreaterThan) = reads-none w s h inside (o.Ordering c.GreaterThan) rust.GreaterThan (λ t k i j. arms.orders-greater w t)
     does-the-same (o.Ordering c.LessOrEqual) = reads-none w s h inside (o.Ordering c.LessOrEqual) rust.LessOrEqual (λ t k i j. arms.orders-less-equal w t)
     does-the-same (o.Ordering c.GreatorOrEqual) = reads-none w s h inside (o.Ordering c.GreatorOrEqual) rust.GreatorOrEqual (λ t k i j. arms.orders-greater-equal w t)
-    does-the-same o.Equal = reads-none w s h inside o.Equal rust.Equal (λ t k i j. arms.compares w t k (λ x. x))
-    does-the-same o.NotEqual = reads-none w s h inside o.NotEqual rust.NotEqual (λ t k i j. arms.compares w t k not)
+    does-the-same o.Equal = reads-none w s h inside o.Equal rust.Equal (λ t k i j. builds.compares w t k (λ x. x))
+    does-the-same o.NotEqual = reads-none w s h inside o.NotEqual rust.NotEqual (λ t k i j. builds.compares w t k not)
     does-the-same o.LogicalAnd = reads-none w s h inside o.LogicalAnd rust.LogicalAnd (λ t k i j. arms.joins w t _&&_)
     does-the-same o.LogicalOr = reads-none w s h inside o.LogicalOr rust.LogicalOr (λ t k i j. arms.joins w t _||_)
     does-the-same o.LogicalNeg = reads-none w s h inside o.LogicalNeg rust.LogicalNeg (λ t k i j. arms.inverts w t)
     does-the-same o.JumpIfFalse = reads-one w s h inside o.JumpIfFalse _ (λ t k i j. arms.jumps-if w t i)
     does-the-same o.Jump = reads-one w s h inside o.Jump _ (λ t k i j. arms.jumps w t i)
-    does-the-same o.Call = reads-two w s h inside o.Call (λ i. true) _ (λ i j vm. rust.push-frame i j vm) (λ i t. refl) (λ t k i j. arms.calls w t i j)
-    does-the-same o.CallCallable = reads-two w s h inside o.CallCallable (λ i. true) _ _ (λ i t. refl) (λ t k i j. arms.calls-named w t i few)
+    does-the-same o.Call = reads-two w s h inside o.Call (λ i. true) _ (λ i j vm. rust.push-frame i j vm) (λ i t. refl) (λ t k i j. calls.calls w t i j)
+    does-the-same o.CallCallable = reads-two w s h inside o.CallCallable (λ i. true) _ _ (λ i t. refl) (λ t k i j. calls.calls-named w t i few)
     does-the-same o.BuildStructInstance =
-        reads-two w s h inside o.BuildStructInstance (λ i. ltb i (w .structs)) _ _ (λ i t. refl) (λ t k i j. arms.builds-known-struct w t k i j)
-    does-the-same o.AccessStructField = reads-one w s h inside o.AccessStructField _ (λ t k i j. arms.reads-field w t k i)
-    does-the-same o.BuildList = reads-one w s h inside o.BuildList _ (λ t k i j. arms.builds-list w t k i)
-    does-the-same o.Return = reads-none w s h inside o.Return rust.Return (λ t k i j. arms.returns w t)
+        reads-two w s h inside o.BuildStructInstance (λ i. ltb i (w .structs)) _ _ (λ i t. refl) (λ t k i j. builds.builds-known-struct w t k i j)
+    does-the-same o.AccessStructField = reads-one w s h inside o.AccessStructField _ (λ t k i j. builds.reads-field w t k i)
+    does-the-same o.BuildList = reads-one w s h inside o.BuildList _ (λ t k i j. builds.builds-list w t k i)
+    does-the-same o.Return = reads-none w s h inside o.Return rust.Return (λ t k i j. calls.returns w t)
 
     row-same : {x : Opcode} {y : rust.Op} → Row x y → Agrees w (decodedThen w (x .what) (x .read) s) (rust.arm y (rustAt w s))
     unfolding decodedThen Agrees FaultsAs rust.arm

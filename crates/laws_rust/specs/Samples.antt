@@ -1,6 +1,6 @@
 -- [samples] The Rust, as it is written down, run on P1, P3, P4, P5, P6 and P8 of document 01: it computes, and answers as the document has it.
 use mathlib.Core.Path.{_≡_, refl}
-use mathlib.Core.Bool.{Bool, true, false}
+use mathlib.Core.Bool.{true}
 use mathlib.Core.List.{List, [], _∷_, map}
 use mathlib.Core.Option.{Option, none, some}
 use Prim.Native.Nat.{ℕ}
