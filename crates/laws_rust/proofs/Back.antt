@@ -59,13 +59,16 @@ more-turns n k vm e = ap (rust.clean-up vm) (loop-more n k none vm (ends-unclean
 
 -- ---- from the Rust to the rules
 
-module _ (w : World) (good : SaneWorld w) (few : length (w .functions) ≤ 65536) (m : Machine) (u : ℕ) (sane : Sane w (begin m u)) where
-  -- however many turns it took
-  pub ends-same : (n : ℕ) → Ends (rust.run n (rustOf w m)) → RunAs w (runOf w m u .machine) (endOf w (begin m u)) (rust.run n (rustOf w m))
-  ends-same n e =
-      let z : suc u + n ≡ n + suc u = omega arith in
-      subst (RunAs w (runOf w m u .machine) (endOf w (begin m u))) (ap (λ (i : ℕ). rust.run i (rustOf w m)) z ∙ more-turns n (suc u) (rustOf w m) e) (run-same w good few m u sane n)
+-- however many turns it took
+pub ends-same : (w : World) → SaneWorld w → length (w .functions) ≤ 65536 → (m : Machine) (u : ℕ) → Sane w (begin m u) → (turns : ℕ)
+    → Ends (rust.run turns (rustOf w m)) → RunAs w (runOf w m u .machine) (endOf w (begin m u)) (rust.run turns (rustOf w m))
+ends-same w good few m u sane turns e =
+    let z : suc u + turns ≡ turns + suc u = omega arith in
+    let same : rust.run (suc u + turns) (rustOf w m) ≡ rust.run turns (rustOf w m) =
+    ap (λ (i : ℕ). rust.run i (rustOf w m)) z ∙ more-turns turns (suc u) (rustOf w m) e in
+    subst (RunAs w (runOf w m u .machine) (endOf w (begin m u))) same (run-same w good few m u sane turns)
 
+module _ (w : World) (m : Machine) (u : ℕ) where
   answered-so : (s : State) (a : Last) (t : Tally) → Means w (machineOf s) (answered a t) (lastIn (w .text) (s .heap) a)
   unfolding Means answered
   answered-so s Nothing t = refl
@@ -93,15 +96,23 @@ module _ (w : World) (good : SaneWorld w) (few : length (w .functions) ≤ 65536
   answers-so (stopped f.UnitsSpent s k) l x h = absurd (true≢false l)
   answers-so (stopped f.NoFunction s k) l x h = answers-as (stopped f.NoFunction s k) h refl
 
-  -- THE OTHER WAY: whatever the Rust comes to, the rules answer, and leave the machine that it leaves
-  pub rust-same : Unlimited (endOf w (begin m u)) → (n : ℕ) → AnswersAs w (runOf w m u) (rust.run n (rustOf w m))
-  unfolding runOf
-  rust-same l n = on (rust.run n (rustOf w m)) (ends-same n)
-    where
-      on : (x : Result) → (Ends x → RunAs w (runOf w m u .machine) (endOf w (begin m u)) x) → AnswersAs w (settle w m u (endOf w (begin m u))) x
-      on (rust.ok r vm) h = answers-so (endOf w (begin m u)) l (rust.ok r vm) (h tt)
-      on (rust.err vm) h = answers-so (endOf w (begin m u)) l (rust.err vm) (h tt)
-      on rust.panics h = answers-so (endOf w (begin m u)) l rust.panics (h tt)
-      on rust.casts h = answers-so (endOf w (begin m u)) l rust.casts (h tt)
-      on rust.leaves h = answers-so (endOf w (begin m u)) l rust.leaves (h tt)
-      on rust.goes-on h = unfold AnswersAs in tt
+-- THE THEOREM, THE OTHER WAY: whatever the Rust comes to, in however many turns, the rules answer, and leave the machine that it leaves
+pub rust-same : (w : World) → SaneWorld w → length (w .functions) ≤ 65536 → (m : Machine) (u : ℕ) → Sane w (begin m u)
+    → Unlimited (endOf w (begin m u)) → (turns : ℕ) → AnswersAs w (runOf w m u) (rust.run turns (rustOf w m))
+unfolding runOf
+rust-same w good few m u sane l turns = on (rust.run turns (rustOf w m)) (ends-same w good few m u sane turns)
+  where
+    on : (x : Result) → (Ends x → RunAs w (runOf w m u .machine) (endOf w (begin m u)) x) → AnswersAs w (settle w m u (endOf w (begin m u))) x
+    on (rust.ok r vm) h = answers-so w m u (endOf w (begin m u)) l (rust.ok r vm) (h tt)
+    on (rust.err vm) h = answers-so w m u (endOf w (begin m u)) l (rust.err vm) (h tt)
+    on rust.panics h = answers-so w m u (endOf w (begin m u)) l rust.panics (h tt)
+    on rust.casts h = answers-so w m u (endOf w (begin m u)) l rust.casts (h tt)
+    on rust.leaves h = answers-so w m u (endOf w (begin m u)) l rust.leaves (h tt)
+    on rust.goes-on h = unfold AnswersAs in tt
+
+-- so, if the Rust answers Ok, the rules answer that value, or "continue", and leave a machine that is the Rust's
+pub ok-same : (w : World) → SaneWorld w → length (w .functions) ≤ 65536 → (m : Machine) (u : ℕ) → Sane w (begin m u) → Unlimited (endOf w (begin m u))
+    → (turns : ℕ) (r : Option Tree) (vm : Vm) → rust.run turns (rustOf w m) ≡ rust.ok r vm
+    → Means w (runOf w m u .machine) (runOf w m u .reply) r × (vm ≡ rustOf w (runOf w m u .machine))
+unfolding AnswersAs
+ok-same w good few m u sane l turns r vm e = subst (AnswersAs w (runOf w m u)) e (rust-same w good few m u sane l turns)

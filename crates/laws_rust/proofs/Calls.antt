@@ -35,7 +35,8 @@ module _ (w : World) (s : State) where
 
   -- the base is the stack length less the count; of room for frames the Rust knows nothing
   framed : (i n : ℕ) (vs : List Value) → n ≤ length vs
-      → rust.push-frame i n (rustAt w (withStack vs s)) ≡ rust.went (rustAt w (withStack vs (withFrames (record { function = i; position = 0; base = length vs - n }) (s .frame ∷ s .callers) s)))
+      → rust.push-frame i n (rustAt w (withStack vs s))
+      ≡ rust.went (rustAt w (withStack vs (withFrames (record { function = i; position = 0; base = length vs - n }) (s .frame ∷ s .callers) s)))
   unfolding rust.push-frame rustOf
   framed i n vs h =
       let z : length (map tree vs) ≡ length vs = length-map vs tree in
@@ -58,7 +59,7 @@ module _ (w : World) (s : State) where
       on false e false = framed i n vs (ltb-false _ _ e)
 
   -- a function that is not there: the frame stands, and the loop's test panics
-  pub lost : (i n : ℕ) → length (w .functions) ≤ i → Panics (rust.push-frame i n (rustAt w s))
+  lost : (i n : ℕ) → length (w .functions) ≤ i → Panics (rust.push-frame i n (rustAt w s))
   unfolding Panics
   lost i n h =
       ⊎-elim

@@ -1,6 +1,6 @@
 -- THE RUN: from a machine in good order the rules' run and the Rust's `run` come to the same, if no limit of the rules is met.
 use mathlib.Core.Path.{_≡_, refl, sym, ap, subst, _∙_}
-use mathlib.Core.Bool.{true, false}
+use mathlib.Core.Bool.{Bool, true, false}
 use mathlib.Core.List.{List, [], _∷_, map}
 use mathlib.Core.Option.{Option, none, some}
 use Prim.Native.Nat.{ℕ, zero, suc, _+_, _-_, _≤_}
@@ -31,14 +31,15 @@ use Rattle.laws_rust.proofs.Turns.{step-same}
 
 -- ---- one turn
 
-module _ (w : World) (s : State) (sane : Sane w s) (turns : ℕ) (r : Option Tree) where
-  at-the-end : over w s ≡ true → run-without-cleanup (suc turns) r (rustAt w s) ≡ rust.ok r (rustAt w s)
-  unfolding run-without-cleanup rust.test
-  at-the-end o = ap (rust.test (run-without-cleanup turns) r (rustAt w s)) (end-is-over w s (sane .frame .known) ∙ ap some o)
+-- the loop's test, which is [run.end]
+tested : (w : World) (s : State) → Sane w s → (turns : ℕ) (r : Option Tree) (b : Bool) → over w s ≡ b
+    → run-without-cleanup (suc turns) r (rustAt w s) ≡ rust.test (run-without-cleanup turns) r (rustAt w s) (some b)
+unfolding run-without-cleanup
+tested w s sane turns r b o = ap (rust.test (run-without-cleanup turns) r (rustAt w s)) (end-is-over w s (sane .frame .known) ∙ ap some o)
 
-  one-turn : over w s ≡ false → run-without-cleanup (suc turns) r (rustAt w s) ≡ rust.behind (run-without-cleanup turns) r (rust.turn (rustAt w s))
-  unfolding run-without-cleanup rust.test
-  one-turn o = ap (rust.test (run-without-cleanup turns) r (rustAt w s)) (end-is-over w s (sane .frame .known) ∙ ap some o)
+-- the value of the last statement, as it is in a state that has come so far
+abbrev answerIn : World → Progress → State → Option Tree
+answerIn w m s = lastIn (w .text) (s .heap) (m .answer)
 
 -- ---- turn by turn: the written steps of the rules are the Rust's turns
 
@@ -46,26 +47,22 @@ module _ (w : World) (good : SaneWorld w) (few : length (w .functions) ≤ 65536
   does : {s : State} {out : Outcome} → Sane w s → over w s ≡ false → stepOf w s ≡ out → Agrees w out (rust.turn (rustAt w s))
   does {s} sane o q = subst (λ (x : Outcome). Agrees w x (rust.turn (rustAt w s))) q (step-same w good few s sane o)
 
-  -- the value of the last statement, as it is in a state that has come so far
-  abbrev answerIn : Progress → State → Option Tree
-  answerIn m s = lastIn (w .text) (s .heap) (m .answer)
-
   went-on : {s s' : State} (m : Progress) → Sane w s → LastPlaced (length (w .text)) (s .heap) (m .answer) → over w s ≡ false → stepOf w s ≡ went s' → (turns : ℕ)
-      → run-without-cleanup (suc turns) (answerIn m s) (rustAt w s) ≡ run-without-cleanup turns (answerIn m s') (rustAt w s')
-  unfolding rust.behind Agrees
+      → run-without-cleanup (suc turns) (answerIn w m s) (rustAt w s) ≡ run-without-cleanup turns (answerIn w m s') (rustAt w s')
+  unfolding rust.test rust.behind Agrees
   went-on {s} {s'} m sane placed o q turns =
       let z : Adds (s .heap) (s .last) (went s') = subst (Adds (s .heap) (s .last)) q (step-adds w s) in
-      one-turn w s sane turns (answerIn m s) o
-      ∙ ap (rust.behind (run-without-cleanup turns) (answerIn m s)) (does sane o q)
+      tested w s sane turns (answerIn w m s) false o
+      ∙ ap (rust.behind (run-without-cleanup turns) (answerIn w m s)) (does sane o q)
       ∙ ap (λ (r : Option Tree). run-without-cleanup turns r (rustAt w s')) (sym (last-grown (w .text) (sane .heap) (z .0) (m .answer) placed))
 
   came-back : {s s' : State} {x : Value} (m : Progress) → Sane w s → over w s ≡ false → stepOf w s ≡ returned x s' → (turns : ℕ)
-      → run-without-cleanup (suc turns) (answerIn m s) (rustAt w s) ≡ run-without-cleanup turns (answerIn (counted x m s') s') (rustAt w s')
-  unfolding rust.behind Agrees
-  came-back {s} m sane o q turns = one-turn w s sane turns (answerIn m s) o ∙ ap (rust.behind (run-without-cleanup turns) (answerIn m s)) (does sane o q)
+      → run-without-cleanup (suc turns) (answerIn w m s) (rustAt w s) ≡ run-without-cleanup turns (answerIn w (counted x m s') s') (rustAt w s')
+  unfolding rust.test rust.behind Agrees
+  came-back {s} m sane o q turns = tested w s sane turns (answerIn w m s) false o ∙ ap (rust.behind (run-without-cleanup turns) (answerIn w m s)) (does sane o q)
 
   along : {n : ℕ} {m k : Progress} {s t : State} → Steps w n m s k t → Sane w s → LastPlaced (length (w .text)) (s .heap) (m .answer) → (turns : ℕ)
-      → run-without-cleanup (n + turns) (answerIn m s) (rustAt w s) ≡ run-without-cleanup turns (answerIn k t) (rustAt w t)
+      → run-without-cleanup (n + turns) (answerIn w m s) (rustAt w s) ≡ run-without-cleanup turns (answerIn w k t) (rustAt w t)
   unfolding LastPlaced
   along paths.none sane placed turns = let z : 0 + turns ≡ turns = omega arith in rw z refl
   along (paths.on {n = n} {m = m} {s = s} {s' = s'} o q p) sane placed turns =
@@ -106,36 +103,44 @@ module _ (w : World) (m : Machine) (u : ℕ) (sane : Sane w (begin m u)) (k : Pr
       rw (main-is (w .functions), sym last, last-grown (w .text) (mark .heap) since (k .last) (mark .last), stack-grown (w .text) (sane .heap) start (m .stack) (sane .placed)) refl
 
   -- d is what the turn did from which the rules fault
-  stops-so : (turns : ℕ) (r : Option Tree) (n : Fault) (d : Did) → FaultsAs (rustAt w t) n d
-      → RunAs w (recovered w m k) (stopped n t k) (rust.clean-up (rustOf w m) (rust.behind (run-without-cleanup (suc turns)) r d))
-  unfolding FaultsAs RunAs DividesByZero rust.clean-up rust.behind
-  stops-so turns r f.UnknownOpcode d h = ap (λ (x : Did). rust.clean-up (rustOf w m) (rust.behind (run-without-cleanup (suc turns)) r x)) h
-  stops-so turns r f.NotCarried d h = ap (λ (x : Did). rust.clean-up (rustOf w m) (rust.behind (run-without-cleanup (suc turns)) r x)) h
-  stops-so turns r f.CodeEnds d h = ap (rust.clean-up (rustOf w m)) (panicked-behind turns r d h)
-  stops-so turns r f.TooFewValues d h = ap (rust.clean-up (rustOf w m)) (panicked-behind turns r d h)
-  stops-so turns r (f.WrongKind v) d h = ap (rust.clean-up (rustOf w m)) (panicked-behind turns r d h)
-  stops-so turns r f.OutOfRange d h = ap (rust.clean-up (rustOf w m)) (panicked-behind turns r d h)
-  stops-so turns r f.NoLastResult d h = ap (rust.clean-up (rustOf w m)) (panicked-behind turns r d h)
-  stops-so turns r f.ZeroDivisor d h =
-      ap (λ (x : Did). rust.clean-up (rustOf w m) (rust.behind (run-without-cleanup (suc turns)) r x)) (h .1) ∙ ap rust.err (cleaned-is (h .0))
-  stops-so turns r f.StackFull d h = tt
-  stops-so turns r f.FramesFull d h = tt
-  stops-so turns r f.CellsFull d h = tt
-  stops-so turns r f.TooDeep d h = tt
-  stops-so turns r f.UnitsSpent d h = tt
-  stops-so turns r f.NoFunction d h = ap (rust.clean-up (rustOf w m)) (panicked-behind turns r d h)
+  module _ (turns : ℕ) (r : Option Tree) (d : Did) where
+    comes-to : {d' : Did} → d ≡ d' → rust.clean-up (rustOf w m) (rust.behind (run-without-cleanup (suc turns)) r d)
+        ≡ rust.clean-up (rustOf w m) (rust.behind (run-without-cleanup (suc turns)) r d')
+    comes-to h = ap (λ (x : Did). rust.clean-up (rustOf w m) (rust.behind (run-without-cleanup (suc turns)) r x)) h
+
+    comes-to-panic : Panics d → rust.clean-up (rustOf w m) (rust.behind (run-without-cleanup (suc turns)) r d) ≡ rust.panics
+    unfolding rust.clean-up
+    comes-to-panic h = ap (rust.clean-up (rustOf w m)) (panicked-behind turns r d h)
+
+    stops-so : (n : Fault) → FaultsAs (rustAt w t) n d
+        → RunAs w (recovered w m k) (stopped n t k) (rust.clean-up (rustOf w m) (rust.behind (run-without-cleanup (suc turns)) r d))
+    unfolding FaultsAs RunAs DividesByZero rust.clean-up rust.behind
+    stops-so f.UnknownOpcode h = comes-to h
+    stops-so f.NotCarried h = comes-to h
+    stops-so f.CodeEnds h = comes-to-panic h
+    stops-so f.TooFewValues h = comes-to-panic h
+    stops-so (f.WrongKind v) h = comes-to-panic h
+    stops-so f.OutOfRange h = comes-to-panic h
+    stops-so f.NoLastResult h = comes-to-panic h
+    stops-so f.ZeroDivisor h = comes-to (h .1) ∙ ap rust.err (cleaned-is (h .0))
+    stops-so f.StackFull h = tt
+    stops-so f.FramesFull h = tt
+    stops-so f.CellsFull h = tt
+    stops-so f.TooDeep h = tt
+    stops-so f.UnitsSpent h = tt
+    stops-so f.NoFunction h = comes-to-panic h
 
 -- ---- a run
 
 module _ (w : World) (good : SaneWorld w) (few : length (w .functions) ≤ 65536) (m : Machine) (u : ℕ) (sane : Sane w (begin m u)) where
   ended-same : {k : Progress} {t : State} → EndedBy w (atStart (begin m u)) (begin m u) k t → (turns : ℕ)
       → RunAs w (settle w m u (ended k t) .machine) (ended k t) (rust.run (suc u + turns) (rustOf w m))
-  unfolding RunAs settle rust.run rust.clean-up LastPlaced
+  unfolding RunAs settle rust.run rust.clean-up rust.test LastPlaced
   ended-same {k} {t} by turns =
       let spent = path-spends w (by .path) in
       let z : suc u + turns ≡ by .steps + suc (u - by .steps + turns) = omega arith in
       rw z (ap (rust.clean-up (rustOf w m))
-      (along w good few (by .path) sane tt (suc (u - by .steps + turns)) ∙ at-the-end w t (path-sane w good sane (by .path)) _ _ (by .over)))
+      (along w good few (by .path) sane tt (suc (u - by .steps + turns)) ∙ tested w t (path-sane w good sane (by .path)) _ _ true (by .over)))
 
   module _ {n : Fault} {t : State} {k : Progress} (by : StoppedBy w (atStart (begin m u)) (begin m u) n t k) where
     -- the state before the step that faults, and what is kept of it
@@ -150,10 +155,10 @@ module _ (w : World) (good : SaneWorld w) (few : length (w .functions) ≤ 65536
 
     turns-to : (turns : ℕ)
         → rust.run (by .steps + suc turns) (rustOf w m)
-        ≡ rust.clean-up (rustOf w m) (rust.behind (run-without-cleanup turns) (answerIn w good few k (by .at)) (rust.turn (rustAt w (by .at))))
-    unfolding rust.run LastPlaced
+        ≡ rust.clean-up (rustOf w m) (rust.behind (run-without-cleanup turns) (answerIn w k (by .at)) (rust.turn (rustAt w (by .at))))
+    unfolding rust.run rust.test LastPlaced
     turns-to turns =
-        ap (rust.clean-up (rustOf w m)) (along w good few (by .path) sane tt (suc turns) ∙ one-turn w (by .at) before turns _ (by .goes-on))
+        ap (rust.clean-up (rustOf w m)) (along w good few (by .path) sane tt (suc turns) ∙ tested w (by .at) before turns _ false (by .goes-on))
 
     -- there is a unit for the step, and so there are two turns: the one that faults, and the test behind it
     stopped-paid : (turns : ℕ) → 1 ≤ by .at .units → RunAs w (recovered w m k) (stopped n t k) (rust.run (suc u + turns) (rustOf w m))
@@ -164,7 +169,7 @@ module _ (w : World) (good : SaneWorld w) (few : length (w .functions) ≤ 65536
         let d : FaultsAs (rustAt w t) n (rust.turn (rustAt w (by .at))) = does w good few before (by .goes-on) (by .stops) in
         rw (z, turns-to (suc (u - by .steps - 1 + turns)))
         (stops-so w m u sane k t (path-mark w good sane (mark-sane sane) (by .path)) (so .last ∙ sym (adds .1)) (mark-grows w (marked (begin m u)) (by .path))
-        (grows-on (so .heap) (adds .0)) _ _ n _ d)
+        (grows-on (so .heap) (adds .0)) _ _ _ n d)
 
     stopped-same : (turns : ℕ) → RunAs w (settle w m u (stopped n t k) .machine) (stopped n t k) (rust.run (suc u + turns) (rustOf w m))
     unfolding settle RunAs
@@ -181,6 +186,8 @@ module _ (w : World) (good : SaneWorld w) (few : length (w .functions) ≤ 65536
   settled-same (ended k t) q turns = ended-same (run-path w (atStart (begin m u)) (begin m u) (sym (end-of w (begin m u)) ∙ q)) turns
   settled-same (stopped n t k) q turns = stopped-same (run-path w (atStart (begin m u)) (begin m u) (sym (end-of w (begin m u)) ∙ q)) turns
 
-  pub run-same : (turns : ℕ) → RunAs w (runOf w m u .machine) (endOf w (begin m u)) (rust.run (suc u + turns) (rustOf w m))
-  unfolding runOf
-  run-same turns = settled-same (endOf w (begin m u)) refl turns
+-- THE THEOREM: in one turn more than there are units, and in any more than that, the Rust comes to what the rules' run comes to, and leaves its machine
+pub run-same : (w : World) → SaneWorld w → length (w .functions) ≤ 65536 → (m : Machine) (u : ℕ) → Sane w (begin m u) → (turns : ℕ)
+    → RunAs w (runOf w m u .machine) (endOf w (begin m u)) (rust.run (suc u + turns) (rustOf w m))
+unfolding runOf
+run-same w good few m u sane turns = settled-same w good few m u sane (endOf w (begin m u)) refl turns

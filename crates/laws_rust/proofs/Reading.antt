@@ -32,7 +32,7 @@ pub record Orderly (w : World) (s : State) : Type 0 where
 pub sane-orderly : {w : World} {s : State} → Sane w s → Orderly w s
 sane-orderly h = record { heap = h .heap; placed = h .placed; last = h .last; known = h .frame .known }
 
--- nor the position nor the units matter
+-- the position and the units do not matter
 pub orderly-at : {w : World} {s : State} (i u : ℕ) → Orderly w s → Orderly w (at i (withUnits u s))
 orderly-at i u h = record { heap = h .heap; placed = h .placed; last = h .last; known = h .known }
 
@@ -106,15 +106,16 @@ pub end-is-over : (w : World) (s : State) → s .frame .function < length (w .fu
 unfolding is-at-the-end at-end-of rustOf over codeOf
 end-is-over w s known = past-there (w .functions) (s .frame .function) (s .frame .position) known
 
-either-way : (b : Bool) → (if b then panic else panic) ≡ panic
-either-way true = refl
-either-way false = refl
-
 -- ---- operands: an instruction that has its operands does as the Rust does behind its reads, and one that has not faults where the Rust panics
 
 pub agrees-as : (w : World) (out : Outcome) {d d' : Did} → d ≡ d' → Agrees w out d' → Agrees w out d
 agrees-as w out e a = subst (Agrees w out) (sym e) a
 
+either-way : (b : Bool) → (if b then panic else panic) ≡ panic
+either-way true = refl
+either-way false = refl
+
+-- s has read its opcode
 module _ (w : World) (s : State) (h : Orderly w s) (inside : position s ≤ length (codeOf w s)) (p : Op) where
   operands-same : (n : ℕ) (d : Did)
       → (position s + 2 * n ≤ length (codeOf w s) → Agrees w (execOf w p (wordAt (codeOf w s) (position s)) (wordAt (codeOf w s) (position s + 2)) (at (position s + 2 * n) s)) d)

@@ -149,15 +149,17 @@ module _ (w : World) (good : SaneWorld w) (few : length (w .functions) ≤ 65536
     decodes-the-same (r then rs) zero = row-same r
     decodes-the-same (r then rs) (suc byte) = decodes-the-same rs byte
 
-  pub step-same : (s : State) → Sane w s → over w s ≡ false → Agrees w (stepOf w s) (rust.turn (rustAt w s))
-  unfolding stepOf over fetched opcodeAt codeOf rust.turn Agrees FaultsAs
-  step-same s sane o = on (eqb (s .units) 0)
-    where
-      on : (b : Bool) → Agrees w (if b then faulted f.UnitsSpent s else fetched w (opcodeAt (getD (codeOf w s) (position s) 0)) s) (rust.turn (rustAt w s))
-      on true = tt
-      on false =
-          let l : position s < length (codeOf w s) = leb-false _ _ o in
-          let t = at (suc (position s)) (withUnits (s .units - 1) s) in
-          let h : Orderly w t = orderly-at (suc (position s)) (s .units - 1) (sane-orderly sane) in
-          agrees-as w (fetched w (opcodeAt (getD (codeOf w s) (position s) 0)) s) (byte-there w s (sane .frame .known) _ l)
-          (decodes-the-same t h l rows (getD (codeOf w s) (position s) 0))
+-- THE THEOREM: a step of the rules, of which the Rust knows no limit and no unit, does what a turn of the loop does
+pub step-same : (w : World) → SaneWorld w → length (w .functions) ≤ 65536 → (s : State) → Sane w s → over w s ≡ false
+    → Agrees w (stepOf w s) (rust.turn (rustAt w s))
+unfolding stepOf over fetched opcodeAt codeOf rust.turn Agrees FaultsAs
+step-same w good few s sane o = on (eqb (s .units) 0)
+  where
+    on : (b : Bool) → Agrees w (if b then faulted f.UnitsSpent s else fetched w (opcodeAt (getD (codeOf w s) (position s) 0)) s) (rust.turn (rustAt w s))
+    on true = tt
+    on false =
+        let l : position s < length (codeOf w s) = leb-false _ _ o in
+        let t = at (suc (position s)) (withUnits (s .units - 1) s) in
+        let h : Orderly w t = orderly-at (suc (position s)) (s .units - 1) (sane-orderly sane) in
+        agrees-as w (fetched w (opcodeAt (getD (codeOf w s) (position s) 0)) s) (byte-there w s (sane .frame .known) _ l)
+        (decodes-the-same w good few t h l rows (getD (codeOf w s) (position s) 0))
