@@ -188,7 +188,7 @@ get-function-idx vm name k =
     sub last rev-position (λ position'.
     if leb position' 65535 then k position' else panic)))
 
--- ---- 699 to 1186: the arms, in the order of `Op`
+-- ---- 699 to 1186: the arms, in the order of vm.rs
 -- 755, 832: `let rhs = self.pop_quantity(); let lhs = self.pop_quantity();`
 unfoldable pub two-quantities : Vm → (Float → Float → Vm → Did) → Did
 two-quantities vm k = pop-quantity vm (λ rhs vm'. pop-quantity vm' (λ lhs vm''. k lhs rhs vm''))
@@ -290,7 +290,7 @@ arm Other vm = not-carried
 unfoldable pub turn : Vm → Did
 turn vm = read-byte vm (λ byte vm'. transmute ops byte (λ op. arm op vm'))
 
--- ---- 688 to 1212: the loop, and `run`
+-- ---- 668 to 694, and 1187 to 1194: the loop, and `run`
 -- 688: `ip` is at or past the code's length; `none` where the Rust panics, as there is no frame or no such function
 unfoldable pub past : ℕ → ℕ → List Chunk → Option Bool
 past i ip [] = none
@@ -330,7 +330,7 @@ unfoldable pub run-without-cleanup : (turns : ℕ) → (r : Option Value) → Vm
 run-without-cleanup zero r vm = goes-on
 run-without-cleanup (suc turns) r vm = test (run-without-cleanup turns) r vm (is-at-the-end vm)
 
--- 677 to 683: after an error the stack is that of the start, and there is one frame, at the end of main. The last result is not put back
+-- 677 to 683: after an error the stack is that of the start, and there is one frame, at the end of main, which is always there. The last result is not put back
 unfoldable pub main-length : List Chunk → ℕ
 main-length [] = 0
 main-length (c ∷ cs) = length (c .code)
