@@ -12,10 +12,11 @@
  *   19  records not in good order       20  an image breaks a rule                 21  a store would be exceeded
  *   22  a limit would be exceeded       23  a patch not wholly inside the current function's code
  *
- * All but chaffwheel_new and chaffwheel_load look at what crosses first: 19 where vm has fewer than 10 words, its last result is not exactly
- * the words of a value or of none, or a value that is handed in is not exactly the words of a value; 17 where answer is too short. Then come the
- * refusals that stand at each function, in order. The library judges what it is lent, in time linear in what is taken, the bytes of struct
- * names counted once for each name (docs/EMBEDDING.md, "What it costs"); a reader judges what it reads and nothing else.
+ * Their order, at all but chaffwheel_new and chaffwheel_load: 19 where vm has fewer than 10 words, its last result is not exactly the words of a
+ * value or of none, or a value that is handed in is not exactly the words of a value; then the function's own 19; then 17 where answer has fewer
+ * words than the function tells; then the other refusals that stand at the function, in order. At chaffwheel_disassemble 1 or 3 come before that 17
+ * too. The library judges what it is lent, in time linear in what is taken, the bytes of struct names counted once for each name
+ * (docs/EMBEDDING.md, "What it costs"); a reader judges what it reads and nothing else.
  */
 #ifndef CHAFFWHEEL_H
 #define CHAFFWHEEL_H
@@ -86,8 +87,8 @@ uint32_t chaffwheel_new(
 
 /* Makes a machine over the program of an image: an empty stack, no last result, one frame, at the start of main. Writes vm, the program's stores
  * and frames[0].
- * Refused 17: vm has fewer than 10 words, or answer none. 20: the image breaks a rule; answer[0] is the offset of the first item that does.
- * 22: a limit. 21: a store is too small for the program, or the frame store has no place. */
+ * Refused 20: the image breaks a rule; answer[0], where there is one, is the offset of the first item that does. 17: vm has fewer than 10 words, or
+ * answer none. 22: a limit. 21: a store is too small for the program, or the frame store has no place. */
 uint32_t chaffwheel_load(
     CHAFFWHEEL_SLICE(const uint8_t, image), CHAFFWHEEL_SLICE(uint64_t, vm),
     CHAFFWHEEL_SLICE(uint64_t, constants), CHAFFWHEEL_SLICE(uint64_t, structs), CHAFFWHEEL_SLICE(uint64_t, functions),
@@ -101,7 +102,8 @@ uint32_t chaffwheel_load(
  * the end of main, and the last result of the last root Return that was completed. THE LAST RESULT IS NOT PUT BACK: docs/EMBEDDING.md.
  * Whether the run has counted is told by answer[CHAFFWHEEL_RETURNS] and by nothing else. A place of the backtrace cannot tell it: behind a jump it
  * is the place of code that was passed over.
- * answer has 5 words. Refused 19: the program or the machine is not in good order. 17: copy has fewer places than stack, or trace than frames.
+ * answer has 5 words. Refused 19: the program or the machine is not in good order. 17: answer is shorter, copy has fewer places than stack, or trace
+ * than frames.
  * Nothing has run then. */
 uint32_t chaffwheel_run(
     uint64_t units, CHAFFWHEEL_SLICE(uint64_t, vm),
@@ -113,7 +115,7 @@ uint32_t chaffwheel_run(
 
 /* The backtrace of the machine's frames, as a fault's; answer[0] is how many entries it has. The stack store is lent for its length alone: a
  * frame's base may not lie past it.
- * Refused 19. 17: out has fewer places than there are frames. 16: the place of a frame lies outside its code. */
+ * Refused 19. 17: answer has no word, or out has fewer places than there are frames. 16: the place of a frame lies outside its code. */
 uint32_t chaffwheel_backtrace(
     CHAFFWHEEL_SLICE(const uint64_t, vm), CHAFFWHEEL_SLICE(const uint64_t, functions), CHAFFWHEEL_SLICE(const uint8_t, text),
     CHAFFWHEEL_SLICE(const uint8_t, main_code), CHAFFWHEEL_SLICE(const uint32_t, main_places),
@@ -121,7 +123,7 @@ uint32_t chaffwheel_backtrace(
     CHAFFWHEEL_SLICE(const uint64_t, stack), CHAFFWHEEL_SLICE(const chaffwheel_frame, frames),
     CHAFFWHEEL_SLICE(uint32_t, out), CHAFFWHEEL_SLICE(uint64_t, answer));
 
-/* The image of the program, to the front of out; answer[0] is its length. Refused 19, 17. */
+/* The image of the program, to the front of out; answer[0] is its length. Refused 19. 17: answer has no word, or out is too short. */
 uint32_t chaffwheel_save(
     CHAFFWHEEL_SLICE(const uint64_t, vm),
     CHAFFWHEEL_SLICE(const uint64_t, constants), CHAFFWHEEL_SLICE(const uint64_t, structs), CHAFFWHEEL_SLICE(const uint64_t, functions),
@@ -129,7 +131,8 @@ uint32_t chaffwheel_save(
     CHAFFWHEEL_SLICE(const uint8_t, other_code), CHAFFWHEEL_SLICE(const uint32_t, other_places),
     CHAFFWHEEL_SLICE(uint8_t, out), CHAFFWHEEL_SLICE(uint64_t, answer));
 
-/* The listing of the program, to the front of out; answer[0] is its length. Refused 19, then 1 or 3 as met first, 17. */
+/* The listing of the program, to the front of out; answer[0] is its length. Refused 19, then 1 or 3 as met first. 17: answer has no word, or out is
+ * too short. */
 uint32_t chaffwheel_disassemble(
     CHAFFWHEEL_SLICE(const uint64_t, vm), CHAFFWHEEL_SLICE(const uint64_t, functions), CHAFFWHEEL_SLICE(const uint8_t, text),
     CHAFFWHEEL_SLICE(const uint8_t, main_code), CHAFFWHEEL_SLICE(const uint8_t, other_code),
@@ -137,38 +140,41 @@ uint32_t chaffwheel_disassemble(
 
 /* ---- readers: what a host reads of a machine. A value that is shown is answer[0], its kind, and answer[1], its payload. A value that is handed in
  * is two such words: those of an answer, of the record, or of the stack. Words that are not exactly a value's are refused 19: an unknown kind (so
- * CHAFFWHEEL_NONE too), a boolean other than 0 and 1, another NaN than 7FF8000000000000, bits above a header's cell. */
+ * CHAFFWHEEL_NONE too), a boolean other than 0 and 1, another NaN than 7FF8000000000000, bits above a header's cell. An answer that is too short is
+ * refused 17, behind every 19 and before the rest. */
 
-/* The last result. answer has 2 words. Refused 7: there is none. */
+/* The last result. answer has 2 words. Refused 17. 7: there is none. */
 uint32_t chaffwheel_last_result(CHAFFWHEEL_SLICE(const uint64_t, vm), CHAFFWHEEL_SLICE(uint64_t, answer));
 
 /* The value at place i, from the bottom of the stack. answer has 2 words. Refused 19: the stack that is taken goes past its store, or the place does not
- * hold exactly a value's words. 6: there is no such place. */
+ * hold exactly a value's words. 17. 6: there is no such place. */
 uint32_t chaffwheel_stack_value(
     CHAFFWHEEL_SLICE(const uint64_t, vm), size_t i, CHAFFWHEEL_SLICE(const uint64_t, stack), CHAFFWHEEL_SLICE(uint64_t, answer));
 
 /* The header of a list or struct: answer[0] is how many elements it has, answer[1] the struct's number (0 of a list), answer[2] the depth.
- * Refused 19: the cells that are taken go past their store, or the value does not lie in them whole. 5: it is no list or struct. */
+ * Refused 19: the cells that are taken go past their store, or the value does not lie in them whole. 17: answer has fewer than 3 words. 5: it is no list
+ * or struct. */
 uint32_t chaffwheel_block_header(
     CHAFFWHEEL_SLICE(const uint64_t, vm), uint64_t kind, uint64_t payload,
     CHAFFWHEEL_SLICE(const uint64_t, cells), CHAFFWHEEL_SLICE(uint64_t, answer));
 
 /* Element i of a list, or field i of a struct. answer has 2 words. Refused 19: as above, or the element is not exactly a value's words, or does not lie
- * below its header, so that a host that follows elements comes to an end. 5: it is no list or struct. 6: there is no such element. */
+ * below its header, so that a host that follows elements comes to an end. 17. 5: it is no list or struct. 6: there is no such element. */
 uint32_t chaffwheel_element(
     CHAFFWHEEL_SLICE(const uint64_t, vm), uint64_t kind, uint64_t payload, size_t i,
     CHAFFWHEEL_SLICE(const uint64_t, cells), CHAFFWHEEL_SLICE(uint64_t, answer));
 
 /* The bytes of a string or a function reference, to the front of out; answer[0] is how many they are. No byte 0 is put behind them.
- * Refused 19: the text that is taken goes past its store, or the value's text past the text that is taken. 17: out is too short. 5: it is no
- * string or reference. */
+ * Refused 19: the text that is taken goes past its store, or the value's text past the text that is taken. 17: answer has no word, or out
+ * is too short. 5: it is no string or reference. */
 uint32_t chaffwheel_text(
     CHAFFWHEEL_SLICE(const uint64_t, vm), uint64_t kind, uint64_t payload,
     CHAFFWHEEL_SLICE(const uint8_t, text), CHAFFWHEEL_SLICE(uint8_t, out), CHAFFWHEEL_SLICE(uint64_t, answer));
 
-/* ---- emission: a program is written, to the end of the current function. vm takes the new counts. A name or text is copied. */
+/* ---- emission: a program is written, to the end of the current function. vm takes the new counts. A name or text is copied. Of each function answer
+ * has one word; 17 where it has none. */
 
-/* Appends an opcode and its operands, each byte with the place. Refused 19, 22, 21, 1. */
+/* Appends an opcode and its operands, each byte with the place. Refused 19, 17, 22, 21, 1. */
 uint32_t chaffwheel_add_op(
     CHAFFWHEEL_SLICE(uint64_t, vm), uint8_t op, uint32_t place, CHAFFWHEEL_SLICE(uint64_t, functions),
     CHAFFWHEEL_SLICE(uint8_t, main_code), CHAFFWHEEL_SLICE(uint32_t, main_places),
@@ -186,17 +192,17 @@ uint32_t chaffwheel_add_op3(
     CHAFFWHEEL_SLICE(uint8_t, main_code), CHAFFWHEEL_SLICE(uint32_t, main_places),
     CHAFFWHEEL_SLICE(uint8_t, other_code), CHAFFWHEEL_SLICE(uint32_t, other_places), CHAFFWHEEL_SLICE(uint64_t, answer));
 
-/* answer[0] is the length of the current function's code. Refused 19. */
+/* answer[0] is the length of the current function's code. Refused 19, 17. */
 uint32_t chaffwheel_current_offset(
     CHAFFWHEEL_SLICE(const uint64_t, vm), CHAFFWHEEL_SLICE(const uint64_t, functions), CHAFFWHEEL_SLICE(uint64_t, answer));
 
-/* Overwrites two bytes of the current function's code, low byte first. Refused 19, 23. */
+/* Overwrites two bytes of the current function's code, low byte first. Refused 19, 17, 23. */
 uint32_t chaffwheel_patch_u16_value_at(
     CHAFFWHEEL_SLICE(uint64_t, vm), uint16_t offset, uint16_t arg, CHAFFWHEEL_SLICE(const uint64_t, functions),
     CHAFFWHEEL_SLICE(uint8_t, main_code), CHAFFWHEEL_SLICE(uint8_t, other_code), CHAFFWHEEL_SLICE(uint64_t, answer));
 
 /* Append a constant: a scalar's 64 bits (kept as they are), a boolean, a string, a function reference. answer[0] is its number.
- * Refused 19, 22, 21. */
+ * Refused 19, 17, 22, 21. */
 uint32_t chaffwheel_add_scalar(
     CHAFFWHEEL_SLICE(uint64_t, vm), uint64_t bits,
     CHAFFWHEEL_SLICE(uint64_t, constants), CHAFFWHEEL_SLICE(uint8_t, text), CHAFFWHEEL_SLICE(uint64_t, answer));
@@ -211,20 +217,20 @@ uint32_t chaffwheel_add_reference(
     CHAFFWHEEL_SLICE(uint64_t, constants), CHAFFWHEEL_SLICE(uint8_t, text), CHAFFWHEEL_SLICE(uint64_t, answer));
 
 /* answer[0] is the number of a struct name, which is added where it is not known. A place of the struct store has two words: the name, and a number
- * of the order of names. Refused 19, 22, 21. */
+ * of the order of names. Refused 19, 17, 22, 21. */
 uint32_t chaffwheel_add_struct_info(
     CHAFFWHEEL_SLICE(uint64_t, vm), CHAFFWHEEL_SLICE(const uint8_t, name),
     CHAFFWHEEL_SLICE(uint64_t, structs), CHAFFWHEEL_SLICE(uint8_t, text), CHAFFWHEEL_SLICE(uint64_t, answer));
 
-/* Begins a function without code, which is then current. answer[0] is its number. Refused 19, 22, 21. */
+/* Begins a function without code, which is then current. answer[0] is its number. Refused 19, 17, 22, 21. */
 uint32_t chaffwheel_begin_function(
     CHAFFWHEEL_SLICE(uint64_t, vm), CHAFFWHEEL_SLICE(const uint8_t, name),
     CHAFFWHEEL_SLICE(uint64_t, functions), CHAFFWHEEL_SLICE(uint8_t, text), CHAFFWHEEL_SLICE(uint64_t, answer));
 
-/* Makes main current. Refused 19. */
+/* Makes main current. Refused 19, 17. */
 uint32_t chaffwheel_end_function(CHAFFWHEEL_SLICE(uint64_t, vm), CHAFFWHEEL_SLICE(uint64_t, answer));
 
-/* answer[0] is the newest function of a name. Refused 19, 14. */
+/* answer[0] is the newest function of a name. Refused 19, 17, 14. */
 uint32_t chaffwheel_get_function_idx(
     CHAFFWHEEL_SLICE(const uint64_t, vm), CHAFFWHEEL_SLICE(const uint8_t, name),
     CHAFFWHEEL_SLICE(const uint64_t, functions), CHAFFWHEEL_SLICE(const uint8_t, text), CHAFFWHEEL_SLICE(uint64_t, answer));

@@ -1,1 +1,4 @@
+-- what an entry itself answers
+pub mod Own
+-- what the functions ensure
 pub mod Through

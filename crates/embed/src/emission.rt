@@ -1,20 +1,27 @@
 // Emission for a host in C: a program is written into the stores that the host lends. Where a number is told it stands in answer[0].
+use embed_words::answer_told;
+use embed_words::crossed_order;
 use embed_words::slices_refusal;
-use embed_words::tell;
 use embed_words::tell_emitted;
 use embed_words::vm_of;
 use emission_code::add_op;
 use emission_code::add_op1;
 use emission_code::add_op2;
 use emission_code::add_op3;
+use emission_code::code_order;
 use emission_code::current_offset;
+use emission_code::patch_order;
 use emission_code::patch_u16_value_at;
 use emission_tables::constants::add_constant;
+use emission_tables::constants::constant_order;
 use emission_tables::functions::begin_function;
 use emission_tables::functions::end_function;
+use emission_tables::functions::function_order;
 use emission_tables::functions::get_function_idx;
 use emission_tables::structs::add_struct_info;
+use emission_tables::structs::struct_order;
 use model::Constant;
+use program::order::counts_ok;
 ghost use mathlib.Core.Path.{_≡_};
 ghost use mathlib.Core.List.{[]};
 ghost use Rattle.model.specs.declared.Counts.{Counts};
@@ -22,7 +29,7 @@ ghost use Rattle.model.specs.declared.Constant.the-variants as k;
 ghost use Rattle.model.specs.Stores.{Stores};
 ghost use Rattle.model.specs.Emission.{addOpOf, addOp1Of, addOp2Of, addOp3Of, patchOf, currentOffsetOf, addConstantOf, addStructOf, beginFunctionOf, endFunctionOf, functionIdxOf};
 ghost use Rattle.layout.specs.Links.{codeLent, bytesLent, constantsLent, structsLent, namesLent};
-ghost use Rattle.embed_words.specs.Coding.{vmIn, slicesRefusal, emittedCoded, toldCoded, through, emitThrough};
+ghost use Rattle.embed_words.specs.Coding.{vmIn, slicesRefusal, atEntry, emittedCoded, toldCoded, through, Emits};
 
 // Appends an opcode to the code of the current function, with the given place.
 #[no_mangle]
@@ -37,12 +44,15 @@ pub extern "C" fn chaffwheel_add_op(
     other_places: &mut [u32],
     answer: &mut [u64],
 ) -> u32
-    ensures { λ r. ⌜ ((rest : Stores) → record { coded = record { number = r; vm = now (vm .exit); answer = now (answer .exit) }; stores = (codeLent rest (now (functions .exit)) (now (main .exit)) (now («main_places» .exit)) (now (other .exit)) (now («other_places» .exit))) } ≡ emitThrough (now (vm .entry)) (now (answer .entry)) (codeLent rest (now (functions .entry)) (now (main .entry)) (now («main_places» .entry)) (now (other .entry)) (now («other_places» .entry))) (λ (c : Counts). addOpOf c op place (codeLent rest (now (functions .entry)) (now (main .entry)) (now («main_places» .entry)) (now (other .entry)) (now («other_places» .entry))))) ⌝ }
+    ensures { λ r. ⌜ Emits (λ (c : Counts). addOpOf c op place) (now (vm .entry)) (now (answer .entry))
+        (λ (rest : Stores). codeLent rest (now (functions .entry)) (now (main .entry)) (now («main_places» .entry)) (now (other .entry)) (now («other_places» .entry)))
+        r (now (vm .exit)) (now (answer .exit))
+        (λ (rest : Stores). codeLent rest (now (functions .exit)) (now (main .exit)) (now («main_places» .exit)) (now (other .exit)) (now («other_places» .exit))) ⌝ }
 {
     let why = slices_refusal(vm, 1, answer);
+    let m = vm_of(vm);
+    let c = m.program;
     if why == 0 {
-        let m = vm_of(vm);
-        let c = m.program;
         let done = add_op(
             c,
             op,
@@ -56,7 +66,9 @@ pub extern "C" fn chaffwheel_add_op(
         let n = tell_emitted(done, vm, answer);
         return n;
     }
-    why
+    let good = code_order(c, functions, main, main_places, other, other_places);
+    let n = crossed_order(why, good);
+    n
 }
 
 // Appends an opcode and an operand.
@@ -73,12 +85,15 @@ pub extern "C" fn chaffwheel_add_op1(
     other_places: &mut [u32],
     answer: &mut [u64],
 ) -> u32
-    ensures { λ r. ⌜ ((rest : Stores) → record { coded = record { number = r; vm = now (vm .exit); answer = now (answer .exit) }; stores = (codeLent rest (now (functions .exit)) (now (main .exit)) (now («main_places» .exit)) (now (other .exit)) (now («other_places» .exit))) } ≡ emitThrough (now (vm .entry)) (now (answer .entry)) (codeLent rest (now (functions .entry)) (now (main .entry)) (now («main_places» .entry)) (now (other .entry)) (now («other_places» .entry))) (λ (c : Counts). addOp1Of c op a place (codeLent rest (now (functions .entry)) (now (main .entry)) (now («main_places» .entry)) (now (other .entry)) (now («other_places» .entry))))) ⌝ }
+    ensures { λ r. ⌜ Emits (λ (c : Counts). addOp1Of c op a place) (now (vm .entry)) (now (answer .entry))
+        (λ (rest : Stores). codeLent rest (now (functions .entry)) (now (main .entry)) (now («main_places» .entry)) (now (other .entry)) (now («other_places» .entry)))
+        r (now (vm .exit)) (now (answer .exit))
+        (λ (rest : Stores). codeLent rest (now (functions .exit)) (now (main .exit)) (now («main_places» .exit)) (now (other .exit)) (now («other_places» .exit))) ⌝ }
 {
     let why = slices_refusal(vm, 1, answer);
+    let m = vm_of(vm);
+    let c = m.program;
     if why == 0 {
-        let m = vm_of(vm);
-        let c = m.program;
         let done = add_op1(
             c,
             op,
@@ -93,7 +108,9 @@ pub extern "C" fn chaffwheel_add_op1(
         let n = tell_emitted(done, vm, answer);
         return n;
     }
-    why
+    let good = code_order(c, functions, main, main_places, other, other_places);
+    let n = crossed_order(why, good);
+    n
 }
 
 // Appends an opcode and two operands.
@@ -111,12 +128,15 @@ pub extern "C" fn chaffwheel_add_op2(
     other_places: &mut [u32],
     answer: &mut [u64],
 ) -> u32
-    ensures { λ r. ⌜ ((rest : Stores) → record { coded = record { number = r; vm = now (vm .exit); answer = now (answer .exit) }; stores = (codeLent rest (now (functions .exit)) (now (main .exit)) (now («main_places» .exit)) (now (other .exit)) (now («other_places» .exit))) } ≡ emitThrough (now (vm .entry)) (now (answer .entry)) (codeLent rest (now (functions .entry)) (now (main .entry)) (now («main_places» .entry)) (now (other .entry)) (now («other_places» .entry))) (λ (c : Counts). addOp2Of c op a b place (codeLent rest (now (functions .entry)) (now (main .entry)) (now («main_places» .entry)) (now (other .entry)) (now («other_places» .entry))))) ⌝ }
+    ensures { λ r. ⌜ Emits (λ (c : Counts). addOp2Of c op a b place) (now (vm .entry)) (now (answer .entry))
+        (λ (rest : Stores). codeLent rest (now (functions .entry)) (now (main .entry)) (now («main_places» .entry)) (now (other .entry)) (now («other_places» .entry)))
+        r (now (vm .exit)) (now (answer .exit))
+        (λ (rest : Stores). codeLent rest (now (functions .exit)) (now (main .exit)) (now («main_places» .exit)) (now (other .exit)) (now («other_places» .exit))) ⌝ }
 {
     let why = slices_refusal(vm, 1, answer);
+    let m = vm_of(vm);
+    let c = m.program;
     if why == 0 {
-        let m = vm_of(vm);
-        let c = m.program;
         let done = add_op2(
             c,
             op,
@@ -132,7 +152,9 @@ pub extern "C" fn chaffwheel_add_op2(
         let n = tell_emitted(done, vm, answer);
         return n;
     }
-    why
+    let good = code_order(c, functions, main, main_places, other, other_places);
+    let n = crossed_order(why, good);
+    n
 }
 
 // Appends an opcode and three operands.
@@ -151,12 +173,15 @@ pub extern "C" fn chaffwheel_add_op3(
     other_places: &mut [u32],
     answer: &mut [u64],
 ) -> u32
-    ensures { λ r. ⌜ ((rest : Stores) → record { coded = record { number = r; vm = now (vm .exit); answer = now (answer .exit) }; stores = (codeLent rest (now (functions .exit)) (now (main .exit)) (now («main_places» .exit)) (now (other .exit)) (now («other_places» .exit))) } ≡ emitThrough (now (vm .entry)) (now (answer .entry)) (codeLent rest (now (functions .entry)) (now (main .entry)) (now («main_places» .entry)) (now (other .entry)) (now («other_places» .entry))) (λ (c : Counts). addOp3Of c op a b d place (codeLent rest (now (functions .entry)) (now (main .entry)) (now («main_places» .entry)) (now (other .entry)) (now («other_places» .entry))))) ⌝ }
+    ensures { λ r. ⌜ Emits (λ (c : Counts). addOp3Of c op a b d place) (now (vm .entry)) (now (answer .entry))
+        (λ (rest : Stores). codeLent rest (now (functions .entry)) (now (main .entry)) (now («main_places» .entry)) (now (other .entry)) (now («other_places» .entry)))
+        r (now (vm .exit)) (now (answer .exit))
+        (λ (rest : Stores). codeLent rest (now (functions .exit)) (now (main .exit)) (now («main_places» .exit)) (now (other .exit)) (now («other_places» .exit))) ⌝ }
 {
     let why = slices_refusal(vm, 1, answer);
+    let m = vm_of(vm);
+    let c = m.program;
     if why == 0 {
-        let m = vm_of(vm);
-        let c = m.program;
         let done = add_op3(
             c,
             op,
@@ -173,7 +198,9 @@ pub extern "C" fn chaffwheel_add_op3(
         let n = tell_emitted(done, vm, answer);
         return n;
     }
-    why
+    let good = code_order(c, functions, main, main_places, other, other_places);
+    let n = crossed_order(why, good);
+    n
 }
 
 // Overwrites two bytes of the code of the current function.
@@ -187,17 +214,21 @@ pub extern "C" fn chaffwheel_patch_u16_value_at(
     other: &mut [u8],
     answer: &mut [u64],
 ) -> u32
-    ensures { λ r. ⌜ ((rest : Stores) → record { coded = record { number = r; vm = now (vm .exit); answer = now (answer .exit) }; stores = (bytesLent rest (now (functions .entry)) (now (main .exit)) (now (other .exit))) } ≡ emitThrough (now (vm .entry)) (now (answer .entry)) (bytesLent rest (now (functions .entry)) (now (main .entry)) (now (other .entry))) (λ (c : Counts). patchOf c offset arg (bytesLent rest (now (functions .entry)) (now (main .entry)) (now (other .entry))))) ⌝ }
+    ensures { λ r. ⌜ Emits (λ (c : Counts). patchOf c offset arg) (now (vm .entry)) (now (answer .entry))
+        (λ (rest : Stores). bytesLent rest (now (functions .entry)) (now (main .entry)) (now (other .entry)))
+        r (now (vm .exit)) (now (answer .exit)) (λ (rest : Stores). bytesLent rest (now (functions .entry)) (now (main .exit)) (now (other .exit))) ⌝ }
 {
     let why = slices_refusal(vm, 1, answer);
+    let m = vm_of(vm);
+    let c = m.program;
     if why == 0 {
-        let m = vm_of(vm);
-        let c = m.program;
         let done = patch_u16_value_at(c, offset, arg, functions, main, other);
         let n = tell_emitted(done, vm, answer);
         return n;
     }
-    why
+    let good = patch_order(c, functions, main, other);
+    let n = crossed_order(why, good);
+    n
 }
 
 // Appends a scalar to the constants: its 64 bits, kept as they are.
@@ -209,17 +240,21 @@ pub extern "C" fn chaffwheel_add_scalar(
     text: &mut [u8],
     answer: &mut [u64],
 ) -> u32
-    ensures { λ r. ⌜ ((rest : Stores) → record { coded = record { number = r; vm = now (vm .exit); answer = now (answer .exit) }; stores = (constantsLent rest (now (constants .exit)) (now (text .exit))) } ≡ emitThrough (now (vm .entry)) (now (answer .entry)) (constantsLent rest (now (constants .entry)) (now (text .entry))) (λ (c : Counts). addConstantOf c (k.Scalar bits) [] (constantsLent rest (now (constants .entry)) (now (text .entry))))) ⌝ }
+    ensures { λ r. ⌜ Emits (λ (c : Counts). addConstantOf c (k.Scalar bits) []) (now (vm .entry)) (now (answer .entry))
+        (λ (rest : Stores). constantsLent rest (now (constants .entry)) (now (text .entry)))
+        r (now (vm .exit)) (now (answer .exit)) (λ (rest : Stores). constantsLent rest (now (constants .exit)) (now (text .exit))) ⌝ }
 {
     let why = slices_refusal(vm, 1, answer);
+    let m = vm_of(vm);
+    let c = m.program;
     if why == 0 {
-        let m = vm_of(vm);
-        let c = m.program;
         let done = add_constant(c, Constant::Scalar(bits), b"", constants, text);
         let n = tell_emitted(done, vm, answer);
         return n;
     }
-    why
+    let good = constant_order(c, constants, text);
+    let n = crossed_order(why, good);
+    n
 }
 
 // Appends a boolean to the constants.
@@ -231,17 +266,21 @@ pub extern "C" fn chaffwheel_add_boolean(
     text: &mut [u8],
     answer: &mut [u64],
 ) -> u32
-    ensures { λ r. ⌜ ((rest : Stores) → record { coded = record { number = r; vm = now (vm .exit); answer = now (answer .exit) }; stores = (constantsLent rest (now (constants .exit)) (now (text .exit))) } ≡ emitThrough (now (vm .entry)) (now (answer .entry)) (constantsLent rest (now (constants .entry)) (now (text .entry))) (λ (c : Counts). addConstantOf c (k.Boolean value) [] (constantsLent rest (now (constants .entry)) (now (text .entry))))) ⌝ }
+    ensures { λ r. ⌜ Emits (λ (c : Counts). addConstantOf c (k.Boolean value) []) (now (vm .entry)) (now (answer .entry))
+        (λ (rest : Stores). constantsLent rest (now (constants .entry)) (now (text .entry)))
+        r (now (vm .exit)) (now (answer .exit)) (λ (rest : Stores). constantsLent rest (now (constants .exit)) (now (text .exit))) ⌝ }
 {
     let why = slices_refusal(vm, 1, answer);
+    let m = vm_of(vm);
+    let c = m.program;
     if why == 0 {
-        let m = vm_of(vm);
-        let c = m.program;
         let done = add_constant(c, Constant::Boolean(value), b"", constants, text);
         let n = tell_emitted(done, vm, answer);
         return n;
     }
-    why
+    let good = constant_order(c, constants, text);
+    let n = crossed_order(why, good);
+    n
 }
 
 // Appends a string to the constants.
@@ -253,17 +292,21 @@ pub extern "C" fn chaffwheel_add_string(
     text: &mut [u8],
     answer: &mut [u64],
 ) -> u32
-    ensures { λ r. ⌜ ((rest : Stores) → record { coded = record { number = r; vm = now (vm .exit); answer = now (answer .exit) }; stores = (constantsLent rest (now (constants .exit)) (now (text .exit))) } ≡ emitThrough (now (vm .entry)) (now (answer .entry)) (constantsLent rest (now (constants .entry)) (now (text .entry))) (λ (c : Counts). addConstantOf c k.String (now (lent .entry)) (constantsLent rest (now (constants .entry)) (now (text .entry))))) ⌝ }
+    ensures { λ r. ⌜ Emits (λ (c : Counts). addConstantOf c k.String (now (lent .entry))) (now (vm .entry)) (now (answer .entry))
+        (λ (rest : Stores). constantsLent rest (now (constants .entry)) (now (text .entry)))
+        r (now (vm .exit)) (now (answer .exit)) (λ (rest : Stores). constantsLent rest (now (constants .exit)) (now (text .exit))) ⌝ }
 {
     let why = slices_refusal(vm, 1, answer);
+    let m = vm_of(vm);
+    let c = m.program;
     if why == 0 {
-        let m = vm_of(vm);
-        let c = m.program;
         let done = add_constant(c, Constant::String, lent, constants, text);
         let n = tell_emitted(done, vm, answer);
         return n;
     }
-    why
+    let good = constant_order(c, constants, text);
+    let n = crossed_order(why, good);
+    n
 }
 
 // Appends a function reference to the constants.
@@ -275,17 +318,21 @@ pub extern "C" fn chaffwheel_add_reference(
     text: &mut [u8],
     answer: &mut [u64],
 ) -> u32
-    ensures { λ r. ⌜ ((rest : Stores) → record { coded = record { number = r; vm = now (vm .exit); answer = now (answer .exit) }; stores = (constantsLent rest (now (constants .exit)) (now (text .exit))) } ≡ emitThrough (now (vm .entry)) (now (answer .entry)) (constantsLent rest (now (constants .entry)) (now (text .entry))) (λ (c : Counts). addConstantOf c k.FunctionReference (now (lent .entry)) (constantsLent rest (now (constants .entry)) (now (text .entry))))) ⌝ }
+    ensures { λ r. ⌜ Emits (λ (c : Counts). addConstantOf c k.FunctionReference (now (lent .entry))) (now (vm .entry)) (now (answer .entry))
+        (λ (rest : Stores). constantsLent rest (now (constants .entry)) (now (text .entry)))
+        r (now (vm .exit)) (now (answer .exit)) (λ (rest : Stores). constantsLent rest (now (constants .exit)) (now (text .exit))) ⌝ }
 {
     let why = slices_refusal(vm, 1, answer);
+    let m = vm_of(vm);
+    let c = m.program;
     if why == 0 {
-        let m = vm_of(vm);
-        let c = m.program;
         let done = add_constant(c, Constant::FunctionReference, lent, constants, text);
         let n = tell_emitted(done, vm, answer);
         return n;
     }
-    why
+    let good = constant_order(c, constants, text);
+    let n = crossed_order(why, good);
+    n
 }
 
 // The number of a struct name, which is added where it is not known.
@@ -297,17 +344,21 @@ pub extern "C" fn chaffwheel_add_struct_info(
     text: &mut [u8],
     answer: &mut [u64],
 ) -> u32
-    ensures { λ r. ⌜ ((rest : Stores) → record { coded = record { number = r; vm = now (vm .exit); answer = now (answer .exit) }; stores = (structsLent rest (now (structs .exit)) (now (text .exit))) } ≡ emitThrough (now (vm .entry)) (now (answer .entry)) (structsLent rest (now (structs .entry)) (now (text .entry))) (λ (c : Counts). addStructOf c (now (name .entry)) (structsLent rest (now (structs .entry)) (now (text .entry))))) ⌝ }
+    ensures { λ r. ⌜ Emits (λ (c : Counts). addStructOf c (now (name .entry))) (now (vm .entry)) (now (answer .entry))
+        (λ (rest : Stores). structsLent rest (now (structs .entry)) (now (text .entry)))
+        r (now (vm .exit)) (now (answer .exit)) (λ (rest : Stores). structsLent rest (now (structs .exit)) (now (text .exit))) ⌝ }
 {
     let why = slices_refusal(vm, 1, answer);
+    let m = vm_of(vm);
+    let c = m.program;
     if why == 0 {
-        let m = vm_of(vm);
-        let c = m.program;
         let done = add_struct_info(c, name, structs, text);
         let n = tell_emitted(done, vm, answer);
         return n;
     }
-    why
+    let good = struct_order(c, structs, text);
+    let n = crossed_order(why, good);
+    n
 }
 
 // Begins a function, which is then current.
@@ -319,33 +370,41 @@ pub extern "C" fn chaffwheel_begin_function(
     text: &mut [u8],
     answer: &mut [u64],
 ) -> u32
-    ensures { λ r. ⌜ ((rest : Stores) → record { coded = record { number = r; vm = now (vm .exit); answer = now (answer .exit) }; stores = (namesLent rest (now (functions .exit)) (now (text .exit))) } ≡ emitThrough (now (vm .entry)) (now (answer .entry)) (namesLent rest (now (functions .entry)) (now (text .entry))) (λ (c : Counts). beginFunctionOf c (now (name .entry)) (namesLent rest (now (functions .entry)) (now (text .entry))))) ⌝ }
+    ensures { λ r. ⌜ Emits (λ (c : Counts). beginFunctionOf c (now (name .entry))) (now (vm .entry)) (now (answer .entry))
+        (λ (rest : Stores). namesLent rest (now (functions .entry)) (now (text .entry)))
+        r (now (vm .exit)) (now (answer .exit)) (λ (rest : Stores). namesLent rest (now (functions .exit)) (now (text .exit))) ⌝ }
 {
     let why = slices_refusal(vm, 1, answer);
+    let m = vm_of(vm);
+    let c = m.program;
     if why == 0 {
-        let m = vm_of(vm);
-        let c = m.program;
         let done = begin_function(c, name, functions, text);
         let n = tell_emitted(done, vm, answer);
         return n;
     }
-    why
+    let good = function_order(c, functions, text);
+    let n = crossed_order(why, good);
+    n
 }
 
 // Makes main current.
 #[no_mangle]
 pub extern "C" fn chaffwheel_end_function(vm: &mut [u64], answer: &mut [u64]) -> u32
-    ensures { λ r. ⌜ record { number = r; vm = now (vm .exit); answer = now (answer .exit) } ≡ through (slicesRefusal (now (vm .entry)) 1 (now (answer .entry))) (now (vm .entry)) (now (answer .entry)) (emittedCoded (endFunctionOf (vmIn (now (vm .entry)) .program)) (now (vm .entry)) (now (answer .entry))) ⌝ }
+    ensures { λ r. ⌜ record { number = r; vm = now (vm .exit); answer = now (answer .exit) }
+        ≡ through atEntry (slicesRefusal (now (vm .entry)) 1 (now (answer .entry))) (now (vm .entry)) (now (answer .entry))
+        (emittedCoded (endFunctionOf (vmIn (now (vm .entry)) .program)) (now (vm .entry)) (now (answer .entry))) ⌝ }
 {
     let why = slices_refusal(vm, 1, answer);
+    let m = vm_of(vm);
+    let c = m.program;
     if why == 0 {
-        let m = vm_of(vm);
-        let c = m.program;
         let done = end_function(c);
         let n = tell_emitted(done, vm, answer);
         return n;
     }
-    why
+    let good = counts_ok(c);
+    let n = crossed_order(why, good);
+    n
 }
 
 // The length of the code of the current function.
@@ -355,17 +414,16 @@ pub extern "C" fn chaffwheel_current_offset(
     functions: &[u64],
     answer: &mut [u64],
 ) -> u32
-    ensures { λ r. ⌜ record { number = r; vm = now (vm .entry); answer = now (answer .exit) } ≡ through (slicesRefusal (now (vm .entry)) 1 (now (answer .entry))) (now (vm .entry)) (now (answer .entry)) (toldCoded (currentOffsetOf (vmIn (now (vm .entry)) .program) (now (functions .entry))) (now (vm .entry)) (now (answer .entry))) ⌝ }
+    ensures { λ r. ⌜ record { number = r; vm = now (vm .entry); answer = now (answer .exit) }
+        ≡ through atEntry (slicesRefusal (now (vm .entry)) 1 (now (answer .entry))) (now (vm .entry)) (now (answer .entry))
+        (toldCoded (currentOffsetOf (vmIn (now (vm .entry)) .program) (now (functions .entry))) (now (vm .entry)) (now (answer .entry))) ⌝ }
 {
     let why = slices_refusal(vm, 1, answer);
-    if why == 0 {
-        let m = vm_of(vm);
-        let c = m.program;
-        let told = current_offset(c, functions);
-        let n = tell(told, answer);
-        return n;
-    }
-    why
+    let m = vm_of(vm);
+    let c = m.program;
+    let told = current_offset(c, functions);
+    let n = answer_told(why, told, answer);
+    n
 }
 
 // The newest function of a name.
@@ -377,15 +435,15 @@ pub extern "C" fn chaffwheel_get_function_idx(
     text: &[u8],
     answer: &mut [u64],
 ) -> u32
-    ensures { λ r. ⌜ ((rest : Stores) → record { number = r; vm = now (vm .entry); answer = now (answer .exit) } ≡ through (slicesRefusal (now (vm .entry)) 1 (now (answer .entry))) (now (vm .entry)) (now (answer .entry)) (toldCoded (functionIdxOf (vmIn (now (vm .entry)) .program) (now (name .entry)) (namesLent rest (now (functions .entry)) (now (text .entry)))) (now (vm .entry)) (now (answer .entry)))) ⌝ }
+    ensures { λ r. ⌜ ((rest : Stores) → record { number = r; vm = now (vm .entry); answer = now (answer .exit) }
+        ≡ through atEntry (slicesRefusal (now (vm .entry)) 1 (now (answer .entry))) (now (vm .entry)) (now (answer .entry))
+        (toldCoded (functionIdxOf (vmIn (now (vm .entry)) .program) (now (name .entry)) (namesLent rest (now (functions .entry)) (now (text .entry))))
+        (now (vm .entry)) (now (answer .entry)))) ⌝ }
 {
     let why = slices_refusal(vm, 1, answer);
-    if why == 0 {
-        let m = vm_of(vm);
-        let c = m.program;
-        let told = get_function_idx(c, name, functions, text);
-        let n = tell(told, answer);
-        return n;
-    }
-    why
+    let m = vm_of(vm);
+    let c = m.program;
+    let told = get_function_idx(c, name, functions, text);
+    let n = answer_told(why, told, answer);
+    n
 }

@@ -2,11 +2,17 @@
 pub mod emission; // emission.rt: a program is written
 pub mod reading; // reading.rt: a machine is read
 
+use embed_words::answer_listed;
+use embed_words::answer_told;
+use embed_words::crossed;
+use embed_words::crossed_order;
+use embed_words::lent_room;
 use embed_words::out_refusal;
 use embed_words::slices_refusal;
 use embed_words::tell;
 use embed_words::tell_run;
 use embed_words::tell_started;
+use embed_words::tell_unmade;
 use embed_words::vm_of;
 use image_save::save;
 use listing::disassemble;
@@ -14,6 +20,9 @@ use machine::backtrace;
 use machine::load;
 use machine::new;
 use machine::run;
+use machine::running::run_refusal;
+use machine::starting::no_place;
+use machine::tracing::trace_order;
 use model::Frame;
 ghost use mathlib.Core.Path.{_≡_};
 ghost use mathlib.Core.List.{List};
@@ -27,7 +36,7 @@ ghost use Rattle.model.specs.Stores.{storesOf as lent};
 ghost use Rattle.listing.specs.Links.{lent as listed};
 ghost use Rattle.run_ends.specs.Links.{programLent};
 ghost use Rattle.machine.specs.Links.{runLent};
-ghost use Rattle.embed_words.specs.Coding.{slicesRefusal, RunThrough, startThrough, outThrough};
+ghost use Rattle.embed_words.specs.Coding.{slicesRefusal, atEntry, atListing, unmade, RunThrough, startThrough, outThrough};
 
 // A machine over a new program.
 #[no_mangle]
@@ -38,7 +47,12 @@ pub extern "C" fn chaffwheel_new(
     frames: &mut [Frame],
     answer: &mut [u64],
 ) -> u32
-    ensures { λ r. ⌜ ((rest : Stores) → record { coded = record { number = r; vm = now (vm .exit); answer = now (answer .exit) }; stores = namesLent rest (now (functions .exit)) (now (text .exit)); frames = now (frames .exit) } ≡ startThrough (now (vm .entry)) (now (answer .entry)) (namesLent rest (now (functions .entry)) (now (text .entry))) (now (frames .entry)) (newMachineOf (namesLent rest (now (functions .entry)) (now (text .entry))) (now (frames .entry)))) ⌝ }
+    ensures { λ r. ⌜ ((rest : Stores) → record {
+      coded = record { number = r; vm = now (vm .exit); answer = now (answer .exit) };
+      stores = namesLent rest (now (functions .exit)) (now (text .exit));
+      frames = now (frames .exit);
+    } ≡ startThrough (now (vm .entry)) (now (answer .entry)) (namesLent rest (now (functions .entry)) (now (text .entry))) (now (frames .entry))
+        (newMachineOf (namesLent rest (now (functions .entry)) (now (text .entry))) (now (frames .entry)))) ⌝ }
 {
     let why = out_refusal(vm, 1, answer);
     if why == 0 {
@@ -47,6 +61,15 @@ pub extern "C" fn chaffwheel_new(
         return n;
     }
     why
+}
+
+// What loading answers where the record or the answer is too short: what is wrong with the image comes first. vm is any record.
+fn unloaded(why: u32, image: &[u8], answer: &mut [u64]) -> u32
+    ensures { λ r. ⌜ ((w : List ℕ) (s : Stores) (fs : List Frame) → record { number = r; vm = w; answer = now (answer .exit) }
+        ≡ unmade why (loadMachineOf (now (image .entry)) s fs .answer) w (now (answer .entry))) ⌝ }
+{
+    let made = no_place(image);
+    tell_unmade(why, made, answer)
 }
 
 // A machine over the program of an image.
@@ -65,7 +88,17 @@ pub extern "C" fn chaffwheel_load(
     frames: &mut [Frame],
     answer: &mut [u64],
 ) -> u32
-    ensures { λ r. ⌜ record { coded = record { number = r; vm = now (vm .exit); answer = now (answer .exit) }; stores = lent (now (constants .exit)) (now (structs .exit)) (now (functions .exit)) (now (text .exit)) (now (main .exit)) (now («main_places» .exit)) (now (other .exit)) (now («other_places» .exit)); frames = now (frames .exit) } ≡ startThrough (now (vm .entry)) (now (answer .entry)) (lent (now (constants .entry)) (now (structs .entry)) (now (functions .entry)) (now (text .entry)) (now (main .entry)) (now («main_places» .entry)) (now (other .entry)) (now («other_places» .entry))) (now (frames .entry)) (loadMachineOf (now (image .entry)) (lent (now (constants .entry)) (now (structs .entry)) (now (functions .entry)) (now (text .entry)) (now (main .entry)) (now («main_places» .entry)) (now (other .entry)) (now («other_places» .entry))) (now (frames .entry))) ⌝ }
+    ensures { λ r. ⌜ record {
+      coded = record { number = r; vm = now (vm .exit); answer = now (answer .exit) };
+      stores = lent (now (constants .exit)) (now (structs .exit)) (now (functions .exit)) (now (text .exit))
+          (now (main .exit)) (now («main_places» .exit)) (now (other .exit)) (now («other_places» .exit));
+      frames = now (frames .exit);
+    } ≡ startThrough (now (vm .entry)) (now (answer .entry))
+        (lent (now (constants .entry)) (now (structs .entry)) (now (functions .entry)) (now (text .entry))
+        (now (main .entry)) (now («main_places» .entry)) (now (other .entry)) (now («other_places» .entry))) (now (frames .entry))
+        (loadMachineOf (now (image .entry))
+        (lent (now (constants .entry)) (now (structs .entry)) (now (functions .entry)) (now (text .entry))
+        (now (main .entry)) (now («main_places» .entry)) (now (other .entry)) (now («other_places» .entry))) (now (frames .entry))) ⌝ }
 {
     let why = out_refusal(vm, 1, answer);
     if why == 0 {
@@ -84,7 +117,8 @@ pub extern "C" fn chaffwheel_load(
         let n = tell_started(made, vm, answer);
         return n;
     }
-    why
+    let n = unloaded(why, image, answer);
+    n
 }
 
 // A run of the machine with `units`.
@@ -107,11 +141,16 @@ pub extern "C" fn chaffwheel_run(
     trace: &mut [u32],
     answer: &mut [u64],
 ) -> u32
-    ensures { λ r. ⌜ RunThrough (now (vm .entry)) (now (answer .entry)) (programLent (now (structs .entry)) (now (constants .entry)) (now (functions .entry)) (now (text .entry)) (now (main .entry)) (now («main_places» .entry)) (now (other .entry)) (now («other_places» .entry))) (runLent (now (stack .entry)) (now (cells .entry)) (now (frames .entry)) (now (copy .entry)) (now (trace .entry))) units (record { number = r; vm = now (vm .exit); answer = now (answer .exit) }) (runLent (now (stack .exit)) (now (cells .exit)) (now (frames .exit)) (now (copy .exit)) (now (trace .exit))) ⌝ }
+    ensures { λ r. ⌜ RunThrough (now (vm .entry)) (now (answer .entry))
+        (programLent (now (structs .entry)) (now (constants .entry)) (now (functions .entry)) (now (text .entry))
+        (now (main .entry)) (now («main_places» .entry)) (now (other .entry)) (now («other_places» .entry)))
+        (runLent (now (stack .entry)) (now (cells .entry)) (now (frames .entry)) (now (copy .entry)) (now (trace .entry)))
+        units (record { number = r; vm = now (vm .exit); answer = now (answer .exit) })
+        (runLent (now (stack .exit)) (now (cells .exit)) (now (frames .exit)) (now (copy .exit)) (now (trace .exit))) ⌝ }
 {
     let why = slices_refusal(vm, 5, answer);
+    let m = vm_of(vm);
     if why == 0 {
-        let m = vm_of(vm);
         let result = run(
             m,
             units,
@@ -132,7 +171,24 @@ pub extern "C" fn chaffwheel_run(
         let n = tell_run(result, vm, answer);
         return n;
     }
-    why
+    let own = run_refusal(
+        m,
+        0,
+        0,
+        constants,
+        structs,
+        functions,
+        text,
+        main,
+        main_places,
+        other,
+        other_places,
+        stack,
+        cells,
+        frames,
+    );
+    let n = crossed(why, own);
+    n
 }
 
 // The backtrace of the machine's frames.
@@ -150,11 +206,15 @@ pub extern "C" fn chaffwheel_backtrace(
     out: &mut [u32],
     answer: &mut [u64],
 ) -> u32
-    ensures { λ r. ⌜ ((structs constants : List ℕ) → record { coded = record { number = r; vm = now (vm .entry); answer = now (answer .exit) }; out = now (out .exit) } ≡ outThrough (slicesRefusal (now (vm .entry)) 1 (now (answer .entry))) (now (vm .entry)) (now (answer .entry)) (now (out .entry)) (λ m. backtraceIn m (programLent structs constants (now (functions .entry)) (now (text .entry)) (now (main .entry)) (now («main_places» .entry)) (now (other .entry)) (now («other_places» .entry))) (now (stack .entry)) (now (frames .entry)) (now (out .entry)))) ⌝ }
+    ensures { λ r. ⌜ ((structs constants : List ℕ) → record { coded = record { number = r; vm = now (vm .entry); answer = now (answer .exit) }; out = now (out .exit) }
+        ≡ outThrough atEntry (slicesRefusal (now (vm .entry)) 1 (now (answer .entry))) (now (vm .entry)) (now (answer .entry)) (now (out .entry))
+        (λ m. backtraceIn m (programLent structs constants (now (functions .entry)) (now (text .entry))
+        (now (main .entry)) (now («main_places» .entry)) (now (other .entry)) (now («other_places» .entry)))
+        (now (stack .entry)) (now (frames .entry)) (now (out .entry)))) ⌝ }
 {
     let why = slices_refusal(vm, 1, answer);
+    let m = vm_of(vm);
     if why == 0 {
-        let m = vm_of(vm);
         let told = backtrace(
             m,
             functions,
@@ -170,7 +230,19 @@ pub extern "C" fn chaffwheel_backtrace(
         let n = tell(told, answer);
         return n;
     }
-    why
+    let good = trace_order(
+        m,
+        functions,
+        text,
+        main,
+        main_places,
+        other,
+        other_places,
+        stack,
+        frames,
+    );
+    let n = crossed_order(why, good);
+    n
 }
 
 // The image of the program.
@@ -188,28 +260,29 @@ pub extern "C" fn chaffwheel_save(
     out: &mut [u8],
     answer: &mut [u64],
 ) -> u32
-    ensures { λ r. ⌜ record { coded = record { number = r; vm = now (vm .entry); answer = now (answer .exit) }; out = now (out .exit) } ≡ outThrough (slicesRefusal (now (vm .entry)) 1 (now (answer .entry))) (now (vm .entry)) (now (answer .entry)) (now (out .entry)) (λ (m : Vm). saveOf (m .program) (lent (now (constants .entry)) (now (structs .entry)) (now (functions .entry)) (now (text .entry)) (now (main .entry)) (now («main_places» .entry)) (now (other .entry)) (now («other_places» .entry))) (now (out .entry))) ⌝ }
+    ensures { λ r. ⌜ record { coded = record { number = r; vm = now (vm .entry); answer = now (answer .exit) }; out = now (out .exit) }
+        ≡ outThrough atEntry (slicesRefusal (now (vm .entry)) 1 (now (answer .entry))) (now (vm .entry)) (now (answer .entry)) (now (out .entry))
+        (λ (m : Vm). saveOf (m .program) (lent (now (constants .entry)) (now (structs .entry)) (now (functions .entry)) (now (text .entry))
+        (now (main .entry)) (now («main_places» .entry)) (now (other .entry)) (now («other_places» .entry))) (now (out .entry))) ⌝ }
 {
     let why = slices_refusal(vm, 1, answer);
-    if why == 0 {
-        let m = vm_of(vm);
-        let c = m.program;
-        let told = save(
-            c,
-            constants,
-            structs,
-            functions,
-            text,
-            main,
-            main_places,
-            other,
-            other_places,
-            out,
-        );
-        let n = tell(told, answer);
-        return n;
-    }
-    why
+    let m = vm_of(vm);
+    let c = m.program;
+    let room = lent_room(why, out.len());
+    let told = save(
+        c,
+        constants,
+        structs,
+        functions,
+        text,
+        main,
+        main_places,
+        other,
+        other_places,
+        &mut out[..room],
+    );
+    let n = answer_told(why, told, answer);
+    n
 }
 
 // The listing of the program.
@@ -223,15 +296,15 @@ pub extern "C" fn chaffwheel_disassemble<'a>(
     out: &mut [u8],
     answer: &mut [u64],
 ) -> u32
-    ensures { λ r. ⌜ ((rest : Stores) → record { coded = record { number = r; vm = now (vm .entry); answer = now (answer .exit) }; out = now (out .exit) } ≡ outThrough (slicesRefusal (now (vm .entry)) 1 (now (answer .entry))) (now (vm .entry)) (now (answer .entry)) (now (out .entry)) (λ (m : Vm). listOf (m .program) (listed rest (now (functions .entry)) (now (text .entry)) (now (main .entry)) (now (other .entry))) (now (out .entry)))) ⌝ }
+    ensures { λ r. ⌜ ((rest : Stores) → record { coded = record { number = r; vm = now (vm .entry); answer = now (answer .exit) }; out = now (out .exit) }
+        ≡ outThrough atListing (slicesRefusal (now (vm .entry)) 1 (now (answer .entry))) (now (vm .entry)) (now (answer .entry)) (now (out .entry))
+        (λ (m : Vm). listOf (m .program) (listed rest (now (functions .entry)) (now (text .entry)) (now (main .entry)) (now (other .entry))) (now (out .entry)))) ⌝ }
 {
     let why = slices_refusal(vm, 1, answer);
-    if why == 0 {
-        let m = vm_of(vm);
-        let c = m.program;
-        let told = disassemble(c, functions, text, main, other, out);
-        let n = tell(told, answer);
-        return n;
-    }
-    why
+    let m = vm_of(vm);
+    let c = m.program;
+    let room = lent_room(why, out.len());
+    let told = disassemble(c, functions, text, main, other, &mut out[..room]);
+    let n = answer_listed(why, told, answer);
+    n
 }

@@ -1,8 +1,9 @@
 // What a host in C reads of a machine. A value that is shown stands in answer[0] and answer[1], its kind and its payload; a value that the host hands in is two such words.
+use embed_words::answer_header;
+use embed_words::answer_shown;
+use embed_words::answer_told;
+use embed_words::lent_room;
 use embed_words::slices_refusal;
-use embed_words::tell;
-use embed_words::tell_header;
-use embed_words::tell_shown;
 use embed_words::value_refusal;
 use embed_words::vm_of;
 use readers::block_header;
@@ -15,21 +16,20 @@ ghost use mathlib.Core.Path.{_≡_};
 ghost use Rattle.model.specs.declared.Vm.{Vm};
 ghost use Rattle.model.specs.Values.{valueOf};
 ghost use Rattle.model.specs.Readers.{lastResultOf, stackValueOf, blockHeaderOf, elementOf, textBytesOf};
-ghost use Rattle.embed_words.specs.Coding.{vmIn, slicesRefusal, valueRefusal, shownCoded, headedCoded, through, outThrough};
+ghost use Rattle.embed_words.specs.Coding.{vmIn, slicesRefusal, atEntry, valueRefusal, shownCoded, headedCoded, through, outThrough};
 
 // The last result.
 #[no_mangle]
 pub extern "C" fn chaffwheel_last_result(vm: &[u64], answer: &mut [u64]) -> u32
-    ensures { λ r. ⌜ record { number = r; vm = now (vm .entry); answer = now (answer .exit) } ≡ through (slicesRefusal (now (vm .entry)) 2 (now (answer .entry))) (now (vm .entry)) (now (answer .entry)) (shownCoded (lastResultOf (vmIn (now (vm .entry)))) (now (vm .entry)) (now (answer .entry))) ⌝ }
+    ensures { λ r. ⌜ record { number = r; vm = now (vm .entry); answer = now (answer .exit) }
+        ≡ through atEntry (slicesRefusal (now (vm .entry)) 2 (now (answer .entry))) (now (vm .entry)) (now (answer .entry))
+        (shownCoded (lastResultOf (vmIn (now (vm .entry)))) (now (vm .entry)) (now (answer .entry))) ⌝ }
 {
     let why = slices_refusal(vm, 2, answer);
-    if why == 0 {
-        let m = vm_of(vm);
-        let shown = last_result(m);
-        let n = tell_shown(shown, answer);
-        return n;
-    }
-    why
+    let m = vm_of(vm);
+    let shown = last_result(m);
+    let n = answer_shown(why, shown, answer);
+    n
 }
 
 // The value at i, from the bottom of the stack.
@@ -40,16 +40,15 @@ pub extern "C" fn chaffwheel_stack_value(
     stack: &[u64],
     answer: &mut [u64],
 ) -> u32
-    ensures { λ r. ⌜ record { number = r; vm = now (vm .entry); answer = now (answer .exit) } ≡ through (slicesRefusal (now (vm .entry)) 2 (now (answer .entry))) (now (vm .entry)) (now (answer .entry)) (shownCoded (stackValueOf (vmIn (now (vm .entry))) i (now (stack .entry))) (now (vm .entry)) (now (answer .entry))) ⌝ }
+    ensures { λ r. ⌜ record { number = r; vm = now (vm .entry); answer = now (answer .exit) }
+        ≡ through atEntry (slicesRefusal (now (vm .entry)) 2 (now (answer .entry))) (now (vm .entry)) (now (answer .entry))
+        (shownCoded (stackValueOf (vmIn (now (vm .entry))) i (now (stack .entry))) (now (vm .entry)) (now (answer .entry))) ⌝ }
 {
     let why = slices_refusal(vm, 2, answer);
-    if why == 0 {
-        let m = vm_of(vm);
-        let shown = stack_value(m, i, stack);
-        let n = tell_shown(shown, answer);
-        return n;
-    }
-    why
+    let m = vm_of(vm);
+    let shown = stack_value(m, i, stack);
+    let n = answer_shown(why, shown, answer);
+    n
 }
 
 // The header of a list or struct: how many elements it has, the struct's number, and the depth.
@@ -61,17 +60,16 @@ pub extern "C" fn chaffwheel_block_header(
     cells: &[u64],
     answer: &mut [u64],
 ) -> u32
-    ensures { λ r. ⌜ record { number = r; vm = now (vm .entry); answer = now (answer .exit) } ≡ through (valueRefusal (now (vm .entry)) kind payload 3 (now (answer .entry))) (now (vm .entry)) (now (answer .entry)) (headedCoded (blockHeaderOf (vmIn (now (vm .entry))) (valueOf kind payload) (now (cells .entry))) (now (vm .entry)) (now (answer .entry))) ⌝ }
+    ensures { λ r. ⌜ record { number = r; vm = now (vm .entry); answer = now (answer .exit) }
+        ≡ through atEntry (valueRefusal (now (vm .entry)) kind payload 3 (now (answer .entry))) (now (vm .entry)) (now (answer .entry))
+        (headedCoded (blockHeaderOf (vmIn (now (vm .entry))) (valueOf kind payload) (now (cells .entry))) (now (vm .entry)) (now (answer .entry))) ⌝ }
 {
     let why = value_refusal(vm, kind, payload, 3, answer);
-    if why == 0 {
-        let m = vm_of(vm);
-        let v = value_of(kind, payload);
-        let headed = block_header(m, v, cells);
-        let n = tell_header(headed, answer);
-        return n;
-    }
-    why
+    let m = vm_of(vm);
+    let v = value_of(kind, payload);
+    let headed = block_header(m, v, cells);
+    let n = answer_header(why, headed, answer);
+    n
 }
 
 // Element i of a list, or field i of a struct.
@@ -84,17 +82,16 @@ pub extern "C" fn chaffwheel_element(
     cells: &[u64],
     answer: &mut [u64],
 ) -> u32
-    ensures { λ r. ⌜ record { number = r; vm = now (vm .entry); answer = now (answer .exit) } ≡ through (valueRefusal (now (vm .entry)) kind payload 2 (now (answer .entry))) (now (vm .entry)) (now (answer .entry)) (shownCoded (elementOf (vmIn (now (vm .entry))) (valueOf kind payload) i (now (cells .entry))) (now (vm .entry)) (now (answer .entry))) ⌝ }
+    ensures { λ r. ⌜ record { number = r; vm = now (vm .entry); answer = now (answer .exit) }
+        ≡ through atEntry (valueRefusal (now (vm .entry)) kind payload 2 (now (answer .entry))) (now (vm .entry)) (now (answer .entry))
+        (shownCoded (elementOf (vmIn (now (vm .entry))) (valueOf kind payload) i (now (cells .entry))) (now (vm .entry)) (now (answer .entry))) ⌝ }
 {
     let why = value_refusal(vm, kind, payload, 2, answer);
-    if why == 0 {
-        let m = vm_of(vm);
-        let v = value_of(kind, payload);
-        let shown = element(m, v, i, cells);
-        let n = tell_shown(shown, answer);
-        return n;
-    }
-    why
+    let m = vm_of(vm);
+    let v = value_of(kind, payload);
+    let shown = element(m, v, i, cells);
+    let n = answer_shown(why, shown, answer);
+    n
 }
 
 // The bytes of a string or a function reference, into out, and how many they are.
@@ -107,15 +104,15 @@ pub extern "C" fn chaffwheel_text(
     out: &mut [u8],
     answer: &mut [u64],
 ) -> u32
-    ensures { λ r. ⌜ record { coded = record { number = r; vm = now (vm .entry); answer = now (answer .exit) }; out = now (out .exit) } ≡ outThrough (valueRefusal (now (vm .entry)) kind payload 1 (now (answer .entry))) (now (vm .entry)) (now (answer .entry)) (now (out .entry)) (λ (m : Vm). textBytesOf m (valueOf kind payload) (now (text .entry)) (now (out .entry))) ⌝ }
+    ensures { λ r. ⌜ record { coded = record { number = r; vm = now (vm .entry); answer = now (answer .exit) }; out = now (out .exit) }
+        ≡ outThrough atEntry (valueRefusal (now (vm .entry)) kind payload 1 (now (answer .entry))) (now (vm .entry)) (now (answer .entry)) (now (out .entry))
+        (λ (m : Vm). textBytesOf m (valueOf kind payload) (now (text .entry)) (now (out .entry))) ⌝ }
 {
     let why = value_refusal(vm, kind, payload, 1, answer);
-    if why == 0 {
-        let m = vm_of(vm);
-        let v = value_of(kind, payload);
-        let told = text_bytes(m, v, text, out);
-        let n = tell(told, answer);
-        return n;
-    }
-    why
+    let m = vm_of(vm);
+    let v = value_of(kind, payload);
+    let room = lent_room(why, out.len());
+    let told = text_bytes(m, v, text, &mut out[..room]);
+    let n = answer_told(why, told, answer);
+    n
 }

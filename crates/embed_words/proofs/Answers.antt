@@ -1,10 +1,11 @@
 -- The entries' answers in words, and the refusals of the slices that hold them.
-use mathlib.Core.Path.{_≡_}
-use mathlib.Core.Bool.{Bool, true, false, _&&_}
+use mathlib.Core.Path.{_≡_, refl, sym}
+use mathlib.Core.Bool.{Bool, true, false, _&&_, _||_}
 use mathlib.Core.List.{List, [], _∷_}
+use mathlib.Mathlib.Data.Bool.Basic.{and-elim-left as and-left}
 use Prim.Native.Nat.{ℕ, _≤_, _<_}
-use borrow.Author.Tests.{le-leb, lt-leb}
-use lib.Dec.{leb}
+use borrow.Author.Tests.{le-leb, lt-leb, eq-eqb, ne-eqb, eqb-true}
+use lib.Dec.{eqb, leb}
 use lib.ListN.{length, set}
 use Rattle.model.specs.declared.Value.{Value}
 use Rattle.model.specs.declared.Header.{Header}
@@ -23,9 +24,11 @@ use Rattle.model.specs.declared.Started.{Started}
 use Rattle.model.specs.declared.Started.the-variants as st
 use Rattle.model.specs.declared.RunResult.{RunResult}
 use Rattle.model.specs.declared.RunResult.the-variants as r
-use Rattle.model.specs.Basics.{written}
+use Rattle.model.specs.Basics.{if_then_else_, written}
+use Rattle.model.specs.Answers.{toldNumber, shownNumber, headedNumber}
 use Rattle.model.specs.Values.{kind, payload, exactValue}
-use Rattle.embed_words.specs.Coding.{countWords, vmWords, recordOk, slicesRefusal, valueRefusal, outRefusal, runWords, runCoded, startedCoded, emittedCoded, toldCoded, shownCoded, headedCoded}
+use Rattle.embed_words.specs.Coding.{countWords, vmWords, recordOk, slicesRefusal, valueRefusal, outRefusal, atEntry, atListing, among, crossed}
+use Rattle.embed_words.specs.Coding.{Coded, runWords, runCoded, startedCoded, unmade, emittedCoded, toldCoded, shownCoded, headedCoded, through}
 
 -- ---- refusals
 
@@ -60,6 +63,74 @@ module _ (w : List ℕ) (n : ℕ) (a : List ℕ) where
   unfolding outRefusal
   out-short e = rw e
 
+-- ---- their order with the entry's own
+
+or-false : (b : Bool) → b || false ≡ b
+or-false true = refl
+or-false false = refl
+
+or-three : (a b c : Bool) → a || b || c ≡ a || (b || (c || false))
+or-three true b c = refl
+or-three false true c = refl
+or-three false false c = sym (or-false c)
+
+module _ (why own : ℕ) where
+  pub gives-way : eqb own 19 && eqb why 17 ≡ true → 19 ≡ crossed atEntry why own
+  unfolding crossed among
+  gives-way e = rw (or-false (eqb own 19), e) (sym (eqb-true own 19 (and-left (eqb own 19) (eqb why 17) e)))
+
+  pub stays-so : eqb own 19 && eqb why 17 ≡ false → why ≡ crossed atEntry why own
+  unfolding crossed among
+  stays-so e = rw (or-false (eqb own 19), e)
+
+  pub listing-gives-way : (eqb own 19 || eqb own 1 || eqb own 3) && eqb why 17 ≡ true → own ≡ crossed atListing why own
+  unfolding crossed among
+  listing-gives-way e = rw (← or-three (eqb own 19) (eqb own 1) (eqb own 3), e)
+
+  pub listing-stays : (eqb own 19 || eqb own 1 || eqb own 3) && eqb why 17 ≡ false → why ≡ crossed atListing why own
+  unfolding crossed among
+  listing-stays e = rw (← or-three (eqb own 19) (eqb own 1) (eqb own 3), e)
+
+module _ (why : ℕ) (good : Bool) where
+  pub judged-good : good ≡ true → why ≡ crossed atEntry why (if good then 0 else 19)
+  unfolding crossed among
+  judged-good e = rw e
+
+  pub judged-bad : good ≡ false → {n : ℕ} → n ≡ crossed atEntry why 19 → n ≡ crossed atEntry why (if good then 0 else 19)
+  judged-bad e f = rw e f
+
+module _ (why size : ℕ) where
+  pub whole-room : why ≡ 0 → size ≡ (if eqb why 0 then size else 0)
+  whole-room z = rw (eq-eqb why 0 z)
+
+  pub no-room : (why ≡ 0 → ⊥) → 0 ≡ (if eqb why 0 then size else 0)
+  no-room z = rw (ne-eqb why 0 z)
+
+-- c is what the entry itself does
+module _ (firsts : List ℕ) (why : ℕ) (w a : List ℕ) (c : Coded) where
+  pub goes-through : why ≡ 0 → {d : Coded} → d ≡ c → d ≡ through firsts why w a c
+  unfolding through
+  goes-through z e = rw (eq-eqb why 0 z) e
+
+  pub held-up : (why ≡ 0 → ⊥) → {own n : ℕ} → own ≡ c .number → n ≡ crossed firsts why own → record { number = n; vm = w; answer = a } ≡ through firsts why w a c
+  unfolding through
+  held-up z e f = rw (ne-eqb why 0 z, f, e)
+
+pub told-coded : (x : Told) (w a : List ℕ) → toldNumber x ≡ toldCoded x w a .number
+unfolding toldCoded
+told-coded (t.Number n) w a = refl
+told-coded (t.Refused n) w a = refl
+
+pub shown-coded : (x : Shown) (w a : List ℕ) → shownNumber x ≡ shownCoded x w a .number
+unfolding shownCoded
+shown-coded (sh.Value v) w a = refl
+shown-coded (sh.Refused n) w a = refl
+
+pub headed-coded : (x : Headed) (w a : List ℕ) → headedNumber x ≡ headedCoded x w a .number
+unfolding headedCoded
+headed-coded (h.Is y) w a = refl
+headed-coded (h.Refused n) w a = refl
+
 -- ---- answers
 
 module _ (w a : List ℕ) where
@@ -88,13 +159,26 @@ module _ (w a : List ℕ) where
     unfolding startedCoded
     started-done e ew = rw (e, ew)
 
-    pub started-broken : {a' : List ℕ} {i : ℕ} → x ≡ st.Broken i → a' ≡ set a 0 i → record { number = 20; vm = w; answer = a' } ≡ startedCoded x w a
+    pub started-broken : {a' : List ℕ} {n i : ℕ} → x ≡ st.Broken i → n ≡ 20 → a' ≡ set a 0 i → record { number = n; vm = w; answer = a' } ≡ startedCoded x w a
     unfolding startedCoded written
-    started-broken e ea = rw (e, ea)
+    started-broken e en ea = rw (e, en, ea)
 
     pub started-refused : {n : ℕ} → x ≡ st.Refused n → record { number = n; vm = w; answer = a } ≡ startedCoded x w a
     unfolding startedCoded
     started-refused e = rw e
+
+    -- the record or the answer is too short
+    pub unmade-done : (why : ℕ) {m : Vm} → x ≡ st.Done m → record { number = why; vm = w; answer = a } ≡ unmade why x w a
+    unfolding unmade
+    unmade-done why e = rw e
+
+    pub unmade-refused : (why : ℕ) {n : ℕ} → x ≡ st.Refused n → record { number = why; vm = w; answer = a } ≡ unmade why x w a
+    unfolding unmade
+    unmade-refused why e = rw e
+
+    pub unmade-broken : (why : ℕ) {a' : List ℕ} {n i : ℕ} → x ≡ st.Broken i → n ≡ 20 → a' ≡ set a 0 i → record { number = n; vm = w; answer = a' } ≡ unmade why x w a
+    unfolding unmade startedCoded written
+    unmade-broken why e en ea = rw (e, en, ea)
 
   module _ {x : Emitted} where
     pub emitted-done : {w' a' : List ℕ} {c : Counts} {n : ℕ} → x ≡ e.Done c n → w' ≡ written w 0 (countWords c) → a' ≡ set a 0 n → record { number = 0; vm = w'; answer = a' } ≡ emittedCoded x w a

@@ -1,7 +1,7 @@
 -- What crosses to a host in C: a machine's record and the entries' answers, as words in slices that the host lends.
 -- Enums do not cross: a value is its kind and its payload, as in the stores; an entry returns 0, or the number of its refusal.
 use mathlib.Core.Path.{_≡_}
-use mathlib.Core.Bool.{Bool, _&&_}
+use mathlib.Core.Bool.{Bool, false, _&&_, _||_}
 use mathlib.Core.List.{List, [], _∷_}
 use Prim.Native.Nat.{ℕ}
 use lib.Dec.{eqb, leb}
@@ -23,11 +23,11 @@ use Rattle.model.specs.declared.RunResult.{RunResult}
 use Rattle.model.specs.declared.RunResult.the-variants as r
 use Rattle.model.specs.Basics.{if_then_else_, written}
 use Rattle.model.specs.Values.{kind, payload, exactValue}
-use Rattle.model.specs.Answers.{runNumber, startedNumber}
+use Rattle.model.specs.Answers.{runNumber, startedNumber, emittedNumber, toldNumber, shownNumber, headedNumber}
 use Rattle.model.specs.Stores.{Stores}
 use Rattle.model.specs.Emission.{Res}
 use Rattle.model.specs.Loading.{OutRes}
-use Rattle.model.specs.Machines.{Lent, RunPost, StartRes}
+use Rattle.model.specs.Machines.{Lent, RunAnswer, ran, refused as not-run, runAnswer, RunPost, StartRes}
 use Rattle.value.specs.Links.{lastIn, lastKind, lastPayload}
 
 -- ---- a machine's record in ten words: constants, structs, functions, text, current, stack, frames, cells, and the last result's kind and payload.
@@ -57,7 +57,7 @@ lastExact k a = if eqb k 7 then eqb a 0 else exactValue k a
 unfoldable pub recordOk : List ℕ → Bool
 recordOk w = leb 10 (length w) && lastExact (getD w 8 0) (getD w 9 0)
 
--- ---- refusals of what crosses, before the entry's own
+-- ---- refusals of what crosses
 
 -- 19: no machine's record; 17: fewer than n words for the answer; or 0
 unfoldable pub slicesRefusal : List ℕ → ℕ → List ℕ → ℕ
@@ -70,6 +70,24 @@ valueRefusal w k p n a = if exactValue k p then slicesRefusal w n a else 19
 -- where the record is only written
 unfoldable pub outRefusal : List ℕ → ℕ → List ℕ → ℕ
 outRefusal w n a = if leb 10 (length w) && leb n (length a) then 0 else 17
+
+-- ---- their order with the entry's own. The numbers of the entry itself that come before 17:
+
+-- "Order at an entry: 19, 17, 22, 21, then the rest"
+abbrev pub atEntry : List ℕ
+atEntry = 19 ∷ []
+
+-- "the listing: 19, 1 or 3 as met first, 17"
+abbrev pub atListing : List ℕ
+atListing = 19 ∷ 1 ∷ 3 ∷ []
+
+unfoldable pub among : List ℕ → ℕ → Bool
+among [] n = false
+among (k ∷ ks) n = eqb n k || among ks n
+
+-- what crosses is refused `why`, and the entry itself answers n: a short answer (17) gives way to a number that comes first
+unfoldable pub crossed : List ℕ → ℕ → ℕ → ℕ
+crossed firsts why n = if among firsts n && eqb why 17 then n else why
 
 -- ---- answers
 
@@ -99,37 +117,80 @@ runCoded (r.Refused n) w a = refused (runNumber (r.Refused n)) w a
 
 -- of refusal 20 the answer is the offset
 unfoldable pub startedCoded : Started → List ℕ → List ℕ → Coded
-startedCoded (st.Done m) w a = record { number = 0; vm = written w 0 (vmWords m); answer = a }
+startedCoded (st.Done m) w a = record { number = startedNumber (st.Done m); vm = written w 0 (vmWords m); answer = a }
 startedCoded (st.Broken i) w a = record { number = startedNumber (st.Broken i); vm = w; answer = written a 0 (i ∷ []) }
-startedCoded (st.Refused n) w a = refused n w a
+startedCoded (st.Refused n) w a = refused (startedNumber (st.Refused n)) w a
 
 -- the counts to the record, and the number that was told
 unfoldable pub emittedCoded : Emitted → List ℕ → List ℕ → Coded
-emittedCoded (e.Done c n) w a = record { number = 0; vm = written w 0 (countWords c); answer = written a 0 (n ∷ []) }
-emittedCoded (e.Refused n) w a = refused n w a
+emittedCoded (e.Done c n) w a = record { number = emittedNumber (e.Done c n); vm = written w 0 (countWords c); answer = written a 0 (n ∷ []) }
+emittedCoded (e.Refused n) w a = refused (emittedNumber (e.Refused n)) w a
 
 unfoldable pub toldCoded : Told → List ℕ → List ℕ → Coded
-toldCoded (t.Number n) w a = record { number = 0; vm = w; answer = written a 0 (n ∷ []) }
-toldCoded (t.Refused n) w a = refused n w a
+toldCoded (t.Number n) w a = record { number = toldNumber (t.Number n); vm = w; answer = written a 0 (n ∷ []) }
+toldCoded (t.Refused n) w a = refused (toldNumber (t.Refused n)) w a
 
 -- the kind and the payload of the value
 unfoldable pub shownCoded : Shown → List ℕ → List ℕ → Coded
-shownCoded (sh.Value v) w a = record { number = 0; vm = w; answer = written a 0 (kind v ∷ payload v ∷ []) }
-shownCoded (sh.Refused n) w a = refused n w a
+shownCoded (sh.Value v) w a = record { number = shownNumber (sh.Value v); vm = w; answer = written a 0 (kind v ∷ payload v ∷ []) }
+shownCoded (sh.Refused n) w a = refused (shownNumber (sh.Refused n)) w a
 
 -- the count of elements, the struct number and the depth
 unfoldable pub headedCoded : Headed → List ℕ → List ℕ → Coded
-headedCoded (h.Is x) w a = record { number = 0; vm = w; answer = written a 0 (x .count ∷ x .number ∷ x .depth ∷ []) }
-headedCoded (h.Refused n) w a = refused n w a
+headedCoded (h.Is x) w a = record { number = headedNumber (h.Is x); vm = w; answer = written a 0 (x .count ∷ x .number ∷ x .depth ∷ []) }
+headedCoded (h.Refused n) w a = refused (headedNumber (h.Refused n)) w a
 
 -- ---- the entries: refused by what crosses, or the entry's own rule, with its answer in words. `why` is that refusal, 0 where there is none
+
+-- c is what the entry itself does; a refusal changes no store
+unfoldable pub through : List ℕ → ℕ → List ℕ → List ℕ → Coded → Coded
+through firsts why w a c = if eqb why 0 then c else refused (crossed firsts why (c .number)) w a
+
+-- emission: an entry over the record's counts and the program's stores
+pub record EmitThrough : Type 0 where
+  pub coded : Coded
+  pub stores : Stores
+
+unfoldable pub emitThrough : List ℕ → List ℕ → Stores → (Counts → Res) → EmitThrough
+emitThrough w a s rule = record {
+  coded = through atEntry (slicesRefusal w 1 a) w a (emittedCoded (rule (vmIn w .program) .answer) w a);
+  stores = if eqb (slicesRefusal w 1 a) 0 then rule (vmIn w .program) .stores else s;
+}
+
+-- what a function of emission promises, whatever the stores that it is not lent: `before` and `after` are those it is lent, among the rest
+abbrev pub Emits : (Counts → Stores → Res) → List ℕ → List ℕ → (Stores → Stores) → ℕ → List ℕ → List ℕ → (Stores → Stores) → Type 0
+Emits rule w a before n w' a' after =
+    (rest : Stores) → record { coded = record { number = n; vm = w'; answer = a' }; stores = after rest } ≡ emitThrough w a (before rest) (λ c. rule c (before rest))
+
+-- an entry that tells a number, with what it writes
+pub record OutThrough : Type 0 where
+  pub coded : Coded
+  pub out : List ℕ
+
+unfoldable pub outThrough : List ℕ → ℕ → List ℕ → List ℕ → List ℕ → (Vm → OutRes) → OutThrough
+outThrough firsts why w a out rule = record {
+  coded = through firsts why w a (toldCoded (rule (vmIn w) .answer) w a);
+  out = if eqb why 0 then rule (vmIn w) .out else out;
+}
+
+-- the number that a run itself answers
+unfoldable pub ranNumber : RunAnswer → ℕ
+ranNumber (ran c x) = 0
+ranNumber (not-run n) = n
 
 -- a run: refused by its slices, or the run of the record's machine, with its result in words
 pub record RunThrough (w a : List ℕ) (s : Stores) (l : Lent) (u : ℕ) (c : Coded) (l' : Lent) : Type 0 where
   pub result : RunResult
   pub coded : c ≡ runCoded result w a
   pub runs : slicesRefusal w 5 a ≡ 0 → RunPost (vmIn w) s l u result l'
-  pub refuses : (slicesRefusal w 5 a ≡ 0 → ⊥) → (result ≡ r.Refused (slicesRefusal w 5 a)) × (l' ≡ l)
+  pub refuses : (slicesRefusal w 5 a ≡ 0 → ⊥) → (result ≡ r.Refused (crossed atEntry (slicesRefusal w 5 a) (ranNumber (runAnswer (vmIn w) s l u)))) × (l' ≡ l)
+
+-- making a machine where the record or the answer is too short. "Loading: 20, 17, 22, 21": a broken image comes first, and its offset is written
+-- where the answer has a word
+unfoldable pub unmade : ℕ → Started → List ℕ → List ℕ → Coded
+unmade why (st.Done m) w a = refused why w a
+unmade why (st.Broken i) w a = startedCoded (st.Broken i) w a
+unmade why (st.Refused n) w a = refused why w a
 
 -- making a machine
 pub record StartThrough : Type 0 where
@@ -141,30 +202,4 @@ unfoldable pub startThrough : List ℕ → List ℕ → Stores → List Frame �
 startThrough w a s fs r =
     if eqb (outRefusal w 1 a) 0
     then record { coded = startedCoded (r .answer) w a; stores = r .stores; frames = r .frames }
-    else record { coded = refused (outRefusal w 1 a) w a; stores = s; frames = fs }
-
--- an entry that tells a number, with what it writes
-pub record OutThrough : Type 0 where
-  pub coded : Coded
-  pub out : List ℕ
-
-unfoldable pub outThrough : ℕ → List ℕ → List ℕ → List ℕ → (Vm → OutRes) → OutThrough
-outThrough why w a out rule =
-    if eqb why 0
-    then record { coded = toldCoded (rule (vmIn w) .answer) w a; out = rule (vmIn w) .out }
-    else record { coded = refused why w a; out = out }
-
--- an entry that changes no store but the record and the answer: c is what it does where it is not refused
-unfoldable pub through : ℕ → List ℕ → List ℕ → Coded → Coded
-through why w a c = if eqb why 0 then c else refused why w a
-
--- emission: an entry over the record's counts and the program's stores
-pub record EmitThrough : Type 0 where
-  pub coded : Coded
-  pub stores : Stores
-
-unfoldable pub emitThrough : List ℕ → List ℕ → Stores → (Counts → Res) → EmitThrough
-emitThrough w a s rule =
-    if eqb (slicesRefusal w 1 a) 0
-    then record { coded = emittedCoded (rule (vmIn w .program) .answer) w a; stores = rule (vmIn w .program) .stores }
-    else record { coded = refused (slicesRefusal w 1 a) w a; stores = s }
+    else record { coded = unmade (outRefusal w 1 a) (r .answer) w a; stores = s; frames = fs }

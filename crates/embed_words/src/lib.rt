@@ -17,9 +17,12 @@ use value::words::payload_of;
 ghost use mathlib.Core.Path.{_≡_};
 ghost use mathlib.Core.List.{List, [], _∷_};
 ghost use Prim.Native.Nat.{ℕ};
+ghost use lib.Dec.{eqb};
 ghost use lib.ListN.{getD, set};
-ghost use Rattle.model.specs.Basics.{written};
-ghost use Rattle.embed_words.specs.Coding.{vmIn, countWords, vmWords, lastExact, recordOk, slicesRefusal, valueRefusal, outRefusal, runCoded, startedCoded, emittedCoded, toldCoded, shownCoded, headedCoded};
+ghost use Rattle.model.specs.Basics.{if_then_else_, written};
+ghost use Rattle.model.specs.Answers.{toldNumber, shownNumber, headedNumber};
+ghost use Rattle.embed_words.specs.Coding.{vmIn, countWords, vmWords, lastExact, recordOk, slicesRefusal, valueRefusal, outRefusal, atEntry, atListing, crossed};
+ghost use Rattle.embed_words.specs.Coding.{runCoded, startedCoded, unmade, emittedCoded, toldCoded, shownCoded, headedCoded, through};
 
 // Word i, 0 past the end.
 fn word(s: &[u64], i: usize) -> u64
@@ -100,7 +103,7 @@ fn record_ok(vm: &[u64]) -> bool
     (10 <= vm.len()) & last_exact(word(vm, 8), word(vm, 9))
 }
 
-// ---- refusals of what crosses, before the entry's own
+// ---- refusals of what crosses
 
 // 19: no machine's record; 17: fewer than n words for the answer; or 0.
 pub fn slices_refusal(vm: &[u64], n: usize, answer: &[u64]) -> u32
@@ -134,6 +137,48 @@ pub fn out_refusal(vm: &[u64], n: usize, answer: &[u64]) -> u32
         return 0;
     }
     17
+}
+
+// ---- their order with the entry's own
+
+// Why an entry is refused, which itself answers this number: 19 comes before a short answer.
+pub fn crossed(why: u32, own: u8) -> u32
+    ensures { λ r. ⌜ r ≡ crossed atEntry why own ⌝ }
+{
+    if (own == 19) & (why == 17) {
+        return 19;
+    }
+    why
+}
+
+// The same of the listing: 19, 1 and 3.
+fn crossed_listing(why: u32, own: u8) -> u32
+    ensures { λ r. ⌜ r ≡ crossed atListing why own ⌝ }
+{
+    if ((own == 19) | (own == 1) | (own == 3)) & (why == 17) {
+        return own as u32;
+    }
+    why
+}
+
+// The same where the entry's own judge has been asked.
+pub fn crossed_order(why: u32, good: bool) -> u32
+    ensures { λ r. ⌜ r ≡ crossed atEntry why (if good then 0 else 19) ⌝ }
+{
+    if good {
+        return why;
+    }
+    crossed(why, 19)
+}
+
+// How much of a result store the entry is lent: nothing where it is refused, so that it writes nothing.
+pub fn lent_room(why: u32, size: usize) -> usize
+    ensures { λ r. ⌜ r ≡ (if eqb why 0 then size else 0) ⌝ }
+{
+    if why == 0 {
+        return size;
+    }
+    0
 }
 
 // ---- answers
@@ -175,6 +220,14 @@ pub fn tell_run(result: RunResult, vm: &mut [u64], answer: &mut [u64]) -> u32
     }
 }
 
+// Of an image that breaks a rule: the offset, where the answer has a word.
+fn tell_broken(i: usize, answer: &mut [u64]) -> u32
+    ensures { λ r. ⌜ (r ≡ 20) × (now (answer .exit) ≡ set (now (answer .entry)) 0 i) ⌝ }
+{
+    put(answer, 0, i as u64);
+    20
+}
+
 // What making a machine answers.
 pub fn tell_started(result: Started, vm: &mut [u64], answer: &mut [u64]) -> u32
     ensures { λ r. ⌜ record { number = r; vm = now (vm .exit); answer = now (answer .exit) } ≡ startedCoded result (now (vm .entry)) (now (answer .entry)) ⌝ }
@@ -184,11 +237,19 @@ pub fn tell_started(result: Started, vm: &mut [u64], answer: &mut [u64]) -> u32
             put_vm(m, vm);
             0
         }
-        Started::Broken(i) => {
-            put(answer, 0, i as u64);
-            20
-        }
+        Started::Broken(i) => tell_broken(i, answer),
         Started::Refused(n) => n as u32,
+    }
+}
+
+// The same where the record or the answer is too short: a broken image comes first. vm is any record.
+pub fn tell_unmade(why: u32, result: Started, answer: &mut [u64]) -> u32
+    ensures { λ r. ⌜ ((w : List ℕ) → record { number = r; vm = w; answer = now (answer .exit) } ≡ unmade why result w (now (answer .entry))) ⌝ }
+{
+    match result {
+        Started::Done(m) => why,
+        Started::Broken(offset) => tell_broken(offset, answer),
+        Started::Refused(n) => why,
     }
 }
 
@@ -230,8 +291,43 @@ pub fn tell(result: Told, answer: &mut [u64]) -> u32
     }
 }
 
+fn told_number(result: Told) -> u8
+    ensures { λ r. ⌜ r ≡ toldNumber result ⌝ }
+{
+    match result {
+        Told::Number(n) => 0,
+        Told::Refused(n) => n,
+    }
+}
+
+// The same, unless what crosses is refused.
+pub fn answer_told(why: u32, result: Told, answer: &mut [u64]) -> u32
+    ensures { λ r. ⌜ ((w : List ℕ) → record { number = r; vm = w; answer = now (answer .exit) }
+        ≡ through atEntry why w (now (answer .entry)) (toldCoded result w (now (answer .entry)))) ⌝ }
+{
+    if why == 0 {
+        let n = tell(result, answer);
+        return n;
+    }
+    let own = told_number(result);
+    crossed(why, own)
+}
+
+// The same of the listing.
+pub fn answer_listed(why: u32, result: Told, answer: &mut [u64]) -> u32
+    ensures { λ r. ⌜ ((w : List ℕ) → record { number = r; vm = w; answer = now (answer .exit) }
+        ≡ through atListing why w (now (answer .entry)) (toldCoded result w (now (answer .entry)))) ⌝ }
+{
+    if why == 0 {
+        let n = tell(result, answer);
+        return n;
+    }
+    let own = told_number(result);
+    crossed_listing(why, own)
+}
+
 // What an entry that shows a value answers; vm is any record.
-pub fn tell_shown(result: Shown, answer: &mut [u64]) -> u32
+fn tell_shown(result: Shown, answer: &mut [u64]) -> u32
     ensures { λ r. ⌜ ((w : List ℕ) → record { number = r; vm = w; answer = now (answer .exit) } ≡ shownCoded result w (now (answer .entry))) ⌝ }
 {
     match result {
@@ -246,8 +342,30 @@ pub fn tell_shown(result: Shown, answer: &mut [u64]) -> u32
     }
 }
 
+fn shown_number(result: Shown) -> u8
+    ensures { λ r. ⌜ r ≡ shownNumber result ⌝ }
+{
+    match result {
+        Shown::Value(v) => 0,
+        Shown::Refused(n) => n,
+    }
+}
+
+// The same, unless what crosses is refused.
+pub fn answer_shown(why: u32, result: Shown, answer: &mut [u64]) -> u32
+    ensures { λ r. ⌜ ((w : List ℕ) → record { number = r; vm = w; answer = now (answer .exit) }
+        ≡ through atEntry why w (now (answer .entry)) (shownCoded result w (now (answer .entry)))) ⌝ }
+{
+    if why == 0 {
+        let n = tell_shown(result, answer);
+        return n;
+    }
+    let own = shown_number(result);
+    crossed(why, own)
+}
+
 // What an entry that tells a header answers; vm is any record.
-pub fn tell_header(result: Headed, answer: &mut [u64]) -> u32
+fn tell_header(result: Headed, answer: &mut [u64]) -> u32
     ensures { λ r. ⌜ ((w : List ℕ) → record { number = r; vm = w; answer = now (answer .exit) } ≡ headedCoded result w (now (answer .entry))) ⌝ }
 {
     match result {
@@ -259,4 +377,26 @@ pub fn tell_header(result: Headed, answer: &mut [u64]) -> u32
         }
         Headed::Refused(n) => n as u32,
     }
+}
+
+fn headed_number(result: Headed) -> u8
+    ensures { λ r. ⌜ r ≡ headedNumber result ⌝ }
+{
+    match result {
+        Headed::Is(h) => 0,
+        Headed::Refused(n) => n,
+    }
+}
+
+// The same, unless what crosses is refused.
+pub fn answer_header(why: u32, result: Headed, answer: &mut [u64]) -> u32
+    ensures { λ r. ⌜ ((w : List ℕ) → record { number = r; vm = w; answer = now (answer .exit) }
+        ≡ through atEntry why w (now (answer .entry)) (headedCoded result w (now (answer .entry)))) ⌝ }
+{
+    if why == 0 {
+        let n = tell_header(result, answer);
+        return n;
+    }
+    let own = headed_number(result);
+    crossed(why, own)
 }

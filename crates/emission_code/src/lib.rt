@@ -18,7 +18,7 @@ ghost use mathlib.Core.Path.{_≡_};
 ghost use mathlib.Core.List.{List};
 ghost use Prim.Native.Nat.{ℕ};
 ghost use Rattle.model.specs.Stores.{Stores};
-ghost use Rattle.model.specs.Emission.{codeOrder, codeRoom, emitOf, addOpOf, addOp1Of, addOp2Of, addOp3Of, currentOffsetOf, patchOf};
+ghost use Rattle.model.specs.Emission.{codeOrder, patchOrder, codeRoom, emitOf, addOpOf, addOp1Of, addOp2Of, addOp3Of, currentOffsetOf, patchOf};
 ghost use Rattle.layout.specs.Links.{Is, codeLent, bytesLent};
 
 // How long the current function's code is.
@@ -32,7 +32,7 @@ pub fn current_offset(c: Counts, functions: &[u64]) -> Told
 }
 
 // Good order of what the emission of code is lent.
-fn code_order(
+pub fn code_order(
     c: Counts,
     functions: &[u64],
     main: &[u8],
@@ -235,6 +235,13 @@ pub fn add_op3(
     )
 }
 
+// Good order of what a patch is lent.
+pub fn patch_order(c: Counts, functions: &[u64], main: &[u8], other: &[u8]) -> bool
+    ensures { λ r. ⌜ ((rest : Stores) → r ≡ patchOrder c (bytesLent rest (now (functions .entry)) (now (main .entry)) (now (other .entry)))) ⌝ }
+{
+    counts_ok(c) & functions_ok(c, functions) & inside_codes(c, functions, main.len(), other.len())
+}
+
 // An operand written anew inside the current function's code.
 pub fn patch_u16_value_at(
     c: Counts,
@@ -246,9 +253,7 @@ pub fn patch_u16_value_at(
 ) -> Emitted
     ensures { λ r. ⌜ ((rest : Stores) → Is (patchOf c offset arg (bytesLent rest (now (functions .entry)) (now (main .entry)) (now (other .entry)))) r (bytesLent rest (now (functions .entry)) (now (main .exit)) (now (other .exit)))) ⌝ }
 {
-    let ok = counts_ok(c)
-        & functions_ok(c, functions)
-        & inside_codes(c, functions, main.len(), other.len());
+    let ok = patch_order(c, functions, main, other);
     if !ok {
         return Emitted::Refused(19);
     }

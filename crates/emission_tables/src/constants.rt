@@ -11,11 +11,12 @@ use model::Emitted;
 use program::order::constants_ok;
 use program::order::counts_ok;
 use program::order::text_ok;
+ghost use mathlib.Core.Path.{_≡_};
 ghost use mathlib.Core.List.{List};
 ghost use Prim.Native.Nat.{ℕ, _+_, _*_, _≤_};
 ghost use lib.ListN.{length};
 ghost use Rattle.model.specs.Stores.{Stores};
-ghost use Rattle.model.specs.Emission.{withConstant, withTextConstant, addConstantOf};
+ghost use Rattle.model.specs.Emission.{constantOrder, withConstant, withTextConstant, addConstantOf};
 ghost use Rattle.layout.specs.Links.{Is, constantsLent};
 
 // One constant more, of that kind and payload.
@@ -64,6 +65,13 @@ fn text_constant(
     Emitted::Refused(21)
 }
 
+// Good order of what add_constant is lent.
+pub fn constant_order(c: Counts, constants: &[u64], text: &[u8]) -> bool
+    ensures { λ r. ⌜ ((rest : Stores) → r ≡ constantOrder c (constantsLent rest (now (constants .entry)) (now (text .entry)))) ⌝ }
+{
+    counts_ok(c) & text_ok(c, text) & constants_ok(c, constants)
+}
+
 // One constant more; its number.
 pub fn add_constant(
     c: Counts,
@@ -74,7 +82,7 @@ pub fn add_constant(
 ) -> Emitted
     ensures { λ r. ⌜ ((rest : Stores) → Is (addConstantOf c constant (now (lent .entry)) (constantsLent rest (now (constants .entry)) (now (text .entry)))) r (constantsLent rest (now (constants .exit)) (now (text .exit)))) ⌝ }
 {
-    let ok = counts_ok(c) & text_ok(c, text) & constants_ok(c, constants);
+    let ok = constant_order(c, constants, text);
     if !ok {
         return Emitted::Refused(19);
     }

@@ -49,7 +49,7 @@ pub fn end_function(c: Counts) -> Emitted
 }
 
 // Good order of what the entries below are lent.
-fn function_order(c: Counts, functions: &[u64], text: &[u8]) -> bool
+pub fn function_order(c: Counts, functions: &[u64], text: &[u8]) -> bool
     ensures { λ r. ⌜ ((rest : Stores) → r ≡ functionOrder c (namesLent rest (now (functions .entry)) (now (text .entry)))) ⌝ }
 {
     counts_ok(c) & text_ok(c, text) & functions_ok(c, functions) & main_ok(functions, text)

@@ -21,7 +21,7 @@ ghost use Rattle.laws_names.specs.Sorted.{Placed};
 ghost use Rattle.layout.specs.Links.{Is, structsLent};
 
 // Good order of what add_struct_info is lent.
-fn struct_order(c: Counts, structs: &[u64], text: &[u8]) -> bool
+pub fn struct_order(c: Counts, structs: &[u64], text: &[u8]) -> bool
     ensures { λ r. ⌜ ((rest : Stores) → r ≡ structOrder c (structsLent rest (now (structs .entry)) (now (text .entry)))) ⌝ }
 {
     if counts_ok(c) & text_ok(c, text) {

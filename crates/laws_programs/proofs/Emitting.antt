@@ -141,13 +141,17 @@ unfolding patchOrder bytesLent codeLent
 patch-order-is c fs m o b1 b2 b3 e1 e2 e3 rest = rw (e1, e2, e3)
 
 -- two bytes inside the current function's code lie in its store
-module _ (c : Counts) (fs m o : List ℕ) (b1 b2 b3 : Bool) (e1 : b1 ≡ countsOk c) (e2 : b2 ≡ functionsOk c fs) (e3 : b3 ≡ insideCodes c fs m o) (h : not (b1 && b2 && b3) ≡ false)
-    (word at n k : ℕ) (ew : word ≡ payloadAt fs (c .current)) (ea : at ≡ start word) (en : n ≡ size word) (g : k + 2 ≤ n) where
+module _ (c : Counts) (fs m o : List ℕ) (b : Bool) (e : (rest : Stores) → b ≡ patchOrder c (bytesLent rest fs m o)) (h : not b ≡ false) (word at n k : ℕ)
+    (ew : word ≡ payloadAt fs (c .current)) (ea : at ≡ start word) (en : n ≡ size word) (g : k + 2 ≤ n) where
+  patch-good : countsOk c && functionsOk c fs && insideCodes c fs m o ≡ true
+  unfolding patchOrder bytesLent codeLent
+  patch-good = sym (e none) ∙ not-false b h
+
   patch-limited : Limited c
-  patch-limited = limited c (sym e1 ∙ and-left b1 b2 (and-left (b1 && b2) b3 (not-false (b1 && b2 && b3) h)))
+  patch-limited = limited c (and-left (countsOk c) (functionsOk c fs) (and-left (countsOk c && functionsOk c fs) (insideCodes c fs m o) patch-good))
 
   patch-codes : insideCodes c fs m o ≡ true
-  patch-codes = sym e3 ∙ and-right (b1 && b2) b3 (not-false (b1 && b2 && b3) h)
+  patch-codes = and-right (countsOk c && functionsOk c fs) (insideCodes c fs m o) patch-good
 
   patch-end : codeEnd fs (c .current) ≡ at + n
   unfolding codeEnd codeWord

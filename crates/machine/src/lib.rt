@@ -1,7 +1,7 @@
 // A machine over lent stores: the public entries.
-mod running; // running.rt: a run's judging, its two ends, and recovery
-mod starting; // starting.rt: making a machine, all but its frame
-mod tracing; // tracing.rt: judging and writing a backtrace
+pub mod running; // running.rt: a run's judging, its two ends, and recovery
+pub mod starting; // starting.rt: making a machine, all but its frame
+pub mod tracing; // tracing.rt: judging and writing a backtrace
 
 use crate::running::go;
 use crate::running::not_run;

@@ -42,7 +42,7 @@ pub fn is_done(r: Started) -> bool
 }
 
 // What loading answers where there is no place for a frame: what is wrong with the image comes first.
-fn no_place(image: &[u8]) -> Started
+pub fn no_place(image: &[u8]) -> Started
     ensures { λ r. ⌜ ((s : Stores) → Makes (loadMachineOf (now (image .entry)) s) 0 r s) ⌝ }
 {
     match judge(image) {

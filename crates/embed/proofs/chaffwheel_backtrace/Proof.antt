@@ -1,19 +1,22 @@
--- `chaffwheel_backtrace` meets its contract: a walk of its MIR, by hand. Its slices are judged, then the backtrace is written.
+-- `chaffwheel_backtrace` meets its contract: a walk of its MIR, by hand. Its slices are judged, then the backtrace is written; or its order is judged alone.
 -- Assumes nothing.
 use Rattle.laws_walks.proofs.Walk.{_≡_, refl, true, false, List, [], _∷_, ℕ, length, URA, w32, w64, Val, vint, SProp, ent, id⊢, Memory, Routine, Heap, Tables, WpFn, Atoms, Lfts, Shares, Fun, givenOf, tables, tablesOf, FmC, fmOf}
 use Rattle.laws_walks.proofs.Walk.{Given, ‵, ⋆, _$_, _∵_, !, qed, by, keep, suffices, frame, done, agg, addr, of-opd, bin, Is, uint-makes, u8, u32, u64, usize, now, Room, owned, onEntry, tripleOf, Contract, Triple, cited, says, walkOf, ends-at}
 use Rattle.laws_walks.proofs.Walk.{of, ofs, behind, sets, lands-in, enters, leaves, Sl, sl, Arg, val, shr, mut, peek, Holds, Toks, Owns, lfts, shares, denots, valss, values, passing, lent, takes, gives, Rule, call-with, unasked, unneeded, calls-on, returns-if, Kind, number, shared, unique, stays, Passed, Known, closed}
+use Rattle.laws_walks.proofs.Walk.{Bool, vbool, Boolean, bool-tells}
 use Rattle.model.specs.declared.Vm.{Vm}
 use Rattle.model.specs.declared.Frame.{Frame}
 use Rattle.model.specs.declared.Told.{Told}
-use denote.Plain.{uint-tells}
+use denote.Plain.{uint-tells, bool-makes}
 use native.Mathlib.Omega.{arith}
 use Rattle.frames.proofs.Frames.{R, tells}
 use Rattle.machine.proofs.Rows.{VmRow, vmVal, IsVm, vm-tells, vm-typed, vm-makes, ToldRow, toldVal, IsTold, told-tells, told-typed, told-makes}
-use Rattle.model.specs.Machines.{backtraceIn}
+use Rattle.model.specs.Basics.{if_then_else_}
+use Rattle.model.specs.Machines.{traceOrder, backtraceIn}
 use Rattle.run_ends.specs.Links.{programLent}
 use Rattle.machine.proofs.Tests.{is-zero, not-zero}
-use Rattle.embed_words.specs.Coding.{vmIn, slicesRefusal, toldCoded, outThrough}
+use Rattle.embed_words.specs.Coding.{vmIn, slicesRefusal, atEntry, crossed, toldCoded, outThrough}
+use Rattle.embed.proofs.Own.{trace-says}
 use Rattle.embed.proofs.Through.{out-through, out-refused}
 use Rattle.embed_words.proofs.slices_refusal as why
 use Rattle.embed_words.proofs.slices_refusal.Symbol as why-def
@@ -27,6 +30,14 @@ use Rattle.machine.proofs.backtrace as entry
 use Rattle.machine.proofs.backtrace.Symbol as entry-def
 use Rattle.machine.proofs.backtrace.Symbol.{name as #entry}
 use Rattle.machine.proofs.backtrace.Met as entry-thm
+use Rattle.machine.proofs.tracing.trace_order as judge
+use Rattle.machine.proofs.tracing.trace_order.Symbol as judge-def
+use Rattle.machine.proofs.tracing.trace_order.Symbol.{name as #judge}
+use Rattle.machine.proofs.tracing.trace_order.Met as judge-thm
+use Rattle.embed_words.proofs.crossed_order as not
+use Rattle.embed_words.proofs.crossed_order.Symbol as not-def
+use Rattle.embed_words.proofs.crossed_order.Symbol.{name as #not}
+use Rattle.embed_words.proofs.crossed_order.Met as not-thm
 use Rattle.embed_words.proofs.tell as tells
 use Rattle.embed_words.proofs.tell.Symbol as tells-def
 use Rattle.embed_words.proofs.tell.Symbol.{name as #tells}
@@ -51,10 +62,17 @@ module _ {M : Type 1} (𝓤 : URA M) (H : Heap 𝓤) (A : Atoms 𝓤) (W : Given
   abbrev Entry : Contract 𝓤
   Entry = tripleOf 𝓤 H A entry.signature (entry.spec 𝓤 H A mem run)
 
+  abbrev Judge : Contract 𝓤
+  Judge = tripleOf 𝓤 H A judge.signature (judge.spec 𝓤 H A mem run)
+
+  abbrev Not : Contract 𝓤
+  Not = tripleOf 𝓤 H A not.signature (not.spec 𝓤 H A mem run)
+
   abbrev Tells : Contract 𝓤
   Tells = tripleOf 𝓤 H A tells.signature (tells.spec 𝓤 H A mem run)
 
   module _ (𝓣 : Tables 𝓤 H) (known-why : Triple 𝓤 (𝓣 .C #why) Why) (known-rec : Triple 𝓤 (𝓣 .C #rec) Rec) (known-entry : Triple 𝓤 (𝓣 .C #entry) Entry) (known-tells : Triple 𝓤 (𝓣 .C #tells) Tells)
+      (known-judge : Triple 𝓤 (𝓣 .C #judge) Judge) (known-not : Triple 𝓤 (𝓣 .C #not) Not)
       (κs : Lfts 11) (qs : Shares 11) (a : Passed kinds u32 κs) (is : Known kinds u32 κs a) where
     -- the parameters
     abbrev vm-at : Sl
@@ -170,7 +188,7 @@ module _ {M : Type 1} (𝓤 : URA M) (H : Heap 𝓤) (A : Atoms 𝓤) (W : Given
     Post = walkOf 𝓤 H A me.ended (stays kinds) (me.clauses 𝓤 H A mem run) .post (passing (xs out answer))
 
     exits : (r : ℕ) (out′ : List ℕ) (answer′ : List ℕ) → Is u32 r (vint w32 r ∷ []) → length out′ ≡ out-at .count → length answer′ ≡ answer-at .count
-        → ((structs constants : List ℕ) → record { coded = record { number = r; vm = vm; answer = answer′ }; out = out′ } ≡ outThrough
+        → ((structs constants : List ℕ) → record { coded = record { number = r; vm = vm; answer = answer′ }; out = out′ } ≡ outThrough atEntry
         (slicesRefusal vm 1 answer) vm answer out (λ (m : Vm). backtraceIn m
         (programLent structs constants functions text main mainPlaces other otherPlaces) stack frames out))
         → ent 𝓤 (⋆ 𝓤 H A (‵ (Holds (slices out′ answer′)) ∷ [])) (Post (vint w32 r))
@@ -230,6 +248,40 @@ module _ {M : Type 1} (𝓤 : URA M) (H : Heap 𝓤) (A : Atoms 𝓤) (W : Given
           ),
         )
 
+    abbrev to-judge : Vm → List Arg
+    to-judge m =
+        val VmRow m (vmVal m) ∷ shr u64 functions-at functions ∷ shr u8 text-at text ∷ shr u8 main-at main ∷ shr u32
+        main-places-at mainPlaces ∷ shr u8 other-at other ∷ shr u32 other-places-at otherPlaces ∷ shr u64 stack-at stack ∷ shr R
+        frames-at frames ∷ []
+
+    call-judge : (m : Vm) → IsVm m → Rule 𝓤 H A W (to-judge m) Judge Boolean vbool
+        (λ g zs. ((structs constants : List ℕ) → g ≡ traceOrder m (programLent structs constants functions text main mainPlaces other otherPlaces) stack frames))
+    call-judge m ism =
+        call-with 𝓤 H A W (to-judge m) Judge Boolean vbool
+        (λ g zs. ((structs constants : List ℕ) → g ≡ traceOrder m
+        (programLent structs constants functions text main mainPlaces other otherPlaces) stack frames)) bool-tells
+        (λ ns. passing (lent (to-judge m) ns)) (λ ns. refl) (λ ns. unasked W (lent (to-judge m) ns)) (λ ns w. id⊢ 𝓤 _)
+        (vm-makes 𝓤 H A W m _ ism, tt) (
+          (refl, functions-room),
+          (
+            (refl, text-room),
+            (
+              (refl, main-room),
+              ((refl, main-places-room), ((refl, other-room), ((refl, other-places-room), ((refl, stack-room), ((refl, frames-room), tt))))),
+            ),
+          ),
+        )
+
+    abbrev to-not : ℕ → Bool → List Arg
+    to-not n g = val u32 n (vint w32 n) ∷ val Boolean g (vbool g) ∷ []
+
+    call-not : (n : ℕ) → Is u32 n (vint w32 n ∷ []) → (g : Bool) → Is Boolean g (vbool g ∷ []) → Rule 𝓤 H A W (to-not n g) Not u32 (vint w32)
+        (λ k zs. k ≡ crossed atEntry n (if g then 0 else 19))
+    call-not n isn g isg =
+        call-with 𝓤 H A W (to-not n g) Not u32 (vint w32) (λ k zs. k ≡ crossed atEntry n (if g then 0 else 19)) (uint-tells w32)
+        (λ ns. passing (lent (to-not n g) ns)) (λ ns. refl) (λ ns. unasked W (lent (to-not n g) ns)) (λ ns w. id⊢ 𝓤 _)
+        (uint-makes 𝓤 H A W w32 n _ isn, (bool-makes 𝓤 H A W g _ isg, tt)) tt
+
     abbrev to-tells : Told → List Arg
     to-tells x = val ToldRow x (toldVal x) ∷ mut u64 answer-at answer ∷ []
 
@@ -274,10 +326,10 @@ module _ {M : Type 1} (𝓤 : URA M) (H : Heap 𝓤) (A : Atoms 𝓤) (W : Given
         sets ! (addr ! (behind ! refl refl)) (tt, tt) $ sets ! (agg ! (ofs ! refl)) (tt, (tt, (record { fits = answer-room .0 }, tt))) $
         calls-on ! (true ∷ false ∷ false ∷ false ∷ false ∷ false ∷ false ∷ false ∷ false ∷ false ∷ true ∷ []) (slices out answer) (call-why)
         (λ zs. slices out answer) refl (λ zs. refl) (λ zs. refl) fm known-why refl (λ n zs ew lens isn. lands-in ! (tt, record { fits = isn .1 }) $
-        sets ! (bin ! (of ! refl) (of ! refl) tt) (tt, tt) $ returns-if ! 𝓣 (of ! refl)
-        (λ on. calls-on ! (true ∷ []) (slices out answer) (call-rec) (λ zs. slices out answer) refl (λ zs. refl) (λ zs. refl) fm known-rec refl
+        calls-on ! (true ∷ []) (slices out answer) (call-rec) (λ zs. slices out answer) refl (λ zs. refl) (λ zs. refl) fm known-rec refl
         (λ m zs₁ em lens₁ ism. lands-in ! (vm-typed 𝓤 H A W m ism) $
-        sets ! (addr ! (behind ! refl refl)) (tt, tt) $ sets ! (agg ! (ofs ! refl)) (tt, (tt, (record { fits = out-room .0 }, tt))) $
+        sets ! (bin ! (of ! refl) (of ! refl) tt) (tt, tt) $ returns-if ! 𝓣 (of ! refl)
+        (λ on. sets ! (addr ! (behind ! refl refl)) (tt, tt) $ sets ! (agg ! (ofs ! refl)) (tt, (tt, (record { fits = out-room .0 }, tt))) $
         calls-on ! (false ∷ true ∷ true ∷ true ∷ true ∷ true ∷ true ∷ true ∷ true ∷ true ∷ []) (slices out answer) (call-entry m ism)
         (λ zs. slices (zs .1 .1 .1 .1 .1 .1 .1 .1 .1 .0) answer) refl (λ zs. refl) (λ zs. refl) fm known-entry refl
         (λ x zs₂ ex lens₂ isx. lands-in ! (told-typed 𝓤 H A W x isx) $
@@ -289,11 +341,16 @@ module _ {M : Type 1} (𝓤 : URA M) (H : Heap 𝓤) (A : Atoms 𝓤) (W : Given
         by ! (exits k (zs₂ .1 .1 .1 .1 .1 .1 .1 .1 .1 .0) (zs₃ .1 .0) isk (lens₂ .0) (lens₃ .0)
         (λ structs constants. out-through vm answer out (λ (m : Vm). backtraceIn m
         (programLent structs constants functions text main mainPlaces other otherPlaces) stack frames out) n ew (is-zero n on) m em x
-        (zs₂ .1 .1 .1 .1 .1 .1 .1 .1 .1 .0) (ex structs constants) (record { number = k; vm = vm; answer = (zs₃ .1 .0) }) (ek vm)))))))
-        (λ off. sets ! (of-opd ! (of ! refl)) (tt, record { fits = isn .1 }) $ leaves ! refl $
-        by ! (exits n out answer isn refl refl (λ structs constants. out-refused vm answer out
-        (λ (m : Vm). backtraceIn m (programLent structs constants functions text main mainPlaces other otherPlaces) stack frames out) n ew
-        (not-zero n off)))))))
+        (zs₂ .1 .1 .1 .1 .1 .1 .1 .1 .1 .0) (ex structs constants) (record { number = k; vm = vm; answer = (zs₃ .1 .0) }) (ek vm))))))
+        (λ off. calls-on ! (false ∷ true ∷ true ∷ true ∷ true ∷ true ∷ true ∷ true ∷ true ∷ []) (slices out answer) (call-judge m ism)
+        (λ zs. slices out answer) refl (λ zs. refl) (λ zs. refl) fm known-judge refl (λ g zs₄ eg lens₄ isg. lands-in ! (tt, tt) $
+        calls-on ! [] (slices out answer) (call-not n isn g isg) (λ zs. slices out answer) refl (λ zs. refl) (λ zs. refl) fm known-not refl
+        (λ k zs₅ ek lens₅ isk. lands-in ! (tt, record { fits = isk .1 }) $
+        sets ! (of-opd ! (of ! refl)) (tt, record { fits = isk .1 }) $ leaves ! refl $
+        by ! (exits k out answer isk refl refl (λ structs constants. out-refused vm answer out
+        (λ (y : Vm). backtraceIn y (programLent structs constants functions text main mainPlaces other otherPlaces) stack frames out) n ew
+        (not-zero n off) m em g
+        (trace-says m (programLent structs constants functions text main mainPlaces other otherPlaces) stack frames out g (eg structs constants)) k ek)))))))))
       where
         fm : FmC 𝓤 H (W .laws) (𝓣 .C)
         fm = fmOf 𝓤 H (W .laws) 𝓣
@@ -312,4 +369,8 @@ chaffwheel-backtrace-spec 𝓤 H 𝓜 𝓖 𝓡 =
     (cited 𝓤 H (Entry 𝓤 H (𝓖 .A) W (𝓜 .mem) (𝓡 .run)) 𝓜 𝓡 code.env #entry entry-def.routine code.calls-machine·backtrace
     (entry-thm.met 𝓤 H 𝓜 𝓖 𝓡))
     (cited 𝓤 H (Tells 𝓤 H (𝓖 .A) W (𝓜 .mem) (𝓡 .run)) 𝓜 𝓡 code.env #tells tells-def.routine code.calls-embed-words·tell
-    (tells-thm.met 𝓤 H 𝓜 𝓖 𝓡)) κs qs a is))
+    (tells-thm.met 𝓤 H 𝓜 𝓖 𝓡))
+    (cited 𝓤 H (Judge 𝓤 H (𝓖 .A) W (𝓜 .mem) (𝓡 .run)) 𝓜 𝓡 code.env #judge judge-def.routine code.calls-machine·tracing·trace-order
+    (judge-thm.met 𝓤 H 𝓜 𝓖 𝓡))
+    (cited 𝓤 H (Not 𝓤 H (𝓖 .A) W (𝓜 .mem) (𝓡 .run)) 𝓜 𝓡 code.env #not not-def.routine code.calls-embed-words·crossed-order
+    (not-thm.met 𝓤 H 𝓜 𝓖 𝓡)) κs qs a is))

@@ -1,6 +1,5 @@
 -- `chaffwheel_disassemble` meets its contract.
-use borrow.Author.Needs.{needs}
-use Rattle.embed.proofs.Through.{out-refused, out-through}
+use Rattle.embed.proofs.Through.{room-fits, room-taken, list-through}
 use Rattle.embed.proofs.chaffwheel_disassemble.Statement.{statement}
 use Rattle.embed.proofs.chaffwheel_disassemble.Tie as tie
 
@@ -10,11 +9,22 @@ slices-refusal-requires c κs = search
 vm-of-requires : tie.Need-vm-of-requires
 vm-of-requires c κs = search
 
+lent-room-requires : tie.Need-lent-room-requires
+lent-room-requires c κs = search
+
+slice-relend-prefix-disassemble : tie.Need-slice-relend-prefix-disassemble
+slice-relend-prefix-disassemble c = room-fits (c .before .before .before .slices-refusal .result) _ (c .lent-room .ensures)
+
+slice-aggregate-disassemble : tie.Need-slice-aggregate-disassemble
+slice-aggregate-disassemble c =
+    let at-vm-of = c .before .before .before in
+    room-taken (at-vm-of .before .slices-refusal .result) _ (c .before .lent-room .ensures)
+
 disassemble-requires : tie.Need-disassemble-requires
 disassemble-requires c κs = search
 
-tell-requires : tie.Need-tell-requires
-tell-requires c κs = search
+answer-listed-requires : tie.Need-answer-listed-requires
+answer-listed-requires c κs = search
 
 same-length : tie.Need-same-length
 same-length c = search
@@ -25,17 +35,11 @@ same-length-2 c = search
 returns : tie.Need-returns
 returns c =
     let at-disassemble = c .before .before .before .before .before .before in
-    let at-vm-of = at-disassemble .before .before .before in
-    let at-if1 = at-vm-of .before in
-    let at-slices-refusal = at-if1 .before in
-    λ rest. out-through _ _ _ _ _ (at-slices-refusal .slices-refusal .ensures) (at-if1 .if1 .taken) _ (at-vm-of .vm-of .ensures) _
-    _ (at-disassemble .disassemble .ensures rest) _ (c .before .before .tell .ensures _)
-
-same-length-3 : tie.Need-same-length-3
-same-length-3 c = search
-
-returns-2 : tie.Need-returns-2
-returns-2 c = search out-refused
+    let at-lent-room = at-disassemble .before .before in
+    let at-vm-of = at-lent-room .before .before in
+    λ rest. list-through _ _ _ (at-vm-of .vm-of .ensures) _ (at-vm-of .before .slices-refusal .ensures)
+    (at-lent-room .lent-room .ensures) _ (at-disassemble .disassemble .ensures rest)
+    (c .before .before .answer-listed .ensures _)
 
 pub chaffwheel-disassemble-spec : {M : Type 1} → statement M
 chaffwheel-disassemble-spec =
@@ -43,10 +47,11 @@ chaffwheel-disassemble-spec =
     (tie.spec
     slices-refusal-requires
     vm-of-requires
+    lent-room-requires
+    slice-relend-prefix-disassemble
+    slice-aggregate-disassemble
     disassemble-requires
-    tell-requires
+    answer-listed-requires
     same-length
     same-length-2
-    returns
-    same-length-3
-    returns-2)
+    returns)

@@ -1,4 +1,4 @@
--- `chaffwheel_load` meets its contract: a walk of its MIR, by hand. Its slices are judged, then the image is loaded.
+-- `chaffwheel_load` meets its contract: a walk of its MIR, by hand. Its slices are judged, then the image is loaded; or it is judged alone.
 -- Assumes nothing.
 use Rattle.laws_walks.proofs.Walk.{_≡_, refl, true, false, List, [], _∷_, ℕ, length, URA, w32, w64, Val, vint, SProp, ent, id⊢, Memory, Routine, Heap, Tables, WpFn, Atoms, Lfts, Shares, Fun, givenOf, tables, tablesOf, FmC, fmOf}
 use Rattle.laws_walks.proofs.Walk.{Given, ‵, ⋆, _$_, _∵_, !, qed, by, keep, suffices, frame, done, agg, addr, of-opd, bin, Is, uint-makes, u8, u32, u64, usize, now, Room, owned, onEntry, tripleOf, Contract, Triple, cited, says, walkOf, ends-at}
@@ -9,10 +9,11 @@ use denote.Plain.{uint-tells}
 use native.Mathlib.Omega.{arith}
 use Rattle.frames.proofs.Frames.{R, tells}
 use Rattle.machine.proofs.Rows.{StartedRow, startedVal, IsStarted, started-tells, started-typed, started-makes}
+use Rattle.model.specs.Stores.{Stores}
 use Rattle.model.specs.Machines.{loadMachineOf}
 use Rattle.model.specs.Stores.{storesOf as stored}
 use Rattle.machine.proofs.Tests.{is-zero, not-zero}
-use Rattle.embed_words.specs.Coding.{outRefusal, startedCoded, startThrough}
+use Rattle.embed_words.specs.Coding.{outRefusal, startedCoded, unmade, startThrough}
 use Rattle.embed.proofs.Through.{start-through, start-refused}
 use Rattle.embed_words.proofs.out_refusal as why
 use Rattle.embed_words.proofs.out_refusal.Symbol as why-def
@@ -22,6 +23,10 @@ use Rattle.machine.proofs.load as entry
 use Rattle.machine.proofs.load.Symbol as entry-def
 use Rattle.machine.proofs.load.Symbol.{name as #entry}
 use Rattle.machine.proofs.load.Met as entry-thm
+use Rattle.embed.proofs.unloaded as not
+use Rattle.embed.proofs.unloaded.Symbol as not-def
+use Rattle.embed.proofs.unloaded.Symbol.{name as #not}
+use Rattle.embed.proofs.unloaded.Met as not-thm
 use Rattle.embed_words.proofs.tell_started as tells
 use Rattle.embed_words.proofs.tell_started.Symbol as tells-def
 use Rattle.embed_words.proofs.tell_started.Symbol.{name as #tells}
@@ -43,11 +48,14 @@ module _ {M : Type 1} (𝓤 : URA M) (H : Heap 𝓤) (A : Atoms 𝓤) (W : Given
   abbrev Entry : Contract 𝓤
   Entry = tripleOf 𝓤 H A entry.signature (entry.spec 𝓤 H A mem run)
 
+  abbrev Not : Contract 𝓤
+  Not = tripleOf 𝓤 H A not.signature (not.spec 𝓤 H A mem run)
+
   abbrev Tells : Contract 𝓤
   Tells = tripleOf 𝓤 H A tells.signature (tells.spec 𝓤 H A mem run)
 
   module _ (𝓣 : Tables 𝓤 H) (known-why : Triple 𝓤 (𝓣 .C #why) Why) (known-entry : Triple 𝓤 (𝓣 .C #entry) Entry) (known-tells : Triple 𝓤 (𝓣 .C #tells) Tells)
-      (κs : Lfts 12) (qs : Shares 12) (a : Passed kinds u32 κs) (is : Known kinds u32 κs a) where
+      (known-not : Triple 𝓤 (𝓣 .C #not) Not) (κs : Lfts 12) (qs : Shares 12) (a : Passed kinds u32 κs) (is : Known kinds u32 κs a) where
     -- the parameters
     abbrev s0 : Sl
     s0 = sl (κs .0) (qs .0) (a .0)
@@ -275,6 +283,19 @@ module _ {M : Type 1} (𝓤 : URA M) (H : Heap 𝓤) (A : Atoms 𝓤) (W : Given
         (λ ns. passing (lent (to-tells x) ns)) (λ ns. refl) (λ ns. unasked W (lent (to-tells x) ns)) (λ ns w. id⊢ 𝓤 _)
         (started-makes 𝓤 H A W x _ isx, tt) ((refl, room1), ((refl, room11), tt))
 
+    abbrev to-not : ℕ → List Arg
+    to-not n = val u32 n (vint w32 n) ∷ shr u8 s0 image ∷ mut u64 s11 answer ∷ []
+
+    call-not : (n : ℕ) → Is u32 n (vint w32 n ∷ []) → Rule 𝓤 H A W (to-not n) Not u32 (vint w32)
+        (λ k zs. ((w : List ℕ) (s : Stores) (fs : List Frame)
+        → record { number = k; vm = w; answer = (zs .1 .1 .0) } ≡ unmade n (loadMachineOf image s fs .answer) w answer))
+    call-not n isn =
+        call-with 𝓤 H A W (to-not n) Not u32 (vint w32)
+        (λ k zs. ((w : List ℕ) (s : Stores) (fs : List Frame)
+        → record { number = k; vm = w; answer = (zs .1 .1 .0) } ≡ unmade n (loadMachineOf image s fs .answer) w answer)) (uint-tells w32)
+        (λ ns. passing (lent (to-not n) ns)) (λ ns. refl) (λ ns. unasked W (lent (to-not n) ns)) (λ ns w. id⊢ 𝓤 _)
+        (uint-makes 𝓤 H A W w32 n _ isn, tt) ((refl, room0), ((refl, room11), tt))
+
     walk : ent 𝓤 (onEntry 𝓤 H A me.signature (lfts (xs vm constants structs functions text main mainPlaces other otherPlaces frames answer))
         (shares (xs vm constants structs functions text main mainPlaces other otherPlaces frames answer))
         (denots (xs vm constants structs functions text main mainPlaces other otherPlaces frames answer))
@@ -354,10 +375,17 @@ module _ {M : Type 1} (𝓤 : URA M) (H : Heap 𝓤) (A : Atoms 𝓤) (W : Given
         (stored (zs₂ .1 .0) (zs₂ .1 .1 .0) (zs₂ .1 .1 .1 .0) (zs₂ .1 .1 .1 .1 .0) (zs₂ .1 .1 .1 .1 .1 .0) (zs₂ .1 .1 .1 .1 .1 .1 .0)
         (zs₂ .1 .1 .1 .1 .1 .1 .1 .0) (zs₂ .1 .1 .1 .1 .1 .1 .1 .1 .0)) (zs₂ .1 .1 .1 .1 .1 .1 .1 .1 .1 .0) ex
         (record { number = k; vm = (zs₃ .1 .0); answer = (zs₃ .1 .1 .0) }) ek)))))
-        (λ off. sets ! (of-opd ! (of ! refl)) (tt, record { fits = isn .1 }) $ leaves ! refl $
-        by ! (exits n vm constants structs functions text main mainPlaces other otherPlaces frames answer isn refl refl refl refl refl refl refl refl refl refl refl
-        (start-refused vm answer (stored constants structs functions text main mainPlaces other otherPlaces) frames
-        (loadMachineOf image (stored constants structs functions text main mainPlaces other otherPlaces) frames) n ew (not-zero n off)))))))
+        (λ off. sets ! (addr ! (behind ! refl refl)) (tt, tt) $ sets ! (agg ! (ofs ! refl)) (tt, (tt, (record { fits = room11 .0 }, tt))) $
+        calls-on ! (true ∷ false ∷ false ∷ false ∷ false ∷ false ∷ false ∷ false ∷ false ∷ false ∷ false ∷ true ∷ [])
+        (slices vm constants structs functions text main mainPlaces other otherPlaces frames answer) (call-not n isn)
+        (λ zs. slices vm constants structs functions text main mainPlaces other otherPlaces frames (zs .1 .1 .0)) refl (λ zs. refl) (λ zs. refl) fm known-not refl
+        (λ k zs₄ ek lens₄ isk. lands-in ! (tt, record { fits = isk .1 }) $
+        sets ! (of-opd ! (of ! refl)) (tt, record { fits = isk .1 }) $ leaves ! refl $
+        by ! (exits k vm constants structs functions text main mainPlaces other otherPlaces frames (zs₄ .1 .1 .0) isk refl refl refl refl refl refl refl refl refl refl
+        (lens₄ .0) (start-refused vm answer (stored constants structs functions text main mainPlaces other otherPlaces) frames
+        (loadMachineOf image (stored constants structs functions text main mainPlaces other otherPlaces) frames) n ew (not-zero n off)
+        (record { number = k; vm = vm; answer = (zs₄ .1 .1 .0) })
+        (ek vm (stored constants structs functions text main mainPlaces other otherPlaces) frames))))))))
       where
         fm : FmC 𝓤 H (W .laws) (𝓣 .C)
         fm = fmOf 𝓤 H (W .laws) 𝓣
@@ -374,4 +402,6 @@ chaffwheel-load-spec 𝓤 H 𝓜 𝓖 𝓡 =
     (cited 𝓤 H (Entry 𝓤 H (𝓖 .A) W (𝓜 .mem) (𝓡 .run)) 𝓜 𝓡 code.env #entry entry-def.routine code.calls-machine·load
     (entry-thm.met 𝓤 H 𝓜 𝓖 𝓡))
     (cited 𝓤 H (Tells 𝓤 H (𝓖 .A) W (𝓜 .mem) (𝓡 .run)) 𝓜 𝓡 code.env #tells tells-def.routine code.calls-embed-words·tell-started
-    (tells-thm.met 𝓤 H 𝓜 𝓖 𝓡)) κs qs a is))
+    (tells-thm.met 𝓤 H 𝓜 𝓖 𝓡))
+    (cited 𝓤 H (Not 𝓤 H (𝓖 .A) W (𝓜 .mem) (𝓡 .run)) 𝓜 𝓡 code.env #not not-def.routine code.calls-embed·unloaded
+    (not-thm.met 𝓤 H 𝓜 𝓖 𝓡)) κs qs a is))

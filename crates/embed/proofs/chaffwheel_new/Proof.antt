@@ -14,6 +14,7 @@ use Rattle.model.specs.Machines.{newMachineOf}
 use Rattle.layout.specs.Links.{namesLent}
 use Rattle.machine.proofs.Tests.{is-zero, not-zero}
 use Rattle.embed_words.specs.Coding.{outRefusal, startedCoded, startThrough}
+use Rattle.embed.proofs.Own.{new-unmade}
 use Rattle.embed.proofs.Through.{start-through, start-refused}
 use Rattle.embed_words.proofs.out_refusal as why
 use Rattle.embed_words.proofs.out_refusal.Symbol as why-def
@@ -188,7 +189,7 @@ module _ {M : Type 1} (𝓤 : URA M) (H : Heap 𝓤) (A : Atoms 𝓤) (W : Given
         (λ off. sets ! (of-opd ! (of ! refl)) (tt, record { fits = isn .1 }) $ leaves ! refl $
         by ! (exits n vm functions text frames answer isn refl refl refl refl refl
         (λ rest. start-refused vm answer (namesLent rest functions text) frames (newMachineOf (namesLent rest functions text) frames) n ew
-        (not-zero n off)))))))
+        (not-zero n off) (record { number = n; vm = vm; answer = answer }) (new-unmade (namesLent rest functions text) frames n vm answer)))))))
       where
         fm : FmC 𝓤 H (W .laws) (𝓣 .C)
         fm = fmOf 𝓤 H (W .laws) 𝓣

@@ -1,4 +1,4 @@
--- `chaffwheel_run` meets its contract: a walk of its MIR, by hand. Its slices are judged, then the machine of the record runs.
+-- `chaffwheel_run` meets its contract: a walk of its MIR, by hand. Its slices are judged, then the machine of the record runs; or it is judged alone.
 -- Assumes nothing.
 use Rattle.laws_walks.proofs.Walk.{_≡_, refl, true, false, List, [], _∷_, ℕ, length, URA, w32, w64, Val, vint, SProp, ent, id⊢, Memory, Routine, Heap, Tables, WpFn, Atoms, Lfts, Shares, Fun, givenOf, tables, tablesOf, FmC, fmOf}
 use Rattle.laws_walks.proofs.Walk.{Given, ‵, ⋆, _$_, _∵_, !, qed, by, keep, suffices, frame, done, agg, addr, of-opd, bin, Is, uint-makes, u8, u32, u64, usize, now, Room, owned, onEntry, tripleOf, Contract, Triple, cited, says, walkOf, ends-at}
@@ -6,15 +6,17 @@ use Rattle.laws_walks.proofs.Walk.{of, ofs, behind, sets, lands-in, enters, lea
 use Rattle.model.specs.declared.Vm.{Vm}
 use Rattle.model.specs.declared.Frame.{Frame}
 use Rattle.model.specs.declared.RunResult.{RunResult}
+use mir.Syntax.{w8}
 use denote.Plain.{uint-tells}
 use native.Mathlib.Omega.{arith}
 use Rattle.frames.proofs.Frames.{R, tells}
 use Rattle.machine.proofs.Rows.{VmRow, vmVal, IsVm, vm-tells, vm-typed, vm-makes, ResultRow, resultVal, IsResult, result-tells, result-typed, result-makes}
 use Rattle.model.specs.Machines.{RunPost}
 use Rattle.run_ends.specs.Links.{programLent}
-use Rattle.machine.specs.Links.{runLent}
+use Rattle.machine.specs.Links.{runLent, RunJudged}
 use Rattle.machine.proofs.Tests.{is-zero, not-zero}
-use Rattle.embed_words.specs.Coding.{vmIn, slicesRefusal, runCoded, RunThrough}
+use Rattle.embed_words.specs.Coding.{vmIn, slicesRefusal, atEntry, crossed, runCoded, RunThrough}
+use Rattle.embed.proofs.Own.{run-own}
 use Rattle.embed.proofs.Through.{run-through, run-refused}
 use Rattle.embed_words.proofs.slices_refusal as why
 use Rattle.embed_words.proofs.slices_refusal.Symbol as why-def
@@ -28,6 +30,14 @@ use Rattle.machine.proofs.run as entry
 use Rattle.machine.proofs.run.Symbol as entry-def
 use Rattle.machine.proofs.run.Symbol.{name as #entry}
 use Rattle.machine.proofs.run.Met as entry-thm
+use Rattle.machine.proofs.running.run_refusal as judge
+use Rattle.machine.proofs.running.run_refusal.Symbol as judge-def
+use Rattle.machine.proofs.running.run_refusal.Symbol.{name as #judge}
+use Rattle.machine.proofs.running.run_refusal.Met as judge-thm
+use Rattle.embed_words.proofs.crossed as not
+use Rattle.embed_words.proofs.crossed.Symbol as not-def
+use Rattle.embed_words.proofs.crossed.Symbol.{name as #not}
+use Rattle.embed_words.proofs.crossed.Met as not-thm
 use Rattle.embed_words.proofs.tell_run as tells
 use Rattle.embed_words.proofs.tell_run.Symbol as tells-def
 use Rattle.embed_words.proofs.tell_run.Symbol.{name as #tells}
@@ -53,10 +63,17 @@ module _ {M : Type 1} (𝓤 : URA M) (H : Heap 𝓤) (A : Atoms 𝓤) (W : Given
   abbrev Entry : Contract 𝓤
   Entry = tripleOf 𝓤 H A entry.signature (entry.spec 𝓤 H A mem run)
 
+  abbrev Judge : Contract 𝓤
+  Judge = tripleOf 𝓤 H A judge.signature (judge.spec 𝓤 H A mem run)
+
+  abbrev Not : Contract 𝓤
+  Not = tripleOf 𝓤 H A not.signature (not.spec 𝓤 H A mem run)
+
   abbrev Tells : Contract 𝓤
   Tells = tripleOf 𝓤 H A tells.signature (tells.spec 𝓤 H A mem run)
 
   module _ (𝓣 : Tables 𝓤 H) (known-why : Triple 𝓤 (𝓣 .C #why) Why) (known-rec : Triple 𝓤 (𝓣 .C #rec) Rec) (known-entry : Triple 𝓤 (𝓣 .C #entry) Entry) (known-tells : Triple 𝓤 (𝓣 .C #tells) Tells)
+      (known-judge : Triple 𝓤 (𝓣 .C #judge) Judge) (known-not : Triple 𝓤 (𝓣 .C #not) Not)
       (κs : Lfts 15) (qs : Shares 15) (a : Passed kinds u32 κs) (is : Known kinds u32 κs a) where
     -- the parameters
     abbrev units : ℕ
@@ -319,6 +336,55 @@ module _ {M : Type 1} (𝓤 : URA M) (H : Heap 𝓤) (A : Atoms 𝓤) (W : Given
           ),
         )
 
+    -- it is judged with no copy store and no backtrace store
+    abbrev to-judge : Vm → List Arg
+    to-judge m =
+        val VmRow m (vmVal m) ∷ val usize 0 (vint w64 0) ∷ val usize 0 (vint w64 0) ∷ shr u64 constants-at constants ∷ shr u64
+        structs-at structs ∷ shr u64 functions-at functions ∷ shr u8 text-at text ∷ shr u8 main-at main ∷ shr u32 main-places-at
+        mainPlaces ∷ shr u8 other-at other ∷ shr u32 other-places-at otherPlaces ∷ peek u64 stack-at stack ∷ peek u64 cells-at
+        cells ∷ peek R frames-at frames ∷ []
+
+    abbrev Judged : Vm → ℕ → Type 0
+    Judged m told =
+        (copied entries : List ℕ) → length copied ≡ 0 → length entries ≡ 0 → RunJudged m
+        (programLent structs constants functions text main mainPlaces other otherPlaces) (runLent stack cells frames copied entries) told
+
+    call-judge : (m : Vm) → IsVm m → Rule 𝓤 H A W (to-judge m) Judge u8 (vint w8) (λ told zs. Judged m told)
+    call-judge m ism =
+        call-with 𝓤 H A W (to-judge m) Judge u8 (vint w8) (λ told zs. Judged m told) (uint-tells w8)
+        (λ ns. passing (lent (to-judge m) ns)) (λ ns. refl) (λ ns. unasked W (lent (to-judge m) ns)) (λ ns w. id⊢ 𝓤 _)
+        (vm-makes 𝓤 H A W m _ ism, (uint-makes 𝓤 H A W w64 0 _ (refl, omega arith), (uint-makes 𝓤 H A W w64 0 _ (refl, omega arith), tt))) (
+          (refl, constants-room),
+          (
+            (refl, structs-room),
+            (
+              (refl, functions-room),
+              (
+                (refl, text-room),
+                (
+                  (refl, main-room),
+                  (
+                    (refl, main-places-room),
+                    (
+                      (refl, other-room),
+                      ((refl, other-places-room), ((refl, stack-room), ((refl, cells-room), ((refl, frames-room), tt)))),
+                    ),
+                  ),
+                ),
+              ),
+            ),
+          ),
+        )
+
+    abbrev to-not : ℕ → ℕ → List Arg
+    to-not n told = val u32 n (vint w32 n) ∷ val u8 told (vint w8 told) ∷ []
+
+    call-not : (n : ℕ) → Is u32 n (vint w32 n ∷ []) → (told : ℕ) → Is u8 told (vint w8 told ∷ []) → Rule 𝓤 H A W (to-not n told) Not u32 (vint w32) (λ k zs. k ≡ crossed atEntry n told)
+    call-not n isn told iso =
+        call-with 𝓤 H A W (to-not n told) Not u32 (vint w32) (λ k zs. k ≡ crossed atEntry n told) (uint-tells w32)
+        (λ ns. passing (lent (to-not n told) ns)) (λ ns. refl) (λ ns. unasked W (lent (to-not n told) ns)) (λ ns w. id⊢ 𝓤 _)
+        (uint-makes 𝓤 H A W w32 n _ isn, (uint-makes 𝓤 H A W w8 told _ iso, tt)) tt
+
     abbrev to-tells : RunResult → List Arg
     to-tells x = val ResultRow x (resultVal x) ∷ mut u64 vm-at vm ∷ mut u64 answer-at answer ∷ []
 
@@ -383,10 +449,11 @@ module _ {M : Type 1} (𝓤 : URA M) (H : Heap 𝓤) (A : Atoms 𝓤) (W : Given
         calls-on ! (true ∷ false ∷ false ∷ false ∷ false ∷ false ∷ false ∷ false ∷ false ∷ false ∷ false ∷ false ∷ false ∷ false ∷ true ∷ [])
         (slices vm stack cells frames copy trace answer) (call-why) (λ zs. slices vm stack cells frames copy trace answer) refl (λ zs. refl)
         (λ zs. refl) fm known-why refl (λ n zs ew lens isn. lands-in ! (tt, record { fits = isn .1 }) $
-        sets ! (bin ! (of ! refl) (of ! refl) tt) (tt, tt) $ returns-if ! 𝓣 (of ! refl)
-        (λ on. sets ! (addr ! (behind ! refl refl)) (tt, tt) $ sets ! (agg ! (ofs ! refl)) (tt, (tt, (record { fits = vm-room .0 }, tt))) $
+        sets ! (addr ! (behind ! refl refl)) (tt, tt) $ sets ! (agg ! (ofs ! refl)) (tt, (tt, (record { fits = vm-room .0 }, tt))) $
         calls-on ! (true ∷ []) (slices vm stack cells frames copy trace answer) (call-rec) (λ zs. slices vm stack cells frames copy trace answer) refl
         (λ zs. refl) (λ zs. refl) fm known-rec refl (λ m zs₁ em lens₁ ism. lands-in ! (vm-typed 𝓤 H A W m ism) $
+        sets ! (bin ! (of ! refl) (of ! refl) tt) (tt, tt) $ returns-if ! 𝓣 (of ! refl)
+        (λ on.
         sets ! (addr ! (behind ! refl refl)) (tt, tt) $ sets ! (agg ! (ofs ! refl)) (tt, (tt, (record { fits = stack-room .0 }, tt))) $
         sets ! (addr ! (behind ! refl refl)) (tt, tt) $ sets ! (agg ! (ofs ! refl)) (tt, (tt, (record { fits = cells-room .0 }, tt))) $
         sets ! (addr ! (behind ! refl refl)) (tt, tt) $ sets ! (agg ! (ofs ! refl)) (tt, (tt, (record { fits = frames-room .0 }, tt))) $
@@ -413,11 +480,21 @@ module _ {M : Type 1} (𝓤 : URA M) (H : Heap 𝓤) (A : Atoms 𝓤) (W : Given
         (runLent stack cells frames copy trace) units n ew (is-zero n on) m em x
         (runLent (zs₂ .1 .1 .1 .1 .1 .1 .1 .1 .1 .1 .0) (zs₂ .1 .1 .1 .1 .1 .1 .1 .1 .1 .1 .1 .0) (zs₂ .1 .1 .1 .1 .1 .1 .1 .1 .1 .1 .1 .1 .0)
         (zs₂ .1 .1 .1 .1 .1 .1 .1 .1 .1 .1 .1 .1 .1 .0) (zs₂ .1 .1 .1 .1 .1 .1 .1 .1 .1 .1 .1 .1 .1 .1 .0)) ex
-        (record { number = k; vm = (zs₃ .1 .0); answer = (zs₃ .1 .1 .0) }) ek))))))
-        (λ off. sets ! (of-opd ! (of ! refl)) (tt, record { fits = isn .1 }) $ leaves ! refl $
-        by ! (exits n vm stack cells frames copy trace answer isn refl refl refl refl refl refl refl
+        (record { number = k; vm = (zs₃ .1 .0); answer = (zs₃ .1 .1 .0) }) ek)))))
+        (λ off. sets ! (addr ! (behind ! refl refl)) (tt, tt) $ sets ! (agg ! (ofs ! refl)) (tt, (tt, (record { fits = stack-room .0 }, tt))) $
+        sets ! (addr ! (behind ! refl refl)) (tt, tt) $ sets ! (agg ! (ofs ! refl)) (tt, (tt, (record { fits = cells-room .0 }, tt))) $
+        sets ! (addr ! (behind ! refl refl)) (tt, tt) $ sets ! (agg ! (ofs ! refl)) (tt, (tt, (record { fits = frames-room .0 }, tt))) $
+        calls-on ! (false ∷ true ∷ true ∷ true ∷ true ∷ true ∷ true ∷ true ∷ true ∷ true ∷ true ∷ true ∷ [])
+        (slices vm stack cells frames copy trace answer) (call-judge m ism) (λ zs. slices vm stack cells frames copy trace answer) refl
+        (λ zs. refl) (λ zs. refl) fm known-judge refl (λ told zs₄ eo lens₄ iso. lands-in ! (tt, record { fits = iso .1 }) $
+        calls-on ! [] (slices vm stack cells frames copy trace answer) (call-not n isn told iso) (λ zs. slices vm stack cells frames copy trace answer) refl
+        (λ zs. refl) (λ zs. refl) fm known-not refl (λ k zs₅ ek lens₅ isk. lands-in ! (tt, record { fits = isk .1 }) $
+        sets ! (of-opd ! (of ! refl)) (tt, record { fits = isk .1 }) $ leaves ! refl $
+        by ! (exits k vm stack cells frames copy trace answer isk refl refl refl refl refl refl refl
         (run-refused vm answer (programLent structs constants functions text main mainPlaces other otherPlaces)
-        (runLent stack cells frames copy trace) units n ew (not-zero n off)))))))
+        (runLent stack cells frames copy trace) units n ew (not-zero n off) m em told
+        (run-own m (programLent structs constants functions text main mainPlaces other otherPlaces) stack cells frames copy trace units told
+        (eo [] [] refl refl) n) k ek)))))))))
       where
         fm : FmC 𝓤 H (W .laws) (𝓣 .C)
         fm = fmOf 𝓤 H (W .laws) 𝓣
@@ -436,4 +513,8 @@ chaffwheel-run-spec 𝓤 H 𝓜 𝓖 𝓡 =
     (cited 𝓤 H (Entry 𝓤 H (𝓖 .A) W (𝓜 .mem) (𝓡 .run)) 𝓜 𝓡 code.env #entry entry-def.routine code.calls-machine·run
     (entry-thm.met 𝓤 H 𝓜 𝓖 𝓡))
     (cited 𝓤 H (Tells 𝓤 H (𝓖 .A) W (𝓜 .mem) (𝓡 .run)) 𝓜 𝓡 code.env #tells tells-def.routine code.calls-embed-words·tell-run
-    (tells-thm.met 𝓤 H 𝓜 𝓖 𝓡)) κs qs a is))
+    (tells-thm.met 𝓤 H 𝓜 𝓖 𝓡))
+    (cited 𝓤 H (Judge 𝓤 H (𝓖 .A) W (𝓜 .mem) (𝓡 .run)) 𝓜 𝓡 code.env #judge judge-def.routine code.calls-machine·running·run-refusal
+    (judge-thm.met 𝓤 H 𝓜 𝓖 𝓡))
+    (cited 𝓤 H (Not 𝓤 H (𝓖 .A) W (𝓜 .mem) (𝓡 .run)) 𝓜 𝓡 code.env #not not-def.routine code.calls-embed-words·crossed
+    (not-thm.met 𝓤 H 𝓜 𝓖 𝓡)) κs qs a is))

@@ -1,6 +1,5 @@
 -- `chaffwheel_save` meets its contract.
-use borrow.Author.Needs.{needs}
-use Rattle.embed.proofs.Through.{out-refused, out-through}
+use Rattle.embed.proofs.Through.{room-fits, room-taken, save-through}
 use Rattle.embed.proofs.chaffwheel_save.Statement.{statement}
 use Rattle.embed.proofs.chaffwheel_save.Tie as tie
 
@@ -10,11 +9,22 @@ slices-refusal-requires c κs = search
 vm-of-requires : tie.Need-vm-of-requires
 vm-of-requires c κs = search
 
+lent-room-requires : tie.Need-lent-room-requires
+lent-room-requires c κs = search
+
+slice-relend-prefix-save : tie.Need-slice-relend-prefix-save
+slice-relend-prefix-save c = room-fits (c .before .before .before .slices-refusal .result) _ (c .lent-room .ensures)
+
+slice-aggregate-save : tie.Need-slice-aggregate-save
+slice-aggregate-save c =
+    let at-vm-of = c .before .before .before in
+    room-taken (at-vm-of .before .slices-refusal .result) _ (c .before .lent-room .ensures)
+
 save-requires : tie.Need-save-requires
 save-requires c κs = search
 
-tell-requires : tie.Need-tell-requires
-tell-requires c κs = search
+answer-told-requires : tie.Need-answer-told-requires
+answer-told-requires c κs = search
 
 same-length : tie.Need-same-length
 same-length c = search
@@ -25,17 +35,10 @@ same-length-2 c = search
 returns : tie.Need-returns
 returns c =
     let at-save = c .before .before .before .before .before .before in
-    let at-vm-of = at-save .before .before .before in
-    let at-if1 = at-vm-of .before in
-    let at-slices-refusal = at-if1 .before in
-    out-through _ _ _ _ _ (at-slices-refusal .slices-refusal .ensures) (at-if1 .if1 .taken) _ (at-vm-of .vm-of .ensures) _ _
-    (at-save .save .ensures) _ (c .before .before .tell .ensures _)
-
-same-length-3 : tie.Need-same-length-3
-same-length-3 c = search
-
-returns-2 : tie.Need-returns-2
-returns-2 c = search out-refused
+    let at-lent-room = at-save .before .before in
+    let at-vm-of = at-lent-room .before .before in
+    save-through _ _ _ (at-vm-of .vm-of .ensures) _ (at-vm-of .before .slices-refusal .ensures) (at-lent-room .lent-room .ensures)
+    _ (at-save .save .ensures) (c .before .before .answer-told .ensures _)
 
 pub chaffwheel-save-spec : {M : Type 1} → statement M
 chaffwheel-save-spec =
@@ -43,10 +46,11 @@ chaffwheel-save-spec =
     (tie.spec
     slices-refusal-requires
     vm-of-requires
+    lent-room-requires
+    slice-relend-prefix-save
+    slice-aggregate-save
     save-requires
-    tell-requires
+    answer-told-requires
     same-length
     same-length-2
-    returns
-    same-length-3
-    returns-2)
+    returns)

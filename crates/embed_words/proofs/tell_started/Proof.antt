@@ -13,8 +13,8 @@ put-vm-requires c κs = search
 enum-known-result-2 : tie.Need-enum-known-result-2
 enum-known-result-2 c = search
 
-put-requires : tie.Need-put-requires
-put-requires c κs = search
+tell-broken-requires : tie.Need-tell-broken-requires
+tell-broken-requires c κs = search
 
 enum-known-result-3 : tie.Need-enum-known-result-3
 enum-known-result-3 c = search
@@ -44,7 +44,7 @@ tell-started-spec =
     enum-known-result
     put-vm-requires
     enum-known-result-2
-    put-requires
+    tell-broken-requires
     enum-known-result-3
     cast-result
     same-length

@@ -2,25 +2,23 @@
 use mathlib.Core.Path.{refl}
 use Rattle.model.specs.Emission.{u16}
 use Rattle.layout.specs.Links.{codeLent, bytesLent}
-use Rattle.laws_programs.proofs.Emitting.{patch-order-is, patch-in-main, patch-in-other, patch-19, patch-23, patched-main, patched-other}
+use Rattle.laws_programs.proofs.Emitting.{patch-in-main, patch-in-other, patch-19, patch-23, patched-main, patched-other}
 use borrow.Author.Needs.{needs}
 use Rattle.emission_code.proofs.patch_u16_value_at.Statement.{statement}
 use Rattle.emission_code.proofs.patch_u16_value_at.Tie as tie
 
-counts-ok-requires : tie.Need-counts-ok-requires
-counts-ok-requires c κs = search
+patch-order-requires : tie.Need-patch-order-requires
+patch-order-requires c κs = search
 
-functions-ok-requires : tie.Need-functions-ok-requires
-functions-ok-requires c κs = search
+same-length : tie.Need-same-length
+same-length c = search
 
-inside-codes-requires : tie.Need-inside-codes-requires
-inside-codes-requires c κs = search
+same-length-2 : tie.Need-same-length-2
+same-length-2 c = search
 
 returns : tie.Need-returns
 returns c =
-    λ rest. patch-19 _ _ _ _ _
-    (patch-order-is _ _ _ _ _ _ _ (c .before .before .before .counts-ok .ensures) (c .before .before .functions-ok .ensures)
-    (c .before .inside-codes .ensures _ _ refl refl) rest) (c .if1 .taken)
+    λ rest. patch-19 _ _ _ _ _ (c .before .patch-order .ensures rest) (c .if1 .taken)
 
 second-requires : tie.Need-second-requires
 second-requires c κs = search
@@ -34,17 +32,19 @@ size-of-requires c κs = search
 add-if2 : tie.Need-add-if2
 add-if2 c = search needs
 
+same-length-3 : tie.Need-same-length-3
+same-length-3 c = search
+
+same-length-4 : tie.Need-same-length-4
+same-length-4 c = search
+
 returns-2 : tie.Need-returns-2
 unfolding codeLent bytesLent
 returns-2 c =
     let at-second = c .before .before .before in
     let at-if1 = at-second .before in
-    let at-inside-codes = at-if1 .before in
-    let at-functions-ok = at-inside-codes .before in
-    let at-counts-ok = at-functions-ok .before in
-    λ rest. patch-23 _ _ _ _ _
-    (patch-order-is _ _ _ _ _ _ _ (at-counts-ok .counts-ok .ensures) (at-functions-ok .functions-ok .ensures)
-    (at-inside-codes .inside-codes .ensures _ _ refl refl) rest) (at-if1 .if1 .left) _ _ _ (at-second .second .ensures)
+    let at-patch-order = at-if1 .before in
+    λ rest. patch-23 _ _ _ _ _ (at-patch-order .patch-order .ensures rest) (at-if1 .if1 .left) _ _ _ (at-second .second .ensures)
     (c .before .before .start-of .ensures .0) (c .before .size-of .ensures .0) (c .if2 .taken)
 
 cast-t21 : tie.Need-cast-t21
@@ -66,17 +66,16 @@ put-bytes-requires c κs =
     let at-start-of = at-size-of .before in
     let at-second = at-start-of .before in
     let at-if1 = at-second .before in
-    let at-inside-codes = at-if1 .before in
-    let at-functions-ok = at-inside-codes .before in
-    let at-counts-ok = at-functions-ok .before in
-    let at-start = at-counts-ok .before .before .before .before in
-    patch-in-main _ _ (at-start .args .main .now) (at-start .args .other .now) _ _ _ (at-counts-ok .counts-ok .ensures)
-    (at-functions-ok .functions-ok .ensures) (at-inside-codes .inside-codes .ensures _ _ refl refl) (at-if1 .if1 .left) _ _ _ _
+    let at-patch-order = at-if1 .before in
+    patch-in-main _ _ _ _ _ (at-patch-order .patch-order .ensures) (at-if1 .if1 .left) _ _ _ _
     (at-second .second .ensures) (at-start-of .start-of .ensures .0) (at-size-of .size-of .ensures .0) (at-if2 .if2 .left)
     (c .before .before .if3 .taken)
 
-same-length : tie.Need-same-length
-same-length c = search
+same-length-5 : tie.Need-same-length-5
+same-length-5 c = search
+
+same-length-6 : tie.Need-same-length-6
+same-length-6 c = search
 
 returns-3 : tie.Need-returns-3
 unfolding codeLent bytesLent u16
@@ -87,12 +86,8 @@ returns-3 c =
     let at-start-of = at-size-of .before in
     let at-second = at-start-of .before in
     let at-if1 = at-second .before in
-    let at-inside-codes = at-if1 .before in
-    let at-functions-ok = at-inside-codes .before in
-    let at-counts-ok = at-functions-ok .before in
-    λ rest. patched-main _ _ _ _ _
-    (patch-order-is _ _ _ _ _ _ _ (at-counts-ok .counts-ok .ensures) (at-functions-ok .functions-ok .ensures)
-    (at-inside-codes .inside-codes .ensures _ _ refl refl) rest) (at-if1 .if1 .left) _ _ _ (at-second .second .ensures)
+    let at-patch-order = at-if1 .before in
+    λ rest. patched-main _ _ _ _ _ (at-patch-order .patch-order .ensures rest) (at-if1 .if1 .left) _ _ _ (at-second .second .ensures)
     (at-start-of .start-of .ensures .0) (at-size-of .size-of .ensures .0) (at-if2 .if2 .left) _ (at-if3 .if3 .taken)
     (c .before .before .put-bytes .ensures)
 
@@ -109,17 +104,16 @@ put-bytes-requires-2 c κs =
     let at-start-of = at-size-of .before in
     let at-second = at-start-of .before in
     let at-if1 = at-second .before in
-    let at-inside-codes = at-if1 .before in
-    let at-functions-ok = at-inside-codes .before in
-    let at-counts-ok = at-functions-ok .before in
-    let at-start = at-counts-ok .before .before .before .before in
-    patch-in-other _ _ (at-start .args .main .now) (at-start .args .other .now) _ _ _ (at-counts-ok .counts-ok .ensures)
-    (at-functions-ok .functions-ok .ensures) (at-inside-codes .inside-codes .ensures _ _ refl refl) (at-if1 .if1 .left) _ _ _ _
+    let at-patch-order = at-if1 .before in
+    patch-in-other _ _ _ _ _ (at-patch-order .patch-order .ensures) (at-if1 .if1 .left) _ _ _ _
     (at-second .second .ensures) (at-start-of .start-of .ensures .0) (at-size-of .size-of .ensures .0) (at-if2 .if2 .left)
     (c .before .before .if3 .left)
 
-same-length-2 : tie.Need-same-length-2
-same-length-2 c = search
+same-length-7 : tie.Need-same-length-7
+same-length-7 c = search
+
+same-length-8 : tie.Need-same-length-8
+same-length-8 c = search
 
 returns-4 : tie.Need-returns-4
 unfolding codeLent bytesLent u16
@@ -130,12 +124,8 @@ returns-4 c =
     let at-start-of = at-size-of .before in
     let at-second = at-start-of .before in
     let at-if1 = at-second .before in
-    let at-inside-codes = at-if1 .before in
-    let at-functions-ok = at-inside-codes .before in
-    let at-counts-ok = at-functions-ok .before in
-    λ rest. patched-other _ _ _ _ _
-    (patch-order-is _ _ _ _ _ _ _ (at-counts-ok .counts-ok .ensures) (at-functions-ok .functions-ok .ensures)
-    (at-inside-codes .inside-codes .ensures _ _ refl refl) rest) (at-if1 .if1 .left) _ _ _ (at-second .second .ensures)
+    let at-patch-order = at-if1 .before in
+    λ rest. patched-other _ _ _ _ _ (at-patch-order .patch-order .ensures rest) (at-if1 .if1 .left) _ _ _ (at-second .second .ensures)
     (at-start-of .start-of .ensures .0) (at-size-of .size-of .ensures .0) (at-if2 .if2 .left) _ (at-if3 .if3 .left)
     (c .before .before .put-bytes2 .ensures)
 
@@ -143,24 +133,28 @@ pub patch-u16-value-at-spec : {M : Type 1} → statement M
 patch-u16-value-at-spec =
     tie.close
     (tie.spec
-    counts-ok-requires
-    functions-ok-requires
-    inside-codes-requires
+    patch-order-requires
+    same-length
+    same-length-2
     returns
     second-requires
     start-of-requires
     size-of-requires
     add-if2
+    same-length-3
+    same-length-4
     returns-2
     cast-t21
     cast-t23
     add-put-bytes
     slice-aggregate-put-bytes
     put-bytes-requires
-    same-length
+    same-length-5
+    same-length-6
     returns-3
     add-put-bytes-2
     slice-aggregate-put-bytes-2
     put-bytes-requires-2
-    same-length-2
+    same-length-7
+    same-length-8
     returns-4)

@@ -1,9 +1,8 @@
 -- `emission::chaffwheel_current_offset` meets its contract.
-use borrow.Author.Needs.{needs}
 use Rattle.model.specs.declared.Vm.{Vm}
 use Rattle.model.specs.Emission.{currentOffsetOf}
 use Rattle.embed_words.specs.Coding.{toldCoded}
-use Rattle.embed.proofs.Through.{is-through, not-through}
+use Rattle.embed.proofs.Through.{is-through}
 use Rattle.embed.proofs.emission.chaffwheel_current_offset.Statement.{statement}
 use Rattle.embed.proofs.emission.chaffwheel_current_offset.Tie as tie
 
@@ -16,8 +15,8 @@ vm-of-requires c κs = search
 current-offset-requires : tie.Need-current-offset-requires
 current-offset-requires c κs = search
 
-tell-requires : tie.Need-tell-requires
-tell-requires c κs = search
+answer-told-requires : tie.Need-answer-told-requires
+answer-told-requires c κs = search
 
 same-length : tie.Need-same-length
 same-length c = search
@@ -26,18 +25,11 @@ returns : tie.Need-returns
 returns c =
     let at-current-offset = c .before .before .before .before in
     let at-vm-of = at-current-offset .before .before in
-    let at-if1 = at-vm-of .before in
-    let at-slices-refusal = at-if1 .before in
+    let at-slices-refusal = at-vm-of .before in
     let at-start = at-slices-refusal .before .before .before .before .before in
-    is-through _ _ _ (at-slices-refusal .slices-refusal .ensures) (at-if1 .if1 .taken) (at-vm-of .vm-of .ensures)
+    is-through _ _ _ _ (at-slices-refusal .slices-refusal .ensures) (at-vm-of .vm-of .ensures)
     (λ (x : Vm). currentOffsetOf (x .program) (at-start .args .functions .now)) toldCoded
-    (at-current-offset .current-offset .ensures) (c .before .before .tell .ensures _)
-
-same-length-2 : tie.Need-same-length-2
-same-length-2 c = search
-
-returns-2 : tie.Need-returns-2
-returns-2 c = search not-through
+    (at-current-offset .current-offset .ensures) (c .before .before .answer-told .ensures _)
 
 pub chaffwheel-current-offset-spec : {M : Type 1} → statement M
 chaffwheel-current-offset-spec =
@@ -46,8 +38,6 @@ chaffwheel-current-offset-spec =
     slices-refusal-requires
     vm-of-requires
     current-offset-requires
-    tell-requires
+    answer-told-requires
     same-length
-    returns
-    same-length-2
-    returns-2)
+    returns)

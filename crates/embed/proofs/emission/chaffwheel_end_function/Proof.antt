@@ -1,9 +1,9 @@
 -- `emission::chaffwheel_end_function` meets its contract.
-use borrow.Author.Needs.{needs}
 use Rattle.model.specs.declared.Vm.{Vm}
 use Rattle.model.specs.Emission.{endFunctionOf}
 use Rattle.embed_words.specs.Coding.{emittedCoded}
-use Rattle.embed.proofs.Through.{is-through, not-through}
+use Rattle.embed.proofs.Own.{end-says}
+use Rattle.embed.proofs.Through.{emits, emits-not}
 use Rattle.embed.proofs.emission.chaffwheel_end_function.Statement.{statement}
 use Rattle.embed.proofs.emission.chaffwheel_end_function.Tie as tie
 
@@ -29,12 +29,17 @@ returns : tie.Need-returns
 returns c =
     let at-tell-emitted = c .before .before .before .before in
     let at-end-function = at-tell-emitted .before .before .before in
-    let at-vm-of = at-end-function .before .before in
-    let at-if1 = at-vm-of .before .before in
-    let at-slices-refusal = at-if1 .before in
-    is-through _ _ _ (at-slices-refusal .slices-refusal .ensures) (at-if1 .if1 .taken) (at-vm-of .vm-of .ensures)
-    (λ (x : Vm). endFunctionOf (x .program)) emittedCoded (at-end-function .end-function .ensures)
-    (at-tell-emitted .tell-emitted .ensures)
+    let at-if1 = at-end-function .before in
+    let at-vm-of = at-if1 .before .before in
+    let at-slices-refusal = at-vm-of .before .before in
+    emits _ _ _ (at-slices-refusal .slices-refusal .ensures) (at-vm-of .vm-of .ensures) endFunctionOf (at-if1 .if1 .taken)
+    (at-end-function .end-function .ensures) (at-tell-emitted .tell-emitted .ensures)
+
+counts-ok-requires : tie.Need-counts-ok-requires
+counts-ok-requires c κs = search
+
+crossed-order-requires : tie.Need-crossed-order-requires
+crossed-order-requires c κs = search
 
 same-length-3 : tie.Need-same-length-3
 same-length-3 c = search
@@ -43,7 +48,11 @@ same-length-4 : tie.Need-same-length-4
 same-length-4 c = search
 
 returns-2 : tie.Need-returns-2
-returns-2 c = search not-through
+returns-2 c =
+    let at-vm-of = c .before .before .before .before in
+    let at-slices-refusal = at-vm-of .before .before in
+    emits-not _ _ _ (at-slices-refusal .slices-refusal .ensures) (at-vm-of .vm-of .ensures) endFunctionOf
+    (c .before .before .if1 .left) _ (end-says _ _ (c .before .counts-ok .ensures)) (c .crossed-order .ensures)
 
 pub chaffwheel-end-function-spec : {M : Type 1} → statement M
 chaffwheel-end-function-spec =
@@ -56,6 +65,8 @@ chaffwheel-end-function-spec =
     same-length
     same-length-2
     returns
+    counts-ok-requires
+    crossed-order-requires
     same-length-3
     same-length-4
     returns-2)

@@ -1,10 +1,9 @@
 -- `emission::chaffwheel_get_function_idx` meets its contract.
-use borrow.Author.Needs.{needs}
 use Rattle.model.specs.declared.Vm.{Vm}
 use Rattle.model.specs.Emission.{functionIdxOf}
 use Rattle.layout.specs.Links.{namesLent}
 use Rattle.embed_words.specs.Coding.{toldCoded}
-use Rattle.embed.proofs.Through.{is-through, not-through}
+use Rattle.embed.proofs.Through.{is-through}
 use Rattle.embed.proofs.emission.chaffwheel_get_function_idx.Statement.{statement}
 use Rattle.embed.proofs.emission.chaffwheel_get_function_idx.Tie as tie
 
@@ -17,8 +16,8 @@ vm-of-requires c κs = search
 get-function-idx-requires : tie.Need-get-function-idx-requires
 get-function-idx-requires c κs = search
 
-tell-requires : tie.Need-tell-requires
-tell-requires c κs = search
+answer-told-requires : tie.Need-answer-told-requires
+answer-told-requires c κs = search
 
 same-length : tie.Need-same-length
 same-length c = search
@@ -27,19 +26,12 @@ returns : tie.Need-returns
 returns c =
     let at-get-function-idx = c .before .before .before .before in
     let at-vm-of = at-get-function-idx .before .before in
-    let at-if1 = at-vm-of .before in
-    let at-slices-refusal = at-if1 .before in
+    let at-slices-refusal = at-vm-of .before in
     let at-start = at-slices-refusal .before .before .before .before .before .before .before in
-    λ rest. is-through _ _ _ (at-slices-refusal .slices-refusal .ensures) (at-if1 .if1 .taken) (at-vm-of .vm-of .ensures)
+    λ rest. is-through _ _ _ _ (at-slices-refusal .slices-refusal .ensures) (at-vm-of .vm-of .ensures)
     (λ (x : Vm). functionIdxOf (x .program) (at-start .args .name .now)
     (namesLent rest (at-start .args .functions .now) (at-start .args .text .now))) toldCoded
-    (at-get-function-idx .get-function-idx .ensures rest) (c .before .before .tell .ensures _)
-
-same-length-2 : tie.Need-same-length-2
-same-length-2 c = search
-
-returns-2 : tie.Need-returns-2
-returns-2 c = search not-through
+    (at-get-function-idx .get-function-idx .ensures rest) (c .before .before .answer-told .ensures _)
 
 pub chaffwheel-get-function-idx-spec : {M : Type 1} → statement M
 chaffwheel-get-function-idx-spec =
@@ -48,8 +40,6 @@ chaffwheel-get-function-idx-spec =
     slices-refusal-requires
     vm-of-requires
     get-function-idx-requires
-    tell-requires
+    answer-told-requires
     same-length
-    returns
-    same-length-2
-    returns-2)
+    returns)

@@ -1,12 +1,11 @@
 -- `reading::chaffwheel_block_header` meets its contract.
 use mathlib.Core.Path.{ap, _∙_}
-use borrow.Author.Needs.{needs}
 use Rattle.model.specs.declared.Value.{Value}
 use Rattle.model.specs.declared.Vm.{Vm}
 use Rattle.model.specs.Values.{valueOf}
 use Rattle.model.specs.Readers.{blockHeaderOf}
 use Rattle.embed_words.specs.Coding.{headedCoded}
-use Rattle.embed.proofs.Through.{is-through, not-through}
+use Rattle.embed.proofs.Through.{is-through}
 use Rattle.embed.proofs.reading.chaffwheel_block_header.Statement.{statement}
 use Rattle.embed.proofs.reading.chaffwheel_block_header.Tie as tie
 
@@ -22,8 +21,8 @@ value-of-requires c κs = search
 block-header-requires : tie.Need-block-header-requires
 block-header-requires c κs = search
 
-tell-header-requires : tie.Need-tell-header-requires
-tell-header-requires c κs = search
+answer-header-requires : tie.Need-answer-header-requires
+answer-header-requires c κs = search
 
 same-length : tie.Need-same-length
 same-length c = search
@@ -33,21 +32,14 @@ returns c =
     let at-block-header = c .before .before .before .before in
     let at-value-of = at-block-header .before in
     let at-vm-of = at-value-of .before in
-    let at-if1 = at-vm-of .before in
-    let at-value-refusal = at-if1 .before in
+    let at-value-refusal = at-vm-of .before in
     let at-start = at-value-refusal .before .before .before .before .before in
-    is-through _ _ _ (at-value-refusal .value-refusal .ensures) (at-if1 .if1 .taken) (at-vm-of .vm-of .ensures)
+    is-through _ _ _ _ (at-value-refusal .value-refusal .ensures) (at-vm-of .vm-of .ensures)
     (λ (x : Vm). blockHeaderOf x (valueOf (at-start .args .kind) (at-start .args .payload)) (at-start .args .cells .now))
     headedCoded
     (at-block-header .block-header .ensures ∙ ap
     (λ (v : Value). blockHeaderOf (at-vm-of .vm-of .result) v (at-start .args .cells .now)) (at-value-of .value-of .ensures))
-    (c .before .before .tell-header .ensures _)
-
-same-length-2 : tie.Need-same-length-2
-same-length-2 c = search
-
-returns-2 : tie.Need-returns-2
-returns-2 c = search not-through
+    (c .before .before .answer-header .ensures _)
 
 pub chaffwheel-block-header-spec : {M : Type 1} → statement M
 chaffwheel-block-header-spec =
@@ -57,8 +49,6 @@ chaffwheel-block-header-spec =
     vm-of-requires
     value-of-requires
     block-header-requires
-    tell-header-requires
+    answer-header-requires
     same-length
-    returns
-    same-length-2
-    returns-2)
+    returns)

@@ -1,12 +1,11 @@
 -- `reading::chaffwheel_element` meets its contract.
 use mathlib.Core.Path.{ap, _∙_}
-use borrow.Author.Needs.{needs}
 use Rattle.model.specs.declared.Value.{Value}
 use Rattle.model.specs.declared.Vm.{Vm}
 use Rattle.model.specs.Values.{valueOf}
 use Rattle.model.specs.Readers.{elementOf}
 use Rattle.embed_words.specs.Coding.{shownCoded}
-use Rattle.embed.proofs.Through.{is-through, not-through}
+use Rattle.embed.proofs.Through.{is-through}
 use Rattle.embed.proofs.reading.chaffwheel_element.Statement.{statement}
 use Rattle.embed.proofs.reading.chaffwheel_element.Tie as tie
 
@@ -22,8 +21,8 @@ value-of-requires c κs = search
 element-requires : tie.Need-element-requires
 element-requires c κs = search
 
-tell-shown-requires : tie.Need-tell-shown-requires
-tell-shown-requires c κs = search
+answer-shown-requires : tie.Need-answer-shown-requires
+answer-shown-requires c κs = search
 
 same-length : tie.Need-same-length
 same-length c = search
@@ -33,21 +32,14 @@ returns c =
     let at-element = c .before .before .before .before in
     let at-value-of = at-element .before in
     let at-vm-of = at-value-of .before in
-    let at-if1 = at-vm-of .before in
-    let at-value-refusal = at-if1 .before in
+    let at-value-refusal = at-vm-of .before in
     let at-start = at-value-refusal .before .before .before .before .before in
-    is-through _ _ _ (at-value-refusal .value-refusal .ensures) (at-if1 .if1 .taken) (at-vm-of .vm-of .ensures)
+    is-through _ _ _ _ (at-value-refusal .value-refusal .ensures) (at-vm-of .vm-of .ensures)
     (λ (x : Vm). elementOf x (valueOf (at-start .args .kind) (at-start .args .payload)) (at-start .args .i)
     (at-start .args .cells .now)) shownCoded
     (at-element .element .ensures ∙ ap
     (λ (v : Value). elementOf (at-vm-of .vm-of .result) v (at-start .args .i) (at-start .args .cells .now))
-    (at-value-of .value-of .ensures)) (c .before .before .tell-shown .ensures _)
-
-same-length-2 : tie.Need-same-length-2
-same-length-2 c = search
-
-returns-2 : tie.Need-returns-2
-returns-2 c = search not-through
+    (at-value-of .value-of .ensures)) (c .before .before .answer-shown .ensures _)
 
 pub chaffwheel-element-spec : {M : Type 1} → statement M
 chaffwheel-element-spec =
@@ -57,8 +49,6 @@ chaffwheel-element-spec =
     vm-of-requires
     value-of-requires
     element-requires
-    tell-shown-requires
+    answer-shown-requires
     same-length
-    returns
-    same-length-2
-    returns-2)
+    returns)

@@ -1,9 +1,8 @@
 -- `reading::chaffwheel_text` meets its contract.
 use mathlib.Core.Path.{ap, _∙_}
-use borrow.Author.Needs.{needs}
 use Rattle.model.specs.declared.Value.{Value}
 use Rattle.model.specs.Readers.{textBytesOf}
-use Rattle.embed.proofs.Through.{out-refused, out-through}
+use Rattle.embed.proofs.Through.{room-fits, room-taken, text-through}
 use Rattle.embed.proofs.reading.chaffwheel_text.Statement.{statement}
 use Rattle.embed.proofs.reading.chaffwheel_text.Tie as tie
 
@@ -16,11 +15,22 @@ vm-of-requires c κs = search
 value-of-requires : tie.Need-value-of-requires
 value-of-requires c κs = search
 
+lent-room-requires : tie.Need-lent-room-requires
+lent-room-requires c κs = search
+
+slice-relend-prefix-text-bytes : tie.Need-slice-relend-prefix-text-bytes
+slice-relend-prefix-text-bytes c = room-fits (c .before .before .before .value-refusal .result) _ (c .lent-room .ensures)
+
+slice-aggregate-text-bytes : tie.Need-slice-aggregate-text-bytes
+slice-aggregate-text-bytes c =
+    let at-vm-of = c .before .before .before in
+    room-taken (at-vm-of .before .value-refusal .result) _ (c .before .lent-room .ensures)
+
 text-bytes-requires : tie.Need-text-bytes-requires
 text-bytes-requires c κs = search
 
-tell-requires : tie.Need-tell-requires
-tell-requires c κs = search
+answer-told-requires : tie.Need-answer-told-requires
+answer-told-requires c κs = search
 
 same-length : tie.Need-same-length
 same-length c = search
@@ -31,21 +41,12 @@ same-length-2 c = search
 returns : tie.Need-returns
 returns c =
     let at-text-bytes = c .before .before .before .before .before .before in
-    let at-value-of = at-text-bytes .before .before in
+    let at-lent-room = at-text-bytes .before .before in
+    let at-value-of = at-lent-room .before in
     let at-vm-of = at-value-of .before in
-    let at-if1 = at-vm-of .before in
-    let at-value-refusal = at-if1 .before in
-    let at-start = at-value-refusal .before .before .before .before .before .before in
-    out-through _ _ _ _ _ (at-value-refusal .value-refusal .ensures) (at-if1 .if1 .taken) _ (at-vm-of .vm-of .ensures) _ _
-    (at-text-bytes .text-bytes .ensures ∙ ap
-    (λ (v : Value). textBytesOf (at-vm-of .vm-of .result) v (at-start .args .text .now) (at-start .args .out .now))
-    (at-value-of .value-of .ensures)) _ (c .before .before .tell .ensures _)
-
-same-length-3 : tie.Need-same-length-3
-same-length-3 c = search
-
-returns-2 : tie.Need-returns-2
-returns-2 c = search out-refused
+    text-through _ _ _ (at-vm-of .vm-of .ensures) _ (at-vm-of .before .value-refusal .ensures) (at-lent-room .lent-room .ensures)
+    _ (at-value-of .value-of .ensures) _ (at-text-bytes .text-bytes .ensures)
+    (c .before .before .answer-told .ensures _)
 
 pub chaffwheel-text-spec : {M : Type 1} → statement M
 chaffwheel-text-spec =
@@ -54,10 +55,11 @@ chaffwheel-text-spec =
     value-refusal-requires
     vm-of-requires
     value-of-requires
+    lent-room-requires
+    slice-relend-prefix-text-bytes
+    slice-aggregate-text-bytes
     text-bytes-requires
-    tell-requires
+    answer-told-requires
     same-length
     same-length-2
-    returns
-    same-length-3
-    returns-2)
+    returns)

@@ -1,19 +1,13 @@
 -- `emission_tables::constants::add_constant` meets its contract.
 use mathlib.Core.Path.{refl}
 use Rattle.layout.specs.Links.{constantsLent}
-use Rattle.laws_programs.proofs.Adding.{constant-order-is, pair-fits, constant-19, constant-22, constant-21, scalar-in, boolean-in, string-in, reference-in}
+use Rattle.laws_programs.proofs.Adding.{pair-fits, constant-19, constant-22, constant-21, scalar-in, boolean-in, string-in, reference-in}
 use borrow.Author.Needs.{needs}
 use Rattle.emission_tables.proofs.constants.add_constant.Statement.{statement}
 use Rattle.emission_tables.proofs.constants.add_constant.Tie as tie
 
-counts-ok-requires : tie.Need-counts-ok-requires
-counts-ok-requires c κs = search
-
-text-ok-requires : tie.Need-text-ok-requires
-text-ok-requires c κs = search
-
-constants-ok-requires : tie.Need-constants-ok-requires
-constants-ok-requires c κs = search
+constant-order-requires : tie.Need-constant-order-requires
+constant-order-requires c κs = search
 
 same-length : tie.Need-same-length
 same-length c = search
@@ -22,7 +16,7 @@ same-length-2 : tie.Need-same-length-2
 same-length-2 c = search
 
 returns : tie.Need-returns
-returns c = search (constant-19, constant-order-is)
+returns c = λ rest. constant-19 _ _ _ _ _ (c .before .constant-order .ensures rest) (c .if1 .taken)
 
 same-length-3 : tie.Need-same-length-3
 same-length-3 c = search
@@ -31,7 +25,8 @@ same-length-4 : tie.Need-same-length-4
 same-length-4 c = search
 
 returns-2 : tie.Need-returns-2
-returns-2 c = search (constant-22, constant-order-is)
+returns-2 c =
+    λ rest. constant-22 _ _ _ _ _ (c .before .before .constant-order .ensures rest) (c .before .if1 .left) (c .if2 .taken)
 
 room-requires : tie.Need-room-requires
 room-requires c κs = search needs
@@ -46,13 +41,9 @@ returns-3 : tie.Need-returns-3
 unfolding constantsLent
 returns-3 c =
     let at-if1 = c .before .before .before in
-    let at-constants-ok = at-if1 .before in
-    let at-text-ok = at-constants-ok .before .before in
-    let at-counts-ok = at-text-ok .before .before in
-    λ rest. constant-21 _ _ _ _ _
-    (constant-order-is _ _ _ _ _ _ (at-counts-ok .counts-ok .ensures) (at-text-ok .text-ok .ensures)
-    (at-constants-ok .constants-ok .ensures) rest) (at-if1 .if1 .left) (c .before .before .if2 .left) _
-    (c .before .room .ensures _ refl) (c .if3 .taken)
+    let at-constant-order = at-if1 .before in
+    λ rest. constant-21 _ _ _ _ _ (at-constant-order .constant-order .ensures rest) (at-if1 .if1 .left)
+    (c .before .before .if2 .left) _ (c .before .room .ensures _ refl) (c .if3 .taken)
 
 enum-known-constant : tie.Need-enum-known-constant
 enum-known-constant c = search
@@ -61,7 +52,7 @@ plain-requires : tie.Need-plain-requires
 plain-requires c κs =
     let at-if3 = c .before .before .before .before in
     let at-room = at-if3 .before in
-    let at-start = at-room .before .before .before .before .before .before .before .before .before .before .before in
+    let at-start = at-room .before .before .before .before .before .before .before .before .before in
     pair-fits _ _ (at-start .args .constants .now) (at-room .room .ensures _ refl) (at-if3 .if3 .left)
 
 enum-known-constant-2 : tie.Need-enum-known-constant-2
@@ -74,7 +65,7 @@ plain-requires-2 : tie.Need-plain-requires-2
 plain-requires-2 c κs =
     let at-if3 = c .before .before .before .before in
     let at-room = at-if3 .before in
-    let at-start = at-room .before .before .before .before .before .before .before .before .before .before .before in
+    let at-start = at-room .before .before .before .before .before .before .before .before .before in
     pair-fits _ _ (at-start .args .constants .now) (at-room .room .ensures _ refl) (at-if3 .if3 .left)
 
 enum-told : tie.Need-enum-told
@@ -84,7 +75,7 @@ text-constant-requires : tie.Need-text-constant-requires
 text-constant-requires c κs =
     let at-if3 = c .before .before .before .before in
     let at-room = at-if3 .before in
-    let at-start = at-room .before .before .before .before .before .before .before .before .before .before .before in
+    let at-start = at-room .before .before .before .before .before .before .before .before .before in
     pair-fits _ _ (at-start .args .constants .now) (at-room .room .ensures _ refl) (at-if3 .if3 .left)
 
 enum-told-2 : tie.Need-enum-told-2
@@ -94,7 +85,7 @@ text-constant-requires-2 : tie.Need-text-constant-requires-2
 text-constant-requires-2 c κs =
     let at-if3 = c .before .before .before .before in
     let at-room = at-if3 .before in
-    let at-start = at-room .before .before .before .before .before .before .before .before .before .before .before in
+    let at-start = at-room .before .before .before .before .before .before .before .before .before in
     pair-fits _ _ (at-start .args .constants .now) (at-room .room .ensures _ refl) (at-if3 .if3 .left)
 
 same-length-7 : tie.Need-same-length-7
@@ -111,13 +102,10 @@ returns-4 c =
     let at-room = at-if3 .before in
     let at-if2 = at-room .before in
     let at-if1 = at-if2 .before in
-    let at-constants-ok = at-if1 .before in
-    let at-text-ok = at-constants-ok .before .before in
-    let at-counts-ok = at-text-ok .before .before in
-    λ rest. scalar-in _ _ _ _ _
-    (constant-order-is _ _ _ _ _ _ (at-counts-ok .counts-ok .ensures) (at-text-ok .text-ok .ensures)
-    (at-constants-ok .constants-ok .ensures) rest) (at-if1 .if1 .left) (at-if2 .if2 .left) _ (at-room .room .ensures _ refl)
-    (at-if3 .if3 .left) _ _ _ (at-constant .constant .given .1) (c .before .before .plain .ensures rest _)
+    let at-constant-order = at-if1 .before in
+    λ rest. scalar-in _ _ _ _ _ (at-constant-order .constant-order .ensures rest) (at-if1 .if1 .left) (at-if2 .if2 .left) _
+    (at-room .room .ensures _ refl) (at-if3 .if3 .left) _ _ _ (at-constant .constant .given .1)
+    (c .before .before .plain .ensures rest _)
 
 same-length-9 : tie.Need-same-length-9
 same-length-9 c = search
@@ -133,13 +121,10 @@ returns-5 c =
     let at-room = at-if3 .before in
     let at-if2 = at-room .before in
     let at-if1 = at-if2 .before in
-    let at-constants-ok = at-if1 .before in
-    let at-text-ok = at-constants-ok .before .before in
-    let at-counts-ok = at-text-ok .before .before in
-    λ rest. boolean-in _ _ _ _ _
-    (constant-order-is _ _ _ _ _ _ (at-counts-ok .counts-ok .ensures) (at-text-ok .text-ok .ensures)
-    (at-constants-ok .constants-ok .ensures) rest) (at-if1 .if1 .left) (at-if2 .if2 .left) _ (at-room .room .ensures _ refl)
-    (at-if3 .if3 .left) _ _ _ _ (at-constant2 .constant2 .given .1) refl (c .before .before .plain2 .ensures rest _)
+    let at-constant-order = at-if1 .before in
+    λ rest. boolean-in _ _ _ _ _ (at-constant-order .constant-order .ensures rest) (at-if1 .if1 .left) (at-if2 .if2 .left) _
+    (at-room .room .ensures _ refl) (at-if3 .if3 .left) _ _ _ _ (at-constant2 .constant2 .given .1) refl
+    (c .before .before .plain2 .ensures rest _)
 
 same-length-11 : tie.Need-same-length-11
 same-length-11 c = search
@@ -156,13 +141,10 @@ returns-6 c =
     let at-room = at-if3 .before in
     let at-if2 = at-room .before in
     let at-if1 = at-if2 .before in
-    let at-constants-ok = at-if1 .before in
-    let at-text-ok = at-constants-ok .before .before in
-    let at-counts-ok = at-text-ok .before .before in
-    λ rest. string-in _ _ _ _ _
-    (constant-order-is _ _ _ _ _ _ (at-counts-ok .counts-ok .ensures) (at-text-ok .text-ok .ensures)
-    (at-constants-ok .constants-ok .ensures) rest) (at-if1 .if1 .left) (at-if2 .if2 .left) _ (at-room .room .ensures _ refl)
-    (at-if3 .if3 .left) _ _ (at-enum-told .enum-told .given .1) (at-text-constant .text-constant .ensures rest)
+    let at-constant-order = at-if1 .before in
+    λ rest. string-in _ _ _ _ _ (at-constant-order .constant-order .ensures rest) (at-if1 .if1 .left) (at-if2 .if2 .left) _
+    (at-room .room .ensures _ refl) (at-if3 .if3 .left) _ _ (at-enum-told .enum-told .given .1)
+    (at-text-constant .text-constant .ensures rest)
 
 same-length-13 : tie.Need-same-length-13
 same-length-13 c = search
@@ -179,21 +161,16 @@ returns-7 c =
     let at-room = at-if3 .before in
     let at-if2 = at-room .before in
     let at-if1 = at-if2 .before in
-    let at-constants-ok = at-if1 .before in
-    let at-text-ok = at-constants-ok .before .before in
-    let at-counts-ok = at-text-ok .before .before in
-    λ rest. reference-in _ _ _ _ _
-    (constant-order-is _ _ _ _ _ _ (at-counts-ok .counts-ok .ensures) (at-text-ok .text-ok .ensures)
-    (at-constants-ok .constants-ok .ensures) rest) (at-if1 .if1 .left) (at-if2 .if2 .left) _ (at-room .room .ensures _ refl)
-    (at-if3 .if3 .left) _ _ (at-enum-told2 .enum-told2 .given .1) (at-text-constant2 .text-constant2 .ensures rest)
+    let at-constant-order = at-if1 .before in
+    λ rest. reference-in _ _ _ _ _ (at-constant-order .constant-order .ensures rest) (at-if1 .if1 .left) (at-if2 .if2 .left) _
+    (at-room .room .ensures _ refl) (at-if3 .if3 .left) _ _ (at-enum-told2 .enum-told2 .given .1)
+    (at-text-constant2 .text-constant2 .ensures rest)
 
 pub add-constant-spec : {M : Type 1} → statement M
 add-constant-spec =
     tie.close
     (tie.spec
-    counts-ok-requires
-    text-ok-requires
-    constants-ok-requires
+    constant-order-requires
     same-length
     same-length-2
     returns

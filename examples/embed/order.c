@@ -1,0 +1,160 @@
+/* The order of refusals at the boundary: short answers and short records, with machines in good order and damaged ones. Each line is a call and the
+ * number that it must return; no call may change a store. Prints what is otherwise, and how many calls were made. */
+#include <inttypes.h>
+#include <stdio.h>
+#include "machine.h"
+
+enum { LOAD_CONSTANT = 0, BUILD_LIST = 36, RETURN = 37 }; /* opcodes: docs/RULES.md */
+
+static int calls, wrong;
+static uint64_t none[1]; /* lent with a count of 0: an answer without a word */
+
+/* what the stores and the record hold, in a number */
+static uint64_t sum_of(uint64_t h, const void *p, size_t n)
+{
+    for (const uint8_t *b = p; n--; b++)
+        h = (h ^ *b) * 1099511628211u;
+    return h;
+}
+
+#define SUM(name) h = sum_of(h, m->name, m->name##_len * sizeof *m->name)
+
+static uint64_t sum(const struct chaffwheel_stores *m)
+{
+    uint64_t h = sum_of(14695981039346656037u, m->vm, sizeof m->vm);
+    SUM(constants), SUM(structs), SUM(functions), SUM(text), SUM(main_code), SUM(main_places), SUM(other_code), SUM(other_places);
+    SUM(stack), SUM(cells), SUM(frames), SUM(copy), SUM(trace);
+    return h;
+}
+
+#define MUST(want, call) do { \
+    uint64_t before = sum(m); \
+    uint32_t got = (call); \
+    calls++; \
+    if (got != (uint32_t)(want) || sum(m) != before) \
+        wrong++, printf("line %d: %" PRIu32 " for %d%s\n", __LINE__, got, (want), sum(m) != before ? ", and a store has changed" : ""); \
+} while (0)
+
+#define LEND(name) m->name, m->name##_len
+#define VM m->vm, CHAFFWHEEL_VM
+#define ANSWER m->answer, CHAFFWHEEL_ANSWER
+#define SHORT none, 0
+#define CODE LEND(main_code), LEND(main_places), LEND(other_code), LEND(other_places)
+#define PROGRAM LEND(constants), LEND(structs), LEND(functions), LEND(text), CODE
+
+/* every function with an answer that is too short, where each judges the program's functions */
+static void all_short(struct chaffwheel_stores *m, int want)
+{
+    static const uint8_t name[] = { 'f' };
+    uint8_t out[4096];
+    MUST(want, chaffwheel_add_op(VM, RETURN, 0, LEND(functions), CODE, SHORT));
+    MUST(want, chaffwheel_add_op1(VM, LOAD_CONSTANT, 0, 0, LEND(functions), CODE, SHORT));
+    MUST(want, chaffwheel_add_op2(VM, LOAD_CONSTANT, 0, 0, 0, LEND(functions), CODE, SHORT));
+    MUST(want, chaffwheel_add_op3(VM, LOAD_CONSTANT, 0, 0, 0, 0, LEND(functions), CODE, SHORT));
+    MUST(want, chaffwheel_patch_u16_value_at(VM, 0, 0, LEND(functions), LEND(main_code), LEND(other_code), SHORT));
+    MUST(want, chaffwheel_current_offset(VM, LEND(functions), SHORT));
+    MUST(want, chaffwheel_begin_function(VM, name, 1, LEND(functions), LEND(text), SHORT));
+    MUST(want, chaffwheel_get_function_idx(VM, name, 1, LEND(functions), LEND(text), SHORT));
+    MUST(want, chaffwheel_save(VM, PROGRAM, out, sizeof out, SHORT));
+    MUST(want, chaffwheel_disassemble(VM, LEND(functions), LEND(text), LEND(main_code), LEND(other_code), out, sizeof out, SHORT));
+    MUST(want, chaffwheel_run(100, VM, PROGRAM, LEND(stack), LEND(cells), LEND(frames), LEND(copy), LEND(trace), m->answer, 4));
+    MUST(want, chaffwheel_backtrace(VM, LEND(functions), LEND(text), CODE, LEND(stack), LEND(frames), LEND(trace), SHORT));
+}
+
+/* the functions that do not judge the functions */
+static void others_short(struct chaffwheel_stores *m, int constants, int structs, int counts)
+{
+    static const uint8_t name[] = { 's' };
+    MUST(constants, chaffwheel_add_scalar(VM, 0, LEND(constants), LEND(text), SHORT));
+    MUST(constants, chaffwheel_add_boolean(VM, true, LEND(constants), LEND(text), SHORT));
+    MUST(constants, chaffwheel_add_string(VM, name, 1, LEND(constants), LEND(text), SHORT));
+    MUST(constants, chaffwheel_add_reference(VM, name, 1, LEND(constants), LEND(text), SHORT));
+    MUST(structs, chaffwheel_add_struct_info(VM, name, 1, LEND(structs), LEND(text), SHORT));
+    MUST(counts, chaffwheel_end_function(VM, SHORT));
+}
+
+/* the readers, of a machine whose last result is the list at this header and whose stack has one value */
+static void readers_short(struct chaffwheel_stores *m, uint64_t list, int cells, int stack)
+{
+    uint8_t out[16];
+    MUST(17, chaffwheel_last_result(VM, m->answer, 1));
+    MUST(stack, chaffwheel_stack_value(VM, 0, LEND(stack), m->answer, 1));
+    MUST(cells, chaffwheel_block_header(VM, CHAFFWHEEL_LIST, list, LEND(cells), m->answer, 2));
+    MUST(cells, chaffwheel_element(VM, CHAFFWHEEL_LIST, list, 0, LEND(cells), m->answer, 1));
+    MUST(17, chaffwheel_text(VM, CHAFFWHEEL_STRING, (uint64_t)6 << 32, LEND(text), out, sizeof out, SHORT));
+    MUST(19, chaffwheel_text(VM, CHAFFWHEEL_STRING, (uint64_t)999 << 32, LEND(text), out, sizeof out, SHORT));
+    MUST(19, chaffwheel_element(VM, CHAFFWHEEL_NONE, 0, 0, LEND(cells), SHORT));
+}
+
+/* a list of two constants is the last result, and a constant is left on the stack */
+static uint32_t make(struct chaffwheel_stores *m)
+{
+    uint32_t no = cw_new(m);
+    no = no ? no : cw_add_scalar(m, 0);
+    no = no ? no : cw_add_struct_info(m, (const uint8_t *)"s", 1);
+    for (int i = 0; i < 3; i++)
+        no = no ? no : cw_add_op1(m, LOAD_CONSTANT, 0, 0);
+    no = no ? no : cw_add_op1(m, BUILD_LIST, 2, 0);
+    no = no ? no : cw_add_op(m, RETURN, 0);
+    return no ? no : cw_run(m, 100);
+}
+
+/* 20 comes before 17, and its offset is written where there is a word for it */
+static void loading(struct chaffwheel_stores *m)
+{
+    static const uint8_t good[] = { 0, 0, 1, 6, '<', 'm', 'a', 'i', 'n', '>', 0 }, broken[] = { 0, 0, 0 };
+    for (size_t words = 0; words < CHAFFWHEEL_VM; words += 9) {
+        MUST(17, chaffwheel_load(good, sizeof good, m->vm, words, PROGRAM, LEND(frames), ANSWER));
+        m->answer[0] = 99;
+        MUST(20, chaffwheel_load(broken, sizeof broken, m->vm, words, PROGRAM, LEND(frames), ANSWER));
+        if (m->answer[0] != 2)
+            wrong++, printf("line %d: offset %" PRIu64 "\n", __LINE__, m->answer[0]);
+    }
+    MUST(17, chaffwheel_load(good, sizeof good, VM, PROGRAM, LEND(frames), SHORT));
+    MUST(20, chaffwheel_load(broken, sizeof broken, VM, PROGRAM, LEND(frames), SHORT));
+    MUST(17, chaffwheel_load(good, sizeof good, VM, PROGRAM, m->frames, 0, SHORT));
+    MUST(17, chaffwheel_new(VM, LEND(functions), m->text, 0, LEND(frames), SHORT));
+}
+
+/* one word of the machine is changed, the calls are made, and it is put back */
+#define DAMAGED(place, word, ...) do { __typeof__(place) kept = (place); (place) = (word); __VA_ARGS__; (place) = kept; } while (0)
+
+int main(void)
+{
+    struct chaffwheel_stores stores, *m = &stores;
+    machine_init(m, 1);
+    uint32_t no = make(m);
+    if (no) {
+        printf("refused %" PRIu32 "\n", no);
+        return 1;
+    }
+    uint64_t list = m->vm[CHAFFWHEEL_LAST_PAYLOAD];
+    uint8_t out[4096];
+    all_short(m, 17), others_short(m, 17, 17, 17), readers_short(m, list, 17, 17);
+    /* no machine's record */
+    DAMAGED(m->vm[CHAFFWHEEL_LAST_KIND], 6, all_short(m, 19), others_short(m, 19, 19, 19));
+    /* counts past their stores, and words that are no value's */
+    DAMAGED(m->vm[CHAFFWHEEL_FUNCTIONS], 257, all_short(m, 19), others_short(m, 17, 17, 17));
+    DAMAGED(m->vm[CHAFFWHEEL_FUNCTIONS], 0, all_short(m, 19), others_short(m, 19, 19, 19));
+    DAMAGED(m->vm[CHAFFWHEEL_CONSTANTS], 257, others_short(m, 19, 17, 17));
+    DAMAGED(m->structs[1], 1, others_short(m, 17, 19, 17));
+    DAMAGED(m->vm[CHAFFWHEEL_CELLS], 2049, readers_short(m, list, 19, 17));
+    DAMAGED(m->vm[CHAFFWHEEL_STACK], 1025, readers_short(m, list, 17, 19));
+    DAMAGED(m->stack[0], 9, readers_short(m, list, 17, 19));
+    DAMAGED(m->frames[0].base, 1, {
+        MUST(19, chaffwheel_run(100, VM, PROGRAM, LEND(stack), LEND(cells), LEND(frames), m->copy, 0, m->trace, 0, SHORT));
+        MUST(19, chaffwheel_backtrace(VM, LEND(functions), LEND(text), CODE, LEND(stack), LEND(frames), m->trace, 0, SHORT));
+    });
+    /* the listing: 1 or 3 as met first */
+    DAMAGED(m->main_code[0], 38, {
+        MUST(1, chaffwheel_disassemble(VM, LEND(functions), LEND(text), LEND(main_code), LEND(other_code), out, sizeof out, SHORT));
+        MUST(17, chaffwheel_save(VM, PROGRAM, out, sizeof out, SHORT));
+    });
+    DAMAGED(m->main_code[12], LOAD_CONSTANT, {
+        MUST(3, chaffwheel_disassemble(VM, LEND(functions), LEND(text), LEND(main_code), LEND(other_code), out, sizeof out, SHORT));
+    });
+    loading(m);
+    machine_free(m);
+    printf("%d calls, %d wrong\n", calls, wrong);
+    return wrong != 0;
+}
