@@ -1,0 +1,66 @@
+-- All that is promised is kept.
+use Prim.Native.Nat.{_≤_}
+use lib.ListN.{length}
+use native.Mathlib.Omega.{arith}
+use Rattle.model.specs.Stores as t
+use Rattle.model.specs.Machines as w
+use Rattle.model.specs.Examples.{examples-hold}
+use Rattle.model.specs.Mistakes.{mistakes-show}
+use Rattle.laws_checks.proofs.Keeping.{keeps-the-table}
+use Rattle.laws_runs.proofs.Paths.{returns-counted}
+use Rattle.laws_runs.proofs.Programs.{parts-of, length-functions}
+use Rattle.laws_runs.proofs.Ordered.{order-world, order-sane}
+use Rattle.laws_programs.proofs.Known.{limited}
+use Rattle.laws_rust.proofs.Loop.{run-same}
+use Rattle.laws_rust.proofs.Back.{rust-same}
+use Rattle.image.proofs.Trip.{image-back, image-only, one-image, load-then-save, save-then-load}
+use Rattle.demands.specs.Host.{Held}
+use Rattle.demands.specs.Meant.{Fine, worldIn}
+use Rattle.demands.proofs.Refusing.{refuses}
+use Rattle.demands.proofs.Written.{steps-within, run-written}
+use Rattle.demands.proofs.Orderly.{new-in-order, load-in-order, chain-kept, run-in-order}
+use Rattle.demands.proofs.Paying.{step-cost}
+use Rattle.demands.proofs.Growing.{as-trees}
+use Rattle.demands.proofs.Recovering.{fault-recovers}
+use Rattle.demands.proofs.MeantChains.{chain-alike}
+use Rattle.demands.proofs.Chains.{past-counts-unseen, ask-one}
+use Rattle.demands.proofs.OneRun.{run-one}
+use Rattle.promises.specs.Promises.{Promises}
+
+-- a machine in good order has at most 65,536 functions
+few : (h : Held) → Fine h → length (worldIn h .functions) ≤ 65536
+unfolding w.worldOf t.worldIn
+few h f =
+    let known = limited (h .vm .program) (parts-of (h .vm .program) (h .stores) (f .order .program) .counts) in
+    let most = known .functions in
+    let many = length-functions (h .stores) (h .vm .program .functions) 0 in
+    omega arith
+
+pub kept : Promises
+kept = record {
+  refuses = λ c h h' a p. refuses c p;
+  steps-within = λ w m u n j k t p. steps-within p;
+  new-in-order = λ h h' m p. new-in-order h p;
+  load-in-order = λ h h' m image b p. load-in-order h image b p;
+  chain-kept = λ calls h k xs t p o. chain-kept t p o;
+  run-in-order = λ u h h' a o p e. run-in-order o p e;
+  as-the-rust = λ h f u turns. run-same (worldIn h) (order-world _ _ _ (f .order .machine) (f .code)) (few h f) _ u (order-sane _ _ _ (f .order .machine) u) turns;
+  from-the-rust = λ h f u turns l. rust-same (worldIn h) (order-world _ _ _ (f .order .machine) (f .code)) (few h f) _ u (order-sane _ _ _ (f .order .machine) u) l turns;
+  run-written = λ m s e u q e' p c x a. run-written m s e u p a;
+  returns-counted = λ w n m k s t p. returns-counted w p;
+  step-cost = λ w s. step-cost w s;
+  keeps-the-table = keeps-the-table;
+  as-trees = as-trees;
+  image-back = image-back;
+  image-only = image-only;
+  one-image = one-image;
+  load-then-save = load-then-save;
+  save-then-load = save-then-load;
+  fault-recovers = λ h h' u n did j p q. fault-recovers u p q;
+  chain-alike = λ again cs h d e f xs ys a n t p q. chain-alike a n t p q;
+  past-counts-unseen = λ calls h k e f xs ys a p q. past-counts-unseen a p q;
+  run-one = λ m s e u x y e' k' p q. run-one m s e u p q;
+  ask-one = λ q h h' k' a b p r. ask-one q h p r;
+  examples-hold = examples-hold;
+  mistakes-show = mistakes-show;
+}

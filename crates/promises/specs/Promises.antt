@@ -1,0 +1,97 @@
+-- ALL THAT IS PROMISED, on one page: each field is a theorem. `crates/promises/proofs/Kept.antt` keeps them all, and the programs are built on that
+-- crate, so that none can go or grow weaker unseen.
+use mathlib.Core.Path.{_≡_}
+use mathlib.Core.Bool.{Bool, true}
+use mathlib.Core.List.{List, [], _∷_, map}
+use mathlib.Core.Option.{some}
+use Prim.Native.Nat.{ℕ, suc, _+_, _≤_, _^_}
+use Rattle.model.specs.declared.Op.{Op}
+use Rattle.model.specs.declared.Counts.{Counts}
+use Rattle.model.specs.declared.Vm.{Vm}
+use Rattle.model.specs.declared.Fault.{Fault}
+use Rattle.model.specs.declared.Tally.{Tally}
+use Rattle.model.specs.declared.Started.the-variants as st
+use Rattle.model.specs.declared.Loaded.the-variants as l
+use Rattle.model.specs.declared.RunResult.{RunResult}
+use Rattle.model.specs.declared.RunResult.the-variants as r
+use Rattle.model.specs.Numbers.{Bytes}
+use Rattle.model.specs.Programs.{Program}
+use Rattle.model.specs.Images.{imageOf, fine, judge, Sound}
+use Rattle.model.specs.Stores.{Stores, programIn}
+use Rattle.model.specs.Orders.{programOk}
+use Rattle.model.specs.Loading.{loadOf, saveOf, putOut}
+use Rattle.model.specs.Steps.{World, State, faulted, execOf, stepOf}
+use Rattle.model.specs.Runs.{Machine, Progress, Ran, begin, endOf, runOf}
+use Rattle.model.specs.Machines.{Lent, RunPost, answerIn, ran, entriesIn}
+use Rattle.model.specs.Examples.{Example, examples}
+use Rattle.model.specs.Mistakes.{Row, mistakes}
+use Rattle.laws_checks.specs.Table.{checksOf, firstFailed, Keeps}
+use Rattle.laws_runs.specs.Sane.{Sane}
+use Rattle.laws_runs.specs.Paths.{Steps, rootReturns}
+use Rattle.laws_rust.specs.Vm as rust
+use Rattle.laws_rust.specs.Same.{rustOf, RunAs, Unlimited, AnswersAs}
+use Rattle.image.proofs.Sounds.{Below}
+use Rattle.demands.specs.Host.{Held, Ask, Call, run, ask, new, load, Answer, started, After, RanBy, Chain}
+use Rattle.demands.specs.Refusals.{Demand1, refusedBy}
+use Rattle.demands.specs.Kept.{InOrder}
+use Rattle.demands.specs.Jobs.{AllTyped, anew}
+use Rattle.demands.specs.Meant.{Fine, worldIn, machineOf, AlikeHeld, AlikeChains}
+use Rattle.demands.specs.Units.{Demand2, Costs, pairsAt, Fee, spentOn}
+use Rattle.demands.specs.Trees.{AsTrees}
+use Rattle.demands.specs.Recovery.{Demand3}
+use Rattle.demands.specs.Agree.{Agree}
+use Rattle.demands.specs.One.{SameRun}
+
+pub record Promises : Type 0 where
+  -- ---- DEMAND 1: no code, image or lent store makes it misbehave or run on
+
+  -- a call is refused by the first of its checks that fails, and by no other number; a refusal changes nothing
+  pub refuses : (c : Call) (h h' : Held) (a : Answer) → After c h a h' → Demand1 c h a h'
+  -- with u units there are never more than u written steps
+  pub steps-within : (w : World) (m : Machine) (u n : ℕ) (j k : Progress) (t : State) → Steps w n j (begin m u) k t → n ≤ u
+  -- a machine that was made is in good order, whatever the host held before
+  pub new-in-order : (h h' : Held) (m : Vm) → After (ask new) h (started (st.Done m)) h' → InOrder h'
+  pub load-in-order : (h h' : Held) (m : Vm) (image : List ℕ) → Bytes image → After (ask (load image)) h (started (st.Done m)) h' → InOrder h'
+  -- every call keeps it so, and a run of it is not refused 19
+  pub chain-kept : (calls : List Call) (h k : Held) (xs : List Answer) → AllTyped calls → Chain calls h xs k → InOrder h → InOrder k
+  pub run-in-order : (u : ℕ) (h h' : Held) (a : Answer) → InOrder h → RanBy u h a h' → refusedBy a ≡ some 19 → ⊥
+  -- ---- DEMAND 2: answer, stack, frames and last result are the Rust's own; every step is a written one
+
+  -- in as many turns as there are units and one, and in any more, the Rust comes to what the run comes to, and leaves its machine
+  pub as-the-rust : (h : Held) → Fine h → (u turns : ℕ)
+      → RunAs (worldIn h) (runOf (worldIn h) (machineOf h) u .machine) (endOf (worldIn h) (begin (machineOf h) u))
+      (rust.run (suc u + turns) (rustOf (worldIn h) (machineOf h)))
+  -- and the other way: whatever the Rust comes to, in however many turns, the run answers so where it meets no limit
+  pub from-the-rust : (h : Held) → Fine h → (u turns : ℕ) → Unlimited (endOf (worldIn h) (begin (machineOf h) u))
+      → AnswersAs (worldIn h) (runOf (worldIn h) (machineOf h) u) (rust.run turns (rustOf (worldIn h) (machineOf h)))
+  -- what the code answers is a path of written steps, with their units and root Returns
+  pub run-written : (m : Vm) (s : Stores) (e : Lent) (u : ℕ) (q : RunResult) (e' : Lent) → RunPost m s e u q e' → (c : Counts) (x : Ran) → answerIn e' q ≡ ran c x → Demand2 m s e u c x
+  pub returns-counted : (w : World) (n : ℕ) (m k : Progress) (s t : State) (p : Steps w n m s k t) → k .returns ≡ m .returns + rootReturns p
+  pub step-cost : (w : World) (s : State) → Costs (suc (pairsAt w s)) s (stepOf w s)
+  -- an instruction faults exactly if a check of its row fails, and by the number of the first that does
+  pub keeps-the-table : (w : World) (op : Op) (a b : ℕ) (s : State) → Keeps (firstFailed w s (checksOf op (s .frame .base) a b)) (execOf w op a b s)
+  -- in good order comparisons, lists, structs and fields are those of trees
+  pub as-trees : (w : World) (s : State) → Sane w s → AsTrees w s
+  -- ---- THE RETURN TRIP: reading a rule image and saving it undo each other; one program has one image
+
+  pub image-back : (p : Program) → Sound p → judge (imageOf p) ≡ fine p
+  pub image-only : (b : List ℕ) (p : Program) → Bytes b → judge b ≡ fine p → (b ≡ imageOf p) × Sound p
+  pub one-image : (p q : Program) → Sound p → Sound q → imageOf p ≡ imageOf q → p ≡ q
+  pub load-then-save : (b : List ℕ) (x y : Stores) (c : Counts) (out : List ℕ) → Bytes b → loadOf b x ≡ record { answer = l.Done c; stores = y } → saveOf c y out ≡ putOut b out
+  pub save-then-load : (c : Counts) (x : Stores) → programOk c x ≡ true → Below (2 ^ 64) (x .constants) → Below (2 ^ 32) (x .mainPlaces) → Below (2 ^ 32) (x .otherPlaces)
+      → Sound (programIn c x) × (judge (imageOf (programIn c x)) ≡ fine (programIn c x))
+  -- ---- DEMAND 3: what a run that ends in a fault leaves, and what every later call then says
+
+  pub fault-recovers : (h h' : Held) (u n : ℕ) (did : Tally) (j : ℕ) → RunPost (h .vm) (h .stores) (h .lent) u (r.Fault (h' .vm) n did j) (h' .lent) → h' .stores ≡ h .stores
+      → Demand3 u h n did (entriesIn j 0 (h' .lent .backtrace)) h'
+  pub chain-alike : (again : Bool) (cs : List Call) (h d e f : Held) (xs ys : List Answer) → AlikeHeld again h d → (anew cs ≡ true → again ≡ true) → AllTyped cs
+      → (p : Chain cs h xs e) (q : Chain cs d ys f) → AlikeChains again p q
+  pub past-counts-unseen : (calls : List Call) (h k e f : Held) (xs ys : List Answer) → Agree h k → Chain calls h xs e → Chain calls k ys f → xs ≡ ys
+  -- ---- NO SECOND ANSWER fits a contract
+
+  pub run-one : (m : Vm) (s : Stores) (e : Lent) (u : ℕ) (x y : RunResult) (e' k' : Lent) → RunPost m s e u x e' → RunPost m s e u y k' → SameRun m x y e' k'
+  pub ask-one : (q : Ask) (h h' k' : Held) (a b : Answer) → After (ask q) h a h' → After (ask q) h b k' → (a ≡ b) × (h' ≡ k')
+  -- ---- THE EXAMPLES, and the mistakes that invite themselves
+
+  pub examples-hold : map (λ (e : Example). e .gives) examples ≡ map (λ (e : Example). e .says) examples
+  pub mistakes-show : map (λ (x : Row). x .shown) mistakes ≡ map (λ (x : Row). x .is) mistakes
