@@ -1,9 +1,9 @@
 -- What a line asks.
 use mathlib.Core.Bool.{Bool, true, _&&_, _||_}
-use mathlib.Core.List.{List}
+use mathlib.Core.List.{List, _++_}
 use Prim.Native.Nat.{ℕ, min}
 use lib.Dec.{eqb}
-use lib.ListN.{length, getD, take}
+use lib.ListN.{length, getD, take, drop}
 use Rattle.model.specs.declared.Vm.{Vm}
 use Rattle.model.specs.declared.Shown.{Shown}
 use Rattle.model.specs.declared.Shown.the-variants as w
@@ -11,8 +11,8 @@ use Rattle.model.specs.declared.Headed.{Headed}
 use Rattle.model.specs.declared.Headed.the-variants as h
 use Rattle.model.specs.Basics.{if_then_else_, ascii}
 use Rattle.model.specs.Equality.{sameBytes}
-use Rattle.model.specs.declared.Told.{Told}
 use Rattle.model.specs.declared.Told.the-variants as t
+use Rattle.model.specs.Loading.{OutRes}
 use Rattle.model.specs.Readers.{blockHeaderOf, elementOf, textBytesOf}
 use Rattle.console.specs.declared.bridge.Call.the-variants as c
 use Rattle.console.specs.declared.commands.Lent.{Lent}
@@ -20,6 +20,7 @@ use Rattle.console.specs.declared.commands.Asked.{Asked}
 use Rattle.console.specs.declared.commands.Asked.the-variants as q
 use Rattle.console.specs.declared.commands.Group.{Group}
 use Rattle.console.specs.declared.commands.Group.the-variants as g
+use Rattle.console.specs.declared.emission.Kind.the-variants as k
 use Rattle.console.specs.Words.{wordsFrom, wordOf, numberOf, roomOf, hexOf}
 
 -- ---- calls over frames
@@ -82,12 +83,12 @@ isSaid what = if eqb (length what) 0 then true else eqb (getD what 0 0) 35
 unfoldable pub groupOf : List ℕ → Group
 groupOf what =
     if isSaid what then g.Said else (
-    if isCode what then g.Code else (
-    if isConstant what then g.Constant else (
-    if isName what then g.Name else (
+    if isCode what then g.Emit k.Code else (
+    if isConstant what then g.Emit k.Constant else (
+    if isName what then g.Emit k.Name else (
     if isLook what then g.Look else (
     if isRead what then g.Read else (
-    if sameBytes what (ascii "patch") then g.Patch else (
+    if sameBytes what (ascii "patch") then g.Emit k.Patch else (
     if sameBytes what (ascii "count") then g.Count else (
     if sameBytes what (ascii "result") then g.Result else (
     if sameBytes what (ascii "poke") then g.Poke else (
@@ -105,7 +106,10 @@ unfoldable pub elementAfter : Vm → Shown → ℕ → List ℕ → Shown
 elementAfter m (w.Value x) j cells = elementOf m x j cells
 elementAfter m (w.Refused n) j cells = w.Refused n
 
--- into so much of the space as there is room for
-unfoldable pub textAfter : Vm → Shown → ℕ → List ℕ → List ℕ → Told
-textAfter m (w.Value x) room text space = textBytesOf m x text (take (min room (length space)) space) .answer
-textAfter m (w.Refused n) room text space = t.Refused n
+-- into so much of a store as there is room for
+unfoldable pub textAfter : Vm → Shown → ℕ → List ℕ → List ℕ → OutRes
+textAfter m (w.Value x) room text out = record {
+  answer = textBytesOf m x text (take (min room (length out)) out) .answer;
+  out = textBytesOf m x text (take (min room (length out)) out) .out ++ drop (min room (length out)) out;
+}
+textAfter m (w.Refused n) room text out = record { answer = t.Refused n; out = out }

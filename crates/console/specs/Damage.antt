@@ -154,3 +154,14 @@ frameIn s i = if ltb i (length s / 3) then record { function = getD s (3 * i) 0;
 -- frame i put there, where there is room for one
 unfoldable pub frameAt : List ℕ → ℕ → Frame → List ℕ
 frameAt s i f = if ltb i (length s / 3) then putAt (putAt (putAt s (3 * i) (f .function)) (3 * i + 1) (f .position)) (3 * i + 2) (f .base) else s
+
+-- `frame I` shows a frame, `frame I FUNCTION POSITION BASE` puts one
+unfoldable pub frameArgs : List ℕ → ℕ → Args
+frameArgs line end = argsOf line 1 end (record { a = 281474976710655; b = 281474976710655; c = 281474976710655; d = 281474976710655; e = 281474976710655 })
+
+unfoldable pub frameAsked : List ℕ → List ℕ → List ℕ
+frameAsked line s =
+    if frameArgs line 2 .good then s else (
+    if frameArgs line 5 .good then frameAt s (frameArgs line 5 .a)
+    (record { function = frameArgs line 5 .b; position = frameArgs line 5 .c; base = frameArgs line 5 .d }) else
+    s)

@@ -11,7 +11,9 @@ use Rattle.model.specs.Equality.{sameBytes}
 use Rattle.model.specs.Stores.{Stores}
 use Rattle.model.specs.Emission.{Res, refuse, addOpOf, addOp1Of, addOp2Of, addOp3Of, patchOf, addConstantOf, addStructOf, beginFunctionOf, endFunctionOf}
 use Rattle.console.specs.declared.script.Args.{Args}
-use Rattle.console.specs.Words.{wordsFrom, wordOf, cutOf, numberOf, argsOf, hexOf}
+use Rattle.console.specs.declared.emission.Kind.{Kind}
+use Rattle.console.specs.declared.emission.Kind.the-variants as d
+use Rattle.console.specs.Words.{blank, wordsFrom, wordOf, cutOf, numberOf, argsOf, hexOf}
 
 -- a line that is not understood is refused by 0, which is no number of the rules
 unfoldable pub notKnown : Stores → Res
@@ -48,20 +50,20 @@ patchArgs line = argsOf line 1 3 (record { a = 65535; b = 65535; c = 0; d = 0; e
 unfoldable pub patchAsked : Counts → List ℕ → Stores → Res
 patchAsked c line s = if patchArgs line .good then patchOf c (patchArgs line .a % 65536) (patchArgs line .b % 65536) s else notKnown s
 
--- `scalar HEX16`, `boolean 0` or `1`, `string HEX`, `reference HEX`: a text goes by way of the space
+-- `scalar HEX16`, `boolean 0` or `1`, `string HEX`, `reference HEX`
 unfoldable pub booleanArgs : List ℕ → Args
 booleanArgs line = argsOf line 1 2 (record { a = 1; b = 0; c = 0; d = 0; e = 0 })
 
 -- the bytes that the words behind the command say
-unfoldable pub saidBytes : List ℕ → List ℕ → List ℕ
-saidBytes line space = cutOf (hexOf (wordsFrom line 1) space .out) 0 (hexOf (wordsFrom line 1) space .read .size)
+unfoldable pub saidBytes : List ℕ → List ℕ
+saidBytes line = cutOf (hexOf (wordsFrom line 1) blank .out) 0 (hexOf (wordsFrom line 1) blank .read .size)
 
-unfoldable pub constantAsked : Counts → List ℕ → List ℕ → Stores → Res
-constantAsked c line space s =
+unfoldable pub constantAsked : Counts → List ℕ → Stores → Res
+constantAsked c line s =
     if sameBytes (wordOf line 0) (ascii "scalar") then (if numberOf 16 (wordsFrom line 1) .good then addConstantOf c (k.Scalar (numberOf 16 (wordsFrom line 1) .is)) [] s else notKnown s) else (
     if sameBytes (wordOf line 0) (ascii "boolean") then (if booleanArgs line .good then addConstantOf c (k.Boolean (eqb (booleanArgs line .a) 1)) [] s else notKnown s) else (
-    if hexOf (wordsFrom line 1) space .read .good then (
-    if sameBytes (wordOf line 0) (ascii "string") then addConstantOf c k.String (saidBytes line space) s else addConstantOf c k.FunctionReference (saidBytes line space) s) else
+    if hexOf (wordsFrom line 1) blank .read .good then (
+    if sameBytes (wordOf line 0) (ascii "string") then addConstantOf c k.String (saidBytes line) s else addConstantOf c k.FunctionReference (saidBytes line) s) else
     notKnown s))
 
 -- `struct HEX`, `begin HEX`, `end`
@@ -72,8 +74,8 @@ nameGiven c what name s =
     if eqb (length name) 0 then record { answer = endFunctionOf c; stores = s } else
     notKnown s))
 
-unfoldable pub nameAsked : Counts → List ℕ → List ℕ → Stores → Res
-nameAsked c line space s = if hexOf (wordsFrom line 1) space .read .good then nameGiven c (wordOf line 0) (saidBytes line space) s else notKnown s
+unfoldable pub nameAsked : Counts → List ℕ → Stores → Res
+nameAsked c line s = if hexOf (wordsFrom line 1) blank .read .good then nameGiven c (wordOf line 0) (saidBytes line) s else notKnown s
 
 -- struct names, functions and text are lent
 unfoldable pub allNames : Stores → List ℕ → List ℕ → List ℕ → Stores
@@ -87,3 +89,10 @@ allNames rest ss fs t = record {
   other = rest .other;
   otherPlaces = rest .otherPlaces;
 }
+
+-- by the kind of the command
+unfoldable pub emitAsked : Kind → Counts → List ℕ → Stores → Res
+emitAsked d.Code c line s = codeAsked c line s
+emitAsked d.Patch c line s = patchAsked c line s
+emitAsked d.Constant c line s = constantAsked c line s
+emitAsked d.Name c line s = nameAsked c line s

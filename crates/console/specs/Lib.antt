@@ -5,3 +5,6 @@ pub mod Damage
 pub mod Said
 pub mod Asks
 pub mod Emits
+pub mod Resting
+pub mod Calls
+pub mod Turns

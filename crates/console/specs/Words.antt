@@ -3,7 +3,7 @@ use mathlib.Core.Bool.{Bool, true, false, _&&_, not}
 use mathlib.Core.List.{List, [], _∷_}
 use Prim.Native.Nat.{ℕ, zero, suc, _+_, _*_, _-_, _%_, _^_}
 use lib.Dec.{ltb, leb, eqb}
-use lib.ListN.{length, take, drop, set}
+use lib.ListN.{length, take, drop, set, replicate}
 use Rattle.model.specs.Basics.{if_then_else_}
 use Rattle.console.specs.declared.script.Line.{Line}
 use Rattle.console.specs.declared.script.Number.{Number}
@@ -38,6 +38,18 @@ cutOf s from to = if ltb to from then [] else (if ltb (length s) to then [] else
 -- the first line of a script
 unfoldable pub firstLine : List ℕ → Line
 firstLine s = record { start = 0; end = nextOf s 10 0; number = 1; on = true; left = length s }
+
+-- there is no line behind l
+unfoldable pub noLine : Line → Line
+noLine l = record { start = l .start; end = l .end; number = l .number; on = false; left = l .left }
+
+-- the line behind l; none where there is no byte behind its end, or none is left
+unfoldable pub nextLine : List ℕ → Line → Line
+nextLine s l =
+    if eqb (l .left) 0 then noLine l else (
+    if leb (length s) (l .end) then noLine l else (
+    if leb (length s) (l .end + 1) then noLine l else
+    record { start = l .end + 1; end = nextOf s 10 (l .end + 1); number = l .number % 4294967296 + 1; on = true; left = l .left - 1 }))
 
 -- the bytes of a line
 unfoldable pub lineOf : List ℕ → Line → List ℕ
@@ -129,6 +141,10 @@ withByte x b =
 -- no digit is left over
 unfoldable pub whole : Hexed → Hexed
 whole x = record { read = record { size = x .read .size; high = x .read .high; good = x .read .good && eqb (x .read .high) 16 }; out = x .out }
+
+-- the space that bytes are read into
+unfoldable pub blank : List ℕ
+blank = replicate 16384 0
 
 -- the bytes that words say, two digits to a byte, at the front of a store
 unfoldable pub hexOf : List ℕ → List ℕ → Hexed

@@ -9,10 +9,10 @@ use model::Started;
 use model::Told;
 use model::Vm;
 ghost use mathlib.Core.Path.{_≡_};
-ghost use Prim.Native.Nat.{_≤_};
-ghost use lib.ListN.{length};
 ghost use Rattle.console.specs.declared.bridge.Answer.the-variants as a;
-ghost use Rattle.console.specs.Lines.{weight};
+ghost use Rattle.console.specs.Damage.{frameAt};
+ghost use Rattle.console.specs.Resting.{lastOf, lastIn, allLaid, allKept};
+ghost use Rattle.console.specs.Calls.{held, Called, Bridged};
 
 // From the last frame to the first: where the next one stands, and whether there is one.
 pub struct Left {
@@ -22,15 +22,15 @@ pub struct Left {
 
 // The last of n.
 fn last_of(n: usize) -> Left
-    ensures { λ r. ⌜ weight (r .more) (r .at) ≤ n ⌝ }
+    ensures { λ r. ⌜ r ≡ lastOf n ⌝ }
 {
-    if n > 0 {
-        return Left {
-            at: n - 1,
-            more: true,
-        };
+    if n == 0 {
+        return Left { at: 0, more: false };
     }
-    Left { at: 0, more: false }
+    Left {
+        at: n - 1,
+        more: true,
+    }
 }
 
 // The same with the frame that rests there.
@@ -42,7 +42,7 @@ pub struct Resting {
 
 // The last of n frames that rest in words.
 fn last_in(words: &[u64], n: usize) -> Resting
-    ensures { λ r. ⌜ weight (r .more) (r .at) ≤ n ⌝ }
+    ensures { λ r. ⌜ r ≡ lastIn (now (words .entry)) n ⌝ }
 {
     let left = last_of(n);
     let frame = frame_in(words, left.at);
@@ -53,9 +53,9 @@ fn last_in(words: &[u64], n: usize) -> Resting
     }
 }
 
-// Keeps frame i in words; the one before it is next.
-fn kept(words: &mut [u64], i: usize, f: Frame) -> Left
-    ensures { λ r. ⌜ weight (r .more) (r .at) ≤ i ⌝ }
+// Puts frame i into words; the one before it is next.
+fn put_back(words: &mut [u64], i: usize, f: Frame) -> Left
+    ensures { λ r. ⌜ (r ≡ lastOf i) × (now (words .exit) ≡ frameAt (now (words .entry)) i f) ⌝ }
 {
     put_frame(words, i, f);
     last_of(i)
@@ -63,7 +63,7 @@ fn kept(words: &mut [u64], i: usize, f: Frame) -> Left
 
 // The frames that rest in words, as records.
 pub fn lay(frames: &mut [Frame], words: &[u64])
-    ensures { λ _. ⌜ length (now (frames .exit)) ≡ length (now (frames .entry)) ⌝ }
+    ensures { λ _. ⌜ now (frames .exit) ≡ allLaid (now (words .entry)) (now (frames .entry)) ⌝ }
 {
     let mut l = last_in(words, frames.len());
     while l.more {
@@ -75,12 +75,12 @@ pub fn lay(frames: &mut [Frame], words: &[u64])
 
 // The records, kept in words.
 pub fn keep(frames: &[Frame], words: &mut [u64])
-    ensures { λ _. ⌜ length (now (words .exit)) ≡ length (now (words .entry)) ⌝ }
+    ensures { λ _. ⌜ now (words .exit) ≡ allKept (now (frames .entry)) (now (words .entry)) ⌝ }
 {
     let mut l = last_of(frames.len());
     while l.more {
         let f = read_frame(frames, l.at);
-        let next = kept(words, l.at, f);
+        let next = put_back(words, l.at, f);
         l = next;
     }
 }
@@ -138,7 +138,7 @@ pub fn act(
     trace: &mut [u32],
     words: &mut [u64],
 ) -> Answer
-    ensures { λ _. ⌜ length (now (frames .exit)) ≡ length (now (frames .entry)) ⌝ }
+    ensures { λ r. ⌜ Called m call (now (image .entry)) (allLaid (now (words .entry)) (now (frames .entry))) (held (now (constants .entry)) (now (structs .entry)) (now (functions .entry)) (now (text .entry)) (now (main .entry)) (now («main_places» .entry)) (now (other .entry)) (now («other_places» .entry)) (now (stack .entry)) (now (cells .entry)) (now (copy .entry)) (now (trace .entry)) (now (words .entry))) r (now (frames .exit)) (held (now (constants .exit)) (now (structs .exit)) (now (functions .exit)) (now (text .exit)) (now (main .exit)) (now («main_places» .exit)) (now (other .exit)) (now («other_places» .exit)) (now (stack .exit)) (now (cells .exit)) (now (copy .exit)) (now (trace .exit)) (now (words .exit))) ⌝ }
 {
     lay(frames, words);
     match call {
@@ -225,7 +225,7 @@ pub fn with_frames(
     trace: &mut [u32],
     words: &mut [u64],
 ) -> Answer
-    ensures { λ _. ⌜ length (now (words .exit)) ≡ length (now (words .entry)) ⌝ }
+    ensures { λ r. ⌜ Bridged m call (now (image .entry)) (held (now (constants .entry)) (now (structs .entry)) (now (functions .entry)) (now (text .entry)) (now (main .entry)) (now («main_places» .entry)) (now (other .entry)) (now («other_places» .entry)) (now (stack .entry)) (now (cells .entry)) (now (copy .entry)) (now (trace .entry)) (now (words .entry))) r (held (now (constants .exit)) (now (structs .exit)) (now (functions .exit)) (now (text .exit)) (now (main .exit)) (now («main_places» .exit)) (now (other .exit)) (now («other_places» .exit)) (now (stack .exit)) (now (cells .exit)) (now (copy .exit)) (now (trace .exit)) (now (words .exit))) ⌝ }
 {
     let none = Frame {
         function: 0,

@@ -2,9 +2,11 @@
 use crate::bridge::Call;
 use crate::damage;
 use crate::emission;
+use crate::emission::Kind;
 use crate::reading;
 use crate::say;
 use crate::script;
+use crate::script::Args;
 use crate::script::Most;
 use crate::script::word;
 use crate::stores;
@@ -20,6 +22,9 @@ ghost use mathlib.Core.Path.{_≡_};
 ghost use Rattle.console.specs.Asks.{lentWhole, askNew, askTrace, askRun, askLoad, askOf, isCode, isConstant, isName, isLook, isRead, isSaid, groupOf};
 ghost use Rattle.console.specs.Said.{noMachine, afterDamage};
 ghost use Rattle.console.specs.Sums.{sumOf};
+ghost use Rattle.console.specs.Damage.{frameArgs, frameAsked};
+ghost use Rattle.console.specs.Calls.{held};
+ghost use Rattle.console.specs.Turns.{obeyed};
 
 // How much a call over frames is lent: bytes of the space, which are its image, and places of the copy store and of the backtrace store.
 pub struct Lent {
@@ -122,11 +127,8 @@ pub fn ask(line: &[u8], space: &mut stores::Space) -> Asked
 }
 
 // The commands that need no frames, in groups.
-enum Group {
-    Code,
-    Patch,
-    Constant,
-    Name,
+pub enum Group {
+    Emit(Kind),
     Look,
     Read,
     Count,
@@ -198,13 +200,13 @@ fn group_of(what: &[u8]) -> Group
         return Group::Said;
     }
     if is_code(what) {
-        return Group::Code;
+        return Group::Emit(Kind::Code);
     }
     if is_constant(what) {
-        return Group::Constant;
+        return Group::Emit(Kind::Constant);
     }
     if is_name(what) {
-        return Group::Name;
+        return Group::Emit(Kind::Name);
     }
     if is_look(what) {
         return Group::Look;
@@ -213,7 +215,7 @@ fn group_of(what: &[u8]) -> Group
         return Group::Read;
     }
     if same_bytes(what, b"patch") {
-        return Group::Patch;
+        return Group::Emit(Kind::Patch);
     }
     if same_bytes(what, b"count") {
         return Group::Count;
@@ -241,9 +243,11 @@ fn echo(line: &[u8]) {
     }
 }
 
-// `save`: the image, in hex.
+// `save`: the image, in hex, from so much room.
 fn save(
     c: Counts,
+    room: usize,
+    number: u64,
     constants: &[u64],
     structs: &[u64],
     functions: &[u64],
@@ -252,9 +256,9 @@ fn save(
     main_places: &[u32],
     other: &[u8],
     other_places: &[u32],
-    space: &mut [u8],
-    number: u64,
 ) {
+    let mut space = [0u8; 16384];
+    let n = script::at_most(room, space.len());
     let told = image_save::save(
         c,
         constants,
@@ -265,33 +269,47 @@ fn save(
         main_places,
         other,
         other_places,
-        space,
+        &mut space[..n],
     );
     match told {
-        Told::Number(n) => {
-            say::say_count(b"image ", n);
+        Told::Number(size) => {
+            say::say_count(b"image ", size);
             say::say(b" ");
-            say::say_bytes(script::cut(space, 0, n));
+            say::say_bytes(script::front(&space, size));
         }
-        Told::Refused(n) => say::say_refused(n, number),
+        Told::Refused(no) => say::say_refused(no, number),
     }
 }
 
-// `list`: the listing.
+// `list`: the listing, from so much room.
 fn list<'a>(
     c: Counts,
+    room: usize,
+    number: u64,
     functions: &[u64],
     text: &[u8],
     main: &'a [u8],
     other: &'a [u8],
-    space: &mut [u8],
-    number: u64,
 ) {
-    let told = listing::disassemble(c, functions, text, main, other, space);
+    let mut space = [0u8; 16384];
+    let n = script::at_most(room, space.len());
+    let told = listing::disassemble(c, functions, text, main, other, &mut space[..n]);
     match told {
-        Told::Number(n) => say::say(script::cut(space, 0, n)),
-        Told::Refused(n) => say::say_refused(n, number),
+        Told::Number(size) => say::say(script::front(&space, size)),
+        Told::Refused(no) => say::say_refused(no, number),
     }
+}
+
+// `find HEX`.
+fn find(c: Counts, line: &[u8], number: u64, functions: &[u64], text: &[u8]) {
+    let mut space = [0u8; 16384];
+    let b = script::read_bytes(script::words_from(line, 1), &mut space);
+    if b.good {
+        let name = script::front(&space, b.size);
+        say::say_told(get_function_idx(c, name, functions, text), number);
+        return;
+    }
+    say::say_unknown(number);
 }
 
 // `offset`, `find HEX`, `save`, `list`, the last two with the ROOM of the space that they are lent.
@@ -299,7 +317,6 @@ fn look<'a>(
     c: Counts,
     line: &[u8],
     number: u64,
-    space: &mut [u8],
     constants: &[u64],
     structs: &[u64],
     functions: &[u64],
@@ -315,13 +332,7 @@ fn look<'a>(
         return;
     }
     if same_bytes(what, b"find") {
-        let b = script::read_bytes(script::words_from(line, 1), space);
-        if b.good {
-            let name = script::cut(space, 0, b.size);
-            say::say_told(get_function_idx(c, name, functions, text), number);
-            return;
-        }
-        say::say_unknown(number);
+        find(c, line, number, functions, text);
         return;
     }
     let room = script::read_room(line, 1);
@@ -329,11 +340,11 @@ fn look<'a>(
         say::say_unknown(number);
         return;
     }
-    let n = script::at_most(room.is as usize, space.len());
-    let lent = &mut space[..n];
     if same_bytes(what, b"save") {
         save(
             c,
+            room.is as usize,
+            number,
             constants,
             structs,
             functions,
@@ -342,12 +353,10 @@ fn look<'a>(
             main_places,
             other,
             other_places,
-            lent,
-            number,
         );
         return;
     }
-    list(c, functions, text, main, other, lent, number);
+    list(c, room.is as usize, number, functions, text, main, other);
 }
 
 // Damage is not answered, unless it is not understood.
@@ -367,22 +376,35 @@ fn poked(good: bool, number: u64) {
     }
 }
 
-// `frame I` shows a frame, `frame I FUNCTION POSITION BASE` puts one.
-fn frame(line: &[u8], number: u64, frames: &mut [u64]) {
+// The numbers of a frame's line.
+fn frame_args(line: &[u8], end: usize) -> Args
+    ensures { λ r. ⌜ r ≡ frameArgs (now (line .entry)) end ⌝ }
+{
     let most = 0xFFFF_FFFF_FFFF;
-    let limits = Most {
-        a: most,
-        b: most,
-        c: most,
-        d: most,
-        e: most,
-    };
-    let one = script::read_args(line, 1, 2, limits);
+    script::read_args(
+        line,
+        1,
+        end,
+        Most {
+            a: most,
+            b: most,
+            c: most,
+            d: most,
+            e: most,
+        },
+    )
+}
+
+// `frame I` shows a frame, `frame I FUNCTION POSITION BASE` puts one.
+fn frame(line: &[u8], number: u64, frames: &mut [u64])
+    ensures { λ _. ⌜ now (frames .exit) ≡ frameAsked (now (line .entry)) (now (frames .entry)) ⌝ }
+{
+    let one = frame_args(line, 2);
     if one.good {
         say::say_frame(damage::frame_in(frames, one.a as usize));
         return;
     }
-    let all = script::read_args(line, 1, 5, limits);
+    let all = frame_args(line, 5);
     if all.good {
         let f = Frame {
             function: all.b as usize,
@@ -430,109 +452,41 @@ fn sum(
     damage::mixed_words(o, frames)
 }
 
-// A line that emits; the machine as it then is.
-fn emit(
+// What a line tells of a machine and its stores.
+fn tell<'a>(
     m: Vm,
     group: Group,
     line: &[u8],
     number: u64,
-    space: &mut stores::Space,
-    constants: &mut stores::Constants,
-    structs: &mut stores::Structs,
-    functions: &mut stores::Functions,
-    text: &mut stores::Text,
-    main: &mut stores::Code,
-    main_places: &mut stores::Places,
-    other: &mut stores::Code,
-    other_places: &mut stores::Places,
-) -> Vm {
-    let c = m.program;
-    match group {
-        Group::Code => {
-            let e = emission::emit_code(c, line, functions, main, main_places, other, other_places);
-            say::say_emitted(m, e, number)
-        }
-        Group::Patch => {
-            let e = emission::emit_patch(c, line, functions, main, other);
-            say::say_emitted(m, e, number)
-        }
-        Group::Constant => {
-            let e = emission::emit_constant(c, line, space, constants, text);
-            say::say_emitted(m, e, number)
-        }
-        _ => {
-            let e = emission::emit_name(c, line, space, structs, functions, text);
-            say::say_emitted(m, e, number)
-        }
-    }
-}
-
-// A line that needs no frames; the machine as it then is.
-pub fn obey(
-    m: Vm,
-    line: &[u8],
-    number: u64,
-    space: &mut stores::Space,
-    constants: &mut stores::Constants,
-    structs: &mut stores::Structs,
-    functions: &mut stores::Functions,
-    text: &mut stores::Text,
-    main: &mut stores::Code,
-    main_places: &mut stores::Places,
-    other: &mut stores::Code,
-    other_places: &mut stores::Places,
-    stack: &mut stores::Stack,
-    cells: &mut stores::Cells,
+    constants: &stores::Constants,
+    structs: &stores::Structs,
+    functions: &stores::Functions,
+    text: &stores::Text,
+    main: &'a stores::Code,
+    main_places: &stores::Places,
+    other: &'a stores::Code,
+    other_places: &stores::Places,
+    stack: &stores::Stack,
+    cells: &stores::Cells,
     copy: &stores::Stack,
     trace: &stores::Trace,
-    frames: &mut stores::Frames,
-) -> Vm {
-    let group = group_of(word(line, 0));
+    frames: &stores::Frames,
+) {
     match group {
-        Group::Look => {
-            look(
-                m.program,
-                line,
-                number,
-                space,
-                constants,
-                structs,
-                functions,
-                text,
-                main,
-                main_places,
-                other,
-                other_places,
-            );
-            m
-        }
-        Group::Read => {
-            reading::read(m, line, number, space, text, stack, cells);
-            m
-        }
-        Group::Count => damaged(m, damage::with_count(m, line), number),
-        Group::Result => damaged(m, damage::with_result(m, line), number),
-        Group::Poke => {
-            let good = damage::poke(
-                line,
-                constants,
-                structs,
-                functions,
-                text,
-                main,
-                main_places,
-                other,
-                other_places,
-                stack,
-                cells,
-            );
-            poked(good, number);
-            m
-        }
-        Group::Frame => {
-            frame(line, number, frames);
-            m
-        }
+        Group::Look => look(
+            m.program,
+            line,
+            number,
+            constants,
+            structs,
+            functions,
+            text,
+            main,
+            main_places,
+            other,
+            other_places,
+        ),
+        Group::Read => reading::read(m, line, number, text, stack, cells),
         Group::Sum => {
             let h = sum(
                 m,
@@ -551,31 +505,96 @@ pub fn obey(
                 frames,
             );
             say::say_sum(h);
-            m
         }
-        Group::Said => {
-            echo(line);
-            m
+        Group::Said => echo(line),
+        _ => say::say_unknown(number),
+    }
+}
+
+// A line that needs no frames; the machine as it then is.
+pub fn obey(
+    m: Vm,
+    line: &[u8],
+    number: u64,
+    constants: &mut stores::Constants,
+    structs: &mut stores::Structs,
+    functions: &mut stores::Functions,
+    text: &mut stores::Text,
+    main: &mut stores::Code,
+    main_places: &mut stores::Places,
+    other: &mut stores::Code,
+    other_places: &mut stores::Places,
+    stack: &mut stores::Stack,
+    cells: &mut stores::Cells,
+    copy: &stores::Stack,
+    trace: &stores::Trace,
+    frames: &mut stores::Frames,
+) -> Vm
+    ensures { λ r. ⌜ record { m = r; held = held (now (constants .exit)) (now (structs .exit)) (now (functions .exit)) (now (text .exit)) (now (main .exit)) (now («main_places» .exit)) (now (other .exit)) (now («other_places» .exit)) (now (stack .exit)) (now (cells .exit)) (now (copy .entry)) (now (trace .entry)) (now (frames .exit)) } ≡ obeyed (now (line .entry)) m (held (now (constants .entry)) (now (structs .entry)) (now (functions .entry)) (now (text .entry)) (now (main .entry)) (now («main_places» .entry)) (now (other .entry)) (now («other_places» .entry)) (now (stack .entry)) (now (cells .entry)) (now (copy .entry)) (now (trace .entry)) (now (frames .entry))) ⌝ }
+{
+    let group = group_of(word(line, 0));
+    match group {
+        Group::Emit(kind) => {
+            let e = emission::emit(
+                m.program,
+                kind,
+                line,
+                constants,
+                structs,
+                functions,
+                text,
+                main,
+                main_places,
+                other,
+                other_places,
+            );
+            return say::say_emitted(m, e, number);
         }
-        Group::Unknown => {
-            say::say_unknown(number);
-            m
+        Group::Count => return damaged(m, damage::with_count(m, line), number),
+        Group::Result => return damaged(m, damage::with_result(m, line), number),
+        Group::Poke => {
+            let good = damage::poke(
+                line,
+                constants,
+                structs,
+                functions,
+                text,
+                main,
+                main_places,
+                other,
+                other_places,
+                stack,
+                cells,
+            );
+            poked(good, number);
+            return m;
         }
-        _ => emit(
-            m,
-            group,
-            line,
-            number,
-            space,
-            constants,
-            structs,
-            functions,
-            text,
-            main,
-            main_places,
-            other,
-            other_places,
-        ),
+        Group::Frame => {
+            frame(line, number, frames);
+            return m;
+        }
+        _ => {
+            tell(
+                m,
+                group,
+                line,
+                number,
+                constants,
+                structs,
+                functions,
+                text,
+                main,
+                main_places,
+                other,
+                other_places,
+                stack,
+                cells,
+                copy,
+                trace,
+                frames,
+            );
+            return m;
+        }
     }
 }
 

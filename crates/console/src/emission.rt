@@ -1,7 +1,7 @@
 // The commands that emit a program: each calls one entry of emission.
 use crate::script::Args;
 use crate::script::Most;
-use crate::script::cut;
+use crate::script::front;
 use crate::script::hex;
 use crate::script::read_args;
 use crate::script::read_bytes;
@@ -22,7 +22,8 @@ ghost use lib.Dec.{ltb};
 ghost use Rattle.model.specs.declared.Emitted.the-variants.{Refused};
 ghost use Rattle.model.specs.Stores.{Stores};
 ghost use Rattle.layout.specs.Links.{Is, codeLent, bytesLent, constantsLent};
-ghost use Rattle.console.specs.Emits.{opArgs, codeAsked, patchAsked, constantAsked, nameGiven, nameAsked, allNames};
+ghost use Rattle.model.specs.Stores.{storesOf};
+ghost use Rattle.console.specs.Emits.{opArgs, codeAsked, patchAsked, constantAsked, nameGiven, nameAsked, allNames, emitAsked};
 
 fn byte(n: u64) -> u8
     ensures { λ r. ⌜ r ≡ n % 256 ⌝ }
@@ -76,7 +77,7 @@ fn unknown() -> Emitted
 }
 
 // `op N PLACE`, and `op1`, `op2`, `op3` with operands between.
-pub fn emit_code(
+fn emit_code(
     c: Counts,
     line: &[u8],
     functions: &mut stores::Functions,
@@ -159,7 +160,7 @@ pub fn emit_code(
 }
 
 // `patch AT VALUE`.
-pub fn emit_patch(
+fn emit_patch(
     c: Counts,
     line: &[u8],
     functions: &stores::Functions,
@@ -193,15 +194,14 @@ pub fn emit_patch(
     unknown()
 }
 
-// `scalar HEX16`, `boolean 0` or `1`, `string HEX`, `reference HEX`. A text's bytes go by way of space.
-pub fn emit_constant(
+// `scalar HEX16`, `boolean 0` or `1`, `string HEX`, `reference HEX`. A text's bytes go by way of a space of its own.
+fn emit_constant(
     c: Counts,
     line: &[u8],
-    space: &mut stores::Space,
     constants: &mut stores::Constants,
     text: &mut stores::Text,
 ) -> Emitted
-    ensures { λ r. ⌜ ((rest : Stores) → Is (constantAsked c (now (line .entry)) (now (space .entry)) (constantsLent rest (now (constants .entry)) (now (text .entry)))) r (constantsLent rest (now (constants .exit)) (now (text .exit)))) ⌝ }
+    ensures { λ r. ⌜ ((rest : Stores) → Is (constantAsked c (now (line .entry)) (constantsLent rest (now (constants .entry)) (now (text .entry)))) r (constantsLent rest (now (constants .exit)) (now (text .exit)))) ⌝ }
 {
     let what = word(line, 0);
     if same_bytes(what, b"scalar") {
@@ -229,9 +229,10 @@ pub fn emit_constant(
         }
         return unknown();
     }
-    let b = read_bytes(words_from(line, 1), space);
+    let mut space = [0u8; 16384];
+    let b = read_bytes(words_from(line, 1), &mut space);
     if b.good {
-        let lent = cut(space, 0, b.size);
+        let lent = front(&space, b.size);
         if same_bytes(what, b"string") {
             return add_constant(c, Constant::String, lent, constants, text);
         }
@@ -264,20 +265,52 @@ fn named(
 }
 
 // `struct HEX`, `begin HEX`, `end`.
-pub fn emit_name(
+fn emit_name(
     c: Counts,
     line: &[u8],
-    space: &mut stores::Space,
     structs: &mut stores::Structs,
     functions: &mut stores::Functions,
     text: &mut stores::Text,
 ) -> Emitted
-    ensures { λ r. ⌜ ((rest : Stores) → Is (nameAsked c (now (line .entry)) (now (space .entry)) (allNames rest (now (structs .entry)) (now (functions .entry)) (now (text .entry)))) r (allNames rest (now (structs .exit)) (now (functions .exit)) (now (text .exit)))) ⌝ }
+    ensures { λ r. ⌜ ((rest : Stores) → Is (nameAsked c (now (line .entry)) (allNames rest (now (structs .entry)) (now (functions .entry)) (now (text .entry)))) r (allNames rest (now (structs .exit)) (now (functions .exit)) (now (text .exit)))) ⌝ }
 {
     let what = word(line, 0);
-    let b = read_bytes(words_from(line, 1), space);
+    let mut space = [0u8; 16384];
+    let b = read_bytes(words_from(line, 1), &mut space);
     if b.good {
-        return named(c, what, cut(space, 0, b.size), structs, functions, text);
+        return named(c, what, front(&space, b.size), structs, functions, text);
     }
     unknown()
+}
+
+// The commands that emit, in kinds.
+pub enum Kind {
+    Code,
+    Patch,
+    Constant,
+    Name,
+}
+
+// A line that emits.
+pub fn emit(
+    c: Counts,
+    kind: Kind,
+    line: &[u8],
+    constants: &mut stores::Constants,
+    structs: &mut stores::Structs,
+    functions: &mut stores::Functions,
+    text: &mut stores::Text,
+    main: &mut stores::Code,
+    main_places: &mut stores::Places,
+    other: &mut stores::Code,
+    other_places: &mut stores::Places,
+) -> Emitted
+    ensures { λ r. ⌜ Is (emitAsked kind c (now (line .entry)) (storesOf (now (constants .entry)) (now (structs .entry)) (now (functions .entry)) (now (text .entry)) (now (main .entry)) (now («main_places» .entry)) (now (other .entry)) (now («other_places» .entry)))) r (storesOf (now (constants .exit)) (now (structs .exit)) (now (functions .exit)) (now (text .exit)) (now (main .exit)) (now («main_places» .exit)) (now (other .exit)) (now («other_places» .exit))) ⌝ }
+{
+    match kind {
+        Kind::Code => emit_code(c, line, functions, main, main_places, other, other_places),
+        Kind::Patch => emit_patch(c, line, functions, main, other),
+        Kind::Constant => emit_constant(c, line, constants, text),
+        Kind::Name => emit_name(c, line, structs, functions, text),
+    }
 }

@@ -21,9 +21,14 @@ use crate::script::Line;
 use crate::script::bytes_of;
 use crate::script::cut;
 use crate::script::first_line;
+use crate::script::front;
 use crate::script::next_line;
 use crate::script::two_each;
 use model::Vm;
+ghost use Rattle.console.specs.Words.{firstLine, lineOf};
+ghost use Rattle.console.specs.Calls.{held, OverFrames};
+ghost use Rattle.console.specs.Turns.{Turned, Played};
+ghost use Rattle.console.specs.Said.{noMachine};
 
 // A call over frames, lent as much of the space, the copy store and the backtrace store as it asks; the machine as it then is.
 fn over_frames(
@@ -31,7 +36,7 @@ fn over_frames(
     call: Call,
     lent: Lent,
     number: u64,
-    space: &stores::Space,
+    image: &[u8],
     constants: &mut stores::Constants,
     structs: &mut stores::Structs,
     functions: &mut stores::Functions,
@@ -45,7 +50,9 @@ fn over_frames(
     copy: &mut [u64],
     trace: &mut [u32],
     frames: &mut stores::Frames,
-) -> Vm {
+) -> Vm
+    ensures { λ r. ⌜ OverFrames m call (now (image .entry)) lent (held (now (constants .entry)) (now (structs .entry)) (now (functions .entry)) (now (text .entry)) (now (main .entry)) (now («main_places» .entry)) (now (other .entry)) (now («other_places» .entry)) (now (stack .entry)) (now (cells .entry)) (now (copy .entry)) (now (trace .entry)) (now (frames .entry))) r (held (now (constants .exit)) (now (structs .exit)) (now (functions .exit)) (now (text .exit)) (now (main .exit)) (now («main_places» .exit)) (now (other .exit)) (now («other_places» .exit)) (now (stack .exit)) (now (cells .exit)) (now (copy .exit)) (now (trace .exit)) (now (frames .exit))) ⌝ }
+{
     let words = two_each(lent.copy, copy.len());
     let entries = two_each(lent.trace, trace.len());
     let lent_copy = &mut copy[..words];
@@ -53,7 +60,7 @@ fn over_frames(
     let answer = with_frames(
         m,
         call,
-        cut(space, 0, lent.image),
+        image,
         constants,
         structs,
         functions,
@@ -76,7 +83,6 @@ fn turn(
     m: Vm,
     l: Line,
     script: &[u8],
-    space: &mut stores::Space,
     constants: &mut stores::Constants,
     structs: &mut stores::Structs,
     functions: &mut stores::Functions,
@@ -90,56 +96,62 @@ fn turn(
     copy: &mut stores::Stack,
     trace: &mut stores::Trace,
     frames: &mut stores::Frames,
-) -> Vm {
+) -> Vm
+    ensures { λ r. ⌜ Turned (lineOf (now (script .entry)) l) m (held (now (constants .entry)) (now (structs .entry)) (now (functions .entry)) (now (text .entry)) (now (main .entry)) (now («main_places» .entry)) (now (other .entry)) (now («other_places» .entry)) (now (stack .entry)) (now (cells .entry)) (now (copy .entry)) (now (trace .entry)) (now (frames .entry))) r (held (now (constants .exit)) (now (structs .exit)) (now (functions .exit)) (now (text .exit)) (now (main .exit)) (now («main_places» .exit)) (now (other .exit)) (now («other_places» .exit)) (now (stack .exit)) (now (cells .exit)) (now (copy .exit)) (now (trace .exit)) (now (frames .exit))) ⌝ }
+{
     let line = bytes_of(script, l);
-    let asked = ask(line, space);
+    let mut space = [0u8; 16384];
+    let asked = ask(line, &mut space);
     match asked {
-        Asked::Frames(call, lent) => over_frames(
-            m,
-            call,
-            lent,
-            l.number,
-            space,
-            constants,
-            structs,
-            functions,
-            text,
-            main,
-            main_places,
-            other,
-            other_places,
-            stack,
-            cells,
-            copy,
-            trace,
-            frames,
-        ),
-        Asked::Other => obey(
-            m,
-            line,
-            l.number,
-            space,
-            constants,
-            structs,
-            functions,
-            text,
-            main,
-            main_places,
-            other,
-            other_places,
-            stack,
-            cells,
-            copy,
-            trace,
-            frames,
-        ),
+        Asked::Frames(call, lent) => {
+            let image = front(&space, lent.image);
+            return over_frames(
+                m,
+                call,
+                lent,
+                l.number,
+                image,
+                constants,
+                structs,
+                functions,
+                text,
+                main,
+                main_places,
+                other,
+                other_places,
+                stack,
+                cells,
+                copy,
+                trace,
+                frames,
+            );
+        }
+        Asked::Other => {
+            return obey(
+                m,
+                line,
+                l.number,
+                constants,
+                structs,
+                functions,
+                text,
+                main,
+                main_places,
+                other,
+                other_places,
+                stack,
+                cells,
+                copy,
+                trace,
+                frames,
+            );
+        }
     }
 }
 
 // The script, line by line.
 fn play(
     script: &[u8],
-    space: &mut stores::Space,
     constants: &mut stores::Constants,
     structs: &mut stores::Structs,
     functions: &mut stores::Functions,
@@ -153,7 +165,9 @@ fn play(
     copy: &mut stores::Stack,
     trace: &mut stores::Trace,
     frames: &mut stores::Frames,
-) {
+)
+    ensures { λ _. ⌜ Played (now (script .entry)) (firstLine (now (script .entry))) noMachine (held (now (constants .entry)) (now (structs .entry)) (now (functions .entry)) (now (text .entry)) (now (main .entry)) (now («main_places» .entry)) (now (other .entry)) (now («other_places» .entry)) (now (stack .entry)) (now (cells .entry)) (now (copy .entry)) (now (trace .entry)) (now (frames .entry))) (held (now (constants .exit)) (now (structs .exit)) (now (functions .exit)) (now (text .exit)) (now (main .exit)) (now («main_places» .exit)) (now (other .exit)) (now («other_places» .exit)) (now (stack .exit)) (now (cells .exit)) (now (copy .exit)) (now (trace .exit)) (now (frames .exit))) ⌝ }
+{
     let mut m = no_machine();
     let mut l = first_line(script);
     while l.on {
@@ -161,7 +175,6 @@ fn play(
             m,
             l,
             script,
-            space,
             constants,
             structs,
             functions,
@@ -183,7 +196,6 @@ fn play(
 fn main() {
     let mut input = io::large_buffer();
     let n = io::read_full(0, &mut input);
-    let mut space = [0u8; 16384];
     let mut constants = [0u64; 512];
     let mut structs = [0u64; 512];
     let mut functions = [0u64; 512];
@@ -199,7 +211,6 @@ fn main() {
     let mut frames = [0u64; 768];
     play(
         cut(&input, 0, n),
-        &mut space,
         &mut constants,
         &mut structs,
         &mut functions,

@@ -36,14 +36,14 @@ fn element_of(m: Vm, s: Shown, j: usize, cells: &[u64]) -> Shown
     }
 }
 
-// The text of a value that was shown, into so much of space as there is room for.
-fn text_of(m: Vm, s: Shown, room: usize, text: &[u8], space: &mut [u8]) -> Told
-    ensures { λ r. ⌜ r ≡ textAfter m s room (now (text .entry)) (now (space .entry)) ⌝ }
+// The text of a value that was shown, into so much of out as there is room for.
+fn text_of(m: Vm, s: Shown, room: usize, text: &[u8], out: &mut [u8]) -> Told
+    ensures { λ r. ⌜ record { answer = r; out = now (out .exit) } ≡ textAfter m s room (now (text .entry)) (now (out .entry)) ⌝ }
 {
     match s {
         Shown::Value(v) => {
-            let n = script::at_most(room, space.len());
-            text_bytes(m, v, text, &mut space[..n])
+            let n = script::at_most(room, out.len());
+            text_bytes(m, v, text, &mut out[..n])
         }
         Shown::Refused(n) => Told::Refused(n),
     }
@@ -54,7 +54,6 @@ pub fn read(
     m: Vm,
     line: &[u8],
     number: u64,
-    space: &mut stores::Space,
     text: &stores::Text,
     stack: &stores::Stack,
     cells: &stores::Cells,
@@ -73,8 +72,9 @@ pub fn read(
     }
     let shown = stack_value(m, i.is as usize, stack);
     if same_bytes(what, b"text") {
-        let told = text_of(m, shown, j.is as usize, text, space);
-        say::say_text(told, space, number);
+        let mut space = [0u8; 16384];
+        let told = text_of(m, shown, j.is as usize, text, &mut space);
+        say::say_text(told, &space, number);
         return;
     }
     let more = script::words_from(line, 2);

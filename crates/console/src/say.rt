@@ -1,6 +1,7 @@
 // What is printed: a line for each answer.
 use crate::bridge::Answer;
-use crate::script::cut;
+use crate::script::front;
+use crate::stores;
 use model::Emitted;
 use model::Frame;
 use model::Headed;
@@ -264,12 +265,12 @@ pub fn say_headed(h: Headed, number: u64) {
 }
 
 // or the bytes of a text, which lie at the front of space.
-pub fn say_text(t: Told, space: &[u8], number: u64) {
+pub fn say_text(t: Told, space: &stores::Space, number: u64) {
     match t {
         Told::Number(n) => {
             say_count(b"text ", n);
             say(b" ");
-            say_bytes(cut(space, 0, n));
+            say_bytes(front(space, n));
         }
         Told::Refused(n) => say_refused(n, number),
     }

@@ -1,9 +1,9 @@
 // A script's lines, their words, and the numbers and bytes that words say.
+use crate::stores;
 use layout::reads::lesser;
 ghost use mathlib.Core.Path.{_≡_};
 ghost use Prim.Native.Nat.{_*_, _/_, _≤_, min};
-ghost use Rattle.console.specs.Lines.{weight};
-ghost use Rattle.console.specs.Words.{nextOf, nextWord, cutOf, firstLine, lineOf, wordsFrom, wordOf, digitOf, noNumber, withDigit, numberOf, aloneOf, roomOf, argOf, argsOf, withByte, hexOf};
+ghost use Rattle.console.specs.Words.{nextOf, nextWord, cutOf, firstLine, noLine, nextLine, lineOf, wordsFrom, wordOf, digitOf, noNumber, withDigit, numberOf, aloneOf, roomOf, argOf, argsOf, withByte, hexOf};
 
 // A line: where it starts and ends, its number, whether there is such a line, and how many more there can be.
 pub struct Line {
@@ -55,6 +55,13 @@ pub fn cut(s: &[u8], from: usize, to: usize) -> &[u8]
     &s[from..to]
 }
 
+// The first n bytes of a space; none where it has fewer.
+pub fn front(space: &stores::Space, n: usize) -> &[u8]
+    ensures { λ r. ⌜ now r ≡ cutOf (now (space .entry)) 0 n ⌝ }
+{
+    cut(space, 0, n)
+}
+
 pub fn first_line(script: &[u8]) -> Line
     ensures { λ r. ⌜ r ≡ firstLine (now (script .entry)) ⌝ }
 {
@@ -67,36 +74,37 @@ pub fn first_line(script: &[u8]) -> Line
     }
 }
 
+// There is no line behind l.
+fn no_line(l: Line) -> Line
+    ensures { λ r. ⌜ r ≡ noLine l ⌝ }
+{
+    Line { on: false, ..l }
+}
+
 // The line behind l. There are no more lines than bytes.
 pub fn next_line(l: Line, script: &[u8]) -> Line
-    ensures { λ r. ⌜ weight (r .on) (r .left) ≤ l .left ⌝ }
+    ensures { λ r. ⌜ r ≡ nextLine (now (script .entry)) l ⌝ }
 {
     let left = l.left;
     let end = l.end;
-    let size = script.len();
-    if left > 0 {
-        if end < size {
-            let start = end + 1;
-            if start < size {
-                let to = next_of(script, b'\n', start);
-                let number = l.number % 0x1_0000_0000 + 1;
-                let fewer = left - 1;
-                return Line {
-                    start,
-                    end: to,
-                    number,
-                    on: true,
-                    left: fewer,
-                };
-            }
-        }
+    if left == 0 {
+        return no_line(l);
     }
+    if script.len() <= end {
+        return no_line(l);
+    }
+    let start = end + 1;
+    if script.len() <= start {
+        return no_line(l);
+    }
+    let to = next_of(script, b'\n', start);
+    let number = l.number % 0x1_0000_0000 + 1;
     Line {
-        start: end,
-        end,
-        number: l.number,
-        on: false,
-        left,
+        start,
+        end: to,
+        number,
+        on: true,
+        left: left - 1,
     }
 }
 

@@ -1,7 +1,7 @@
--- `over_frames` lends as much of the copy store and of the backtrace store as it is asked.
 use borrow.Author.Needs.{needs}
 use mathlib.Core.Path.{sym}
 use lib.Seq.{length-take-le}
+use Rattle.console.proofs.Turning.{over-is}
 use Rattle.console.proofs.over_frames.Statement.{statement}
 use Rattle.console.proofs.over_frames.Tie as tie
 
@@ -16,19 +16,18 @@ slice-relend-prefix-lent-copy c = search needs
 
 slice-aggregate-lent-copy : tie.Need-slice-aggregate-lent-copy
 slice-aggregate-lent-copy c =
-    sym (length-take-le _ (c .before .before .before .before .before .args .copy .now) (c .before .before .two-each .ensures .1))
+    let at-start = c .before .before .before .before .before .before in
+    sym (length-take-le _ (at-start .args .copy .now)
+    (c .before .before .two-each .ensures .1))
 
 slice-relend-prefix-lent-trace : tie.Need-slice-relend-prefix-lent-trace
 slice-relend-prefix-lent-trace c = search needs
 
 slice-aggregate-lent-trace : tie.Need-slice-aggregate-lent-trace
 slice-aggregate-lent-trace c =
-    sym
-    (length-take-le _ (c .before .before .before .before .before .before .args .trace .now)
+    let at-start = c .before .before .before .before .before .before .before in
+    sym (length-take-le _ (at-start .args .trace .now)
     (c .before .before .two-each2 .ensures .1))
-
-cut-requires : tie.Need-cut-requires
-cut-requires c κs = search needs
 
 with-frames-requires : tie.Need-with-frames-requires
 with-frames-requires c κs = search needs
@@ -43,11 +42,26 @@ same-length-2 : tie.Need-same-length-2
 same-length-2 c = search needs
 
 returns : tie.Need-returns
-returns c = search needs
+returns c =
+    let at-with-frames = c .before .before .before .before .before .before .before .before in
+    let at-two-each2 = at-with-frames .before .before .before .before .before .before .before .before .before .before .before
+    .before .before .before in
+    let at-two-each = at-two-each2 .before in
+    over-is _ _ _ _ (at-two-each .two-each .ensures .0) (at-two-each2 .two-each2 .ensures .0)
+    (at-with-frames .with-frames .ensures) (c .say-answer .ensures)
 
 pub over-frames-spec : {M : Type 1} → statement M
 over-frames-spec =
     tie.close
-    (tie.spec two-each-requires two-each-requires-2 slice-relend-prefix-lent-copy slice-aggregate-lent-copy
-    slice-relend-prefix-lent-trace slice-aggregate-lent-trace cut-requires with-frames-requires say-answer-requires same-length
-    same-length-2 returns)
+    (tie.spec
+    two-each-requires
+    two-each-requires-2
+    slice-relend-prefix-lent-copy
+    slice-aggregate-lent-copy
+    slice-relend-prefix-lent-trace
+    slice-aggregate-lent-trace
+    with-frames-requires
+    say-answer-requires
+    same-length
+    same-length-2
+    returns)

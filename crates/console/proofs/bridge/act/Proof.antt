@@ -1,6 +1,6 @@
 -- `act` meets its contract: a walk of its MIR, by hand. The frames are laid, the entry is called, and the frames are kept.
 -- Assumes nothing.
-use Rattle.laws_walks.proofs.Walk.{_≡_, refl, true, false, List, [], _∷_, Option, none, some, ℕ, length, URA, w64, Val, vunit, vint, vptr, SProp, ent, id⊢, Memory, Routine, Heap, Tables, WpFn, Atoms, Lfts, Shares, Fun, givenOf, tables, tablesOf, FmC, fmOf}
+use Rattle.laws_walks.proofs.Walk.{_≡_, refl, sym, subst, true, false, List, [], _∷_, Option, none, some, ℕ, length, URA, w64, Val, vunit, vint, vptr, SProp, ent, id⊢, Memory, Routine, Heap, Tables, WpFn, Atoms, Lfts, Shares, Fun, givenOf, tables, tablesOf, FmC, fmOf}
 use Rattle.laws_walks.proofs.Walk.{Given, Sq, ‵, ⋆, runs, atRet, _$_, _∵_, !, qed, by, keep, suffices, frame, done, agg, addr, of-opd, Is, Nothing, uint-makes, u8, u32, u64, now, Room, owned, onEntry, tripleOf, Contract, Triple, cited, says, walkOf, ends-at}
 use Rattle.laws_walks.proofs.Walk.{Blocks, envAt, Locals, of, ofs, behind, sets, lands-in, enters, leaves, Sl, sl, sval, Arg, val, shr, mut, peek, Holds, Toks, Owns, lfts, shares, denots, valss, values, passing, lent, takes, gives, Rule, call-with, unasked, unneeded, calls-on, tag-of, payload-of, Kind, own, shared, unique, stays, Passed, Known, closed}
 use Rattle.model.specs.declared.Vm.{Vm}
@@ -21,6 +21,9 @@ use Rattle.console.specs.declared.bridge.Answer.the-variants as ans
 use Rattle.frames.proofs.Frames.{R}
 use Rattle.machine.proofs.Rows.{VmRow, vmVal, vm-tells, vm-typed, vm-makes, StartedRow, startedVal, IsStarted, started-tells, started-typed, started-makes, ResultRow, resultVal, IsResult, result-tells, result-typed, result-makes, ToldRow, toldVal, IsTold, told-tells, told-typed, told-makes}
 use Rattle.laws_walks.proofs.Branches.{returns-match}
+use Rattle.console.specs.Resting.{allLaid, allKept}
+use Rattle.console.specs.Calls.{Held, held, Called}
+use Rattle.console.proofs.Answers.{new-called, load-called, run-called, trace-called}
 use Rattle.console.proofs.Calls.{CallRow, callVal, IsCall, call-tells, call-typed, call-makes, AnswerRow, answerVal, IsAnswer, answer-tells, answer-typed, answer-makes, run-fits}
 use Rattle.console.proofs.bridge.lay as lay-of
 use Rattle.console.proofs.bridge.lay.Symbol as lay-def
@@ -302,14 +305,23 @@ module _ {M : Type 1} (𝓤 : URA M) (H : Heap 𝓤) (A : Atoms 𝓤) (W : Given
     abbrev Post : Val → SProp 𝓤
     Post = walkOf 𝓤 H A me.ended (stays kinds) (me.clauses 𝓤 H A mem run) .post (passing xs₀)
 
+    -- what the stores hold
+    abbrev before : Held
+    before = held constants structs functions text main mainPlaces other otherPlaces stack cells copy trace words
+
+    -- the frames as they are laid
+    abbrev laid : List Frame
+    laid = allLaid words frames
+
     exits : (r : Answer) (constants′ : List ℕ) (structs′ : List ℕ) (functions′ : List ℕ) (text′ : List ℕ) (main′ : List ℕ) (mainPlaces′ : List ℕ)
         (other′ : List ℕ) (otherPlaces′ : List ℕ) (stack′ : List ℕ) (cells′ : List ℕ) (frames′ : List Frame) (copy′ : List ℕ) (trace′ : List ℕ)
         (words′ : List ℕ) → IsAnswer r → length constants′ ≡ s1 .count → length structs′ ≡ s2 .count → length functions′ ≡ s3 .count → length text′ ≡ s4 .count
         → length main′ ≡ s5 .count → length mainPlaces′ ≡ s6 .count → length other′ ≡ s7 .count → length otherPlaces′ ≡ s8 .count → length stack′ ≡ s9 .count
         → length cells′ ≡ s10 .count → length frames′ ≡ s11 .count → length copy′ ≡ s12 .count → length trace′ ≡ s13 .count → length words′ ≡ s14 .count
+        → Called m call image laid before r frames′ (held constants′ structs′ functions′ text′ main′ mainPlaces′ other′ otherPlaces′ stack′ cells′ copy′ trace′ words′)
         → ent 𝓤 (⋆ 𝓤 H A (‵ (Holds (slices constants′ structs′ functions′ text′ main′ mainPlaces′ other′ otherPlaces′ stack′ cells′ frames′ copy′ trace′ words′)) ∷ []))
         (Post (answerVal r))
-    exits r constants′ structs′ functions′ text′ main′ mainPlaces′ other′ otherPlaces′ stack′ cells′ frames′ copy′ trace′ words′ isr len-constants len-structs len-functions len-text len-main len-mainPlaces len-other len-otherPlaces len-stack len-cells len-frames len-copy len-trace len-words =
+    exits r constants′ structs′ functions′ text′ main′ mainPlaces′ other′ otherPlaces′ stack′ cells′ frames′ copy′ trace′ words′ isr len-constants len-structs len-functions len-text len-main len-mainPlaces len-other len-otherPlaces len-stack len-cells len-frames len-copy len-trace len-words said =
         qed W
         (‵
         (Holds
@@ -369,17 +381,24 @@ module _ {M : Type 1} (𝓤 : URA M) (H : Heap 𝓤) (A : Atoms 𝓤) (W : Given
               ),
             ),
           ),
-        )) $ says ! len-frames $ gives !
+        )) $ says ! said $ gives !
         (xs constants′ structs′ functions′ text′ main′ mainPlaces′ other′ otherPlaces′ stack′ cells′ frames′ copy′ trace′ words′)
         (vm-makes 𝓤 H A W m _ is-m, (call-makes 𝓤 H A W call _ (is .1 .0), tt))
         (frame ! $ owned ! AnswerRow (Is AnswerRow) (answer-makes 𝓤 H A W) r _ isr $ keep ! (1 ∷ 0 ∷ []) $ done !)
 
+    -- the call that was asked, over the frames that were laid
+    as-asked : (c : Call) → c ≡ call → (fs : List Frame) → fs ≡ laid → (r : Answer) (frames′ : List Frame) (after : Held)
+        → Called m c image fs before r frames′ after → Called m call image laid before r frames′ after
+    as-asked c e fs el r frames′ after said = subst
+        (λ (x : Call). Called m x image laid before r frames′ after) e
+        (subst (λ (gs : List Frame). Called m c image gs before r frames′ after) el said)
+
     abbrev to-lay : List Arg
     to-lay = mut R s11 frames ∷ peek u64 s14 words ∷ []
 
-    call-lay : Rule 𝓤 H A W (to-lay) ToLay Nothing (λ _. vunit) (λ r zs. length (zs .0) ≡ length frames)
+    call-lay : Rule 𝓤 H A W (to-lay) ToLay Nothing (λ _. vunit) (λ r zs. zs .0 ≡ allLaid words frames)
     call-lay =
-        call-with 𝓤 H A W (to-lay) ToLay Nothing (λ _. vunit) (λ r zs. length (zs .0) ≡ length frames) (λ r vs was. was)
+        call-with 𝓤 H A W (to-lay) ToLay Nothing (λ _. vunit) (λ r zs. zs .0 ≡ allLaid words frames) (λ r vs was. was)
         (λ ns. passing (lent (to-lay) ns)) (λ ns. refl) (λ ns. unasked W (lent (to-lay) ns)) (λ ns w. id⊢ 𝓤 _) tt
         ((refl, room11), ((refl, room14), tt))
 
@@ -387,9 +406,9 @@ module _ {M : Type 1} (𝓤 : URA M) (H : Heap 𝓤) (A : Atoms 𝓤) (W : Given
     to-keep frames′ words′ = peek R s11 frames′ ∷ mut u64 s14 words′ ∷ []
 
     call-keep : (frames′ : List Frame) (words′ : List ℕ) → length frames′ ≡ s11 .count → length words′ ≡ s14 .count
-        → Rule 𝓤 H A W (to-keep frames′ words′) ToKeep Nothing (λ _. vunit) (λ r zs. length (zs .1 .0) ≡ length words′)
+        → Rule 𝓤 H A W (to-keep frames′ words′) ToKeep Nothing (λ _. vunit) (λ r zs. zs .1 .0 ≡ allKept frames′ words′)
     call-keep frames′ words′ len-frames len-words =
-        call-with 𝓤 H A W (to-keep frames′ words′) ToKeep Nothing (λ _. vunit) (λ r zs. length (zs .1 .0) ≡ length words′)
+        call-with 𝓤 H A W (to-keep frames′ words′) ToKeep Nothing (λ _. vunit) (λ r zs. zs .1 .0 ≡ allKept frames′ words′)
         (λ r vs was. was) (λ ns. passing (lent (to-keep frames′ words′) ns)) (λ ns. refl)
         (λ ns. unasked W (lent (to-keep frames′ words′) ns)) (λ ns w. id⊢ 𝓤 _) tt
         ((len-frames, room11), ((len-words, room14), tt))
@@ -521,19 +540,19 @@ module _ {M : Type 1} (𝓤 : URA M) (H : Heap 𝓤) (A : Atoms 𝓤) (W : Given
       fm = fmOf 𝓤 H (W .laws) 𝓣
 
       -- what the locals hold once the frames are laid
-      abbrev held : Call → List (Option Val)
-      held c =
+      abbrev slots : Call → List (Option Val)
+      slots c =
           none ∷ some (vmVal m) ∷ some (callVal c) ∷ some (sval s0) ∷ some (sval s1) ∷ some (sval s2) ∷ some (sval s3) ∷ some
           (sval s4) ∷ some (sval s5) ∷ some (sval s6) ∷ some (sval s7) ∷ some (sval s8) ∷ some (sval s9) ∷ some (sval s10) ∷ some
           (sval s11) ∷ some (sval s12) ∷ some (sval s13) ∷ some (sval s14) ∷ none ∷ none ∷ none ∷ none ∷ none ∷ none ∷ none ∷ none
           ∷ none ∷ some vunit ∷ some (vptr (s11 .block) (s11 .offset)) ∷ some (sval s11) ∷ some (vptr (s14 .block) (s14 .offset))
           ∷ some (sval s14) ∷ []
 
-      answers : (c : Call) → callVal c ≡ callVal call → IsCall c → (fs : List Frame) → length fs ≡ s11 .count
-          → Sq W (‵ (Locals (code.function .locals) ls (held c)) ∷ ‵
+      answers : (c : Call) → c ≡ call → IsCall c → (fs : List Frame) → length fs ≡ s11 .count → fs ≡ laid
+          → Sq W (‵ (Locals (code.function .locals) ls (slots c)) ∷ ‵
           (Holds (slices constants structs functions text main mainPlaces other otherPlaces stack cells fs copy trace words)) ∷ [])
           (runs (𝓣 .C) (𝓣 .Λ) (envAt (code.function .locals) ls) cm.t-6 (atRet (envAt (code.function .locals) ls) Post))
-      answers New e isc fs len =
+      answers New e isc fs len el =
           returns-match ! 𝓣 (tag-of ! refl refl refl refl) refl
           (sets ! (addr ! (behind ! refl refl)) (tt, tt) $ sets ! (agg ! (ofs ! refl))
           (tt, (tt, (record { fits = room3 .0 }, tt))) $ sets ! (addr ! (behind ! refl refl)) (tt, tt) $ sets !
@@ -561,8 +580,10 @@ module _ {M : Type 1} (𝓤 : URA M) (H : Heap 𝓤) (A : Atoms 𝓤) (W : Given
           (λ r zs₉ er lens₉ isr. lands-in ! (answer-typed 𝓤 H A W r isr) $ sets ! (of-opd ! (of ! refl))
           (answer-typed 𝓤 H A W r isr) $ leaves ! refl $ by !
           (exits r constants structs (zs₁ .0) (zs₁ .1 .0) main mainPlaces other otherPlaces stack cells (zs₁ .1 .1 .0) copy trace
-          (zs₂ .1 .0) isr refl refl (lens₁ .0) (lens₁ .1 .0) refl refl refl refl refl refl (lens₁ .1 .1 .0) refl refl (lens₂ .0))))))
-      answers Load e isc fs len =
+          (zs₂ .1 .0) isr refl refl (lens₁ .0) (lens₁ .1 .0) refl refl refl refl refl refl (lens₁ .1 .1 .0) refl refl (lens₂ .0)
+          (as-asked New e fs el _ _ _ (new-called m image constants structs functions text main mainPlaces other otherPlaces stack cells copy trace words
+          fs (zs₁ .0) (zs₁ .1 .0) said₁ said₂ er)))))))
+      answers Load e isc fs len el =
           returns-match ! 𝓣 (tag-of ! refl refl refl refl) refl
           (sets ! (addr ! (behind ! refl refl)) (tt, tt) $ sets ! (agg ! (ofs ! refl))
           (tt, (tt, (record { fits = room1 .0 }, tt))) $ sets ! (addr ! (behind ! refl refl)) (tt, tt) $ sets !
@@ -606,8 +627,10 @@ module _ {M : Type 1} (𝓤 : URA M) (H : Heap 𝓤) (A : Atoms 𝓤) (W : Given
           (zs₁ .1 .1 .1 .1 .1 .1 .0) (zs₁ .1 .1 .1 .1 .1 .1 .1 .0) (zs₁ .1 .1 .1 .1 .1 .1 .1 .1 .0) stack cells
           (zs₁ .1 .1 .1 .1 .1 .1 .1 .1 .1 .0) copy trace (zs₂ .1 .0) isr (lens₁ .0) (lens₁ .1 .0) (lens₁ .1 .1 .0)
           (lens₁ .1 .1 .1 .0) (lens₁ .1 .1 .1 .1 .0) (lens₁ .1 .1 .1 .1 .1 .0) (lens₁ .1 .1 .1 .1 .1 .1 .0)
-          (lens₁ .1 .1 .1 .1 .1 .1 .1 .0) refl refl (lens₁ .1 .1 .1 .1 .1 .1 .1 .1 .0) refl refl (lens₂ .0))))))
-      answers (Run units) e isc fs len =
+          (lens₁ .1 .1 .1 .1 .1 .1 .1 .0) refl refl (lens₁ .1 .1 .1 .1 .1 .1 .1 .1 .0) refl refl (lens₂ .0)
+          (as-asked Load e fs el _ _ _ (load-called m image constants structs functions text main mainPlaces other otherPlaces stack cells copy trace words
+          fs said₁ said₂ er)))))))
+      answers (Run units) e isc fs len el =
           returns-match ! 𝓣 (tag-of ! refl refl refl refl) refl
           (sets ! (of-opd ! (payload-of ! refl refl refl refl refl refl)) (tt, record { fits = run-fits units isc .1 }) $ sets !
           (addr ! (behind ! refl refl)) (tt, tt) $ sets ! (agg ! (ofs ! refl)) (tt, (tt, (record { fits = room1 .0 }, tt))) $ sets
@@ -660,8 +683,10 @@ module _ {M : Type 1} (𝓤 : URA M) (H : Heap 𝓤) (A : Atoms 𝓤) (W : Given
           (zs₁ .1 .1 .1 .1 .1 .1 .1 .1 .1 .1 .1 .0) (zs₁ .1 .1 .1 .1 .1 .1 .1 .1 .1 .1 .1 .1 .0)
           (zs₁ .1 .1 .1 .1 .1 .1 .1 .1 .1 .1 .1 .1 .1 .0) (zs₁ .1 .1 .1 .1 .1 .1 .1 .1 .1 .1 .1 .1 .1 .1 .0) (zs₂ .1 .0) isr refl
           refl refl refl refl refl refl refl (lens₁ .0) (lens₁ .1 .0) (lens₁ .1 .1 .0) (lens₁ .1 .1 .1 .0) (lens₁ .1 .1 .1 .1 .0)
-          (lens₂ .0))))))
-      answers Trace e isc fs len =
+          (lens₂ .0)
+          (as-asked (Run units) e fs el _ _ _ (run-called m image constants structs functions text main mainPlaces other otherPlaces stack cells copy trace words
+          fs units _ _ _ _ _ said₁ said₂ er)))))))
+      answers Trace e isc fs len el =
           returns-match ! 𝓣 (tag-of ! refl refl refl refl) refl
           (sets ! (addr ! (behind ! refl refl)) (tt, tt) $ sets ! (agg ! (ofs ! refl))
           (tt, (tt, (record { fits = room3 .0 }, tt))) $ sets ! (addr ! (behind ! refl refl)) (tt, tt) $ sets !
@@ -687,7 +712,9 @@ module _ {M : Type 1} (𝓤 : URA M) (H : Heap 𝓤) (A : Atoms 𝓤) (W : Given
           (λ r zs₉ er lens₉ isr. lands-in ! (answer-typed 𝓤 H A W r isr) $ sets ! (of-opd ! (of ! refl))
           (answer-typed 𝓤 H A W r isr) $ leaves ! refl $ by !
           (exits r constants structs functions text main mainPlaces other otherPlaces stack cells fs copy
-          (zs₁ .1 .1 .1 .1 .1 .1 .1 .1 .1 .0) words isr refl refl refl refl refl refl refl refl refl refl len refl (lens₁ .0) refl))))
+          (zs₁ .1 .1 .1 .1 .1 .1 .1 .1 .1 .0) words isr refl refl refl refl refl refl refl refl refl refl len refl (lens₁ .0) refl
+          (as-asked Trace e fs el _ _ _ (trace-called m image constants structs functions text main mainPlaces other otherPlaces stack cells copy trace words
+          fs said₁ er))))))
 
     walk : ent 𝓤 (onEntry 𝓤 H A me.signature (lfts xs₀) (shares xs₀) (denots xs₀) (valss xs₀)) (WpFn 𝓤 H (𝓣 .C) (𝓣 .Λ) code.function (values xs₀) Post)
     walk =
@@ -746,7 +773,7 @@ module _ {M : Type 1} (𝓤 : URA M) (H : Heap 𝓤) (A : Atoms 𝓤) (W : Given
         (slices constants structs functions text main mainPlaces other otherPlaces stack cells frames copy trace words) (call-lay)
         (λ zs. (slices constants structs functions text main mainPlaces other otherPlaces stack cells (zs .0) copy trace words)) refl (λ zs. refl)
         (λ zs. refl) fm known-lay refl (λ u zs said lens isu. lands-in ! (tt, tt) $
-        answers ls call refl (is .1 .0) (zs .0) (lens .0))))
+        answers ls call refl (is .1 .0) (zs .0) (lens .0) said)))
       where
         fm : FmC 𝓤 H (W .laws) (𝓣 .C)
         fm = fmOf 𝓤 H (W .laws) 𝓣

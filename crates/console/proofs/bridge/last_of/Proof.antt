@@ -1,18 +1,17 @@
+use mathlib.Core.Path.{_≡_}
 use borrow.Author.Needs.{needs}
-use Rattle.console.specs.Lines.{weight}
+use Rattle.console.proofs.Rests.{none-of, last-before}
 use Rattle.console.proofs.bridge.last_of.Statement.{statement}
 use Rattle.console.proofs.bridge.last_of.Tie as tie
+
+returns : tie.Need-returns
+returns c = search none-of
 
 sub-t3 : tie.Need-sub-t3
 sub-t3 c = search needs
 
-returns : tie.Need-returns
-unfolding weight
-returns c = search needs
-
 returns-2 : tie.Need-returns-2
-unfolding weight
-returns-2 c = search needs
+returns-2 c = search last-before
 
 pub last-of-spec : {M : Type 1} → statement M
-last-of-spec = tie.close (tie.spec sub-t3 returns returns-2)
+last-of-spec = tie.close (tie.spec returns sub-t3 returns-2)

@@ -1,6 +1,6 @@
 -- `lay` meets its contract: a walk of its MIR, by hand. A turn writes the frame that the covered `last_in` has read.
 -- Assumes nothing.
-use Rattle.laws_walks.proofs.Walk.{_≡_, refl, List, [], _∷_, Option, none, some, ℕ, _<_, _≤_, _^_, T, length, URA, w64, Val, WT, hasTy, vunit, vint, SProp, ent, id⊢, Memory, Routine, Heap, Tables, WpFn, Atoms, Lfts, Shares, Fun, givenOf, tables, tablesOf, FmC, fmOf}
+use Rattle.laws_walks.proofs.Walk.{_≡_, refl, sym, _∙_, List, [], _∷_, Option, none, some, ℕ, _<_, _≤_, _^_, T, length, URA, w64, Val, WT, hasTy, vunit, vint, SProp, ent, id⊢, Memory, Routine, Heap, Tables, WpFn, Atoms, Lfts, Shares, Fun, givenOf, tables, tablesOf, FmC, fmOf}
 use Rattle.laws_walks.proofs.Walk.{Given, Sq, ‵, ⋆, runs, atRet, _$_, _∵_, !, qed, by, move, keep, feqI, suffices, frame, done, agg, addr, of-opd, Is, Nothing, uint-makes, u64, usize, now, Room, onEntry, tripleOf, Contract, Triple, cited, says, walkOf, ends-at}
 use Rattle.laws_walks.proofs.Walk.{Blocks, envAt, Locals, of, ofs, behind, sets, sets-last, lands-in, enters, leaves, trims, Sl, sl, sval, Arg, val, shr, mut, Holds, Toks, Owns, lfts, shares, denots, valss, values, passing, lent, takes, gives, splits, joins, Rule, call-with, unasked, Loop, Turn, rounds, whiles, again, Kind, shared, unique, stays, Passed, Known, closed}
 use base.Logic.{emp, via, fst∗}
@@ -8,8 +8,8 @@ use native.Mathlib.Omega.{arith}
 use denote.Struct.Laws as LL
 use Rattle.model.specs.declared.Frame.{Frame}
 use Rattle.console.specs.declared.bridge.Resting.{Resting}
-use Rattle.console.specs.Lines.{weight}
-use Rattle.console.proofs.Weights.{below, falls}
+use Rattle.console.specs.Resting.{lastIn, laid, allLaid}
+use Rattle.console.proofs.Rests.{laid-start, resting-below, laid-turn, laid-end}
 use Rattle.console.proofs.bridge.Resting as TR
 use Rattle.console.proofs.bridge.Resting.Laws as TR′
 use Rattle.frames.proofs.Frames.{R, fval}
@@ -81,25 +81,27 @@ module _ {M : Type 1} (𝓤 : URA M) (H : Heap 𝓤) (A : Atoms 𝓤) (W : Given
     abbrev Post : Val → SProp 𝓤
     Post = walkOf 𝓤 H A me.ended (stays kinds) (me.clauses 𝓤 H A mem run) .post (passing (xs ys))
 
-    exits : (fs : List Frame) → length fs ≡ s0 .count → ent 𝓤 (⋆ 𝓤 H A (‵ (Holds (frames fs)) ∷ ‵ (Holds stores) ∷ [])) (Post vunit)
-    exits fs len =
+    exits : (fs : List Frame) → length fs ≡ s0 .count → fs ≡ allLaid words ys → ent 𝓤 (⋆ 𝓤 H A (‵ (Holds (frames fs)) ∷ ‵ (Holds stores) ∷ [])) (Post vunit)
+    exits fs len said =
         qed W (‵ (Holds (frames fs)) ∷ ‵ (Holds stores) ∷ []) ∵ suffices ! _
         (ends-at 𝓤 H A me.ended (stays kinds) (me.clauses 𝓤 H A mem run) W (passing (xs ys)) vunit tt (fs, (tt, tt))
-        (len, (tt, tt))) $ says ! len $ joins ! (frames fs) stores
+        (len, (tt, tt))) $ says ! said $ joins ! (frames fs) stores
         (gives ! (xs fs) tt (frame ! $ feqI ! (List Val) (vunit ∷ []) (vunit ∷ []) refl $ keep ! (1 ∷ 0 ∷ []) $ done !))
 
     abbrev to-last : ℕ → List Arg
     to-last n = shr u64 s1 words ∷ val usize n (vint w64 n) ∷ []
 
-    call-last : (n : ℕ) → n < 2 ^ 64 → Rule 𝓤 H A W (to-last n) LastIn TR.the-row rval (λ r zs. weight (r .more) (r .at) ≤ n)
+    call-last : (n : ℕ) → n < 2 ^ 64 → Rule 𝓤 H A W (to-last n) LastIn TR.the-row rval (λ r zs. r ≡ lastIn words n)
     call-last n fits =
-        call-with 𝓤 H A W (to-last n) LastIn TR.the-row rval (λ r zs. weight (r .more) (r .at) ≤ n) (TR′.lowers .val-is)
+        call-with 𝓤 H A W (to-last n) LastIn TR.the-row rval (λ r zs. r ≡ lastIn words n) (TR′.lowers .val-is)
         (λ ns. passing (lent (to-last n) ns)) (λ ns. refl) (λ ns. unasked W (lent (to-last n) ns)) (λ ns w. id⊢ 𝓤 _)
         (uint-makes 𝓤 H A W w64 n _ (refl, fits), tt) ((refl, room1), tt)
 
-    -- the loop's state: the next frame, the records so far, and what is known of them
+    -- the loop's state: the next frame, the last of n, the records so far, and what is known of them
     abbrev State : Type 0
-    State = (r : Resting) × (fs : List Frame) × (IsResting r × (length fs ≡ s0 .count) × (weight (r .more) (r .at) ≤ s0 .count))
+    State =
+        (r : Resting) × (n : ℕ) × (fs : List Frame) × (IsResting r × (length fs ≡ s0 .count) × (n ≤ s0 .count) × (r ≡ lastIn words n) ×
+        (laid n words fs ≡ allLaid words ys))
 
     module _ (ls : Blocks (code.function .locals)) where
       abbrev held : Resting → List (Option Val)
@@ -108,28 +110,32 @@ module _ {M : Type 1} (𝓤 : URA M) (H : Heap 𝓤) (A : Atoms 𝓤) (W : Given
       abbrev loop : Loop A 𝓣
       loop = record {
         State = State;
-        measure = λ x. weight (x .0 .more) (x .0 .at);
-        inv = λ x. ‵ (Locals (code.function .locals) ls (held (x .0))) ∷ ‵ (Holds (frames (x .1))) ∷ ‵ (Holds stores) ∷ [];
+        measure = λ x. x .1;
+        inv = λ x. ‵ (Locals (code.function .locals) ls (held (x .0))) ∷ ‵ (Holds (frames (x .2))) ∷ ‵ (Holds stores) ∷ [];
         env = envAt (code.function .locals) ls;
         rest = cm.t-4;
         end = atRet (envAt (code.function .locals) ls) Post;
       }
 
       turn : (x : State) → Sq W (loop .inv x) (runs (𝓣 .C) (𝓣 .Λ) (loop .env) cm.turn-1 (Turn loop x))
-      turn (r, fs, (isr, len, g)) =
-          sets ! (of-opd ! (of ! refl)) (tt, tt) $ whiles ! loop (r, fs, (isr, len, g)) (of ! refl)
+      turn (r, n, fs, (isr, len, g, e, h)) =
+          sets ! (of-opd ! (of ! refl)) (tt, tt) $ whiles ! loop (r, n, fs, (isr, len, g, e, h)) (of ! refl)
           (λ on. sets ! (addr ! (behind ! refl refl)) (tt, tt) $ sets ! (agg ! (ofs ! refl)) (tt, (tt, (record { fits = room0 .0 }, tt))) $
-          call-write 𝓤 H A W mem run s0 fs len room0 (r .at) (at-fits r isr) (within r fs len g on) (r .frame) (frame-is r isr) .calls ! fm known-write refl (λ u zs eu lens isu. lands-in ! (tt, tt) $
+          call-write 𝓤 H A W mem run s0 fs len room0 (r .at) (at-fits r isr) (within on) (r .frame) (frame-is r isr) .calls ! fm known-write refl (λ u zs eu lens isu. lands-in ! (tt, tt) $
           move ! (0 ∷ 2 ∷ []) $ call-last (r .at) (at-fits r isr) .calls ! fm known-last refl (λ t zs′ said lens′ ist. lands-in ! (resting-typed t ist) $
           sets-last ! (of-opd ! (of ! refl)) (resting-typed t ist) $ trims ! 4 $ move ! (0 ∷ 2 ∷ []) $
-          again ! loop (r, fs, (isr, len, g)) (t, zs .0, (ist, lens .0, omega (arith, said, below (r .more) (r .at) (s0 .count) on g))) (falls (r .more) (r .at) (t .at) (t .more) on said))))
-          (λ off. sets ! (of-opd ! (of ! refl)) (tt, tt) $ leaves ! refl $ by ! (exits fs len))
+          again ! loop (r, n, fs, (isr, len, g, e, h))
+          (t, r .at, zs .0, (ist, lens .0, omega (arith, g, fewer on), said, sym (laid-turn words r n e on fs (zs .0) eu) ∙ h)) (fewer on))))
+          (λ off. sets ! (of-opd ! (of ! refl)) (tt, tt) $ leaves ! refl $ by ! (exits fs len (sym (laid-end words r n e off fs) ∙ h)))
         where
           fm : FmC 𝓤 H (W .laws) (𝓣 .C)
           fm = fmOf 𝓤 H (W .laws) 𝓣
 
-          within : (r : Resting) (fs : List Frame) → length fs ≡ s0 .count → weight (r .more) (r .at) ≤ s0 .count → T (r .more) → r .at < length fs
-          within r fs len g on = omega (arith, len, below (r .more) (r .at) (s0 .count) on g)
+          fewer : T (r .more) → r .at < n
+          fewer on = resting-below words r n e on
+
+          within : T (r .more) → r .at < length fs
+          within on = omega (arith, len, g, fewer on)
 
     walk : ent 𝓤 (onEntry 𝓤 H A me.signature (lfts (xs ys)) (shares (xs ys)) (denots (xs ys)) (valss (xs ys))) (WpFn 𝓤 H (𝓣 .C) (𝓣 .Λ) code.function (values (xs ys)) Post)
     walk =
@@ -140,7 +146,7 @@ module _ {M : Type 1} (𝓤 : URA M) (H : Heap 𝓤) (A : Atoms 𝓤) (W : Given
         (λ ls. sets ! (of-opd ! (of ! refl)) (tt, record { fits = room0 .0 }) $ move ! (0 ∷ 2 ∷ []) $ call-last (s0 .count)
         (room0 .0) .calls ! (fmOf 𝓤 H (W .laws) 𝓣) known-last refl
         (λ r zs said lens isr. lands-in ! (resting-typed r isr) $ trims ! 4 $ move ! (0 ∷ 2 ∷ []) $ rounds ! (loop ls) (turn ls)
-        (r, ys, (isr, refl, said))))))
+        (r, s0 .count, ys, (isr, refl, omega arith, said, laid-start words ys))))))
 
 pub lay-spec : {M : Type 1} → stated.statement M
 unfolding code.routine tablesOf

@@ -22,6 +22,8 @@ use Rattle.model.proofs.Frame.Laws as T′
 use Rattle.console.specs.declared.bridge.Call.{Call}
 use Rattle.console.specs.declared.bridge.Answer.{Answer}
 use Rattle.frames.specs.Links.{noFrame}
+use Rattle.console.specs.Resting.{allLaid}
+use Rattle.console.specs.Calls.{Held, held, Called, Bridged}
 use Rattle.frames.proofs.Frames.{R, fval, frame-copy, frame-makes, frame-typed}
 use Rattle.machine.proofs.Rows.{VmRow, vmVal, vm-tells, vm-typed, vm-makes}
 use Rattle.laws_walks.proofs.Lending.{apart, whole, lend-array, back-array, calls-with}
@@ -214,11 +216,24 @@ module _ {M : Type 1} (𝓤 : URA M) (H : Heap 𝓤) (A : Atoms 𝓤) (W : Given
     abbrev Post : Val → SProp 𝓤
     Post = walkOf 𝓤 H A me.ended (stays kinds) (me.clauses 𝓤 H A mem run) .post (passing entry)
 
-    exits : (r : Answer) (zs : Lists entry) → IsAnswer r → Lens entry zs → ent 𝓤 (⋆ 𝓤 H A (‵ (Holds (after entry zs)) ∷ [])) (Post (answerVal r))
-    exits r zs isr lens =
+    -- what the stores hold, before and behind
+    abbrev before : Held
+    before = held constants structs functions text main mainPlaces other otherPlaces stack cells copy trace words
+
+    abbrev behind-it : Lists entry → Held
+    behind-it zs =
+        held (zs .1 .1 .1 .0) (zs .1 .1 .1 .1 .0) (zs .1 .1 .1 .1 .1 .0) (zs .1 .1 .1 .1 .1 .1 .0) (zs .1 .1 .1 .1 .1 .1 .1 .0)
+        (zs .1 .1 .1 .1 .1 .1 .1 .1 .0) (zs .1 .1 .1 .1 .1 .1 .1 .1 .1 .0) (zs .1 .1 .1 .1 .1 .1 .1 .1 .1 .1 .0)
+        (zs .1 .1 .1 .1 .1 .1 .1 .1 .1 .1 .1 .0) (zs .1 .1 .1 .1 .1 .1 .1 .1 .1 .1 .1 .1 .0)
+        (zs .1 .1 .1 .1 .1 .1 .1 .1 .1 .1 .1 .1 .1 .0) (zs .1 .1 .1 .1 .1 .1 .1 .1 .1 .1 .1 .1 .1 .1 .0)
+        (zs .1 .1 .1 .1 .1 .1 .1 .1 .1 .1 .1 .1 .1 .1 .1 .0)
+
+    exits : (r : Answer) (zs : Lists entry) → IsAnswer r → Lens entry zs → Bridged m call image before r (behind-it zs)
+        → ent 𝓤 (⋆ 𝓤 H A (‵ (Holds (after entry zs)) ∷ [])) (Post (answerVal r))
+    exits r zs isr lens said =
         qed W (‵ (Holds (after entry zs)) ∷ []) ∵ suffices ! _
         (ends-at 𝓤 H A me.ended (stays kinds) (me.clauses 𝓤 H A mem run) W (passing entry) (answerVal r) r zs
-        (tt, (tt, (tt, lens)))) $ says ! (lens .1 .1 .1 .1 .1 .1 .1 .1 .1 .1 .1 .1 .0) $ gives ! (after entry zs)
+        (tt, (tt, (tt, lens)))) $ says ! said $ gives ! (after entry zs)
         (vm-makes 𝓤 H A W m _ (is .0), (call-makes 𝓤 H A W call _ (is .1 .0), tt))
         (frame ! $ owned ! AnswerRow (Is AnswerRow) (answer-makes 𝓤 H A W) r _ isr $ keep ! (1 ∷ 0 ∷ []) $ done !)
 
@@ -231,7 +246,13 @@ module _ {M : Type 1} (𝓤 : URA M) (H : Heap 𝓤) (A : Atoms 𝓤) (W : Given
       to-it = firsts ++ mut R sf frames₀ ∷ lasts
 
       abbrev Acted : Answer → Lists to-it → Type 0
-      Acted r zs = length (zs .1 .1 .1 .1 .1 .1 .1 .1 .1 .1 .1 .1 .1 .0) ≡ length frames₀
+      Acted r zs =
+          Called m call image (allLaid words frames₀) before r (zs .1 .1 .1 .1 .1 .1 .1 .1 .1 .1 .1 .1 .1 .0) (
+          held (zs .1 .1 .1 .0) (zs .1 .1 .1 .1 .0) (zs .1 .1 .1 .1 .1 .0) (zs .1 .1 .1 .1 .1 .1 .0)
+          (zs .1 .1 .1 .1 .1 .1 .1 .0) (zs .1 .1 .1 .1 .1 .1 .1 .1 .0) (zs .1 .1 .1 .1 .1 .1 .1 .1 .1 .0)
+          (zs .1 .1 .1 .1 .1 .1 .1 .1 .1 .1 .0) (zs .1 .1 .1 .1 .1 .1 .1 .1 .1 .1 .1 .0)
+          (zs .1 .1 .1 .1 .1 .1 .1 .1 .1 .1 .1 .1 .0) (zs .1 .1 .1 .1 .1 .1 .1 .1 .1 .1 .1 .1 .1 .1 .0)
+          (zs .1 .1 .1 .1 .1 .1 .1 .1 .1 .1 .1 .1 .1 .1 .1 .0) (zs .1 .1 .1 .1 .1 .1 .1 .1 .1 .1 .1 .1 .1 .1 .1 .1 .0))
 
       -- what the call leaves before the frames, with other lists behind it
       abbrev left : (ys : List Arg) → Lists to-it → Lists ys → Lists (firsts ++ ys)
@@ -445,7 +466,7 @@ module _ {M : Type 1} (𝓤 : URA M) (H : Heap 𝓤) (A : Atoms 𝓤) (W : Given
               ),
             ),
           ),
-        ))))))))))))))
+        ) (record { frames = zs .1 .1 .1 .1 .1 .1 .1 .1 .1 .1 .1 .1 .1 .0; called = said }))))))))))))))
 
 pub with-frames-spec : {M : Type 1} → stated.statement M
 unfolding code.routine tablesOf

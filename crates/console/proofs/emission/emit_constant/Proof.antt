@@ -1,5 +1,6 @@
 use borrow.Author.Needs.{needs}
 use Rattle.model.specs.Basics.{ascii}
+use Rattle.console.specs.Words.{blank}
 use Rattle.console.specs.Emits.{notKnown, booleanArgs, saidBytes, constantAsked}
 use Rattle.console.proofs.emission.emit_constant.Statement.{statement}
 use Rattle.console.proofs.emission.emit_constant.Tie as tie
@@ -129,11 +130,14 @@ returns-4 c =
 words-from-requires-2 : tie.Need-words-from-requires-2
 words-from-requires-2 c κs = search needs
 
+slice-aggregate-read-bytes : tie.Need-slice-aggregate-read-bytes
+slice-aggregate-read-bytes c = search needs
+
 read-bytes-requires : tie.Need-read-bytes-requires
 read-bytes-requires c κs = search needs
 
-cut-requires : tie.Need-cut-requires
-cut-requires c κs = search needs
+front-requires : tie.Need-front-requires
+front-requires c κs = search needs
 
 slice-aggregate-same-bytes-3 : tie.Need-slice-aggregate-same-bytes-3
 slice-aggregate-same-bytes-3 c = search needs
@@ -145,13 +149,13 @@ add-constant-requires-3 : tie.Need-add-constant-requires-3
 add-constant-requires-3 c κs = search needs
 
 returns-5 : tie.Need-returns-5
-unfolding ascii booleanArgs saidBytes constantAsked
+unfolding ascii booleanArgs blank saidBytes constantAsked
 returns-5 c =
     let at-if6 = c .before .before .before in
     let at-same-bytes3 = at-if6 .before in
-    let at-cut = at-same-bytes3 .before .before in
-    let at-if5 = at-cut .before .before .before in
-    let at-read-bytes = at-if5 .before in
+    let at-front = at-same-bytes3 .before .before in
+    let at-if5 = at-front .before .before in
+    let at-read-bytes = at-if5 .before .before in
     let at-words-from2 = at-read-bytes .before .before in
     let at-if3 = at-words-from2 .before in
     let at-same-bytes2 = at-if3 .before in
@@ -167,7 +171,7 @@ returns-5 c =
       ← at-words-from2 .words-from2 .ensures,
       ← at-read-bytes .read-bytes .ensures,
       at-if5 .if5 .taken,
-      ← at-cut .cut .ensures,
+      ← at-front .front .ensures,
       ← at-same-bytes3 .same-bytes3 .ensures,
       at-if6 .if6 .taken,
     ) (c .add-constant3 .ensures rest)
@@ -176,13 +180,13 @@ add-constant-requires-4 : tie.Need-add-constant-requires-4
 add-constant-requires-4 c κs = search needs
 
 returns-6 : tie.Need-returns-6
-unfolding ascii booleanArgs saidBytes constantAsked
+unfolding ascii booleanArgs blank saidBytes constantAsked
 returns-6 c =
     let at-if6 = c .before .before .before in
     let at-same-bytes3 = at-if6 .before in
-    let at-cut = at-same-bytes3 .before .before in
-    let at-if5 = at-cut .before .before .before in
-    let at-read-bytes = at-if5 .before in
+    let at-front = at-same-bytes3 .before .before in
+    let at-if5 = at-front .before .before in
+    let at-read-bytes = at-if5 .before .before in
     let at-words-from2 = at-read-bytes .before .before in
     let at-if3 = at-words-from2 .before in
     let at-same-bytes2 = at-if3 .before in
@@ -198,7 +202,7 @@ returns-6 c =
       ← at-words-from2 .words-from2 .ensures,
       ← at-read-bytes .read-bytes .ensures,
       at-if5 .if5 .taken,
-      ← at-cut .cut .ensures,
+      ← at-front .front .ensures,
       ← at-same-bytes3 .same-bytes3 .ensures,
       at-if6 .if6 .left,
     ) (c .add-constant4 .ensures rest)
@@ -207,9 +211,10 @@ unknown-requires-3 : tie.Need-unknown-requires-3
 unknown-requires-3 c κs = search needs
 
 returns-7 : tie.Need-returns-7
-unfolding ascii notKnown booleanArgs saidBytes constantAsked
+unfolding ascii notKnown booleanArgs blank saidBytes constantAsked
 returns-7 c =
-    let at-words-from2 = c .before .before .before .before in
+    let at-read-bytes = c .before .before .before in
+    let at-words-from2 = at-read-bytes .before .before in
     let at-if3 = at-words-from2 .before in
     let at-same-bytes2 = at-if3 .before in
     let at-if1 = at-same-bytes2 .before .before in
@@ -224,7 +229,7 @@ returns-7 c =
             ← at-same-bytes2 .same-bytes2 .ensures,
             at-if3 .if3 .left,
             ← at-words-from2 .words-from2 .ensures,
-            ← c .before .before .read-bytes .ensures,
+            ← at-read-bytes .read-bytes .ensures,
             c .before .if5 .left,
             c .unknown3 .ensures,
           );
@@ -233,8 +238,34 @@ returns-7 c =
 pub emit-constant-spec : {M : Type 1} → statement M
 emit-constant-spec =
     tie.close
-    (tie.spec word-requires slice-aggregate-same-bytes same-bytes-requires words-from-requires hex-requires
-    slice-aggregate-add-constant add-constant-requires returns unknown-requires returns-2 slice-aggregate-same-bytes-2
-    same-bytes-requires-2 read-args-requires slice-aggregate-add-constant-2 add-constant-requires-2 returns-3 unknown-requires-2
-    returns-4 words-from-requires-2 read-bytes-requires cut-requires slice-aggregate-same-bytes-3 same-bytes-requires-3
-    add-constant-requires-3 returns-5 add-constant-requires-4 returns-6 unknown-requires-3 returns-7)
+    (tie.spec
+    word-requires
+    slice-aggregate-same-bytes
+    same-bytes-requires
+    words-from-requires
+    hex-requires
+    slice-aggregate-add-constant
+    add-constant-requires
+    returns
+    unknown-requires
+    returns-2
+    slice-aggregate-same-bytes-2
+    same-bytes-requires-2
+    read-args-requires
+    slice-aggregate-add-constant-2
+    add-constant-requires-2
+    returns-3
+    unknown-requires-2
+    returns-4
+    words-from-requires-2
+    slice-aggregate-read-bytes
+    read-bytes-requires
+    front-requires
+    slice-aggregate-same-bytes-3
+    same-bytes-requires-3
+    add-constant-requires-3
+    returns-5
+    add-constant-requires-4
+    returns-6
+    unknown-requires-3
+    returns-7)

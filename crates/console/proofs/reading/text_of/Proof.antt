@@ -1,9 +1,8 @@
--- `text_of` lends as much of the space as it is asked.
 use borrow.Author.Needs.{needs}
-use mathlib.Core.Path.{sym, ap}
+use mathlib.Core.Path.{sym}
 use lib.Seq.{length-take-le}
-use Rattle.model.specs.Loading.{OutRes}
 use Rattle.console.specs.Asks.{textAfter}
+use Rattle.console.proofs.Tellings.{text-told}
 use Rattle.console.proofs.reading.text_of.Statement.{statement}
 use Rattle.console.proofs.reading.text_of.Tie as tie
 
@@ -18,9 +17,8 @@ slice-relend-prefix-text-bytes c = search needs
 
 slice-aggregate-text-bytes : tie.Need-slice-aggregate-text-bytes
 slice-aggregate-text-bytes c =
-    sym
-    (length-take-le _ (c .before .before .before .before .before .before .before .args .space .now)
-    (c .before .at-most .ensures .1))
+    let at-start = c .before .before .before .before .before .before .before in
+    sym (length-take-le _ (at-start .args .out .now) (c .before .at-most .ensures .1))
 
 text-bytes-requires : tie.Need-text-bytes-requires
 text-bytes-requires c κs = search needs
@@ -32,12 +30,10 @@ same-length : tie.Need-same-length
 same-length c = search needs
 
 returns : tie.Need-returns
-unfolding textAfter
 returns c =
     let at-at-most = c .before .before .before .before in
     let at-s = at-at-most .before .before in
-    rw (at-s .s .given .1, ← at-at-most .at-most .ensures .0)
-    (ap (λ (o : OutRes). o .answer) (c .before .before .text-bytes .ensures))
+    text-told _ _ _ _ (at-s .s .given .1) (at-at-most .at-most .ensures .0) (c .before .before .text-bytes .ensures)
 
 returns-2 : tie.Need-returns-2
 unfolding textAfter
@@ -46,5 +42,13 @@ returns-2 c = rw (c .before .s2 .given .1)
 pub text-of-spec : {M : Type 1} → statement M
 text-of-spec =
     tie.close
-    (tie.spec enum-known-s at-most-requires slice-relend-prefix-text-bytes slice-aggregate-text-bytes text-bytes-requires
-    enum-known-s-2 same-length returns returns-2)
+    (tie.spec
+    enum-known-s
+    at-most-requires
+    slice-relend-prefix-text-bytes
+    slice-aggregate-text-bytes
+    text-bytes-requires
+    enum-known-s-2
+    same-length
+    returns
+    returns-2)

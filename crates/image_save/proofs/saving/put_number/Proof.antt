@@ -25,8 +25,9 @@ slice-aggregate-put-part c = number-length _ refl (c .before .before .before .wr
 -- src/saving.rt:29:5
 put-part-requires : tie.Need-put-part-requires
 put-part-requires c κs =
-    let at-start = c .before .before .before .before .before .before in
-    number-near _ refl (c .before .before .before .write-number .ensures) _ (at-start .pre)
+    let at-write-number = c .before .before .before in
+    let at-start = at-write-number .before .before .before in
+    number-near _ refl (at-write-number .write-number .ensures) _ (at-start .pre)
 
 -- src/saving.rt:23:1
 same-length : tie.Need-same-length
@@ -35,8 +36,9 @@ same-length c = search needs
 -- src/saving.rt:23:1
 returns : tie.Need-returns
 returns c =
-    let at-write-number = c .before .before .before .before .before .before in
-    number-put _ refl (at-write-number .write-number .ensures) (c .before .before .put-part .ensures)
+    let at-number = c .before .before .before .before .before .before in
+    number-put _ refl (at-number .write-number .ensures)
+    (c .before .before .put-part .ensures)
 
 pub put-number-spec : {M : Type 1} → statement M
 put-number-spec =
