@@ -44,8 +44,7 @@ same-length-2 c = search needs
 returns : tie.Need-returns
 returns c =
     let at-with-frames = c .before .before .before .before .before .before .before .before in
-    let at-two-each2 = at-with-frames .before .before .before .before .before .before .before .before .before .before .before
-    .before .before .before in
+    let at-two-each2 = at-with-frames .before .before .before .before .before .before .before .before .before .before .before .before .before .before in
     let at-two-each = at-two-each2 .before in
     over-is _ _ _ _ (at-two-each .two-each .ensures .0) (at-two-each2 .two-each2 .ensures .0)
     (at-with-frames .with-frames .ensures) (c .say-answer .ensures)

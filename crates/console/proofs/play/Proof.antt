@@ -41,8 +41,7 @@ loop-less c =
 
 loop-again : tie.Need-loop-again Inv-loop μ-loop
 loop-again c =
-    let at-loop-test = c .before .before .before .before .before .before .before .before .before .before .before .before .before
-    .before .before in
+    let at-loop-test = c .before .before .before .before .before .before .before .before .before .before .before .before .before .before .before in
     let at-loop = at-loop-test .before in
     one-line (at-loop .loop .inv) (at-loop-test .loop-test .taken) (c .before .turn .ensures) (c .next-line .ensures)
 

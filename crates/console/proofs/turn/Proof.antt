@@ -22,8 +22,7 @@ over-frames-requires c κs = search needs
 returns : tie.Need-returns
 unfolding blank
 returns c =
-    let at-front = c .before .before .before .before .before .before .before .before .before .before .before .before .before
-    .before in
+    let at-front = c .before .before .before .before .before .before .before .before .before .before .before .before .before .before in
     let at-asked = at-front .before .before .before in
     let at-ask = at-asked .before .before in
     let at-bytes-of = at-ask .before .before in
@@ -39,8 +38,7 @@ obey-requires c κs = search needs
 returns-2 : tie.Need-returns-2
 unfolding blank
 returns-2 c =
-    let at-enum-told = c .before .before .before .before .before .before .before .before .before .before .before .before .before
-    .before in
+    let at-enum-told = c .before .before .before .before .before .before .before .before .before .before .before .before .before .before in
     let at-ask = at-enum-told .before .before in
     let at-bytes-of = at-ask .before .before in
     turned-line (at-bytes-of .bytes-of .ensures) _ _ _ _

@@ -19,8 +19,9 @@ ask-new-requires c κs = search needs
 returns : tie.Need-returns
 unfolding ascii askOf
 returns c =
+    let at-word = c .before .before .before .before in
     rw (
-      ← c .before .before .before .before .word .ensures,
+      ← at-word .word .ensures,
       ← c .before .before .same-bytes .ensures,
       c .before .if1 .taken,
       c .ask-new .ensures,

@@ -15,8 +15,9 @@ lent-whole-requires c κs = search needs
 returns : tie.Need-returns
 unfolding askLoad
 returns c =
+    let at-words-from = c .before .before .before .before in
     rw (
-      ← c .before .before .before .before .words-from .ensures,
+      ← at-words-from .words-from .ensures,
       ← c .before .before .read-bytes .ensures,
       c .before .if1 .taken,
       c .lent-whole .ensures,

@@ -25,7 +25,8 @@ same-bytes-requires-3 c κs = search needs
 returns : tie.Need-returns
 unfolding ascii isName
 returns c =
-    rw (c .before .before .before .before .same-bytes .ensures, c .before .before .same-bytes2 .ensures, c .same-bytes3 .ensures)
+    let at-same-bytes = c .before .before .before .before in
+    rw (at-same-bytes .same-bytes .ensures, c .before .before .same-bytes2 .ensures, c .same-bytes3 .ensures)
 
 pub is-name-spec : {M : Type 1} → statement M
 is-name-spec =

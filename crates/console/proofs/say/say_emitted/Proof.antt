@@ -26,7 +26,9 @@ say-refused-requires c κs = search needs
 
 returns : tie.Need-returns
 unfolding withProgram afterEmitted
-returns c = rw (c .before .before .before .before .before .e .given .1)
+returns c =
+    let at-e = c .before .before .before .before .before in
+    rw (at-e .e .given .1)
 
 returns-2 : tie.Need-returns-2
 unfolding withProgram afterEmitted

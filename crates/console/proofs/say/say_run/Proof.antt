@@ -59,15 +59,21 @@ say-refused-requires c κs = search needs
 
 returns : tie.Need-returns
 unfolding afterRun
-returns c = rw (c .before .before .before .before .before .r .given .1)
+returns c =
+    let at-r = c .before .before .before .before .before in
+    rw (at-r .r .given .1)
 
 returns-2 : tie.Need-returns-2
 unfolding afterRun
-returns-2 c = rw (c .before .before .before .before .r2 .given .1)
+returns-2 c =
+    let at-r2 = c .before .before .before .before in
+    rw (at-r2 .r2 .given .1)
 
 returns-3 : tie.Need-returns-3
 unfolding afterRun
-returns-3 c = rw (c .before .before .before .before .before .before .r3 .given .1)
+returns-3 c =
+    let at-r3 = c .before .before .before .before .before .before in
+    rw (at-r3 .r3 .given .1)
 
 returns-4 : tie.Need-returns-4
 unfolding afterRun

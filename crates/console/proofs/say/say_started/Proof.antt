@@ -39,7 +39,9 @@ returns c = rw (c .before .before .before .s .given .1)
 
 returns-2 : tie.Need-returns-2
 unfolding afterStarted
-returns-2 c = rw (c .before .before .before .before .before .s2 .given .1)
+returns-2 c =
+    let at-s2 = c .before .before .before .before .before in
+    rw (at-s2 .s2 .given .1)
 
 returns-3 : tie.Need-returns-3
 unfolding afterStarted

@@ -34,7 +34,9 @@ mul-if1 c = search needs
 
 -- src/saving.rt:140:12
 shared-slice-read-if1 : tie.Need-shared-slice-read-if1 Inv-loop μ-loop
-shared-slice-read-if1 c = let z = c .before .before .before .before .pre .1 in let y = c .before .loop-test .taken in omega arith
+shared-slice-read-if1 c =
+    let at-start = c .before .before .before .before in
+    let z = at-start .pre .1 in let y = c .before .loop-test .taken in omega arith
 
 -- src/saving.rt:141:20
 sub-result : tie.Need-sub-result Inv-loop μ-loop
