@@ -218,7 +218,7 @@ listed-foretells (text bytes) = record {
       ∙ sym (either-why atListing why (leb (length bytes) (places 1 out)) _ _ refl refl);
   nothing = put-nothing bytes;
 }
-listed-foretells (unlisted n) = record { number = λ out why. refl; nothing = refl }
+listed-foretells (unlisted l n) = record { number = λ out why. refl; nothing = refl }
 
 pub list-foretells : (c : Counts) (s : Stores) → Foretells atListing (listOf c s)
 unfolding listOf
