@@ -2,9 +2,11 @@
 use mathlib.Core.Path.{_≡_, refl, sym, ap, _∙_}
 use mathlib.Core.Bool.{Bool, true, false}
 use mathlib.Core.List.{List, [], _∷_}
-use Prim.Native.Nat.{ℕ, zero, suc, _+_, _*_, _/_, _%_, _≤_, _<_, _^_}
+use Prim.Native.Nat.{ℕ, zero, suc, _+_, _-_, _*_, _/_, _%_, _≤_, _<_, _^_}
 use native.Mathlib.Omega.{arith}
 use lib.Dec.{ltb}
+use lib.Count.{leadingZeros, leading-top}
+use lib.Pow.{pow-mono, pow-add}
 use lib.ListN.{length}
 use borrow.Author.Tests.{lt-ltb, le-ltb, ltb-true, ltb-false}
 use Rattle.model.specs.Numbers.{groupsOf, digits}
@@ -72,3 +74,29 @@ size zero n h l u = sym (ap length (digits-one n u))
 size (suc k) n h l u =
     let s : 1 ≤ span k = some k in
     ap suc (size k (n / 128) (omega arith) (down k n l) (omega arith)) ∙ sym (ap length (digits-many n (omega arith) h))
+
+-- ---- the groups by the place j of the highest set bit
+
+span-is : (k : ℕ) → span k ≡ 2 ^ (7 * k)
+span-is zero = refl
+span-is (suc k) = ap (λ (x : ℕ). 128 * x) (span-is k) ∙ sym (pow-add 2 7 (7 * k)) ∙ (let z : 7 + 7 * k ≡ 7 * suc k = omega arith in ap (λ (x : ℕ). 2 ^ x) z)
+
+least-span : (k : ℕ) → least k ≤ span k
+least-span zero = omega arith
+least-span (suc k) = omega arith
+
+pub by-highest : (n j : ℕ) → n < 2 ^ 32 → 2 ^ j ≤ n → n < 2 ^ suc j → suc (j / 7) ≡ length (digits n)
+by-highest n j h l u =
+    let low : 2 ^ (7 * (j / 7)) ≤ 2 ^ j = pow-mono (omega arith) in
+    let high : 2 ^ suc j ≤ 2 ^ (7 * suc (j / 7)) = pow-mono (omega arith) in
+    let a = span-is (j / 7) in
+    let b = span-is (suc (j / 7)) in
+    let c = least-span (j / 7) in
+    size (j / 7) n h (omega arith) (omega arith)
+
+-- seven bits to a group: 38 less the leading zeros, by seven
+pub by-leading-zeros : (n : ℕ) → 0 < n → n < 2 ^ 32 → (38 - leadingZeros 32 n) / 7 ≡ length (digits n)
+by-leading-zeros n p h =
+    let t = leading-top 32 n p h in
+    let e : (38 - leadingZeros 32 n) / 7 ≡ suc (t .0 / 7) = (let z = t .1 in omega arith) in
+    e ∙ by-highest n (t .0) h (t .2) (t .3)

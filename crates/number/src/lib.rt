@@ -47,23 +47,15 @@ pub fn read_number(src: &[u8], at: usize) -> Num
     read_groups(src, at, 4)
 }
 
-// How many groups n has.
+// How many groups n has: seven bits in each, as far as its bits reach; zero has one.
 pub fn groups(n: u32) -> usize
     ensures { λ r. ⌜ r ≡ length (digits n) ⌝ }
 {
-    if n < 128 {
+    if n == 0 {
         return 1;
     }
-    if n < 16384 {
-        return 2;
-    }
-    if n < 2097152 {
-        return 3;
-    }
-    if n < 268435456 {
-        return 4;
-    }
-    5
+    let zeros = u32::leading_zeros(n);
+    ((38 - zeros) / 7) as usize
 }
 
 // Puts n at place at, and gives the place behind it.
