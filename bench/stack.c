@@ -31,18 +31,16 @@ static void lend(void)
     LEND(trace, 512);
 }
 
-static void fill(void)
+/* The part of the stack that lies below this function's caller: filled, or looked at. */
+static __attribute__((noinline)) size_t below(int filled)
 {
-    volatile uint8_t part[DEEP];
-    size_t i;
-    for (i = 0; i < DEEP; i++) part[i] = MARK;
-}
-
-static size_t reached(void)
-{
-    volatile uint8_t part[DEEP];
+    uint8_t part[DEEP];
+    volatile uint8_t *at = part;
     size_t i = 0;
-    while (i < DEEP && part[i] == MARK) i++;
+    if (filled)
+        for (i = 0; i < DEEP; i++) at[i] = MARK;
+    else
+        while (i < DEEP && at[i] == MARK) i++;
     return DEEP - i;
 }
 
@@ -54,9 +52,9 @@ static uint32_t call_save(void) { return cw_save(&m, image, sizeof image); }
 static void told(const char *what, uint32_t (*call)(void))
 {
     uint32_t n;
-    fill();
+    below(1);
     n = call();
-    printf("%-36s answers %2u, takes %zu bytes of the stack\n", what, (unsigned)n, reached());
+    printf("%-36s answers %2u, takes %zu bytes of the stack\n", what, (unsigned)n, below(0));
 }
 
 static void op0(uint8_t op) { cw_add_op(&m, op, 0); }

@@ -1,7 +1,7 @@
 -- What an entry itself answers: 19 where its judge says no, and no 19 where it says yes. And what a short record does not change of loading.
 use mathlib.Core.Path.{_≡_, refl, sym, ap, _∙_}
 use mathlib.Core.Bool.{Bool, true, false, _&&_}
-use mathlib.Core.List.{List, [], _∷_, _++_}
+use mathlib.Core.List.{List, [], _∷_}
 use mathlib.Core.Option.{Option, none, some}
 use Prim.Native.Nat.{ℕ, zero, suc, _+_}
 use native.Mathlib.Omega.{arith}
@@ -27,7 +27,7 @@ use Rattle.model.specs.Values.{places, ifString, ifReference, textAt}
 use Rattle.model.specs.Stores.{Stores, functionsFrom, programIn}
 use Rattle.model.specs.Programs.{codeLimit, constantLimit, nameLimit, firstFrom}
 use Rattle.model.specs.Orders.{countsOk, textOk, programOk}
-use Rattle.model.specs.Emission.{Res, refuse, sizeHere, endHere, codeRoom, textRoom, appended, codeOrder, emitIn, emitOf, addOpOf, addOp1Of, addOp2Of, addOp3Of, u16}
+use Rattle.model.specs.Emission.{Res, refuse, sizeHere, endHere, codeRoom, textRoom, appended, codeOrder, emitIn, emitOf, addOpOf, addOp1Of, addOp2Of, addOp3Of}
 use Rattle.model.specs.Emission.{patchOrder, patched, patchOf, constantOrder, withConstant, withTextConstant, constantAdded, addConstantOf}
 use Rattle.model.specs.Emission.{structOrder, structNames, structAdded, structFound, addStructOf, functionOrder, begun, beginFunctionOf, endFunctionOf, newOf}
 use Rattle.model.specs.Images.{imageOf}

@@ -1,7 +1,5 @@
 -- `emission::chaffwheel_end_function` meets its contract.
-use Rattle.model.specs.declared.Vm.{Vm}
 use Rattle.model.specs.Emission.{endFunctionOf}
-use Rattle.embed_words.specs.Coding.{emittedCoded}
 use Rattle.embed.proofs.Own.{end-says}
 use Rattle.embed.proofs.Through.{emits, emits-not}
 use Rattle.embed.proofs.emission.chaffwheel_end_function.Statement.{statement}

@@ -1,5 +1,4 @@
 -- `reading::chaffwheel_last_result` meets its contract.
-use Rattle.model.specs.declared.Vm.{Vm}
 use Rattle.model.specs.Readers.{lastResultOf}
 use Rattle.embed_words.specs.Coding.{shownCoded}
 use Rattle.embed.proofs.Through.{is-through}

@@ -1,7 +1,4 @@
 -- `reading::chaffwheel_text` meets its contract.
-use mathlib.Core.Path.{ap, _∙_}
-use Rattle.model.specs.declared.Value.{Value}
-use Rattle.model.specs.Readers.{textBytesOf}
 use Rattle.embed.proofs.Through.{room-fits, room-taken, text-through}
 use Rattle.embed.proofs.reading.chaffwheel_text.Statement.{statement}
 use Rattle.embed.proofs.reading.chaffwheel_text.Tie as tie
