@@ -1,4 +1,4 @@
--- A program in good order is sound, so that what is saved loads as the same program.
+-- A program in good order is sound and within the limits, so that what is saved loads as the same program.
 use mathlib.Core.Path.{_≡_, refl, sym, ap, _∙_}
 use mathlib.Core.Bool.{Bool, true, false, not}
 use mathlib.Core.List.{List, [], _∷_, _++_}
@@ -7,10 +7,11 @@ use native.Mathlib.Omega.{arith}
 use lib.Dec.{eqb}
 use lib.ListN.{length, take, drop, getD, length-drop}
 use lib.Seq.{length-take-le}
-use borrow.Author.Tests.{ne-eqb, not-true}
+use borrow.Author.Tests.{ne-eqb, not-true, le-leb}
+use Rattle.model.specs.Basics.{if_then_else_}
 use Rattle.model.specs.Values.{places, kindAt, payloadAt, textAt}
 use Rattle.model.specs.Equality.{sameBytes}
-use Rattle.model.specs.Programs.{among}
+use Rattle.model.specs.Programs.{among, codeLimit, constantLimit, nameLimit, codesWithin, withinLimits}
 use Rattle.model.specs.Images.{Small, SoundConstant, SoundName, SoundFunction, AllSmall, Each, always, snoc, mainFirst, Sound}
 use Rattle.model.specs.Stores.{Stores, start, size, part, structWord, nameWord, codeWord, codeEnd, constantIn, constantsFrom, structsFrom, functionIn, functionsFrom, programIn}
 use Rattle.model.specs.Orders.{mainOk, programOk}
@@ -176,3 +177,31 @@ module _ (c : Counts) (cs ss fs tx mn mp ot op : List ℕ) (ok : programOk c (le
         );
         functions = ((omega arith, omega arith), all-sound (c .functions) refl (omega arith));
       }
+
+-- ---- within the limits, whatever the numbers in the stores
+
+module _ (c : Counts) (cs ss fs tx mn mp ot op : List ℕ) (ok : programOk c (lent cs ss fs tx mn mp ot op) ≡ true) where
+  -- a code is at most as long as its word says, and good order keeps the word within the limit
+  code-short : (i : ℕ) → i < c .functions → length (functionIn (lent cs ss fs tx mn mp ot op) i .code) ≤ codeLimit
+  unfolding functionIn
+  code-short i l = let a = function-at c cs ss fs tx mn mp ot op ok i l .short in let b = part-most (if eqb i 0 then mn else ot) (codeWord fs i) in omega arith
+
+  codes-short : (k j : ℕ) → j + k ≤ c .functions → codesWithin (functionsFrom k j (lent cs ss fs tx mn mp ot op)) ≡ true
+  unfolding functionsFrom codesWithin
+  codes-short zero j h = refl
+  codes-short (suc k) j h = rw (le-leb _ codeLimit (code-short j (omega arith))) (codes-short k (suc j) (omega arith))
+
+  -- so that loading does not refuse it 22
+  pub order-within : withinLimits (programIn c (lent cs ss fs tx mn mp ot op)) ≡ true
+  unfolding programIn withinLimits
+  order-within =
+      let n = limits c cs ss fs tx mn mp ot op ok in
+      rw (
+        constants-length (c .constants) 0 cs tx,
+        structs-length (c .structs) 0 ss tx,
+        functions-length (c .functions) 0 (lent cs ss fs tx mn mp ot op),
+        le-leb (c .constants) constantLimit (n .constants),
+        le-leb (c .structs) nameLimit (n .structs),
+        le-leb (c .functions) nameLimit (n .functions),
+      )
+      (codes-short (c .functions) 0 (omega arith))

@@ -1,22 +1,32 @@
 -- THE RETURN TRIP: a program's image says that program; whatever bytes are accepted are the image of the program that they say; one program has
--- one image; what was loaded is saved again as the same bytes; and what is saved loads as the same program, NaN payloads included.
+-- one image; what was loaded is saved again as the same bytes; and what is saved loads as the same program, NaN payloads included, wherever there is room.
 use mathlib.Core.Path.{_≡_, refl, sym, ap, _∙_}
 use mathlib.Core.Bool.{true}
-use mathlib.Core.List.{List}
-use Prim.Native.Nat.{ℕ, _^_}
+use mathlib.Core.List.{List, _++_}
+use Prim.Native.Nat.{ℕ, _≤_, _^_}
 use native.Mathlib.Omega.{arith}
+use lib.Dec.{leb}
+use lib.ListN.{length, take, drop}
+use lib.Seq.{take-at}
+use borrow.Author.Tests.{leb-true}
 use Rattle.model.specs.Numbers.{Bytes}
+use Rattle.model.specs.Values.{places}
 use Rattle.model.specs.Programs.{Program, withinLimits}
 use Rattle.model.specs.Images.{imageOf, Judged, fine, broken, judge, Sound}
 use Rattle.model.specs.Stores.{Stores, programIn}
+use Rattle.model.specs.Emission.{written}
 use Rattle.model.specs.Orders.{programOk}
-use Rattle.model.specs.Loading.{laid, countsFor, roomFor, LoadRes, loadJudged, loadOf, putOut, saveOf}
+use Rattle.model.specs.Loading.{laid, countsFor, roomFor, LoadRes, loadJudged, loadOf, OutRes, putOut, saveOf}
 use Rattle.model.specs.declared.Counts.{Counts}
 use Rattle.model.specs.declared.Loaded.the-variants as l
+use Rattle.model.specs.declared.Told.the-variants as t
 use Rattle.layout.proofs.Bools.{either-way}
+use Rattle.layout.proofs.Parts.{one-word}
 use Rattle.laws_images.proofs.Formats.{judge-back, judge-only}
+use Rattle.laws_images.proofs.Held.{written-front}
 use Rattle.image_load.proofs.Loaded.{laid-again}
-use Rattle.image.proofs.Sounds.{Below, order-sound}
+use Rattle.image.specs.Loads.{LoadsAs}
+use Rattle.image.proofs.Sounds.{Below, order-sound, order-within}
 
 pub image-back : (p : Program) → Sound p → judge (imageOf p) ≡ fine p
 image-back = judge-back
@@ -29,6 +39,10 @@ same-program p q e = cc
 
 pub one-image : (p q : Program) → Sound p → Sound q → imageOf p ≡ imageOf q → p ≡ q
 one-image p q sp sq e = same-program p q (sym (image-back p sp) ∙ ap judge e ∙ image-back q sq)
+
+-- both ways: the same program has the same image, and only it has that image
+pub one-program-one-image : (p q : Program) → Sound p → Sound q → (p ≡ q → imageOf p ≡ imageOf q) × (imageOf p ≡ imageOf q → p ≡ q)
+one-program-one-image p q sp sq = (λ e. ap imageOf e, one-image p q sp sq)
 
 -- in the stores where it was loaded, a program is in good order and stands for itself
 pub loaded-stands : (p : Program) (x : Stores) → Sound p → withinLimits p ≡ true → roomFor p x ≡ true
@@ -84,3 +98,49 @@ pub save-then-load : (c : Counts) (x : Stores) → programOk c x ≡ true → Be
 save-then-load c x ok a b d =
     let s = order-sound c (x .constants) (x .structs) (x .functions) (x .text) (x .main) (x .mainPlaces) (x .other) (x .otherPlaces) ok a b d in
     (s, image-back (programIn c x) s)
+
+-- ---- through the entries: the bytes that `save` wrote are accepted by `load`
+
+number-same : {a b : ℕ} → t.Number a ≡ t.Number b → a ≡ b
+number-same e = cc
+
+not-number : {a b : ℕ} → t.Refused a ≡ t.Number b → ⊥
+not-number e = let z : _≡_ {A = ℕ} 0 1 = cc in omega arith
+
+-- where the store has the room, the bytes that were put out stand at its front
+put-front : (bytes out out' : List ℕ) (n : ℕ) → putOut bytes out ≡ record { answer = t.Number n; out = out' } → take n out' ≡ bytes
+unfolding putOut
+put-front bytes out out' n e = either-way (leb (length bytes) (places 1 out))
+    (λ h.
+    let g : _≡_ {A = OutRes} (record { answer = t.Number (length bytes); out = written out 0 bytes }) (record { answer = t.Number n; out = out' }) = rw h at e in
+    let k : length bytes ≡ n = number-same (ap (λ (x : OutRes). x .answer) g) in
+    let fits : length bytes ≤ length out = one-word (length bytes) out (leb-true _ _ h) .0 in
+    let o : out' ≡ bytes ++ drop (length bytes) out = sym (ap (λ (x : OutRes). x .out) g) ∙ written-front out bytes fits in
+    rw o (take-at bytes (drop (length bytes) out) n k))
+    (λ h.
+    let g : _≡_ {A = OutRes} (record { answer = t.Refused 17; out = out }) (record { answer = t.Number n; out = out' }) = rw h at e in
+    absurd (not-number (ap (λ (x : OutRes). x .answer) g)))
+
+-- what `save` wrote is the image of the program, which was in good order
+saved-as : (c : Counts) (x : Stores) (out out' : List ℕ) (n : ℕ) → saveOf c x out ≡ record { answer = t.Number n; out = out' }
+    → (programOk c x ≡ true) × (take n out' ≡ imageOf (programIn c x))
+unfolding saveOf
+saved-as c x out out' n e = either-way (programOk c x)
+    (λ h. (h, put-front (imageOf (programIn c x)) out out' n (rw h at e)))
+    (λ h.
+    let g : _≡_ {A = OutRes} (record { answer = t.Refused 19; out = out }) (record { answer = t.Number n; out = out' }) = rw h at e in
+    absurd (not-number (ap (λ (x : OutRes). x .answer) g)))
+
+-- a sound program within the limits is loaded wherever there is room
+pub image-loads : (p : Program) (y : Stores) → Sound p → withinLimits p ≡ true → roomFor p y ≡ true → LoadsAs p (imageOf p) y
+unfolding loadOf loadJudged
+image-loads p y s w r = let k = loaded-stands p y s w r in record { accepted = rw (image-back p s, w, r); order = k .0; program = k .1 }
+
+-- the n bytes that `save` wrote load as the same program in any stores that have the room for it
+pub saved-loads : (c : Counts) (x y : Stores) (out out' : List ℕ) (n : ℕ) → saveOf c x out ≡ record { answer = t.Number n; out = out' }
+    → Below (2 ^ 64) (x .constants) → Below (2 ^ 32) (x .mainPlaces) → Below (2 ^ 32) (x .otherPlaces)
+    → roomFor (programIn c x) y ≡ true → LoadsAs (programIn c x) (take n out') y
+saved-loads c x y out out' n e a b d r =
+    let s = saved-as c x out out' n e in
+    let within = order-within c (x .constants) (x .structs) (x .functions) (x .text) (x .main) (x .mainPlaces) (x .other) (x .otherPlaces) (s .0) in
+    rw (s .1) (image-loads (programIn c x) y (save-then-load c x (s .0) a b d .0) within r)

@@ -13,7 +13,7 @@ use Rattle.laws_runs.proofs.Ordered.{order-world, order-sane}
 use Rattle.laws_programs.proofs.Known.{limited}
 use Rattle.laws_rust.proofs.Loop.{run-same}
 use Rattle.laws_rust.proofs.Back.{rust-same}
-use Rattle.image.proofs.Trip.{image-back, image-only, one-image, load-then-save, save-then-load}
+use Rattle.image.proofs.Trip.{image-back, image-only, one-program-one-image, load-then-save, save-then-load, saved-loads}
 use Rattle.demands.specs.Host.{Held}
 use Rattle.demands.specs.Meant.{Fine, worldIn}
 use Rattle.demands.proofs.Refusing.{refuses}
@@ -53,9 +53,10 @@ kept = record {
   as-trees = as-trees;
   image-back = image-back;
   image-only = image-only;
-  one-image = one-image;
+  one-program-one-image = one-program-one-image;
   load-then-save = load-then-save;
   save-then-load = save-then-load;
+  saved-loads = saved-loads;
   fault-recovers = λ h h' u n did j p q. fault-recovers u p q;
   chain-alike = λ again cs h d e f xs ys a n t p q. chain-alike a n t p q;
   past-counts-unseen = λ calls h k e f xs ys a p q. past-counts-unseen a p q;

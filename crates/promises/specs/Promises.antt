@@ -5,6 +5,7 @@ use mathlib.Core.Bool.{Bool, true}
 use mathlib.Core.List.{List, [], _∷_, map}
 use mathlib.Core.Option.{some}
 use Prim.Native.Nat.{ℕ, suc, _+_, _≤_, _^_}
+use lib.ListN.{take}
 use Rattle.model.specs.declared.Op.{Op}
 use Rattle.model.specs.declared.Counts.{Counts}
 use Rattle.model.specs.declared.Vm.{Vm}
@@ -12,6 +13,7 @@ use Rattle.model.specs.declared.Fault.{Fault}
 use Rattle.model.specs.declared.Tally.{Tally}
 use Rattle.model.specs.declared.Started.the-variants as st
 use Rattle.model.specs.declared.Loaded.the-variants as l
+use Rattle.model.specs.declared.Told.the-variants as t
 use Rattle.model.specs.declared.RunResult.{RunResult}
 use Rattle.model.specs.declared.RunResult.the-variants as r
 use Rattle.model.specs.Numbers.{Bytes}
@@ -19,7 +21,7 @@ use Rattle.model.specs.Programs.{Program}
 use Rattle.model.specs.Images.{imageOf, fine, judge, Sound}
 use Rattle.model.specs.Stores.{Stores, programIn}
 use Rattle.model.specs.Orders.{programOk}
-use Rattle.model.specs.Loading.{loadOf, saveOf, putOut}
+use Rattle.model.specs.Loading.{roomFor, loadOf, saveOf, putOut}
 use Rattle.model.specs.Steps.{World, State, faulted, execOf, stepOf}
 use Rattle.model.specs.Runs.{Machine, Progress, Ran, begin, endOf, runOf}
 use Rattle.model.specs.Machines.{Lent, RunPost, answerIn, ran, entriesIn}
@@ -30,6 +32,7 @@ use Rattle.laws_runs.specs.Sane.{Sane}
 use Rattle.laws_runs.specs.Paths.{Steps, rootReturns}
 use Rattle.laws_rust.specs.Vm as rust
 use Rattle.laws_rust.specs.Same.{rustOf, RunAs, Unlimited, AnswersAs}
+use Rattle.image.specs.Loads.{LoadsAs}
 use Rattle.image.proofs.Sounds.{Below}
 use Rattle.demands.specs.Host.{Held, Ask, Call, run, ask, new, load, Answer, started, After, RanBy, Chain}
 use Rattle.demands.specs.Refusals.{Demand1, refusedBy}
@@ -76,10 +79,14 @@ pub record Promises : Type 0 where
 
   pub image-back : (p : Program) → Sound p → judge (imageOf p) ≡ fine p
   pub image-only : (b : List ℕ) (p : Program) → Bytes b → judge b ≡ fine p → (b ≡ imageOf p) × Sound p
-  pub one-image : (p q : Program) → Sound p → Sound q → imageOf p ≡ imageOf q → p ≡ q
+  pub one-program-one-image : (p q : Program) → Sound p → Sound q → (p ≡ q → imageOf p ≡ imageOf q) × (imageOf p ≡ imageOf q → p ≡ q)
   pub load-then-save : (b : List ℕ) (x y : Stores) (c : Counts) (out : List ℕ) → Bytes b → loadOf b x ≡ record { answer = l.Done c; stores = y } → saveOf c y out ≡ putOut b out
   pub save-then-load : (c : Counts) (x : Stores) → programOk c x ≡ true → Below (2 ^ 64) (x .constants) → Below (2 ^ 32) (x .mainPlaces) → Below (2 ^ 32) (x .otherPlaces)
       → Sound (programIn c x) × (judge (imageOf (programIn c x)) ≡ fine (programIn c x))
+  -- through the entries: the n bytes that `save` wrote are accepted by `load` in any stores that have the room, and what it leaves stands for the same program
+  pub saved-loads : (c : Counts) (x y : Stores) (out out' : List ℕ) (n : ℕ) → saveOf c x out ≡ record { answer = t.Number n; out = out' }
+      → Below (2 ^ 64) (x .constants) → Below (2 ^ 32) (x .mainPlaces) → Below (2 ^ 32) (x .otherPlaces)
+      → roomFor (programIn c x) y ≡ true → LoadsAs (programIn c x) (take n out') y
   -- ---- DEMAND 3: what a run that ends in a fault leaves, and what every later call then says
 
   pub fault-recovers : (h h' : Held) (u n : ℕ) (did : Tally) (j : ℕ) → RunPost (h .vm) (h .stores) (h .lent) u (r.Fault (h' .vm) n did j) (h' .lent) → h' .stores ≡ h .stores
