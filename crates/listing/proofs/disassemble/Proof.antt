@@ -1,6 +1,7 @@
 -- `disassemble`: each way out.
 use mathlib.Core.Path.{refl, sym}
 use mathlib.Core.List.{[]}
+use lib.Seq.{length-take-le}
 use borrow.Author.Tests.{not-true, not-false}
 use Rattle.listing.proofs.Entry.{out-of-order, few, refused, no-room, room-for}
 use borrow.Author.Needs.{needs}
@@ -17,7 +18,7 @@ slice-relend-prefix-write-all : tie.Need-slice-relend-prefix-write-all
 slice-relend-prefix-write-all c = search needs
 
 slice-aggregate-write-all : tie.Need-slice-aggregate-write-all
-slice-aggregate-write-all c = search needs
+slice-aggregate-write-all c = search (length-take-le, needs)
 
 write-all-requires : tie.Need-write-all-requires
 write-all-requires c κs = few _ _ _ _ _ (c .before .before .list-order .ensures) [] (not-false _ (c .before .if1 .left))
