@@ -1,13 +1,18 @@
 -- What crosses to a host in C: a machine's record and the entries' answers, as words in slices that the host lends.
 -- Enums do not cross: a value is its kind and its payload, as in the stores; an entry returns 0, or the number of its refusal.
 use mathlib.Core.Path.{_≡_}
-use mathlib.Core.Bool.{Bool, false, _&&_, _||_}
+use mathlib.Core.Bool.{Bool, true, false, _&&_, _||_}
 use mathlib.Core.List.{List, [], _∷_}
 use Prim.Native.Nat.{ℕ}
-use lib.Dec.{eqb, leb}
+use lib.Dec.{T, eqb, leb}
+use lib.Ieee.{binary64, fits}
 use lib.ListN.{length, getD}
 use Rattle.model.specs.declared.Counts.{Counts}
 use Rattle.model.specs.declared.Vm.{Vm}
+use Rattle.model.specs.declared.Value.{Value}
+use Rattle.model.specs.declared.Value.the-variants as v
+use Rattle.model.specs.declared.Last.{Last}
+use Rattle.model.specs.declared.Last.the-variants.{Nothing, Is}
 use Rattle.model.specs.declared.Frame.{Frame}
 use Rattle.model.specs.declared.Told.{Told}
 use Rattle.model.specs.declared.Told.the-variants as t
@@ -28,7 +33,7 @@ use Rattle.model.specs.Stores.{Stores}
 use Rattle.model.specs.Emission.{Res}
 use Rattle.model.specs.Loading.{OutRes}
 use Rattle.model.specs.Machines.{Lent, RunAnswer, ran, refused as not-run, runAnswer, RunPost, StartRes}
-use Rattle.value.specs.Links.{lastIn, lastKind, lastPayload}
+use Rattle.value.specs.Links.{Fine, lastIn, lastKind, lastPayload}
 
 -- ---- a machine's record in ten words: constants, structs, functions, text, current, stack, frames, cells, and the last result's kind and payload.
 -- Kind 7, payload 0: no last result
@@ -50,12 +55,35 @@ vmWords m =
     m .program .constants ∷ m .program .structs ∷ m .program .functions ∷ m .program .text ∷ m .program .current
     ∷ m .stack ∷ m .frames ∷ m .cells ∷ lastKind (m .last) ∷ lastPayload (m .last) ∷ []
 
+-- a last result that the words of a store can hold: what the types of the code say of it, and, of texts and cells, good order too
+abbrev pub FineLast : Last → Type 0
+FineLast Nothing = Unit
+FineLast (Is v) = Fine v
+
+-- of these the type says only that a scalar is a float of 64 bits
+abbrev pub TypedValue : Value → Type 0
+TypedValue (v.Scalar x) = T (fits binary64 x)
+TypedValue (v.Boolean x) = Unit
+TypedValue (v.String o n) = Unit
+TypedValue (v.FunctionReference o n) = Unit
+TypedValue (v.List p) = Unit
+TypedValue (v.StructInstance p) = Unit
+
+abbrev pub TypedLast : Last → Type 0
+TypedLast Nothing = Unit
+TypedLast (Is v) = TypedValue v
+
 -- the words of a last result are exactly those of a value, or of none
 unfoldable pub lastExact : ℕ → ℕ → Bool
 lastExact k a = if eqb k 7 then eqb a 0 else exactValue k a
 
 unfoldable pub recordOk : List ℕ → Bool
 recordOk w = leb 10 (length w) && lastExact (getD w 8 0) (getD w 9 0)
+
+-- these words are the record of m: no entry refuses them 19 as no record, and every entry takes them for m
+pub record RecordOf (m : Vm) (w : List ℕ) : Type 0 where
+  pub taken : recordOk w ≡ true
+  pub machine : vmIn w ≡ m
 
 -- ---- refusals of what crosses
 

@@ -25,7 +25,9 @@ use Rattle.demands.proofs.Recovering.{fault-recovers}
 use Rattle.demands.proofs.MeantChains.{chain-alike}
 use Rattle.demands.proofs.Chains.{past-counts-unseen, ask-one}
 use Rattle.demands.proofs.OneRun.{run-one}
+use Rattle.embed_words.proofs.Back.{record-back}
 use Rattle.promises.specs.Promises.{Promises}
+use Rattle.promises.proofs.Records.{order-fine}
 
 -- a machine in good order has at most 65,536 functions
 few : (h : Held) → Fine h → length (worldIn h .functions) ≤ 65536
@@ -60,6 +62,7 @@ kept = record {
   fault-recovers = λ h h' u n did j p q. fault-recovers u p q;
   chain-alike = λ again cs h d e f xs ys a n t p q. chain-alike a n t p q;
   past-counts-unseen = λ calls h k e f xs ys a p q. past-counts-unseen a p q;
+  record-back = λ h w o t n. record-back w (h .vm) n (order-fine h o t);
   run-one = λ m s e u x y e' k' p q. run-one m s e u p q;
   ask-one = λ q h h' k' a b p r. ask-one q h p r;
   examples-hold = examples-hold;

@@ -5,7 +5,7 @@ use mathlib.Core.Bool.{Bool, true}
 use mathlib.Core.List.{List, [], _∷_, map}
 use mathlib.Core.Option.{some}
 use Prim.Native.Nat.{ℕ, suc, _+_, _≤_, _^_}
-use lib.ListN.{take}
+use lib.ListN.{length, take}
 use Rattle.model.specs.declared.Op.{Op}
 use Rattle.model.specs.declared.Counts.{Counts}
 use Rattle.model.specs.declared.Vm.{Vm}
@@ -16,6 +16,7 @@ use Rattle.model.specs.declared.Loaded.the-variants as l
 use Rattle.model.specs.declared.Told.the-variants as t
 use Rattle.model.specs.declared.RunResult.{RunResult}
 use Rattle.model.specs.declared.RunResult.the-variants as r
+use Rattle.model.specs.Basics.{written}
 use Rattle.model.specs.Numbers.{Bytes}
 use Rattle.model.specs.Programs.{Program}
 use Rattle.model.specs.Images.{imageOf, fine, judge, Sound}
@@ -44,6 +45,7 @@ use Rattle.demands.specs.Trees.{AsTrees}
 use Rattle.demands.specs.Recovery.{Demand3}
 use Rattle.demands.specs.Agree.{Agree}
 use Rattle.demands.specs.One.{SameRun}
+use Rattle.embed_words.specs.Coding.{vmWords, TypedLast, RecordOf}
 
 pub record Promises : Type 0 where
   -- ---- DEMAND 1: no code, image or lent store makes it misbehave or run on
@@ -94,6 +96,11 @@ pub record Promises : Type 0 where
   pub chain-alike : (again : Bool) (cs : List Call) (h d e f : Held) (xs ys : List Answer) → AlikeHeld again h d → (anew cs ≡ true → again ≡ true) → AllTyped cs
       → (p : Chain cs h xs e) (q : Chain cs d ys f) → AlikeChains again p q
   pub past-counts-unseen : (calls : List Call) (h k e f : Held) (xs ys : List Answer) → Agree h k → Chain calls h xs e → Chain calls k ys f → xs ≡ ys
+  -- ---- A HOST IN C: it hands back the machine by handing back the record
+
+  -- a record of ten words or more, in which a machine in good order was written, as calls leave it, is taken and read back as that machine
+  -- (`TypedLast`: if its last result is a scalar, it is a float of 64 bits, as its type says)
+  pub record-back : (h : Held) (w : List ℕ) → InOrder h → TypedLast (h .vm .last) → 10 ≤ length w → RecordOf (h .vm) (written w 0 (vmWords (h .vm)))
   -- ---- NO SECOND ANSWER fits a contract
 
   pub run-one : (m : Vm) (s : Stores) (e : Lent) (u : ℕ) (x y : RunResult) (e' k' : Lent) → RunPost m s e u x e' → RunPost m s e u y k' → SameRun m x y e' k'
