@@ -30,7 +30,7 @@ ghost use Rattle.console.specs.Calls.{held, OverFrames};
 ghost use Rattle.console.specs.Turns.{Turned, Played};
 ghost use Rattle.console.specs.Said.{noMachine};
 
-// A call over frames, lent as much of the space, the copy store and the backtrace store as it asks; the machine as it then is.
+// A call over frames, lent its image and as much of the copy store and the backtrace store as it asks; the machine as it then is.
 fn over_frames(
     m: Vm,
     call: Call,
