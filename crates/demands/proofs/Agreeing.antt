@@ -11,7 +11,7 @@ use Rattle.model.specs.Stores.{Stores, functionsFrom}
 use Rattle.model.specs.Machines.{Lent, machineIn, worldOf, runOrder, tooShort, ran, refused, runAnswer}
 use Rattle.laws_runs.proofs.Ordered.{order-exact}
 use Rattle.demands.specs.Agree.{LentAlike}
-use Rattle.demands.proofs.Fronts.{places-alike, vals-alike, heap-alike, cells-alike, stack-alike, room-alike, frames-alike, innermost-alike, callers-alike}
+use Rattle.demands.proofs.Fronts.{front-of, places-alike, vals-alike, heap-alike, cells-alike, stack-alike, room-alike, frames-alike, innermost-alike, callers-alike}
 
 module _ (m : Vm) (s : Stores) {l l' : Lent} (k : LentAlike m l l') where
   pub world-alike : worldOf m s l ≡ worldOf m s l'
@@ -23,7 +23,7 @@ module _ (m : Vm) (s : Stores) {l l' : Lent} (k : LentAlike m l l') where
   order-alike =
       rw (
         cells-alike (m .cells) (k .cells) (m .program .text),
-        heap-alike (m .cells) (k .cells),
+        heap-alike (m .cells) (front-of (k .cells)),
         stack-alike (m .stack) (k .stack) (m .program .text) (heapOf (m .cells) (l' .cells)),
         places-alike (l .stack) (l' .stack) (k .stack .room) 2,
         frames-alike (k .frames) (functionsFrom (m .program .functions) 0 s) (places 2 (l' .stack)),
@@ -36,7 +36,7 @@ module _ (m : Vm) (s : Stores) {l l' : Lent} (k : LentAlike m l l') where
 
   pub machine-alike : 1 ≤ m .frames → machineIn m l ≡ machineIn m l'
   unfolding machineIn
-  machine-alike h = rw (vals-alike (m .stack) (k .stack), innermost-alike (k .frames) h, callers-alike (k .frames), heap-alike (m .cells) (k .cells))
+  machine-alike h = rw (vals-alike (m .stack) (front-of (k .stack)), innermost-alike (front-of (k .frames)) h, callers-alike (front-of (k .frames)), heap-alike (m .cells) (front-of (k .cells)))
 
   answers-by : (u : ℕ) (b : Bool) → runOrder m s l ≡ b
       → (if b then (if tooShort l then refused 17 else ran (m .program) (runOf (worldOf m s l) (machineIn m l) u)) else refused 19)

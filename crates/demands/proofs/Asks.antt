@@ -29,7 +29,7 @@ use Rattle.laws_runs.proofs.Frames.{some-frame}
 use Rattle.layout.proofs.Parts.{places-same}
 use Rattle.demands.specs.Host.{Held, Ask, new, load, addOp, addOp1, addOp2, addOp3, patch, addConstant, addStruct, beginFunction, endFunction, currentOffset, functionIdx, save, disassemble, backtrace, lastResult, stackValue, blockHeader, element, textBytes, Answer, put, shown, headed, Done, counted, withFrames, emits, starts, looks, done}
 use Rattle.demands.specs.Agree.{Alike, LentAlike, Agree}
-use Rattle.demands.proofs.Fronts.{places-alike, value-alike, shown-alike, heap-to, heap-alike, frames-alike, innermost-alike, callers-alike}
+use Rattle.demands.proofs.Fronts.{front-of, places-alike, value-alike, shown-alike, heap-to, heap-alike, frames-alike, innermost-alike, callers-alike}
 
 -- what two calls answer and leave agrees
 pub record DoneAlike (a b : Done) : Type 0 where
@@ -56,7 +56,7 @@ module _ (m : Vm) (s : Stores) (st st' : List ℕ) (r : places 2 st ≡ places 2
 
   pub trace-alike : (out : List ℕ) → backtraceIn m s st fs out ≡ backtraceIn m s st' fs' out
   unfolding backtraceIn
-  trace-alike out = rw (← trace-order-alike) (if-same (traceOrder m s st fs) _ (λ e. rw (innermost-alike k (has-frame e), callers-alike k)))
+  trace-alike out = rw (← trace-order-alike) (if-same (traceOrder m s st fs) _ (λ e. rw (innermost-alike (front-of k) (has-frame e), callers-alike (front-of k))))
 
 module _ (m : Vm) (s : Stores) {l l' : Lent} (k : LentAlike m l l') where
   abbrev here : Lent → Held
@@ -109,22 +109,22 @@ module _ (m : Vm) (s : Stores) {l l' : Lent} (k : LentAlike m l l') where
   unfolding stackValueOf
   value-shown i =
       rw (places-alike (l .stack) (l' .stack) (k .stack .room) 2) (if-same (leb (m .stack) (places 2 (l' .stack))) _ (λ _.
-      if-same (ltb i (m .stack)) _ (λ e. shown-alike (m .stack) (k .stack) i (ltb-true i (m .stack) e))))
+      if-same (ltb i (m .stack)) _ (λ e. shown-alike (m .stack) (front-of (k .stack)) i (ltb-true i (m .stack) e))))
 
   header-shown : (x : Value) → blockHeaderOf m x (l .cells) ≡ blockHeaderOf m x (l' .cells)
   unfolding blockHeaderOf reads
-  header-shown x = rw (places-alike (l .cells) (l' .cells) (k .cells .room) 2, heap-alike (m .cells) (k .cells))
+  header-shown x = rw (places-alike (l .cells) (l' .cells) (k .cells .room) 2, heap-alike (m .cells) (front-of (k .cells)))
 
   -- the elements of what is placed are below the count of cells
   element-at : (p i : ℕ) → Whole (heapOf (m .cells) (l' .cells)) p (m .cells) → elementShown m i (l .cells) (some p) ≡ elementShown m i (l' .cells) (some p)
   unfolding elementShown
   element-at p i w =
       let n = headIn (heapOf (m .cells) (l' .cells)) p .count in
-      rw (heap-alike (m .cells) (k .cells)) (if-same (ltb i n) _ (λ e.
+      rw (heap-alike (m .cells) (front-of (k .cells))) (if-same (ltb i n) _ (λ e.
       let x : i < n = ltb-true i n e in
       let y = w .ends in
       let h : suc p + i < m .cells = omega arith in
-      rw (heap-to (m .cells) (k .cells) p (omega arith), value-alike (m .cells) (k .cells) (suc p + i) h, shown-alike (m .cells) (k .cells) (suc p + i) h)))
+      rw (heap-to (m .cells) (front-of (k .cells)) p (omega arith), value-alike (m .cells) (front-of (k .cells)) (suc p + i) h, shown-alike (m .cells) (front-of (k .cells)) (suc p + i) h)))
 
   element-by : (x : Value) (i : ℕ) → Placed (m .program .text) (heapOf (m .cells) (l' .cells)) (m .cells) x → elementShown m i (l .cells) (headerAt x) ≡ elementShown m i (l' .cells) (headerAt x)
   unfolding elementShown headerAt ifList ifStruct
@@ -140,7 +140,7 @@ module _ (m : Vm) (s : Stores) {l l' : Lent} (k : LentAlike m l l') where
   element-shown x i =
       let a = leb (m .cells) (places 2 (l' .cells)) in
       let b = placedBelow (m .program .text) (heapOf (m .cells) (l' .cells)) (m .cells) x in
-      rw (places-alike (l .cells) (l' .cells) (k .cells .room) 2, heap-alike (m .cells) (k .cells)) (if-same (a && b) _ (λ e. element-by x i (and-right a b e)))
+      rw (places-alike (l .cells) (l' .cells) (k .cells .room) 2, heap-alike (m .cells) (front-of (k .cells))) (if-same (a && b) _ (λ e. element-by x i (and-right a b e)))
 
   pub ask-alike : (q : Ask) → DoneAlike (done q (here l)) (done q (here l'))
   unfolding done newMachineOf loadMachineOf

@@ -15,10 +15,13 @@ use Rattle.model.specs.Runs.{root}
 use Rattle.model.specs.Orders.{cellsOk, stackOk, frameStoreOk}
 use Rattle.model.specs.Machines.{frameRoom, innermost, callersIn}
 use Rattle.model.specs.Readers.{valueShown}
-use Rattle.demands.specs.Agree.{Alike}
+use Rattle.demands.specs.Agree.{Front, Alike}
 
-pub alike-at : {A : Type 0} {n : ℕ} {a b : List A} → Alike n a b → (j : ℕ) (d : A) → j < n → getD a j d ≡ getD b j d
-alike-at {A} {n} {a} {b} k j d h = sym (getD-take n a j d h) ∙ ap (λ (l : List A). getD l j d) (k .front) ∙ getD-take n b j d h
+pub front-of : {A : Type 0} {n : ℕ} {a b : List A} → Alike n a b → Front n a b
+front-of k = record { front = k .front }
+
+pub front-at : {A : Type 0} {n : ℕ} {a b : List A} → Front n a b → (j : ℕ) (d : A) → j < n → getD a j d ≡ getD b j d
+front-at {A} {n} {a} {b} k j d h = sym (getD-take n a j d h) ∙ ap (λ (l : List A). getD l j d) (k .front) ∙ getD-take n b j d h
 
 pub alike-same : {A : Type 0} (n : ℕ) (a : List A) → Alike n a a
 alike-same n a = record { front = refl; room = refl }
@@ -34,14 +37,15 @@ module _ (a b : List ℕ) (room : length a ≡ length b) where
   places-alike zero = refl
   places-alike (suc w) = rw room
 
-module _ (c : ℕ) {a b : List ℕ} (k : Alike (2 * c) a b) where
+-- c places that are the same, however long the stores
+module _ (c : ℕ) {a b : List ℕ} (k : Front (2 * c) a b) where
   pub kind-alike : (i : ℕ) → i < c → kindAt a i ≡ kindAt b i
   unfolding kindAt
-  kind-alike i h = alike-at k (2 * i) 0 (omega arith)
+  kind-alike i h = front-at k (2 * i) 0 (omega arith)
 
   pub payload-alike : (i : ℕ) → i < c → payloadAt a i ≡ payloadAt b i
   unfolding payloadAt
-  payload-alike i h = alike-at k (2 * i + 1) 0 (omega arith)
+  payload-alike i h = front-at k (2 * i + 1) 0 (omega arith)
 
   pub value-alike : (i : ℕ) → i < c → valueAt a i ≡ valueAt b i
   unfolding valueAt
@@ -80,9 +84,14 @@ module _ (c : ℕ) {a b : List ℕ} (k : Alike (2 * c) a b) where
   exact-to zero i h = refl
   exact-to (suc n) i h = rw (kind-alike i (omega arith), payload-alike i (omega arith), exact-to n (suc i) (omega arith))
 
+  pub exact-alike : exactCells c 0 a ≡ exactCells c 0 b
+  exact-alike = exact-to c 0 (omega arith)
+
+-- and stores as long
+module _ (c : ℕ) {a b : List ℕ} (k : Alike (2 * c) a b) where
   pub cells-alike : (t : ℕ) → cellsOk t c a ≡ cellsOk t c b
   unfolding cellsOk
-  cells-alike t = rw (places-alike a b (k .room) 2, exact-to c 0 (omega arith), heap-alike)
+  cells-alike t = rw (places-alike a b (k .room) 2, exact-alike c (front-of k), heap-alike c (front-of k))
 
   pub stack-alike : (t : ℕ) (H : List Cell) → stackOk t H c a ≡ stackOk t H c b
   unfolding stackOk
@@ -91,7 +100,7 @@ module _ (c : ℕ) {a b : List ℕ} (k : Alike (2 * c) a b) where
         places-alike a b (k .room) 2,
         every-alike c 0 (λ i. exactValue (kindAt a i) (payloadAt a i) && placedBelow t H (length H) (valueAt a i))
             (λ i. exactValue (kindAt b i) (payloadAt b i) && placedBelow t H (length H) (valueAt b i))
-            (λ i h. rw (kind-alike i (omega arith), payload-alike i (omega arith), value-alike i (omega arith))),
+            (λ i h. rw (kind-alike c (front-of k) i (omega arith), payload-alike c (front-of k) i (omega arith), value-alike c (front-of k) i (omega arith))),
       )
 
 module _ {n : ℕ} {a b : List Frame} (k : Alike n a b) where
@@ -103,9 +112,10 @@ module _ {n : ℕ} {a b : List Frame} (k : Alike n a b) where
   unfolding frameStoreOk
   frames-alike fs room = rw (k .room, k .front)
 
+module _ {n : ℕ} {a b : List Frame} (k : Front n a b) where
   pub innermost-alike : 1 ≤ n → innermost n a ≡ innermost n b
   unfolding innermost
-  innermost-alike h = alike-at k (n - 1) (root 0) (omega arith)
+  innermost-alike h = front-at k (n - 1) (root 0) (omega arith)
 
   pub callers-alike : callersIn n a ≡ callersIn n b
   unfolding callersIn

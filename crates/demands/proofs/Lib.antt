@@ -35,3 +35,5 @@ pub mod MeantChains
 pub mod Example
 -- `fault-leaves`, `fault-recovers`
 pub mod Recovering
+-- `relent-stands`, `relent-alike`
+pub mod Relending

@@ -65,7 +65,7 @@ last-self : (t : List ℕ) (H : List Cell) (x : Last) → AlikeLast t t H H x x
 last-self t H Nothing = al.nothing
 last-self t H (Is x) = al.is refl
 
-machine-self : (w : World) (m : Machine) → AlikeMachine w (record { text = w .text; constants = w .constants; cellRoom = w .cellRoom }) m m
+pub machine-self : (w : World) (m : Machine) → AlikeMachine w (record { text = w .text; constants = w .constants; cellRoom = w .cellRoom }) m m
 machine-self w m = record { stack = values-self (w .text) (m .heap) (m .stack); last = last-self (w .text) (m .heap) (m .last); frame = refl; callers = refl; free = refl }
 
 pub self-alike : (r : Bool) {h d : Held} → Fine h → Fine d → d .vm .program ≡ h .vm .program → d .stores ≡ h .stores → Rooms (d .lent) (h .lent) → machineOf d ≡ machineOf h → AlikeHeld r h d

@@ -90,7 +90,7 @@ module _ (t u : ℕ) (h : t ≤ u) (H : List Cell) where
 
 module _ {w w' : World} (g : WorldGrew w w') where
   frame-wider : {f : Frame} → FrameFits w f → FrameFits w' f
-  frame-wider k = record { known = omega (arith, k .known, g .functions); base = rw (g .stack) (k .base); position = k .position }
+  frame-wider k = record { known = omega (arith, k .known, g .functions); base = omega (arith, k .base, g .stack); position = k .position }
 
   callers-wider : (fs : List Frame) → CallersFit w fs → CallersFit w' fs
   unfolding CallersFit
@@ -99,11 +99,11 @@ module _ {w w' : World} (g : WorldGrew w w') where
       let c = k .0 in
       (record { frame = frame-wider (c .frame); from = c .from; to = omega (arith, c .to, g .codes (f .function) (c .frame .known)) }, callers-wider fs (k .1))
 
-  sane-wider : {s : State} → Sane w s → Sane w' s
+  pub sane-wider : {s : State} → Sane w s → Sane w' s
   sane-wider {s} h = record {
-    stack = rw (g .stack) (h .stack);
-    frames = rw (g .frames) (h .frames);
-    cells = rw (g .cells) (h .cells);
+    stack = omega (arith, h .stack, g .stack);
+    frames = omega (arith, h .frames, g .frames);
+    cells = omega (arith, h .cells, g .cells);
     heap = heap-text _ _ (g .text) (s .heap) (h .heap);
     placed = all-text _ _ (g .text) (s .heap) (s .stack) (h .placed);
     last = last-text _ _ (g .text) (s .heap) (s .last) (h .last);
@@ -125,9 +125,9 @@ module _ (m : Vm) (s : Stores) (l : Lent) (c : Counts) (s' : Stores) (e : runOrd
       let n = length-functions s (m .program .functions) 0 in
       record {
         text = omega (arith, text-length m s l p, text-length (withProgram c m) s' l e', g .text);
-        stack = refl;
-        frames = refl;
-        cells = refl;
+        stack = omega arith;
+        frames = omega arith;
+        cells = omega arith;
         functions = omega (arith, n, length-functions s' (c .functions) 0, g .functions);
         codes = λ i h.
             let k : i < m .program .functions = omega arith in

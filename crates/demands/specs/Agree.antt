@@ -7,6 +7,10 @@ use Rattle.model.specs.declared.Vm.{Vm}
 use Rattle.model.specs.Machines.{Lent}
 use Rattle.demands.specs.Host.{Held, Answer}
 
+-- stores with the same first n entries, however long
+pub record Front {A : Type 0} (n : ℕ) (a b : List A) : Type 0 where
+  pub front : take n a ≡ take n b
+
 -- stores of the same length, with the same first n entries
 pub record Alike {A : Type 0} (n : ℕ) (a b : List A) : Type 0 where
   pub front : take n a ≡ take n b

@@ -23,11 +23,11 @@ pub record Grew (c : Counts) (s : Stores) (c' : Counts) (s' : Stores) : Type 0 w
   pub functions : c .functions ≤ c' .functions
   pub codes : (i : ℕ) → i < c .functions → size (codeWord (s .functions) i) ≤ size (codeWord (s' .functions) i)
 
--- the same of a world
+-- the same of a world, whose rooms may grow too
 pub record WorldGrew (w w' : World) : Type 0 where
   pub text : length (w .text) ≤ length (w' .text)
-  pub stack : w' .stackRoom ≡ w .stackRoom
-  pub frames : w' .frameRoom ≡ w .frameRoom
-  pub cells : w' .cellRoom ≡ w .cellRoom
+  pub stack : w .stackRoom ≤ w' .stackRoom
+  pub frames : w .frameRoom ≤ w' .frameRoom
+  pub cells : w .cellRoom ≤ w' .cellRoom
   pub functions : length (w .functions) ≤ length (w' .functions)
   pub codes : (i : ℕ) → i < length (w .functions) → length (functionAt (w .functions) i .code) ≤ length (functionAt (w' .functions) i .code)

@@ -11,5 +11,7 @@ pub mod Units
 pub mod Agree
 pub mod Meant
 pub mod Recovery
+-- a machine in stores that are lent anew
+pub mod Relent
 -- demand 4: no second answer
 pub mod One

@@ -1,4 +1,5 @@
 -- All that is promised is kept.
+use mathlib.Core.Path.{_≡_}
 use Prim.Native.Nat.{_≤_}
 use lib.ListN.{length}
 use native.Mathlib.Omega.{arith}
@@ -11,11 +12,14 @@ use Rattle.laws_runs.proofs.Paths.{returns-counted}
 use Rattle.laws_runs.proofs.Programs.{parts-of, length-functions}
 use Rattle.laws_runs.proofs.Ordered.{order-world, order-sane}
 use Rattle.laws_programs.proofs.Known.{limited}
+use Rattle.laws_rust.specs.Same.{rustOf}
 use Rattle.laws_rust.proofs.Loop.{run-same}
 use Rattle.laws_rust.proofs.Back.{rust-same}
 use Rattle.image.proofs.Trip.{image-back, image-only, one-program-one-image, load-then-save, save-then-load, saved-loads}
 use Rattle.demands.specs.Host.{Held}
-use Rattle.demands.specs.Meant.{Fine, worldIn}
+use Rattle.demands.specs.Kept.{InOrder}
+use Rattle.demands.specs.Meant.{Fine, worldIn, machineOf}
+use Rattle.demands.specs.Relent.{Relent}
 use Rattle.demands.proofs.Refusing.{refuses}
 use Rattle.demands.proofs.Written.{steps-within, run-written}
 use Rattle.demands.proofs.Orderly.{new-in-order, load-in-order, chain-kept, run-in-order}
@@ -25,6 +29,7 @@ use Rattle.demands.proofs.Recovering.{fault-recovers}
 use Rattle.demands.proofs.MeantChains.{chain-alike}
 use Rattle.demands.proofs.Chains.{past-counts-unseen, ask-one}
 use Rattle.demands.proofs.OneRun.{run-one}
+use Rattle.demands.proofs.Relending.{values-anew, functions-anew, relent-stands, relent-alike}
 use Rattle.embed_words.proofs.Back.{record-back}
 use Rattle.promises.specs.Promises.{Promises}
 use Rattle.promises.proofs.Records.{order-fine}
@@ -37,6 +42,19 @@ few h f =
     let most = known .functions in
     let many = length-functions (h .stores) (h .vm .program .functions) 0 in
     omega arith
+
+-- the Rust knows of no rooms
+same-rust : (h k : Held) → InOrder h → Relent h k → rustOf (worldIn k) (machineOf k) ≡ rustOf (worldIn h) (machineOf h)
+unfolding w.worldOf t.worldIn rustOf
+same-rust h k o g =
+    let c = h .vm .program in
+    rw (
+      relent-stands o g .machine,
+      g .vm,
+      values-anew c (h .stores) (k .stores) (g .program) (o .program) (c .constants) 0 (omega arith),
+      g .program .text .front .front,
+      functions-anew c (h .stores) (k .stores) (g .program) (o .program) (c .functions) 0 (omega arith),
+    )
 
 pub kept : Promises
 kept = record {
@@ -62,6 +80,9 @@ kept = record {
   fault-recovers = λ h h' u n did j p q. fault-recovers u p q;
   chain-alike = λ again cs h d e f xs ys a n t p q. chain-alike a n t p q;
   past-counts-unseen = λ calls h k e f xs ys a p q. past-counts-unseen a p q;
+  relent-stands = λ h k o g. relent-stands o g;
+  relent-rust = same-rust;
+  relent-alike = λ again h k f c g s l. relent-alike again f c g s l;
   record-back = λ h w o t n. record-back w (h .vm) n (order-fine h o t);
   run-one = λ m s e u x y e' k' p q. run-one m s e u p q;
   ask-one = λ q h h' k' a b p r. ask-one q h p r;

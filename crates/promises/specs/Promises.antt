@@ -30,6 +30,7 @@ use Rattle.model.specs.Examples.{Example, examples}
 use Rattle.model.specs.Mistakes.{Row, mistakes}
 use Rattle.laws_checks.specs.Table.{checksOf, firstFailed, Keeps}
 use Rattle.laws_runs.specs.Sane.{Sane}
+use Rattle.laws_runs.specs.Ordered.{CodeBytes}
 use Rattle.laws_runs.specs.Paths.{Steps, rootReturns}
 use Rattle.laws_rust.specs.Vm as rust
 use Rattle.laws_rust.specs.Same.{rustOf, RunAs, Unlimited, AnswersAs}
@@ -39,11 +40,12 @@ use Rattle.demands.specs.Host.{Held, Ask, Call, run, ask, new, load, Answer, st
 use Rattle.demands.specs.Refusals.{Demand1, refusedBy}
 use Rattle.demands.specs.Kept.{InOrder}
 use Rattle.demands.specs.Jobs.{AllTyped, anew}
-use Rattle.demands.specs.Meant.{Fine, worldIn, machineOf, AlikeHeld, AlikeChains}
+use Rattle.demands.specs.Meant.{Fine, worldIn, machineOf, AsLong, AlikeHeld, AlikeChains}
 use Rattle.demands.specs.Units.{Demand2, Costs, pairsAt, Fee, spentOn}
 use Rattle.demands.specs.Trees.{AsTrees}
 use Rattle.demands.specs.Recovery.{Demand3}
-use Rattle.demands.specs.Agree.{Agree}
+use Rattle.demands.specs.Agree.{Rooms, Agree}
+use Rattle.demands.specs.Relent.{Relent, StandsFor}
 use Rattle.demands.specs.One.{SameRun}
 use Rattle.embed_words.specs.Coding.{vmWords, TypedLast, RecordOf}
 
@@ -96,6 +98,14 @@ pub record Promises : Type 0 where
   pub chain-alike : (again : Bool) (cs : List Call) (h d e f : Held) (xs ys : List Answer) → AlikeHeld again h d → (anew cs ≡ true → again ≡ true) → AllTyped cs
       → (p : Chain cs h xs e) (q : Chain cs d ys f) → AlikeChains again p q
   pub past-counts-unseen : (calls : List Call) (h k e f : Held) (xs ys : List Answer) → Agree h k → Chain calls h xs e → Chain calls k ys f → xs ≡ ys
+  -- ---- STORES LENT ANEW, between two calls: elsewhere or longer, the same below the counts
+
+  -- good order is kept, and they stand for the same program and the same machine
+  pub relent-stands : (h k : Held) → InOrder h → Relent h k → StandsFor h k
+  -- it is the same machine of the Rust's: by `as-the-rust` and `from-the-rust` both runs come to what the Rust comes to, where neither meets a limit
+  pub relent-rust : (h k : Held) → InOrder h → Relent h k → rustOf (worldIn k) (machineOf k) ≡ rustOf (worldIn h) (machineOf h)
+  -- stores as long: the machines mean the same, so that by `chain-alike` every later call says the same
+  pub relent-alike : (again : Bool) (h k : Held) → Fine h → CodeBytes (k .stores) → Relent h k → AsLong (k .stores) (h .stores) → Rooms (k .lent) (h .lent) → AlikeHeld again h k
   -- ---- A HOST IN C: it hands back the machine by handing back the record
 
   -- a record of ten words or more, in which a machine in good order was written, as calls leave it, is taken and read back as that machine

@@ -1,0 +1,42 @@
+-- Stores lent anew: between two calls a host may lend other stores, elsewhere or longer, with what stands below the counts the same.
+use mathlib.Core.Path.{_≡_}
+use mathlib.Core.List.{List}
+use Prim.Native.Nat.{ℕ, _*_, _≤_}
+use lib.ListN.{length}
+use Rattle.model.specs.declared.Counts.{Counts}
+use Rattle.model.specs.Stores.{Stores, programIn}
+use Rattle.model.specs.Orders.{mainTaken, otherTaken}
+use Rattle.demands.specs.Host.{Held}
+use Rattle.demands.specs.Kept.{InOrder}
+use Rattle.demands.specs.Agree.{Front}
+use Rattle.demands.specs.Meant.{machineOf}
+
+-- b is lent for a: the first n entries are the same, and it is no shorter
+pub record Anew {A : Type 0} (n : ℕ) (a b : List A) : Type 0 where
+  pub front : Front n b a
+  pub room : length a ≤ length b
+
+-- the program's stores: the same below the counts, and code and places as far as codes are taken
+pub record ProgramAnew (c : Counts) (s s' : Stores) : Type 0 where
+  pub constants : Anew (2 * c .constants) (s .constants) (s' .constants)
+  pub structs : Anew (2 * c .structs) (s .structs) (s' .structs)
+  pub functions : Anew (2 * c .functions) (s .functions) (s' .functions)
+  pub text : Anew (c .text) (s .text) (s' .text)
+  pub main : Anew (mainTaken (s .functions)) (s .main) (s' .main)
+  pub mainPlaces : Anew (mainTaken (s .functions)) (s .mainPlaces) (s' .mainPlaces)
+  pub other : Anew (otherTaken c (s .functions)) (s .other) (s' .other)
+  pub otherPlaces : Anew (otherTaken c (s .functions)) (s .otherPlaces) (s' .otherPlaces)
+
+-- k holds the machine of h in stores lent anew. Of copy and backtrace nothing is asked: nothing reads them.
+pub record Relent (h k : Held) : Type 0 where
+  pub vm : k .vm ≡ h .vm
+  pub program : ProgramAnew (h .vm .program) (h .stores) (k .stores)
+  pub stack : Anew (2 * h .vm .stack) (h .lent .stack) (k .lent .stack)
+  pub cells : Anew (2 * h .vm .cells) (h .lent .cells) (k .lent .cells)
+  pub frames : Anew (h .vm .frames) (h .lent .frames) (k .lent .frames)
+
+-- k is in good order, and stands for the program and the machine that h stands for
+pub record StandsFor (h k : Held) : Type 0 where
+  pub order : InOrder k
+  pub program : programIn (k .vm .program) (k .stores) ≡ programIn (h .vm .program) (h .stores)
+  pub machine : machineOf k ≡ machineOf h
