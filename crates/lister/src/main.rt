@@ -1,9 +1,12 @@
 // Reads a rule image from standard input, and prints the listing of each of its functions.
 use libc::STDIN_FILENO;
 use libc::STDOUT_FILENO;
+ghost use Rattle.lister.specs.Shown.{Shown};
 
 // Reads an image and prints its listing.
-fn show(image: &mut [u8], out: &mut [u8]) {
+fn show(image: &mut [u8], out: &mut [u8])
+    ensures { λ _. ⌜ Shown (now (image .exit)) (now (out .entry)) (now (out .exit)) ⌝ }
+{
     let n = io::read_full(STDIN_FILENO, image);
     let len = report::list_image(&image[..n], out);
     io::write_all(STDOUT_FILENO, &out[..len]);

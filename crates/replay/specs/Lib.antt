@@ -1,2 +1,2 @@
--- What a record's verdicts come to.
+-- What is read of a record, and what its verdicts come to.
 pub mod Turns

@@ -5,7 +5,7 @@ use replay_judge::Verdict;
 ghost use mathlib.Core.Path.{_≡_};
 ghost use Prim.Native.Nat.{_+_, _*_, _≤_};
 ghost use lib.ListN.{length};
-ghost use Rattle.replay.specs.Turns.{wanted, turnOf};
+ghost use Rattle.replay.specs.Turns.{endsOf, wanted, turnOf, PartsRead, RecordRead, isLast, differences};
 
 // Where each of a record's four parts ends: they stand one behind the other.
 struct Ends {
@@ -34,6 +34,7 @@ fn size(a: u8, b: u8, c: u8, d: u8) -> usize
 
 // The four lengths in front of a record.
 fn ends_of(h: [u8; 16]) -> Ends
+    ensures { λ r. ⌜ r ≡ endsOf h ⌝ }
     ensures { λ r. ⌜ (r .image ≤ r .loading) × (r .loading ≤ r .running) × (r .running ≤ r .listing) ⌝ }
 {
     let image = size(h[0], h[1], h[2], h[3]);
@@ -98,6 +99,7 @@ fn report(at: u64, v: Verdict) -> Turn
 // Reads the parts of record `at` into body, and judges them.
 fn read_parts(at: u64, e: Ends, body: &mut [u8]) -> Turn
     requires { ⌜ (e .image ≤ e .loading) × (e .loading ≤ e .running) × (e .running ≤ e .listing) ⌝ }
+    ensures { λ r. ⌜ PartsRead e (now (body .entry)) (now (body .exit)) r ⌝ }
 {
     let end = e.listing;
     if body.len() < end {
@@ -111,23 +113,25 @@ fn read_parts(at: u64, e: Ends, body: &mut [u8]) -> Turn
     report(at, v)
 }
 
-// Reads and judges record `at`.
-fn next(at: u64) -> Turn {
-    let mut head = [0u8; 16];
-    let got = io::read_full(STDIN_FILENO, &mut head);
+// Reads record `at`, the four lengths into head and its parts into body, and judges it.
+fn next(at: u64, head: &mut [u8; 16], body: &mut [u8; 524288]) -> Turn
+    ensures { λ r. ⌜ RecordRead (now (head .exit)) (now (body .entry)) (now (body .exit)) r ⌝ }
+{
+    let got = io::read_full(STDIN_FILENO, head);
     if got == 0 {
         return Turn::Over;
     }
     if got < 16 {
         return Turn::Cut;
     }
-    let e = ends_of(head);
-    let mut body = [0u8; 524288];
-    read_parts(at, e, &mut body)
+    let e = ends_of(*head);
+    read_parts(at, e, body)
 }
 
 // Whether there is no record to go on with.
-fn is_last(t: Turn) -> bool {
+fn is_last(t: Turn) -> bool
+    ensures { λ r. ⌜ r ≡ isLast t ⌝ }
+{
     match t {
         Turn::Same => false,
         Turn::Differs => false,
@@ -141,11 +145,14 @@ fn is_last(t: Turn) -> bool {
 
 // How many differing records this is.
 fn differing(t: Turn) -> u64
+    ensures { λ r. ⌜ r ≡ differences t ⌝ }
     ensures { λ r. ⌜ r ≤ 1 ⌝ }
 {
     match t {
         Turn::Differs => 1,
-        _ => 0,
+        Turn::Same => 0,
+        Turn::Over => 0,
+        Turn::Cut => 0,
     }
 }
 
@@ -158,10 +165,12 @@ fn say_total(cases: u64, differences: u64) {
 }
 
 fn main() {
+    let mut head = [0u8; 16];
+    let mut body = [0u8; 524288];
     let mut cases = 0u64;
     let mut differences = 0u64;
     while cases < u64::MAX {
-        let t = next(cases);
+        let t = next(cases, &mut head, &mut body);
         if is_last(t) {
             break;
         }

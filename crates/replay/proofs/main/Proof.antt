@@ -5,10 +5,10 @@ use Rattle.replay.proofs.main.Statement.{statement}
 use Rattle.replay.proofs.main.Tie as tie
 
 abbrev Inv-loop : tie.InvT-loop
-Inv-loop cases₀ differences₀ cases differences = differences ≤ cases
+Inv-loop head₀ body₀ cases₀ differences₀ head body cases differences = differences ≤ cases
 
 abbrev μ-loop : tie.MeasureT-loop
-μ-loop cases₀ differences₀ cases differences = 2 ^ 64 - cases
+μ-loop head₀ body₀ cases₀ differences₀ head body cases differences = 2 ^ 64 - cases
 
 loop-holds : tie.Need-loop-holds Inv-loop μ-loop
 loop-holds c = omega arith

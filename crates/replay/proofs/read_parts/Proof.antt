@@ -1,12 +1,13 @@
 -- `replay::read_parts` meets its contract.
 use borrow.Author.Needs.{needs}
+use Rattle.replay.proofs.Turns.{no-room, cut-short, were-judged}
 use mathlib.Core.Path.{sym}
 use lib.Seq.{length-take-le}
 use Rattle.replay.proofs.read_parts.Statement.{statement}
 use Rattle.replay.proofs.read_parts.Tie as tie
 
 returns : tie.Need-returns
-returns c = search needs
+returns c = search no-room
 
 slice-relend-prefix-read-full : tie.Need-slice-relend-prefix-read-full
 slice-relend-prefix-read-full c = search needs
@@ -21,7 +22,7 @@ same-length : tie.Need-same-length
 same-length c = search needs
 
 returns-2 : tie.Need-returns-2
-returns-2 c = search needs
+returns-2 c = search (cut-short, needs)
 
 judged-requires : tie.Need-judged-requires
 judged-requires c κs = search needs
@@ -33,7 +34,7 @@ same-length-2 : tie.Need-same-length-2
 same-length-2 c = search needs
 
 returns-3 : tie.Need-returns-3
-returns-3 c = search needs
+returns-3 c = search (were-judged, needs)
 
 pub read-parts-spec : {M : Type 1} → statement M
 read-parts-spec =
