@@ -29,17 +29,17 @@ unfoldable pub andNext : Same → Same → Same
 andNext (same false k) rest = same false (suc k)
 andNext (same true k) (same b m) = same b (suc k + m)
 
-unfoldable pub sameElements : (Value → Value → Same) → List Value → List Value → Same
+unfoldable pub sameElements : (same : Value → Value → Same) → (left right : List Value) → Same
 sameElements r [] bs = said true
 sameElements r (a ∷ as′) [] = said true
 sameElements r (a ∷ as′) (b ∷ bs) = andNext (r a b) (sameElements r as′ bs)
 
 -- lists agree when counts and elements do; structs also need the same struct number
-unfoldable pub sameBlocks : (Value → Value → Same) → List Cell → ℕ → ℕ → Same
+unfoldable pub sameBlocks : (same : Value → Value → Same) → (heap : List Cell) → (p q : ℕ) → Same
 sameBlocks r H p q = if eqb (headIn H p .count) (headIn H q .count) && eqb (headIn H p .number) (headIn H q .number) then sameElements r (elementsIn H p) (elementsIn H q) else said false
 
--- one pair, where elements are compared by r: binary64 equality on scalars, bytes on strings and names, false across kinds
-unfoldable pub samePair : (Value → Value → Same) → List ℕ → List Cell → Value → Value → Same
+-- one pair: binary64 equality on scalars, bytes on strings and names, false across kinds; the elements of lists and structs by `same`
+unfoldable pub samePair : (same : Value → Value → Same) → (text : List ℕ) → (heap : List Cell) → (left right : Value) → Same
 samePair r t H (v.Scalar x) b = ifScalar b (λ y. said (Ieee.eq x y)) (said false)
 samePair r t H (v.Boolean x) b = ifBoolean b (λ y. said (Bool·beq x y)) (said false)
 samePair r t H (v.String o n) b = ifString b (λ p m. said (sameBytes (textAt t o n) (textAt t p m))) (said false)
@@ -47,13 +47,13 @@ samePair r t H (v.FunctionReference o n) b = ifReference b (λ p m. said (sameBy
 samePair r t H (v.List p) b = ifList b (λ q. sameBlocks r H p q) (said false)
 samePair r t H (v.StructInstance p) b = ifStruct b (λ q. sameBlocks r H p q) (said false)
 
--- elements inside elements are visited d deep
-unfoldable pub sameTo : ℕ → List ℕ → List Cell → Value → Value → Same
+-- nested lists and structs are compared element by element, so many levels deep
+unfoldable pub sameTo : (levels : ℕ) → (text : List ℕ) → (heap : List Cell) → (left right : Value) → Same
 sameTo zero t H a b = samePair (λ x y. said true) t H a b
 sameTo (suc d) t H a b = samePair (λ x y. sameTo d t H x y) t H a b
 
 -- no value is deeper than 64
-unfoldable pub sameOf : List ℕ → List Cell → Value → Value → Same
+unfoldable pub sameOf : (text : List ℕ) → (heap : List Cell) → (left right : Value) → Same
 sameOf t H a b = sameTo 64 t H a b
 
 -- all that an example computes with here

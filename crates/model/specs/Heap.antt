@@ -127,11 +127,11 @@ buildOf room H k vs =
 -- ---- [order.cells] good order of a heap over t bytes of text
 
 -- a header stands at p, and its elements end at or below b
-unfoldable pub wholeBelow : List Cell → ℕ → ℕ → Bool
+unfoldable pub wholeBelow : (heap : List Cell) → (p b : ℕ) → Bool
 wholeBelow H p b = isHead (cellIn H p) && leb (suc p + headIn H p .count) b
 
 -- a value's text is inside the text, and its cells are whole and below b; a list has struct number 0
-unfoldable pub placedBelow : ℕ → List Cell → ℕ → Value → Bool
+unfoldable pub placedBelow : (text : ℕ) → (heap : List Cell) → (b : ℕ) → Value → Bool
 placedBelow t H b (v.Scalar x) = true
 placedBelow t H b (v.Boolean x) = true
 placedBelow t H b (v.String o n) = leb (o + n) t
@@ -140,25 +140,25 @@ placedBelow t H b (v.List p) = wholeBelow H p b && eqb (headIn H p .number) 0
 placedBelow t H b (v.StructInstance p) = wholeBelow H p b
 
 -- an element: a value, and no header
-unfoldable pub elementBelow : ℕ → List Cell → ℕ → Cell → Bool
+unfoldable pub elementBelow : (text : ℕ) → (heap : List Cell) → (b : ℕ) → Cell → Bool
 elementBelow t H b (item v) = placedBelow t H b v
 elementBelow t H b (head h) = false
 
 -- the n cells from i on are elements, placed below b
-unfoldable pub elementsBelow : ℕ → List Cell → ℕ → ℕ → ℕ → Bool
+unfoldable pub elementsBelow : (text : ℕ) → (heap : List Cell) → (b n i : ℕ) → Bool
 elementsBelow t H b zero i = true
 elementsBelow t H b (suc n) i = elementBelow t H b (cellIn H i) && elementsBelow t H b n (suc i)
 
--- the block at p: whole, its elements placed below it, its depth right and at most 64
-unfoldable pub blockOk : ℕ → List Cell → ℕ → Bool
+-- the list or struct whose header stands at p: whole, its elements placed below it, its depth right and at most 64
+unfoldable pub blockOk : (text : ℕ) → (heap : List Cell) → (p : ℕ) → Bool
 blockOk t H p = wholeBelow H p (length H) && elementsBelow t H p (headIn H p .count) (suc p) && eqb (headIn H p .depth) (suc (deepest H (elementsIn H p))) && leb (headIn H p .depth) 64
 
--- blocks one behind the other from p to the heap's end; f blocks at most
-unfoldable pub blocksFrom : ℕ → ℕ → List Cell → ℕ → Bool
+-- lists and structs one behind the other from p to the heap's end, so many at most
+unfoldable pub blocksFrom : (most : ℕ) → (text : ℕ) → (heap : List Cell) → (p : ℕ) → Bool
 blocksFrom zero t H p = eqb p (length H)
 blocksFrom (suc f) t H p = if eqb p (length H) then true else blockOk t H p && blocksFrom f t H (suc p + headIn H p .count)
 
-unfoldable pub heapOk : ℕ → List Cell → Bool
+unfoldable pub heapOk : (text : ℕ) → (heap : List Cell) → Bool
 heapOk t H = blocksFrom (length H) t H 0
 
 -- every place of a store holds exactly its cell's words

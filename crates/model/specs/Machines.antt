@@ -112,7 +112,8 @@ entriesIn (suc n) i b = entry (getD b (2 * i) 0) (getD b (2 * i + 1) 0) ∷ entr
 abbrev pub ranAs : Vm → Lent → Reply → RunAnswer
 ranAs m l y = ran (m .program) (record { reply = y; machine = machineIn m l })
 
-unfoldable pub answerIn : Lent → RunResult → RunAnswer
+-- the reply and the machine that a result stands for, in the stores as the run left them
+unfoldable pub answerIn : (left : Lent) → RunResult → RunAnswer
 answerIn l (r.Value m v n) = ranAs m l (value v n)
 answerIn l (r.Continue m n) = ranAs m l (continue n)
 answerIn l (r.Fault m k n j) = ranAs m l (fault k n (entriesIn j 0 (l .backtrace)))
@@ -125,12 +126,14 @@ pub record SameRooms (l l' : Lent) : Type 0 where
   pub cells : length (l' .cells) ≡ length (l .cells)
   pub frames : length (l' .frames) ≡ length (l .frames)
 
-abbrev pub Left : Stores → Lent → RunResult → Lent → Type 0
+-- what a run leaves is in good order; a refusal leaves the stores as they were
+abbrev pub Left : Stores → (before : Lent) → RunResult → (after : Lent) → Type 0
 Left s l (r.Value m v n) l' = runOrder m s l' ≡ true
 Left s l (r.Continue m n) l' = runOrder m s l' ≡ true
 Left s l (r.Fault m k n j) l' = runOrder m s l' ≡ true
 Left s l (r.Refused n) l' = l' ≡ l
 
+-- m, s, l and u are the machine, the program, what was lent and the units; r is what comes back, and l' what was lent as it then is
 pub record RunPost (m : Vm) (s : Stores) (l : Lent) (u : ℕ) (r : RunResult) (l' : Lent) : Type 0 where
   pub answer : answerIn l' r ≡ runAnswer m s l u
   pub copy : l' .copy ≡ copyAfter m l (runAnswer m s l u)

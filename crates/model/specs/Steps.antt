@@ -105,10 +105,10 @@ unfoldable pub lastOf : Last → Found
 lastOf Nothing = g.Bad f.NoLastResult
 lastOf (Is v) = g.Got v
 
-unfoldable pub loadStep : World → ℕ → State → Outcome
+unfoldable pub loadStep : World → (number : ℕ) → State → Outcome
 loadStep w a s = onFound (constantOf (w .constants) a) s (λ v. pushing w v s)
 
-unfoldable pub slotStep : World → ℕ → State → Outcome
+unfoldable pub slotStep : World → (slot : ℕ) → State → Outcome
 slotStep w i s = onFound (slotOf (s .stack) i) s (λ v. pushing w v s)
 
 unfoldable pub lastStep : World → State → Outcome
@@ -153,49 +153,50 @@ notStep s = poppingBoolean (s .stack) (λ n. faulted n s) (λ x r. went (withSta
 
 -- ---- [jump] an unsigned offset is added to the position after the instruction
 
-unfoldable pub jumpStep : ℕ → State → Outcome
+unfoldable pub jumpStep : (offset : ℕ) → State → Outcome
 jumpStep a s = went (at (position s + a) s)
 
-unfoldable pub jumpIfFalseStep : ℕ → State → Outcome
+unfoldable pub jumpIfFalseStep : (offset : ℕ) → State → Outcome
 jumpIfFalseStep a s = poppingBoolean (s .stack) (λ n. faulted n s) (λ x r. went (withStack r (if x then s else at (position s + a) s)))
 
 -- ---- [call] the base is the stack length less the count
 
-unfoldable pub enter : World → ℕ → ℕ → List Value → State → Outcome
+unfoldable pub enter : World → (function count : ℕ) → (rest : List Value) → State → Outcome
 enter w i n vs s =
     if ltb (length vs) n then faulted f.TooFewValues s else
     (if leb (w .frameRoom) (suc (length (s .callers))) then faulted f.FramesFull s else
     went (withStack vs (withFrames (record { function = i; position = 0; base = length vs - n }) (s .frame ∷ s .callers) s)))
 
-unfoldable pub callStep : World → ℕ → ℕ → State → Outcome
+unfoldable pub callStep : World → (function count : ℕ) → State → Outcome
 callStep w i n s = if ltb i (length (w .functions)) then enter w i n (s .stack) s else faulted f.OutOfRange s
 
-unfoldable pub enterNamed : World → ℕ → List Value → State → Option ℕ → Outcome
+unfoldable pub enterNamed : World → (count : ℕ) → (rest : List Value) → State → Option ℕ → Outcome
 enterNamed w n vs s none = faulted f.NoFunction s
 enterNamed w n vs s (some i) = enter w i n vs s
 
--- the newest function of the popped reference's name
-unfoldable pub callCallableStep : World → ℕ → State → Outcome
+-- pops a reference, and calls the newest function of that name
+unfoldable pub callCallableStep : World → (count : ℕ) → State → Outcome
 callCallableStep w n s =
     popping (s .stack) (λ m. faulted m s) (λ v r.
     ifReference v (λ i k. enterNamed w n r s (functionNamed (textAt (w .text) i k) (w .functions))) (faulted (f.WrongKind v) s))
 
 -- ---- [build], [field]
 
--- n values are popped; the new value names the cell behind the heap as it was
-unfoldable pub onBuilt : World → (ℕ → Value) → List Value → State → Built → Outcome
+-- the values are popped, and the new value, which names its header's cell, is pushed on the rest
+unfoldable pub onBuilt : World → (naming : ℕ → Value) → (rest : List Value) → State → Built → Outcome
 onBuilt w t r s (built H) = pushing w (t (length (s .heap))) (withStack r (withHeap H s))
 onBuilt w t r s (unbuilt n) = faulted n s
 
-unfoldable pub buildStep : World → (ℕ → Value) → (ℕ → List Value → List Value) → ℕ → ℕ → State → Outcome
+-- a list or struct of `count` values from the top of the stack, in the order that `elements` gives them
+unfoldable pub buildStep : World → (naming : ℕ → Value) → (elements : ℕ → List Value → List Value) → (number count : ℕ) → State → Outcome
 buildStep w t elements k n s =
     if ltb (length (s .stack)) n then faulted f.TooFewValues s else
     onBuilt w t (drop n (s .stack)) s (buildOf (w .cellRoom) (s .heap) k (elements n (s .stack)))
 
-unfoldable pub structStep : World → ℕ → ℕ → State → Outcome
+unfoldable pub structStep : World → (number count : ℕ) → State → Outcome
 structStep w k n s = if ltb k (w .structs) then buildStep w v.StructInstance structFields k n s else faulted f.OutOfRange s
 
-unfoldable pub fieldStep : ℕ → State → Outcome
+unfoldable pub fieldStep : (number : ℕ) → State → Outcome
 fieldStep a s =
     popping (s .stack) (λ n. faulted n s) (λ v r.
     ifStruct v (λ p. onFound (fieldOf (s .heap) p a) s (λ x. went (withStack (x ∷ r) s))) (faulted (f.WrongKind v) s))
