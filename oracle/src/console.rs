@@ -1,7 +1,7 @@
 //! A host's calls, from a script, and the answers as the console prints them.
 
 use crate::command::Command;
-use crate::frames::{in_order, FrameStore, NotFixed, MOST_PLACES};
+use crate::frames::{in_order, FrameStore, NotFixed};
 use crate::limits::{Answer, Frame, Machine, Refused, Report, Stores};
 use crate::print::{listing, value_text};
 use crate::readers::{block_header, element, last_result, stack_value, text_bytes};
@@ -63,7 +63,7 @@ impl Console {
     /// are in good order.
     pub fn as_lent(&self) -> Option<Machine> {
         let mut console = self.clone();
-        let machine = console.with_frames(Stores::RUNNER.values);
+        let machine = console.with_frames();
         machine.ok().cloned()
     }
 
@@ -182,11 +182,11 @@ impl Console {
     }
 
     /// The machine with the frames that the host lends, if they are in good
-    /// order; their bases are within a stack store of `values`.
-    fn with_frames(&mut self, values: usize) -> Result<&mut Machine, Stop> {
+    /// order; their bases are within the stack store.
+    fn with_frames(&mut self) -> Result<&mut Machine, Stop> {
         let machine = self.machine.as_mut().ok_or(Refused::Order)?;
         let frames = self.frames.taken()??;
-        if !in_order(&frames, &machine.program, values) {
+        if !in_order(&frames, &machine.program, Stores::RUNNER.values) {
             return Err(Refused::Order.into());
         }
         machine.frames = frames;
@@ -195,7 +195,7 @@ impl Console {
 
     /// 19, then 17: the copy store has as many places as the stack store.
     fn run(&mut self, units: u64, room: usize) -> Said {
-        let machine = self.with_frames(Stores::RUNNER.values)?;
+        let machine = self.with_frames()?;
         if room < machine.stores.values {
             return Err(Refused::ResultStore.into());
         }
@@ -205,9 +205,9 @@ impl Console {
         say(ran(&report, stack, &frames))
     }
 
-    /// 19, 17, then 16. A backtrace is lent no stack store.
+    /// 19, 17, then 16. A backtrace is lent the stack store for its length.
     fn trace(&mut self, room: usize) -> Said {
-        let machine = self.with_frames(MOST_PLACES)?;
+        let machine = self.with_frames()?;
         if room < machine.frames.len() {
             return Err(Refused::ResultStore.into());
         }

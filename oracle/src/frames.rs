@@ -3,8 +3,6 @@
 use crate::image::Program;
 use crate::limits::{Frame, Refused};
 
-/// Of any store this many places count.
-pub const MOST_PLACES: usize = 4_294_967_295;
 /// The greatest position: a jump of 65,535 from the end of 65,535 bytes.
 pub const MOST_POSITION: usize = 131_070;
 

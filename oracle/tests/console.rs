@@ -269,9 +269,9 @@ fn damaged_frames_are_refused_by_runs_and_backtraces() {
     both(&two("0 3 0", "1 1 1024"), short, "at 0 7");
     both(&two("0 4 0", "1 0 0"), bad, bad);
     both(&two("0 3 0", "2 0 0"), bad, bad);
-    // A backtrace is lent no stack store.
-    both(&two("0 3 0", "1 0 1025"), bad, "at 0 7");
-    both(&two("0 3 0", "1 0 4294967295"), bad, "at 0 7");
+    // A backtrace is lent the stack store for its length, 1,024 values.
+    both(&two("0 3 0", "1 0 1025"), bad, bad);
+    both(&two("0 3 0", "1 0 4294967295"), bad, bad);
     both(&two("0 3 0", "1 0 4294967296"), bad, bad);
     // A base above the stack: nothing to shorten, and the value is pushed.
     ends(
