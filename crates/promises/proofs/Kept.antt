@@ -13,6 +13,7 @@ use Rattle.laws_runs.proofs.Programs.{parts-of, length-functions}
 use Rattle.laws_runs.proofs.Ordered.{order-world, order-sane}
 use Rattle.laws_programs.proofs.Known.{limited}
 use Rattle.laws_rust.specs.Same.{rustOf}
+use Rattle.laws_rust.proofs.Turns.{step-same}
 use Rattle.laws_rust.proofs.Loop.{run-same}
 use Rattle.laws_rust.proofs.Back.{rust-same}
 use Rattle.image.proofs.Trip.{image-back, image-only, one-program-one-image, load-then-save, save-then-load, saved-loads}
@@ -23,7 +24,8 @@ use Rattle.demands.specs.Relent.{Relent}
 use Rattle.demands.proofs.Refusing.{refuses}
 use Rattle.demands.proofs.Written.{steps-within, run-written}
 use Rattle.demands.proofs.Orderly.{new-in-order, load-in-order, chain-kept, run-in-order}
-use Rattle.demands.proofs.Paying.{step-cost}
+use Rattle.demands.proofs.Listing.{listing-numbers}
+use Rattle.demands.proofs.Paying.{step-cost, fault-fee, path-units}
 use Rattle.demands.proofs.Growing.{as-trees}
 use Rattle.demands.proofs.Recovering.{fault-recovers}
 use Rattle.demands.proofs.MeantChains.{chain-alike}
@@ -60,15 +62,19 @@ pub kept : Promises
 kept = record {
   refuses = λ c h h' a p. refuses c p;
   steps-within = λ w m u n j k t p. steps-within p;
+  listing-numbers = listing-numbers;
   new-in-order = λ h h' m p. new-in-order h p;
   load-in-order = λ h h' m image b p. load-in-order h image b p;
   chain-kept = λ calls h k xs t p o. chain-kept t p o;
   run-in-order = λ u h h' a o p e. run-in-order o p e;
   as-the-rust = λ h f u turns. run-same (worldIn h) (order-world _ _ _ (f .order .machine) (f .code)) (few h f) _ u (order-sane _ _ _ (f .order .machine) u) turns;
   from-the-rust = λ h f u turns l. rust-same (worldIn h) (order-world _ _ _ (f .order .machine) (f .code)) (few h f) _ u (order-sane _ _ _ (f .order .machine) u) l turns;
+  step-same = step-same;
   run-written = λ m s e u q e' p c x a. run-written m s e u p a;
   returns-counted = λ w n m k s t p. returns-counted w p;
   step-cost = λ w s. step-cost w s;
+  fault-fee = λ w s n t e. fault-fee w s e;
+  path-units = λ w n m k s t p. path-units p;
   keeps-the-table = keeps-the-table;
   as-trees = as-trees;
   image-back = image-back;

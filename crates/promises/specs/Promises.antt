@@ -1,10 +1,11 @@
--- ALL THAT IS PROMISED, on one page: each field is a theorem. `crates/promises/proofs/Kept.antt` keeps them all, and the programs are built on that
--- crate, so that none can go or grow weaker unseen.
+-- ALL THAT IS PROMISED, on one page: each field is a theorem. `crates/promises/proofs/Kept.antt` keeps them all, and the runner and the lister are
+-- built on that crate, so that none can go or grow weaker unseen.
 use mathlib.Core.Path.{_≡_}
-use mathlib.Core.Bool.{Bool, true}
+use mathlib.Core.Bool.{Bool, true, false, _||_}
 use mathlib.Core.List.{List, [], _∷_, map}
 use mathlib.Core.Option.{some}
 use Prim.Native.Nat.{ℕ, suc, _+_, _≤_, _^_}
+use lib.Dec.{eqb}
 use lib.ListN.{length, take}
 use Rattle.model.specs.declared.Op.{Op}
 use Rattle.model.specs.declared.Counts.{Counts}
@@ -24,16 +25,17 @@ use Rattle.model.specs.Stores.{Stores, programIn}
 use Rattle.model.specs.Orders.{programOk}
 use Rattle.model.specs.Loading.{roomFor, loadOf, saveOf, putOut}
 use Rattle.model.specs.Steps.{World, State, faulted, execOf, stepOf}
-use Rattle.model.specs.Runs.{Machine, Progress, Ran, begin, endOf, runOf}
+use Rattle.model.specs.Listings.{unlisted, listingOf}
+use Rattle.model.specs.Runs.{Machine, Progress, Ran, begin, over, endOf, runOf}
 use Rattle.model.specs.Machines.{Lent, RunPost, answerIn, ran, entriesIn}
 use Rattle.model.specs.Examples.{Example, examples}
 use Rattle.model.specs.Mistakes.{Row, mistakes}
 use Rattle.laws_checks.specs.Table.{checksOf, firstFailed, Keeps}
-use Rattle.laws_runs.specs.Sane.{Sane}
+use Rattle.laws_runs.specs.Sane.{SaneWorld, Sane}
 use Rattle.laws_runs.specs.Ordered.{CodeBytes}
 use Rattle.laws_runs.specs.Paths.{Steps, rootReturns}
 use Rattle.laws_rust.specs.Vm as rust
-use Rattle.laws_rust.specs.Same.{rustOf, RunAs, Unlimited, AnswersAs}
+use Rattle.laws_rust.specs.Same.{rustOf, rustAt, Agrees, RunAs, Unlimited, AnswersAs}
 use Rattle.image.specs.Loads.{LoadsAs}
 use Rattle.image.proofs.Sounds.{Below}
 use Rattle.demands.specs.Host.{Held, Ask, Call, run, ask, new, load, Answer, started, After, RanBy, Chain}
@@ -56,6 +58,8 @@ pub record Promises : Type 0 where
   pub refuses : (c : Call) (h h' : Held) (a : Answer) → After c h a h' → Demand1 c h a h'
   -- with u units there are never more than u written steps
   pub steps-within : (w : World) (m : Machine) (u n : ℕ) (j k : Progress) (t : State) → Steps w n j (begin m u) k t → n ≤ u
+  -- the listing's own refusal is 1 or 3
+  pub listing-numbers : (p : Program) (before : List ℕ) (n : ℕ) → listingOf p ≡ unlisted before n → (eqb n 1 || eqb n 3) ≡ true
   -- a machine that was made is in good order, whatever the host held before
   pub new-in-order : (h h' : Held) (m : Vm) → After (ask new) h (started (st.Done m)) h' → InOrder h'
   pub load-in-order : (h h' : Held) (m : Vm) (image : List ℕ) → Bytes image → After (ask (load image)) h (started (st.Done m)) h' → InOrder h'
@@ -71,10 +75,14 @@ pub record Promises : Type 0 where
   -- and the other way: whatever the Rust comes to, in however many turns, the run answers so where it meets no limit
   pub from-the-rust : (h : Held) → Fine h → (u turns : ℕ) → Unlimited (endOf (worldIn h) (begin (machineOf h) u))
       → AnswersAs (worldIn h) (runOf (worldIn h) (machineOf h) u) (rust.run turns (rustOf (worldIn h) (machineOf h)))
+  -- step for step: a step of the rules does what a turn of the Rust's loop does
+  pub step-same : (w : World) → SaneWorld w → length (w .functions) ≤ 65536 → (s : State) → Sane w s → over w s ≡ false → Agrees w (stepOf w s) (rust.turn (rustAt w s))
   -- what the code answers is a path of written steps, with their units and root Returns
   pub run-written : (m : Vm) (s : Stores) (e : Lent) (u : ℕ) (q : RunResult) (e' : Lent) → RunPost m s e u q e' → (c : Counts) (x : Ran) → answerIn e' q ≡ ran c x → Demand2 m s e u c x
   pub returns-counted : (w : World) (n : ℕ) (m k : Progress) (s t : State) (p : Steps w n m s k t) → k .returns ≡ m .returns + rootReturns p
   pub step-cost : (w : World) (s : State) → Costs (suc (pairsAt w s)) s (stepOf w s)
+  pub fault-fee : (w : World) (s : State) (n : Fault) (t : State) → stepOf w s ≡ faulted n t → Fee s n t
+  pub path-units : (w : World) (n : ℕ) (m k : Progress) (s t : State) (p : Steps w n m s k t) → s .units ≡ t .units + spentOn p
   -- an instruction faults exactly if a check of its row fails, and by the number of the first that does
   pub keeps-the-table : (w : World) (op : Op) (a b : ℕ) (s : State) → Keeps (firstFailed w s (checksOf op (s .frame .base) a b)) (execOf w op a b s)
   -- in good order comparisons, lists, structs and fields are those of trees
