@@ -111,6 +111,21 @@ pub fn lister(image: &[u8]) -> Vec<u8> {
         .unwrap_or_else(|refused| refused_text(refused).into_bytes())
 }
 
+/// Whether the listing meets no opcode whose operands 000 counts otherwise, so
+/// that 000 lists the same.
+pub fn is_listed_by_000(program: &Program) -> bool {
+    program.functions.iter().all(|function| {
+        let mut offset = 0;
+        while let Some(op) = function.code.get(offset).copied().and_then(Op::from_byte) {
+            if op.num_operands() != op.operands_read() {
+                return false;
+            }
+            offset += 1 + 2 * op.operands_read();
+        }
+        true
+    })
+}
+
 /// The listing of all functions in order, or 1 or 3 as met first.
 pub fn listing(program: &Program) -> Result<Vec<u8>, Refused> {
     let mut out = vec![];
@@ -121,7 +136,7 @@ pub fn listing(program: &Program) -> Result<Vec<u8>, Refused> {
         let mut offset = 0;
         while offset < function.code.len() {
             let op = Op::from_byte(function.code[offset]).ok_or(Refused::Opcode)?;
-            let end = offset + 1 + 2 * op.num_operands();
+            let end = offset + 1 + 2 * op.operands_read();
             let operands = function.code.get(offset + 1..end);
             let operands = operands.ok_or(Refused::CutShort)?;
             let operands: Vec<String> = operands

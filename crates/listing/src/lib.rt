@@ -19,7 +19,7 @@ ghost use mathlib.Core.Path.{_≡_};
 ghost use mathlib.Core.List.{List};
 ghost use Prim.Native.Nat.{ℕ, _+_, _*_, _≤_, _<_, _^_};
 ghost use lib.ListN.{length};
-ghost use Rattle.model.specs.Listings.{headerLine, linesFor, inFront, listingOf};
+ghost use Rattle.model.specs.Listings.{headerLine, codeLines, inFront, listingOf};
 ghost use Rattle.model.specs.Stores.{Stores, functionIn, programIn};
 ghost use Rattle.model.specs.Loading.{listOrder, listOf};
 ghost use Rattle.listing.specs.Links.{Listing, lent};
@@ -40,7 +40,7 @@ fn write_header(i: usize, name: &[u8], out: &mut [u8], at: usize) -> usize
 // Function i: its header and its lines.
 fn write_function(i: usize, name: &[u8], code: &[u8], out: &mut [u8], at: usize) -> Told
     requires { ⌜ at + (32 + length (now name) + 64 * length (now code)) < 2 ^ 64 ⌝ }
-    ensures { λ r. ⌜ Listing (32 + length (now (name .entry)) + 64 * length (now (code .entry))) (inFront (headerLine i (now (name .entry))) (linesFor (length (now (code .entry))) (now (code .entry)) 0)) (now (out .entry)) at (now (out .exit)) r ⌝ }
+    ensures { λ r. ⌜ Listing (32 + length (now (name .entry)) + 64 * length (now (code .entry))) (inFront (headerLine i (now (name .entry))) (codeLines (now (code .entry)))) (now (out .entry)) at (now (out .exit)) r ⌝ }
 {
     let next = write_header(i, name, out, at);
     write_lines(code, out, next)

@@ -20,10 +20,10 @@ use Rattle.model.specs.declared.Loaded.the-variants as l
 use Rattle.model.specs.Basics.{ascii}
 use Rattle.model.specs.Heap.{Cell, headIn}
 use Rattle.model.specs.Numbers.{Bytes, digits, groupsOf}
-use Rattle.model.specs.Opcodes.{opcodeAt}
-use Rattle.model.specs.Programs.{Function, Program, functionAt, withinLimits, wordAt, behind}
+use Rattle.model.specs.Opcodes.{operands}
+use Rattle.model.specs.Programs.{Function, Program, functionAt, withinLimits, wordAt, behind, opcodeIn}
 use Rattle.model.specs.Images.{joined, counted, constantImage, textImage, runImage, runsOf, functionImage, imageOf, Judged, fine, broken, judge}
-use Rattle.model.specs.Listings.{operandsFrom, lineOf, headerLine, Listed, text, unlisted, inFront, knownThen, opcodeThen, lineThen, linesFor, andListed, listingFrom, listingOf}
+use Rattle.model.specs.Listings.{operandsFrom, lineOf, headerLine, Listed, text, unlisted, inFront, knownThen, opcodeThen, lineThen, linesFor, codeLines, andListed, listingFrom, listingOf}
 use Rattle.model.specs.Runs.{Machine, root, Entry, Reply, value, continue, fault, Ran}
 use Rattle.model.specs.Stores.{Stores, programIn}
 use Rattle.model.specs.Emission.{written}
@@ -227,41 +227,41 @@ within-and (text b) w j k h g = within-front b w k (j + k) g (omega arith)
 within-and (unlisted l e) w j k h g = tt
 
 module _ (code : List ℕ) (bytes : Bytes code) (small : length code ≤ 16384) where
-  line-short : (i : ℕ) → i < length code → length (lineOf code i (opcodeAt (getD code i 0))) ≤ 32 + 21 * opcodeAt (getD code i 0) .listed
+  line-short : (i : ℕ) → i < length code → length (lineOf code i) ≤ 32 + 21 * operands (opcodeIn code i)
   unfolding lineOf ascii
   line-short i h =
       let a = five i (omega arith) in
       let b = names.short (getD code i 0) (bytes-at code bytes i) in
-      let c = operands-short (opcodeAt (getD code i 0) .listed) code (suc i) in
+      let c = operands-short (operands (opcodeIn code i)) code (suc i) in
       simp length-append (omega arith)
 
   module _ (k : ℕ → Listed) (rest : (j : ℕ) → j ≤ length code → Within (32 * (length code - j)) (k j)) (i : ℕ) where
-    known-within : i < length code → Within (32 * (length code - i)) (knownThen k code i (opcodeAt (getD code i 0)))
+    known-within : i < length code → Within (32 * (length code - i)) (knownThen k (lineOf code) code i)
     unfolding knownThen behind
     known-within h =
-        let n = opcodeAt (getD code i 0) .listed in
+        let n = operands (opcodeIn code i) in
         either-way (leb (suc i + 2 * n) (length code))
         (λ e.
         let g : suc i + 2 * n ≤ length code = leb-true _ _ e in
         let z = line-short i h in
-        rw e (within-front (lineOf code i (opcodeAt (getD code i 0))) (k (suc i + 2 * n)) (32 * (length code - (suc i + 2 * n))) _ (rest (suc i + 2 * n) g) (omega arith)))
+        rw e (within-front (lineOf code i) (k (suc i + 2 * n)) (32 * (length code - (suc i + 2 * n))) _ (rest (suc i + 2 * n) g) (omega arith)))
         (λ e. rw e tt)
 
-    opcode-within : i < length code → (x : Decoded) → Within (32 * (length code - i)) (opcodeThen k code i (opcodeAt (getD code i 0)) x)
+    opcode-within : i < length code → (x : Decoded) → Within (32 * (length code - i)) (opcodeThen k (lineOf code) code i x)
     unfolding opcodeThen
     opcode-within h (d.Carried p) = known-within h
     opcode-within h d.NotCarried = known-within h
     opcode-within h d.Unknown = tt
 
-    line-within : (b : Bool) → ltb i (length code) ≡ b → Within (32 * (length code - i)) (lineThen k code i b)
+    line-within : (b : Bool) → ltb i (length code) ≡ b → Within (32 * (length code - i)) (lineThen k (lineOf code) code i b)
     unfolding lineThen
-    line-within true e = opcode-within (ltb-true _ _ e) (opcodeAt (getD code i 0) .what)
+    line-within true e = opcode-within (ltb-true _ _ e) (opcodeIn code i .what)
     line-within false e = omega arith
 
-  lines-within : (f i : ℕ) → i ≤ length code → Within (32 * (length code - i)) (linesFor f code i)
+  lines-within : (f i : ℕ) → i ≤ length code → Within (32 * (length code - i)) (linesFor (lineOf code) f code i)
   unfolding linesFor
   lines-within zero i h = omega arith
-  lines-within (suc f) i h = line-within (linesFor f code) (lines-within f) i (ltb i (length code)) refl
+  lines-within (suc f) i h = line-within (linesFor (lineOf code) f code) (lines-within f) i (ltb i (length code)) refl
 
 header-short : (i : ℕ) (name : List ℕ) → length (headerLine i name) ≤ 30 + length name
 unfolding headerLine ascii
@@ -277,8 +277,8 @@ listing-within i (f ∷ fs) h g =
     let b = header-short i (f .name) in
     let own = lines-within (f .code) (code-in f (bytes-front (functionImage f) (joined functionImage fs) h)) (omega arith) (length (f .code)) 0 (omega arith) in
     let rest = listing-within (suc i) fs (bytes-rest (functionImage f) (joined functionImage fs) h) (omega arith) in
-    within-front (headerLine i (f .name)) (andListed (linesFor (length (f .code)) (f .code) 0) (listingFrom (suc i) fs)) _ _
-    (within-and (linesFor (length (f .code)) (f .code) 0) (listingFrom (suc i) fs) (32 * (length (f .code) - 0)) (32 * length (joined functionImage fs)) own rest) (omega arith)
+    within-front (headerLine i (f .name)) (andListed (codeLines (f .code)) (listingFrom (suc i) fs)) _ _
+    (within-and (codeLines (f .code)) (listingFrom (suc i) fs) (32 * (length (f .code) - 0)) (32 * length (joined functionImage fs)) own rest) (omega arith)
 
 within-more : (w : Listed) (j k : ℕ) → Within j w → j ≤ k → Within k w
 within-more (text b) j k h g = omega arith

@@ -18,10 +18,9 @@ use Rattle.model.specs.declared.Loaded.the-variants as l
 use Rattle.model.specs.declared.Told.{Told}
 use Rattle.model.specs.declared.Told.the-variants as t
 use Rattle.model.specs.Numbers.{Bytes}
-use Rattle.model.specs.Opcodes.{Opcode, opcodeAt}
 use Rattle.model.specs.Values.{places}
-use Rattle.model.specs.Programs.{Function, behind}
-use Rattle.model.specs.Listings.{Listed, text, unlisted, inFront, lineOf, headerLine, knownThen, opcodeThen, lineThen, linesFor, andListed, listingFrom, listingOf}
+use Rattle.model.specs.Programs.{Function, opcodeIn, nextIn}
+use Rattle.model.specs.Listings.{Listed, text, unlisted, inFront, lineOf, headerLine, knownThen, opcodeThen, lineThen, linesFor, codeLines, andListed, listingFrom, listingOf}
 use Rattle.model.specs.Stores.{Stores, programIn}
 use Rattle.model.specs.Orders.{countsOk, textOk, constantsOk, structsOk, functionsOk, mainOk, insideCodes, programOk}
 use Rattle.model.specs.Loading.{loadOf, OutRes, putOut, putListing, listOrder, listOf}
@@ -49,35 +48,33 @@ unfolding andListed
 small-and (text b) w h k = small-front b w k
 small-and (unlisted l n) w h k = h
 
-module _ (k : ℕ → Listed) (h : (j : ℕ) → Small (k j)) (code : List ℕ) (i : ℕ) where
-  small-known : (c : Opcode) → Small (knownThen k code i c)
+module _ (k : ℕ → Listed) (h : (j : ℕ) → Small (k j)) (line : ℕ → List ℕ) (code : List ℕ) (i : ℕ) where
+  small-known : Small (knownThen k line code i)
   unfolding knownThen
-  small-known c =
-      either-way (leb (behind i (c .listed)) (length code)) (λ e. rw e (small-front (lineOf code i c) (k (behind i (c .listed))) (h (behind i (c .listed)))))
-      (λ e. rw e (omega arith))
+  small-known = either-way (leb (nextIn code i) (length code)) (λ e. rw e (small-front (line i) (k (nextIn code i)) (h (nextIn code i)))) (λ e. rw e (omega arith))
 
-  small-opcode : (c : Opcode) (x : Decoded) → Small (opcodeThen k code i c x)
+  small-opcode : (x : Decoded) → Small (opcodeThen k line code i x)
   unfolding opcodeThen
-  small-opcode c (d.Carried p) = small-known c
-  small-opcode c d.NotCarried = small-known c
-  small-opcode c d.Unknown = omega arith
+  small-opcode (d.Carried p) = small-known
+  small-opcode d.NotCarried = small-known
+  small-opcode d.Unknown = omega arith
 
-  small-line : (b : Bool) → Small (lineThen k code i b)
+  small-line : (b : Bool) → Small (lineThen k line code i b)
   unfolding lineThen
-  small-line true = small-opcode (opcodeAt (getD code i 0)) (opcodeAt (getD code i 0) .what)
+  small-line true = small-opcode (opcodeIn code i .what)
   small-line false = tt
 
-small-lines : (f : ℕ) (code : List ℕ) (i : ℕ) → Small (linesFor f code i)
+small-lines : (line : ℕ → List ℕ) (f : ℕ) (code : List ℕ) (i : ℕ) → Small (linesFor line f code i)
 unfolding linesFor
-small-lines zero code i = tt
-small-lines (suc f) code i = small-line (linesFor f code) (small-lines f code) code i (ltb i (length code))
+small-lines line zero code i = tt
+small-lines line (suc f) code i = small-line (linesFor line f code) (small-lines line f code) line code i (ltb i (length code))
 
 small-from : (i : ℕ) (fs : List Function) → Small (listingFrom i fs)
 unfolding listingFrom
 small-from i [] = tt
 small-from i (f ∷ fs) =
-    small-front (headerLine i (f .name)) (andListed (linesFor (length (f .code)) (f .code) 0) (listingFrom (suc i) fs))
-    (small-and (linesFor (length (f .code)) (f .code) 0) (listingFrom (suc i) fs) (small-lines (length (f .code)) (f .code) 0) (small-from (suc i) fs))
+    small-front (headerLine i (f .name)) (andListed (codeLines (f .code)) (listingFrom (suc i) fs))
+    (small-and (codeLines (f .code)) (listingFrom (suc i) fs) (small-lines (lineOf (f .code)) (length (f .code)) (f .code) 0) (small-from (suc i) fs))
 
 -- ---- what the listing's answer says: it was put, or it did not fit, or it is refused
 

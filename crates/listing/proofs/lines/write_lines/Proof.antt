@@ -2,10 +2,9 @@
 use Prim.Native.Nat.{_-_}
 use native.Mathlib.Omega.{arith}
 use borrow.Author.Needs.{needs}
-use lib.ListN.{length, getD}
-use Rattle.model.specs.Opcodes.{opcodeAt}
+use lib.ListN.{length}
 use Rattle.printing.proofs.Puts.{kept}
-use Rattle.listing.proofs.Turns.{Turn, first-turn, last-turn, unknown, cut-short, next-turn, behind-is}
+use Rattle.listing.proofs.Turns.{Turn, first-turn, last-turn, unknown, cut-short, next-turn, whole-instruction}
 use Rattle.listing.proofs.lines.write_lines.Statement.{statement}
 use Rattle.listing.proofs.lines.write_lines.Tie as tie
 
@@ -33,8 +32,8 @@ same-length c = search kept
 returns : tie.Need-returns Inv-loop μ-loop
 returns c = search unknown
 
-num-operands-requires : tie.Need-num-operands-requires Inv-loop μ-loop
-num-operands-requires c κs = search
+operands-requires : tie.Need-operands-requires Inv-loop μ-loop
+operands-requires c κs = search
 
 sub-left : tie.Need-sub-left Inv-loop μ-loop
 sub-left c = search
@@ -50,11 +49,8 @@ returns-2 c = search cut-short
 
 write-line-requires : tie.Need-write-line-requires Inv-loop μ-loop
 write-line-requires c κs =
-    let h =
-    let at-loop = c .before .before .before .before .before .before .before in
-    let at-start = at-loop .before .before .before in
-    behind-is (at-loop .loop .i) (opcodeAt (getD (at-start .args .code .now) (at-loop .loop .i) 0) .listed) in
-    (omega arith, omega arith)
+    let reads = whole-instruction (c .before .before .before .before .before .before .before .before .before .before .args .code .now) (c .before .before .before .before .before .before .before .loop .i) (c .before .before .operands .ensures) in
+    (omega arith, omega arith, omega arith)
 
 add-i : tie.Need-add-i Inv-loop μ-loop
 add-i c = search needs
@@ -89,7 +85,7 @@ write-lines-spec =
     enum-told
     same-length
     returns
-    num-operands-requires
+    operands-requires
     sub-left
     sub-left-2
     same-length-2
