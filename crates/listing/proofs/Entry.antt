@@ -29,15 +29,15 @@ empty (y ∷ x) out z = absurd (let k : ⊥ = omega arith in k)
 
 -- ---- a listing put into a store
 
-refuses : {w : Listed} {l : List ℕ} {n : ℕ} → w ≡ unlisted l n → (out : List ℕ) → record { answer = Refused n; out = out } ≡ putListing w out
+pub refuses : {w : Listed} {l : List ℕ} {n : ℕ} → w ≡ unlisted l n → (out : List ℕ) → record { answer = Refused n; out = out } ≡ putListing w out
 unfolding putListing
 refuses e out = rw e
 
-too-long : {w : Listed} {l : List ℕ} → w ≡ text l → (out : List ℕ) → places 1 out < length l → record { answer = Refused 17; out = out } ≡ putListing w out
+pub too-long : {w : Listed} {l : List ℕ} → w ≡ text l → (out : List ℕ) → places 1 out < length l → record { answer = Refused 17; out = out } ≡ putListing w out
 unfolding putListing putOut
 too-long e out h = rw (e, lt-leb _ _ h)
 
-puts : {w : Listed} {l : List ℕ} → w ≡ text l → (out : List ℕ) → length l ≤ places 1 out → record { answer = Number (length l); out = written out 0 l } ≡ putListing w out
+pub puts : {w : Listed} {l : List ℕ} → w ≡ text l → (out : List ℕ) → length l ≤ places 1 out → record { answer = Number (length l); out = written out 0 l } ≡ putListing w out
 unfolding putListing putOut
 puts e out h = rw (e, le-leb _ _ h)
 

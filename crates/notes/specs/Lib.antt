@@ -1,0 +1,3 @@
+-- What a note says, and how a text is cut.
+pub mod Notes
+pub mod Links

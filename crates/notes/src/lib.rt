@@ -1,0 +1,2 @@
+// A line of the listing with notes: what its operands name, and its place.
+pub mod texts; // texts.rt: constants and names in a note
