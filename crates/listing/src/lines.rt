@@ -33,7 +33,7 @@ fn write_name(b: u8, out: &mut [u8], at: usize) -> usize
 }
 
 // The operand at i, low byte first.
-pub fn operand(code: &[u8], i: usize) -> usize
+fn operand(code: &[u8], i: usize) -> usize
     requires { ⌜ i + 2 ≤ length (now code) ⌝ }
     ensures { λ r. ⌜ r ≡ wordAt (now (code .entry)) i ⌝ }
 {

@@ -73,7 +73,14 @@ fn put_constant(kind: u64, payload: u64, text: &[u8], out: &mut [u8], at: usize)
 }
 
 // Constant k of n.
-pub fn put_constant_at(n: usize, constants: &[u64], text: &[u8], k: usize, out: &mut [u8], at: usize) -> usize
+pub fn put_constant_at(
+    n: usize,
+    constants: &[u64],
+    text: &[u8],
+    k: usize,
+    out: &mut [u8],
+    at: usize,
+) -> usize
     requires { ⌜ at + 35 < 2 ^ 64 ⌝ }
     ensures { λ r. ⌜ Put 35 (constantAt (constantsFrom n 0 (now (constants .entry)) (now (text .entry))) k) (now (out .entry)) at (now (out .exit)) r ⌝ }
 {
@@ -86,7 +93,15 @@ pub fn put_constant_at(n: usize, constants: &[u64], text: &[u8], k: usize, out: 
 }
 
 // Name k of the n in a store, of functions or of structs.
-pub fn put_name_at(none: &[u8], n: usize, names: &[u64], text: &[u8], k: usize, out: &mut [u8], at: usize) -> usize
+pub fn put_name_at(
+    none: &[u8],
+    n: usize,
+    names: &[u64],
+    text: &[u8],
+    k: usize,
+    out: &mut [u8],
+    at: usize,
+) -> usize
     requires { ⌜ at + (26 + length (now none)) < 2 ^ 64 ⌝ }
     ensures { λ r. ⌜ Put (26 + length (now (none .entry))) (nameAt (structsFrom n 0 (now (names .entry)) (now (text .entry))) k (now (none .entry))) (now (out .entry)) at (now (out .exit)) r ⌝ }
 {
