@@ -1,15 +1,23 @@
--- [notes] A line of the listing with notes: behind the operands what they name, and the instruction's place.
+-- [notes] The listing with notes: behind the operands of an instruction what they name, and its place.
 use mathlib.Core.Bool.{true, false, _&&_}
 use mathlib.Core.List.{List, [], _∷_, _++_, map}
 use Prim.Native.Nat.{ℕ, suc, _+_}
 use lib.Dec.{leb, ltb}
 use lib.ListN.{length, getD, take}
+use Rattle.model.specs.declared.Counts.{Counts}
+use Rattle.model.specs.declared.Loaded.{Loaded}
+use Rattle.model.specs.declared.Loaded.the-variants as l
 use Rattle.model.specs.declared.Names.{Names}
 use Rattle.model.specs.declared.Names.the-variants as n
+use Rattle.model.specs.declared.Told.the-variants as t
 use Rattle.model.specs.Basics.{if_then_else_, ascii}
-use Rattle.model.specs.Programs.{Constant, scalar, boolean, string, reference, Program, wordAt, opcodeIn, nextIn}
-use Rattle.model.specs.Listings.{decimal, digitsOrMore, lineOf}
-use Rattle.model.specs.Reports.{hexFor, booleanText}
+use Rattle.model.specs.Answers.{loadedNumber}
+use Rattle.model.specs.Programs.{Constant, scalar, boolean, string, reference, Function, Program, wordAt, opcodeIn, nextIn}
+use Rattle.model.specs.Listings.{decimal, digitsOrMore, lineOf, headerLine, Listed, text, inFront, linesFor, andListed}
+use Rattle.model.specs.Stores.{Stores, programIn}
+use Rattle.model.specs.Orders.{programOk}
+use Rattle.model.specs.Loading.{OutRes, putListing, loadOf}
+use Rattle.model.specs.Reports.{hexFor, booleanText, refusedLine, emptyStores, listedText}
 
 -- ---- texts and names
 
@@ -85,7 +93,36 @@ unfoldable pub notedLine : Known → List ℕ → List ℕ → ℕ → List ℕ
 notedLine known code places i =
     butLast (lineOf code i) ++ operandNotes known (nextIn code i) (opcodeIn code i .names) code (suc i) ++ placeNote places i ++ ascii "\n"
 
+-- ---- the listing
+
+-- the lines of a code; 1 and 3 are refused as in the listing
+abbrev pub notedCode : Known → List ℕ → List ℕ → Listed
+notedCode known code places = linesFor (notedLine known code places) (length code) code 0
+
+-- function i and those after it, under the headers of the listing
+unfoldable pub notedFrom : Known → ℕ → List Function → Listed
+notedFrom known i [] = text []
+notedFrom known i (f ∷ fs) = inFront (headerLine i (f .name)) (andListed (notedCode known (f .code) (f .places)) (notedFrom known (suc i) fs))
+
+unfoldable pub notedListing : Program → Listed
+notedListing p = notedFrom (knownOf p) 0 (p .functions)
+
+-- into a lent store: 19, since the notes read the whole program; the listing's 1 or 3, then 17; a refusal writes nothing
+unfoldable pub notesOf : Counts → Stores → List ℕ → OutRes
+notesOf c s out = if programOk c s then putListing (notedListing (programIn c s)) out else record { answer = t.Refused 19; out = out }
+
+-- ---- [noter] as the lister: each function's lines in order, or `refused N` alone
+
+unfoldable pub loadedNotes : Loaded → Stores → List ℕ
+loadedNotes (l.Done c) s = listedText (notedListing (programIn c s))
+loadedNotes (l.Broken i) s = refusedLine (loadedNumber (l.Broken i))
+loadedNotes (l.Refused n) s = refusedLine (loadedNumber (l.Refused n))
+
+unfoldable pub noterText : List ℕ → List ℕ
+noterText image = if ltb 16384 (length image) then refusedLine 22 else loadedNotes (loadOf image emptyStores .answer) (loadOf image emptyStores .stores)
+
 -- all that an example computes with here
 unfoldable pub computes : Type 1
 unfolding shownByte shownText knownOf constantText constantAt nameAt note operandNote operandNotes placeNote butLast notedLine
+    notedFrom notedListing notesOf loadedNotes noterText
 computes = Type 0

@@ -1,0 +1,4 @@
+-- The listing with notes, from a function to the entry.
+pub mod Lent
+pub mod Passing
+pub mod Entry
