@@ -1,0 +1,2 @@
+-- What the noter prints, and that it fits.
+pub mod Prints
