@@ -19,12 +19,16 @@ use Rattle.model.specs.Programs.{Constant, scalar, boolean, string, reference, 
 use Rattle.model.specs.Images.{joined, functionImage, imageOf}
 use Rattle.model.specs.Listings.{decimal, digitsOrMore, lineOf, headerLine, Listed, text, unlisted, andListed}
 use Rattle.model.specs.Stores.{Stores, programIn}
+use Rattle.model.specs.Values.{places}
+use Rattle.model.specs.Emission.{written}
 use Rattle.model.specs.Loading.{loadOf}
 use Rattle.model.specs.Reports.{hexFor, booleanText, emptyStores}
 use Rattle.layout.proofs.Bools.{either-way}
 use Rattle.laws_images.proofs.Codecs.{bytes-front, bytes-rest}
 use Rattle.image.proofs.Trip.{loaded-as}
 use Rattle.printing.proofs.Digits.{short, like, like-short, four}
+use Rattle.report.specs.Links.{Printed, printed}
+use Rattle.report.proofs.Prints.{fits}
 use Rattle.report.proofs.Fits.{long-image, code-in, functions-in, functions-shorter, refused-short, hex-length, Within, within-front, within-and, within-more, line-short, lines-within, header-short, listed-short}
 use Rattle.notes.specs.Notes.{shownByte, shownText, Known, knownOf, constantText, constantAt, nameAt, note, operandNote, operandNotes, placeNote, butLast, notedLine, notedCode, notedFrom, notedListing, loadedNotes, noterText}
 
@@ -138,3 +142,18 @@ module _ (image : List ℕ) (bytes : Bytes image) where
   noter-fits =
       either-way (ltb 16384 (length image)) (λ e. rw e (let z = refused-short 22 in omega arith))
       (λ e. rw e (loaded-fits (ltb-false _ _ e) (loadOf image emptyStores .answer) (loadOf image emptyStores .stores) refl))
+
+-- so that it is never lost
+pub never-lost : (image out : List ℕ) → Bytes image → length out ≡ 1048576 → printed (noterText image) out .out ≡ written out 0 (noterText image)
+unfolding places
+never-lost image out bytes e =
+    let fit = noter-fits image bytes in
+    let room : length (noterText image) ≤ places 1 out = rw e (omega arith) in
+    ap (λ (p : Printed). p .out) (sym (fits (noterText image) out room))
+
+-- the first bytes of bytes
+pub bytes-take : (n : ℕ) (b : List ℕ) → Bytes b → Bytes (take n b)
+unfolding Bytes
+bytes-take zero b h = tt
+bytes-take (suc n) [] h = tt
+bytes-take (suc n) (x ∷ b) h = (h .0, bytes-take n b (h .1))
