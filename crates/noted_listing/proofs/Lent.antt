@@ -1,6 +1,6 @@
 -- What the notes are lent: a function's places, and what a program's operands can name.
-use mathlib.Core.Path.{_≡_, refl, sym, ap, _∙_}
-use mathlib.Core.List.{List, [], _∷_, map}
+use mathlib.Core.Path.{_≡_, refl, ap}
+use mathlib.Core.List.{List, _∷_, map}
 use Prim.Native.Nat.{ℕ, zero, suc, _+_, _*_, _≤_, _<_, _^_}
 use native.Mathlib.Omega.{arith}
 use lib.ListN.{length}
@@ -9,7 +9,6 @@ use Rattle.model.specs.declared.Counts.{Counts}
 use Rattle.model.specs.declared.Told.{Told}
 use Rattle.model.specs.declared.Told.the-variants.{Number, Refused}
 use Rattle.model.specs.Values.{kindAt, payloadAt}
-use Rattle.model.specs.Programs.{Function}
 use Rattle.model.specs.Listings.{Listed, headerLine, inFront}
 use Rattle.model.specs.Stores.{Stores, part, structWord, nameWord, codeWord, structsFrom, functionIn, functionsFrom, programIn}
 use Rattle.listing.specs.Links as l

@@ -2,3 +2,4 @@
 pub mod Lent
 pub mod Passing
 pub mod Entry
+pub mod Walking

@@ -1,5 +1,4 @@
 -- One function of the listing with notes, and its places in their stores.
-use mathlib.Core.Bool.{true, false}
 use mathlib.Core.List.{List}
 use Prim.Native.Nat.{ℕ}
 use lib.Dec.{eqb}

@@ -1,6 +1,6 @@
 -- What the noter prints always fits the store that it lends: 1,048,576 bytes.
 use mathlib.Core.Path.{_≡_, refl, sym, ap, subst, _∙_}
-use mathlib.Core.Bool.{Bool, true, false}
+use mathlib.Core.Bool.{true, false}
 use mathlib.Core.List.{List, [], _∷_, _++_, map}
 use Prim.Native.Nat.{ℕ, zero, suc, _+_, _-_, _*_, _≤_, _<_, min}
 use native.Mathlib.Omega.{arith}
@@ -17,20 +17,22 @@ use Rattle.model.specs.Numbers.{Bytes}
 use Rattle.model.specs.Opcodes.{operands}
 use Rattle.model.specs.Programs.{Constant, scalar, boolean, string, reference, Function, wordAt, opcodeIn, nextIn}
 use Rattle.model.specs.Images.{joined, functionImage, imageOf}
-use Rattle.model.specs.Listings.{decimal, digitsOrMore, lineOf, headerLine, Listed, text, unlisted, andListed}
+use Rattle.model.specs.Listings.{digitsOrMore, lineOf, headerLine, andListed}
 use Rattle.model.specs.Stores.{Stores, programIn}
 use Rattle.model.specs.Values.{places}
 use Rattle.model.specs.Emission.{written}
 use Rattle.model.specs.Loading.{loadOf}
-use Rattle.model.specs.Reports.{hexFor, booleanText, emptyStores}
+use Rattle.model.specs.Reports.{booleanText, emptyStores}
 use Rattle.layout.proofs.Bools.{either-way}
 use Rattle.laws_images.proofs.Codecs.{bytes-front, bytes-rest}
 use Rattle.image.proofs.Trip.{loaded-as}
-use Rattle.printing.proofs.Digits.{short, like, like-short, four}
+use Rattle.printing.proofs.Digits.{short, like-short, four}
 use Rattle.report.specs.Links.{Printed, printed}
 use Rattle.report.proofs.Prints.{fits}
-use Rattle.report.proofs.Fits.{long-image, code-in, functions-in, functions-shorter, refused-short, hex-length, Within, within-front, within-and, within-more, line-short, lines-within, header-short, listed-short}
-use Rattle.notes.specs.Notes.{shownByte, shownText, Known, knownOf, constantText, constantAt, nameAt, note, operandNote, operandNotes, placeNote, butLast, notedLine, notedCode, notedFrom, notedListing, loadedNotes, noterText}
+use Rattle.report.proofs.Fits.{long-image, code-in, functions-in, functions-shorter, refused-short, hex-length, header-short, listed-short}
+use Rattle.report.proofs.Fits.{Within, within-front, within-and, within-more, line-short, lines-within}
+use Rattle.notes.specs.Notes.{shownByte, shownText, Known, knownOf, constantText, constantAt, nameAt, note, operandNote, operandNotes, placeNote, butLast}
+use Rattle.notes.specs.Notes.{notedLine, notedCode, notedFrom, notedListing, loadedNotes, noterText}
 
 -- ---- notes
 

@@ -1,6 +1,6 @@
 -- What the noter prints: the listing with notes of what was loaded, or why there is none.
 use mathlib.Core.Path.{_≡_, sym}
-use mathlib.Core.Bool.{Bool, true, false}
+use mathlib.Core.Bool.{true}
 use mathlib.Core.List.{List, [], _∷_}
 use Prim.Native.Nat.{ℕ, suc, _≤_, _<_}
 use lib.ListN.{length, getD}
@@ -71,7 +71,8 @@ module _ (s : Stores) (out : List ℕ) {r : ℕ} {out' : List ℕ} where
   unfolding loadedNotes
   refused-printed e p = rw e p
 
-  pub broken-printed : (a : Loaded) → OneOf (1 ∷ []) (tagOf the-type a) → record { count = r; out = out' } ≡ printed (refusedLine 20) out → record { count = r; out = out' } ≡ printed (loadedNotes a s) out
+  pub broken-printed : (a : Loaded) → OneOf (1 ∷ []) (tagOf the-type a) → record { count = r; out = out' } ≡ printed (refusedLine 20) out
+      → record { count = r; out = out' } ≡ printed (loadedNotes a s) out
   unfolding loadedNotes
   broken-printed (l.Done c) d p = absurd (miss (1 ∷ []) 0 tt d)
   broken-printed (l.Broken i) d p = p

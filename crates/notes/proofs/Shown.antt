@@ -10,7 +10,6 @@ use lib.ListN.{length, getD, take, length-take, length-map, List·getD-map, List
 use lib.Seq.{getD-take}
 use borrow.Author.Tests.{eq-eqb, ne-eqb, le-leb, lt-leb}
 use Rattle.model.specs.Basics.{ascii}
-use Rattle.model.specs.Programs.{Constant}
 use Rattle.model.specs.Values.{kindAt, payloadAt}
 use Rattle.model.specs.Stores.{part, structWord, constantIn, constantsFrom, structsFrom}
 use Rattle.model.specs.Reports.{hexFor, booleanText}

@@ -33,9 +33,10 @@ same-length c = search needs
 
 returns-2 : tie.Need-returns-2
 returns-2 c =
-    refused _ _ _ _ _ _ _ _ _ (c .before .before .before .before .before .before .before .program-ok .ensures) _
-    (not-false _ (c .before .before .before .before .before .before .if1 .left)) (search needs) _ (c .before .match .keys2)
-    (c .before .before .before .before .write-noted-all .ensures)
+    let at-all = c .before .before .before .before in
+    let at-if1 = at-all .before .before in
+    refused _ _ _ _ _ _ _ _ _ (at-if1 .before .program-ok .ensures) _ (not-false _ (at-if1 .if1 .left)) (search needs) _ (c .before .match .keys2)
+    (at-all .write-noted-all .ensures)
 
 room-requires : tie.Need-room-requires
 room-requires c κs = search needs
@@ -45,12 +46,12 @@ same-length-2 c = search needs
 
 returns-3 : tie.Need-returns-3
 returns-3 c =
-    no-room _ _ _ _ _ _ _ _ _
-    (c .before .before .before .before .before .before .before .before .before .before .program-ok .ensures) _
-    (not-false _ (c .before .before .before .before .before .before .before .before .before .if1 .left)) (search needs)
-    (c .before .before .before .measured .given .1)
-    (c .before .before .before .before .before .before .before .write-noted-all .ensures) _ (c .before .room .ensures _ refl)
-    (c .if2 .taken)
+    let at-room = c .before in
+    let at-measured = at-room .before .before in
+    let at-all = at-measured .before .before .before .before in
+    let at-if1 = at-all .before .before in
+    no-room _ _ _ _ _ _ _ _ _ (at-if1 .before .program-ok .ensures) _ (not-false _ (at-if1 .if1 .left)) (search needs) (at-measured .measured .given .1)
+    (at-all .write-noted-all .ensures) _ (at-room .room .ensures _ refl) (c .if2 .taken)
 
 write-noted-all-requires-2 : tie.Need-write-noted-all-requires-2
 write-noted-all-requires-2 c κs =
@@ -63,14 +64,10 @@ same-length-3 c = search needs
 
 returns-4 : tie.Need-returns-4
 returns-4 c =
-    room-for _ _ _ _ _ _ _ _ _
-    (c .before .before .before .before .before .before .before .before .before .before .before .before .before .before .program-ok
-    .ensures) _
-    (not-false _
-    (c .before .before .before .before .before .before .before .before .before .before .before .before .before .if1 .left))
-    (search needs) (c .before .before .before .before .before .before .before .measured .given .1)
-    (c .before .before .before .before .before .before .before .before .before .before .before .write-noted-all .ensures) _
-    (c .before .before .before .before .before .room .ensures _ refl) (c .before .before .before .before .if2 .left)
+    let at-if2 = c .before .before .before .before in
+    let at-all = at-if2 .before .before .before .before .before .before .before in
+    room-for _ _ _ _ _ _ _ _ _ (at-all .before .before .before .program-ok .ensures) _ (not-false _ (at-all .before .before .if1 .left)) (search needs)
+    (at-if2 .before .before .before .measured .given .1) (at-all .write-noted-all .ensures) _ (at-if2 .before .room .ensures _ refl) (at-if2 .if2 .left)
     (c .before .before .write-noted-all2 .ensures)
 
 pub list-with-notes-spec : {M : Type 1} → statement M

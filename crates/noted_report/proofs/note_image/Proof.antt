@@ -67,7 +67,10 @@ slice-aggregate-note-loaded-8 : tie.Need-slice-aggregate-note-loaded-8
 slice-aggregate-note-loaded-8 c = search needs
 
 note-loaded-requires : tie.Need-note-loaded-requires
-note-loaded-requires c κs = loads-notable _ _ _ _ _ _ _ _ _ (λ i. omega (arith, c .before .before .before .before .before .before .before .before .before .before .before .before .before .before .before .before .before .before .before .before .before .before .before .before .before .before .before .before .shared-slice-known .given i)) _ _ (c .before .before .before .before .before .before .before .before .before .before .before .before .before .before .before .before .before .load .ensures)
+note-loaded-requires c κs =
+    let at-load = c .before .before .before .before .before .before .before .before .before .before .before .before .before .before .before .before .before in
+    let at-known = at-load .before .before .before .before .before .before .before .before .before .before .before in
+    loads-notable _ _ _ _ _ _ _ _ _ (λ i. omega (arith, at-known .shared-slice-known .given i)) _ _ (at-load .load .ensures)
 
 same-length-2 : tie.Need-same-length-2
 same-length-2 c = search needs

@@ -25,11 +25,14 @@ write-header-requires c κs =
 
 write-noted-lines-requires : tie.Need-write-noted-lines-requires
 write-noted-lines-requires c κs =
-    let name = short _ _ (search needs) _ (c .before .before .before .before .before .before .before .part .ensures) in
-    let code = c .before .before .before .before .before .before .code-of .ensures .1 in
-    let near = c .before .before .before .write-header .ensures .near in
-    let room = c .before .before .before .before .before .before .before .before .before .before .before .before .before .before
-    .before .before .before .before .pre in
+    let at-header = c .before .before .before in
+    let at-code = at-header .before .before .before in
+    let at-part = at-code .before in
+    let at-known = at-part .before .before .before .before .before .before .before .before .before .before in
+    let name = short _ _ (search needs) _ (at-part .part .ensures) in
+    let code = at-code .code-of .ensures .1 in
+    let near = at-header .write-header .ensures .near in
+    let room = at-known .before .pre in
     (code, omega arith)
 
 same-length : tie.Need-same-length

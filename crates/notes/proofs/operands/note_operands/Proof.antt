@@ -40,20 +40,17 @@ same-length c = search needs
 
 returns : tie.Need-returns
 returns c =
-    all-notes _ _ _ _
-    (c .before .before .before .before .before .before .before .before .before .before .before .before .end-of .ensures .0) _ _
-    (c .before .before .before .before .before .before .before .before .before .before .first-names .ensures)
-    (c .before .before .before .before .before .before .before .before .before .before .before .word-at .ensures .0)
-    (c .before .before .before .before .before .before .before .before .note-operand .ensures) _ _
-    (c .before .before .before .before .second-names .ensures) (c .before .before .before .before .before .word-at2 .ensures .0)
-    (c .before .before .note-operand2 .ensures)
-    (omega (
-      arith,
-      let at-shared-slice-known = c .before .before .before .before .before .before .before .before .before .before .before
-          .before .before .before .before .before .before .before .before in
-          let at-start = at-shared-slice-known .before in
-          at-shared-slice-known .shared-slice-known .given (at-start .args .i),
-    ))
+    let at-note-2 = c .before .before in
+    let at-names-2 = at-note-2 .before .before in
+    let at-word-2 = at-names-2 .before in
+    let at-note = at-word-2 .before .before .before in
+    let at-names = at-note .before .before in
+    let at-word = at-names .before in
+    let at-end = at-word .before in
+    let at-known = at-end .before .before .before .before .before .before .before in
+    all-notes _ _ _ _ (at-end .end-of .ensures .0) _ _ (at-names .first-names .ensures) (at-word .word-at .ensures .0) (at-note .note-operand .ensures)
+    _ _ (at-names-2 .second-names .ensures) (at-word-2 .word-at2 .ensures .0) (at-note-2 .note-operand2 .ensures)
+    (omega (arith, at-known .shared-slice-known .given (at-known .before .args .i)))
 
 pub note-operands-spec : {M : Type 1} → statement M
 note-operands-spec =
