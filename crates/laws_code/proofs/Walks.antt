@@ -18,16 +18,16 @@ use Rattle.model.specs.Steps.{World, State, position, codeOf, operandsThen, dec
 use Rattle.laws_code.specs.Walk.{shownCode, shownFrom, walked}
 
 -- if there is a text, it is t
-unfoldable Shows : List ℕ → Listed → Type 0
+unfoldable pub Shows : List ℕ → Listed → Type 0
 Shows t (text l) = l ≡ t
 Shows t (unlisted l n) = Unit
 
-front-shows : (a t : List ℕ) (x : Listed) → Shows t x → Shows (a ++ t) (inFront a x)
+pub front-shows : (a t : List ℕ) (x : Listed) → Shows t x → Shows (a ++ t) (inFront a x)
 unfolding inFront Shows
 front-shows a t (text l) h = rw h
 front-shows a t (unlisted l n) h = tt
 
-and-shows : (a t : List ℕ) (x y : Listed) → Shows a x → Shows t y → Shows (a ++ t) (andListed x y)
+pub and-shows : (a t : List ℕ) (x y : Listed) → Shows a x → Shows t y → Shows (a ++ t) (andListed x y)
 unfolding andListed Shows
 and-shows a t (text l) y h k = rw h (front-shows a t y k)
 and-shows a t (unlisted l n) y h k = tt
@@ -59,7 +59,7 @@ module _ (line : ℕ → List ℕ) (code : List ℕ) where
     line-shows true = opcode-shows (opcodeIn code i .what)
     line-shows false = refl
 
-  lines-show : (n i : ℕ) → Shows (joined line (standsFor n code i)) (linesFor line n code i)
+  pub lines-show : (n i : ℕ) → Shows (joined line (standsFor n code i)) (linesFor line n code i)
   unfolding linesFor standsFor joined Shows
   lines-show zero i = refl
   lines-show (suc n) i = line-shows n (linesFor line n code) (lines-show n) i (ltb i (length code))

@@ -57,7 +57,7 @@ fn write_operands(code: &[u8], i: usize, n: usize, out: &mut [u8], at: usize) ->
 }
 
 // The line of the instruction at position i, which is all there.
-fn write_line(code: &[u8], i: usize, out: &mut [u8], at: usize) -> usize
+pub fn write_line(code: &[u8], i: usize, out: &mut [u8], at: usize) -> usize
     requires { ⌜ (i < length (now code)) × (nextIn (now code) i ≤ length (now code)) × (at + (64 + 21 * operands (opcodeIn (now code) i)) < 2 ^ 64) ⌝ }
     ensures { λ r. ⌜ Put (64 + 21 * operands (opcodeIn (now (code .entry)) i)) (lineOf (now (code .entry)) i) (now (out .entry)) at (now (out .exit)) r ⌝ }
 {

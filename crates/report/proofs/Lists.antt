@@ -34,16 +34,16 @@ use Rattle.report.proofs.Prints.{too-long, fits}
 
 -- ---- a listing is refused 1 or 3, and never 17
 
-abbrev Small : Listed → Type 0
+abbrev pub Small : Listed → Type 0
 Small (text b) = Unit
 Small (unlisted l n) = n < 17
 
-small-front : (b : List ℕ) (w : Listed) → Small w → Small (inFront b w)
+pub small-front : (b : List ℕ) (w : Listed) → Small w → Small (inFront b w)
 unfolding inFront
 small-front b (text r) h = tt
 small-front b (unlisted l n) h = h
 
-small-and : (v w : Listed) → Small v → Small w → Small (andListed v w)
+pub small-and : (v w : Listed) → Small v → Small w → Small (andListed v w)
 unfolding andListed
 small-and (text b) w h k = small-front b w k
 small-and (unlisted l n) w h k = h
@@ -64,7 +64,7 @@ module _ (k : ℕ → Listed) (h : (j : ℕ) → Small (k j)) (line : ℕ → Li
   small-line true = small-opcode (opcodeIn code i .what)
   small-line false = tt
 
-small-lines : (line : ℕ → List ℕ) (f : ℕ) (code : List ℕ) (i : ℕ) → Small (linesFor line f code i)
+pub small-lines : (line : ℕ → List ℕ) (f : ℕ) (code : List ℕ) (i : ℕ) → Small (linesFor line f code i)
 unfolding linesFor
 small-lines line zero code i = tt
 small-lines line (suc f) code i = small-line (linesFor line f code) (small-lines line f code) line code i (ltb i (length code))
@@ -89,29 +89,46 @@ says-put out (text b) h =
     (λ e. rw e (λ k. too-long b out (leb-false _ _ e), λ k. absurd (k refl)))
 says-put out (unlisted l n) h = (λ e. absurd (let z : ⊥ = omega arith in z), λ k. (refl, refl))
 
+-- the whole was listed into a store
+module _ (w : Listed) (small : Small w) (out : List ℕ) {x : Told} {out' : List ℕ} (e : record { answer = x; out = out' } ≡ putListing w out) where
+  says : Says out w x out'
+  says = subst (λ (r : OutRes). Says out w (r .answer) (r .out)) (sym e) (says-put out w small)
+
+  pub was-put : {n : ℕ} → x ≡ t.Number n → record { count = n; out = out' } ≡ printed (listedText w) out
+  was-put f = rw f at says
+
+  module _ {n : ℕ} (f : x ≡ t.Refused n) where
+    said : Says out w (t.Refused n) out'
+    said = rw f at says
+
+    pub was-too-long : n ≡ 17 → record { count = 0; out = out' } ≡ printed (listedText w) out
+    was-too-long g = said .0 g
+
+    pub was-refused : (n ≡ 17 → ⊥) → {r : ℕ} {out'' : List ℕ} → record { count = r; out = out'' } ≡ printed (refusedLine n) out' → record { count = r; out = out'' } ≡ printed (listedText w) out
+    was-refused g p = let z = said .1 g in rw (z .0) (rw (z .1) at p)
+
 module _ (c : Counts) (s : Stores) (ok : listOrder c s ≡ true) (out : List ℕ) where
   abbrev listing : Listed
   listing = listingOf (programIn c s)
 
-  says : (x : Told) (out' : List ℕ) → record { answer = x; out = out' } ≡ listOf c s out → Says out listing x out'
-  unfolding listOf listingOf
-  says x out' e =
-      let f : _≡_ {A = OutRes} (record { answer = x; out = out' }) (putListing listing out) = rw ok at e in
-      subst (λ (r : OutRes). Says out listing (r .answer) (r .out)) (sym f) (says-put out listing (small-from 0 (programIn c s .functions)))
+  small : Small listing
+  unfolding listingOf
+  small = small-from 0 (programIn c s .functions)
 
-  module _ {x : Told} {out' : List ℕ} (e : record { answer = x; out = out' } ≡ listOf c s out) {n : ℕ} where
-    pub was-listed : x ≡ t.Number n → record { count = n; out = out' } ≡ printed (listedText listing) out
-    was-listed f = rw f at (says x out' e)
+  module _ {x : Told} {out' : List ℕ} (e : record { answer = x; out = out' } ≡ listOf c s out) where
+    is-put : record { answer = x; out = out' } ≡ putListing listing out
+    unfolding listOf
+    is-put = rw ok at e
 
-    module _ (f : x ≡ t.Refused n) where
-      said : Says out listing (t.Refused n) out'
-      said = rw f at (says x out' e)
+    pub was-listed : {n : ℕ} → x ≡ t.Number n → record { count = n; out = out' } ≡ printed (listedText listing) out
+    was-listed f = was-put listing small out is-put f
 
+    module _ {n : ℕ} (f : x ≡ t.Refused n) where
       pub did-not-fit : n ≡ 17 → record { count = 0; out = out' } ≡ printed (listedText listing) out
-      did-not-fit g = said .0 g
+      did-not-fit g = was-too-long listing small out is-put f g
 
       pub not-listed : (n ≡ 17 → ⊥) → {r : ℕ} {out'' : List ℕ} → record { count = r; out = out'' } ≡ printed (refusedLine n) out' → record { count = r; out = out'' } ≡ printed (listedText listing) out
-      not-listed g p = let z = said .1 g in rw (z .0) (rw (z .1) at p)
+      not-listed g p = was-refused listing small out is-put f g p
 
 -- ---- what was loaded
 

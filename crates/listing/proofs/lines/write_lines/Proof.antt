@@ -3,19 +3,20 @@ use Prim.Native.Nat.{_-_}
 use native.Mathlib.Omega.{arith}
 use borrow.Author.Needs.{needs}
 use lib.ListN.{length}
+use Rattle.model.specs.Listings.{lineOf}
 use Rattle.printing.proofs.Puts.{kept}
-use Rattle.listing.proofs.Turns.{Turn, first-turn, last-turn, unknown, cut-short, next-turn, whole-instruction}
+use Rattle.listing.proofs.Turns.{Turn, first-turn, last-turn, unknown, cut-short, next-turn, line-takes, whole-instruction}
 use Rattle.listing.proofs.lines.write_lines.Statement.{statement}
 use Rattle.listing.proofs.lines.write_lines.Tie as tie
 
 abbrev Inv-loop : tie.InvT-loop
-Inv-loop code out₀ at i₀ next₀ out i next = Turn code out₀ at out i next
+Inv-loop code out₀ at i₀ next₀ out i next = Turn (lineOf code) 64 code out₀ at out i next
 
 abbrev μ-loop : tie.MeasureT-loop
 μ-loop code out₀ at i₀ next₀ out i next = length code - i
 
 loop-holds : tie.Need-loop-holds Inv-loop μ-loop
-loop-holds c = first-turn _ _ _
+loop-holds c = first-turn _ _ _ _ _
 
 shared-slice-read-b : tie.Need-shared-slice-read-b Inv-loop μ-loop
 shared-slice-read-b c = search
@@ -65,7 +66,16 @@ loop-less : tie.Need-loop-less Inv-loop μ-loop
 loop-less c = search needs
 
 loop-again : tie.Need-loop-again Inv-loop μ-loop
-loop-again c = search next-turn
+loop-again c =
+    let at-line = c .before .before in
+    let at-if1 = at-line .before .before in
+    let at-operands = at-if1 .before in
+    let at-match = at-operands .before in
+    let at-decode = at-match .before in
+    let at-test = at-decode .before .before in
+    next-turn (at-test .before .loop .inv) (at-test .loop-test .taken) _ (at-decode .decode .ensures) (at-match .match .keys2) _
+    (at-operands .operands .ensures) (at-if1 .if1 .left) (at-line .write-line .ensures)
+    (line-takes _ _ (at-operands .operands .ensures))
 
 same-length-3 : tie.Need-same-length-3 Inv-loop μ-loop
 same-length-3 c = kept (c .before .loop .inv .so-far .put)

@@ -1,8 +1,8 @@
 -- `hex_digit`: a digit or a letter.
 use borrow.Author.Needs.{needs}
-use Rattle.report.proofs.Pieces.{digit-is, letter-is}
-use Rattle.report.proofs.values.hex_digit.Statement.{statement}
-use Rattle.report.proofs.values.hex_digit.Tie as tie
+use Rattle.printing.proofs.Hex.{digit-is, letter-is}
+use Rattle.printing.proofs.hex_digit.Statement.{statement}
+use Rattle.printing.proofs.hex_digit.Tie as tie
 
 cast-result : tie.Need-cast-result
 cast-result c = search needs

@@ -5,14 +5,14 @@ use native.Mathlib.Nat.{pos-of-ne-zero}
 use borrow.Author.Needs.{needs}
 use borrow.Fn.Kinds.{In}
 use borrow.Fn.PlainCycle.{Measures, is, falls, and}
-use Rattle.report.proofs.Pieces.{no-hex, more-hex}
+use Rattle.printing.proofs.Hex.{no-hex, more-hex}
 use Rattle.printing.proofs.put_byte.Reads as put-byte
-use Rattle.report.proofs.values.hex_digit.Reads as hex-digit
-use Rattle.report.proofs.values.write_hex.Reads as reads
-use Rattle.report.proofs.values.write_hex.Kinds as kinds
-use Rattle.report.proofs.values.+write_hex.Lts-write_hex as lts
-use Rattle.report.proofs.values.+write_hex.{statement}
-use Rattle.report.proofs.values.+write_hex.Tie.{close}
+use Rattle.printing.proofs.hex_digit.Reads as hex-digit
+use Rattle.printing.proofs.write_hex.Reads as reads
+use Rattle.printing.proofs.write_hex.Kinds as kinds
+use Rattle.printing.proofs.+write_hex.Lts-write_hex as lts
+use Rattle.printing.proofs.+write_hex.{statement}
+use Rattle.printing.proofs.+write_hex.Tie.{close}
 
 abbrev μ : Measures 1 kinds.ps ℕ
 μ κs a = a .0
