@@ -17,6 +17,7 @@ over f64, the plain machine; and document 01's machine, written for itself
 
   oracle run FILE               what the runner prints
   oracle list FILE              what the lister prints
+  oracle list --notes FILE      what the noter prints
   oracle judge FILE             `ok`, or `refused 20 OFFSET`; also checks that
                                 the image of what was read is FILE again
   oracle asm FILE               the image of a rule source (examples/README.md)
@@ -86,6 +87,7 @@ fn main() -> ExitCode {
     let arguments: Vec<&str> = arguments.iter().map(String::as_str).collect();
     let done = match arguments.as_slice() {
         ["run", file] => read(file).and_then(|bytes| put(print::runner(&bytes).as_bytes())),
+        ["list", "--notes", file] => read(file).and_then(|bytes| put(&print::noter(&bytes))),
         ["list", file] => read(file).and_then(|bytes| put(&print::lister(&bytes))),
         ["judge", file] => read(file).and_then(|bytes| judge(&bytes)),
         ["asm", file] => read(file).and_then(|source| assemble(file, &source)),

@@ -92,7 +92,7 @@ impl Op {
         OPS.get(byte as usize).copied()
     }
 
-    /// The operand counts that the listing uses, as in 000. They differ from
+    /// The operand counts of 000, by which its listing goes. They differ from
     /// what the machine reads for CallCallable (two), Factorial (one) and
     /// FFICallFunction (three).
     pub fn num_operands(self) -> usize {
@@ -114,7 +114,8 @@ impl Op {
         }
     }
 
-    /// How many operands the running machine reads.
+    /// How many operands the running machine reads, and document 01's listing
+    /// shows.
     pub fn operands_read(self) -> usize {
         match self {
             Op::CallCallable => 2,
@@ -217,7 +218,7 @@ mod tests {
     }
 
     #[test]
-    fn listing_and_machine_disagree_on_three_opcodes() {
+    fn the_counts_of_000_are_wrong_for_three_opcodes() {
         let disagree: Vec<Op> = OPS
             .iter()
             .copied()

@@ -1,6 +1,6 @@
-//! What the runner and the lister print, and the records to compare with.
+//! What the runner, the lister and the noter print, and the records to compare with.
 
-use crate::image::Program;
+use crate::image::{Constant, Program};
 use crate::limits::{self, Answer, Machine, Refused, Report, Stores};
 use crate::op::Op;
 use crate::value::{shown_bits, Value};
@@ -111,8 +111,81 @@ pub fn lister(image: &[u8]) -> Vec<u8> {
         .unwrap_or_else(|refused| refused_text(refused).into_bytes())
 }
 
+/// Whether the listing meets no opcode whose operands 000 counts otherwise, so
+/// that 000 lists the same.
+pub fn is_listed_by_000(program: &Program) -> bool {
+    program.functions.iter().all(|function| {
+        let mut offset = 0;
+        while let Some(op) = function.code.get(offset).copied().and_then(Op::from_byte) {
+            if op.num_operands() != op.operands_read() {
+                return false;
+            }
+            offset += 1 + 2 * op.operands_read();
+        }
+        true
+    })
+}
+
+/// The text of the noter: the lister's, with notes.
+pub fn noter(image: &[u8]) -> Vec<u8> {
+    load(image)
+        .and_then(|machine| noted_listing(&machine.program))
+        .unwrap_or_else(|refused| refused_text(refused).into_bytes())
+}
+
 /// The listing of all functions in order, or 1 or 3 as met first.
 pub fn listing(program: &Program) -> Result<Vec<u8>, Refused> {
+    listing_with(program, |_, _, _, _| String::new())
+}
+
+/// The same with notes behind the operands of each instruction.
+pub fn noted_listing(program: &Program) -> Result<Vec<u8>, Refused> {
+    listing_with(program, |op, operands, end, place| {
+        notes(program, op, operands, end, place)
+    })
+}
+
+/// What the operands of an instruction that ends at `end` name, and its place,
+/// each behind its mark.
+fn notes(program: &Program, op: Op, operands: &[u16], end: usize, place: u32) -> String {
+    let first = operands.first().map_or(0, |&operand| operand as usize);
+    let named = match op {
+        Op::LoadConstant => Some(match program.constants.get(first) {
+            Some(Constant::Scalar(bits)) => format!("scalar {bits:016X}"),
+            Some(Constant::Boolean(boolean)) => boolean.to_string(),
+            Some(Constant::String(text)) => format!("string {}", shown_text(text)),
+            Some(Constant::FunctionReference(name)) => format!("function {}", shown_text(name)),
+            None => "no constant".to_owned(),
+        }),
+        Op::Call => Some(match program.functions.get(first) {
+            Some(function) => shown_text(&function.name),
+            None => "no function".to_owned(),
+        }),
+        Op::BuildStructInstance => Some(match program.structs.get(first) {
+            Some(name) => shown_text(name),
+            None => "no struct".to_owned(),
+        }),
+        Op::Jump | Op::JumpIfFalse => Some(format!("to {:04}", end + first)),
+        _ => None,
+    };
+    let named = named.map_or(String::new(), |named| format!("  ; {named}"));
+    format!("{named}  ; place {place}")
+}
+
+/// A text in a note: 24 bytes at most, those that are no plain letters as dots.
+fn shown_text(text: &[u8]) -> String {
+    let plain = |&byte: &u8| match byte {
+        32..=126 => byte as char,
+        _ => '.',
+    };
+    let shown: String = text.iter().take(24).map(plain).collect();
+    shown + if text.len() > 24 { ".." } else { "" }
+}
+
+fn listing_with(
+    program: &Program,
+    notes: impl Fn(Op, &[u16], usize, u32) -> String,
+) -> Result<Vec<u8>, Refused> {
     let mut out = vec![];
     for (number, function) in program.functions.iter().enumerate() {
         out.extend_from_slice(format!(".CODE {number} (").as_bytes());
@@ -121,19 +194,21 @@ pub fn listing(program: &Program) -> Result<Vec<u8>, Refused> {
         let mut offset = 0;
         while offset < function.code.len() {
             let op = Op::from_byte(function.code[offset]).ok_or(Refused::Opcode)?;
-            let end = offset + 1 + 2 * op.num_operands();
+            let end = offset + 1 + 2 * op.operands_read();
             let operands = function.code.get(offset + 1..end);
             let operands = operands.ok_or(Refused::CutShort)?;
-            let operands: Vec<String> = operands
+            let operands: Vec<u16> = operands
                 .chunks_exact(2)
-                .map(|pair| u16::from_le_bytes([pair[0], pair[1]]).to_string())
+                .map(|pair| u16::from_le_bytes([pair[0], pair[1]]))
                 .collect();
+            let shown: Vec<String> = operands.iter().map(u16::to_string).collect();
             out.extend_from_slice(
                 format!(
-                    "  {:04} {:<13} {}\n",
+                    "  {:04} {:<13} {}{}\n",
                     offset,
                     op.to_string(),
-                    operands.join(" ")
+                    shown.join(" "),
+                    notes(op, &operands, end, function.places[offset])
                 )
                 .as_bytes(),
             );

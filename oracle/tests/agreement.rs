@@ -85,11 +85,16 @@ fn where_no_limit_comes_in_the_machines_agree() {
 
 #[test]
 fn the_listings_agree() {
+    let mut compared = 0;
     for index in 0..2_000 {
         let image = generate::case(22, index);
         let Ok(ran) = print::run(&image) else {
             continue;
         };
+        if !print::is_listed_by_000(&ran.machine.program) {
+            continue;
+        }
+        compared += 1;
         let vm = Vm::from_program(&ran.machine.program);
         let listing = print::lister(&image);
         match quietly(|| vm.disassemble()) {
@@ -106,6 +111,7 @@ fn the_listings_agree() {
             }
         }
     }
+    assert!(compared > 500, "only {compared} compared");
 }
 
 #[test]

@@ -133,17 +133,22 @@ fn difference_2_a_shared_list_with_a_nan() {
 
 #[test]
 fn difference_3_operand_counts_of_the_listing() {
-    // The unused operand of a CallCallable is 38: it runs, and is not listed.
+    // The unused operand of a CallCallable is 38: it runs, and 000 would cast it.
     let image = "010301660002063C6D61696E3E080000001F000026000800016600";
     assert_eq!(runner(image), "continue\nspent 2\nstack 0\n");
-    assert_eq!(lister(image), "refused 1\n");
-    // Cut before it: it is listed, and does not run.
+    assert!(lister(image).contains("  0003 CallCallable  0 38\n.CODE 1 (f)\n"));
+    assert_eq!(rust(image).1.listing(), None);
+    // Cut before it: 000 lists it, and it does not run.
     let image = "010301660002063C6D61696E3E060000001F00000600016600";
     assert_eq!(runner(image), "fault 3\nspent 2\nstack 0\nat 0 0\n");
-    assert!(lister(image).contains("  0003 CallCallable  0\n"));
-    // Factorial's order is listed as the next instruction.
+    assert_eq!(lister(image), "refused 3\n");
+    let theirs = rust(image).1.listing().unwrap();
+    assert!(theirs.contains("  0003 CallCallable  0\n"));
+    // 000 lists Factorial's order as the next instruction.
     let image = "010000000000000008400001063C6D61696E3E07000000070100250700";
-    assert!(lister(image).contains("  0003 Factorial     \n  0004 ApplyPrefix   9472\n"));
+    assert!(lister(image).contains("  0003 Factorial     1\n  0006 Return        \n"));
+    let theirs = rust(image).1.listing().unwrap();
+    assert!(theirs.contains("  0003 Factorial     \n  0004 ApplyPrefix   9472\n"));
 }
 
 #[test]

@@ -18,7 +18,6 @@ pub mod Paying
 pub mod Growing
 pub mod Written
 -- `listing-numbers`, `refuses`
-pub mod Listing
 pub mod Refusing
 -- good order where a program grows; `new-in-order`, `load-in-order`, `chain-kept`, `run-in-order`
 pub mod Wider

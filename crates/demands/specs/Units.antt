@@ -15,7 +15,7 @@ use Rattle.model.specs.declared.Fault.{Fault}
 use Rattle.model.specs.declared.Tally.{Tally}
 use Rattle.model.specs.Values.{faultNumber}
 use Rattle.model.specs.Heap.{Cell}
-use Rattle.model.specs.Opcodes.{opcodeAt}
+use Rattle.model.specs.Programs.{opcodeIn}
 use Rattle.model.specs.Equality.{Same, same, sameOf}
 use Rattle.model.specs.Steps.{World, State, Outcome, went, returned, faulted, position, codeOf, stepOf}
 use Rattle.model.specs.Runs.{Machine, begin, machineOf, Progress, atStart, over, Entry, traceOf, Reply, value, continue, fault, Ran, answered, recovered}
@@ -66,7 +66,7 @@ pairsBy w d.Unknown s = 0
 
 -- the pairs of the instruction at the current position
 unfoldable pub pairsAt : World → State → ℕ
-pairsAt w s = pairsBy w (opcodeAt (getD (codeOf w s) (position s) 0) .what) s
+pairsAt w s = pairsBy w (opcodeIn (codeOf w s) (position s) .what) s
 
 -- k units are spent by a step that completes; a step for which they are too few is fault 13, and spends all that are left
 abbrev pub Costs : ℕ → State → Outcome → Type 0

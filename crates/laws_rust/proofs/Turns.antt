@@ -10,10 +10,13 @@ use Rattle.model.specs.declared.Arith.the-variants as a
 use Rattle.model.specs.declared.Order.the-variants as c
 use Rattle.model.specs.declared.Op.{Op}
 use Rattle.model.specs.declared.Op.the-variants as o
+use Rattle.model.specs.declared.Names.{Names}
+use Rattle.model.specs.declared.Names.the-variants as n
 use Rattle.model.specs.declared.Decoded.the-variants as d
 use Rattle.model.specs.declared.Fault.the-variants as f
 use Rattle.model.specs.Basics.{if_then_else_, ascii}
-use Rattle.model.specs.Opcodes.{Opcode, op, opcodes, opcodeAt}
+use Rattle.model.specs.Opcodes.{Opcode, op, operands, opcodes, opcodeAt}
+use Rattle.model.specs.Programs.{opcodeIn}
 use Rattle.model.specs.Steps.{World, State, faulted, withUnits, at, position, codeOf, execOf, operandsThen, decodedThen, fetched, stepOf}
 use Rattle.model.specs.Runs.{over}
 use Rattle.laws_runs.specs.Sane.{SaneWorld, Sane}
@@ -26,7 +29,7 @@ use Rattle.laws_rust.proofs.Builds as builds
 
 -- ---- the opcodes
 
--- the Rust's name of each opcode, and how many operands it reads
+-- the Rust's name of each opcode, and what its operands name
 abbrev armOf : Op → rust.Op
 armOf o.LoadConstant = rust.LoadConstant
 armOf o.GetLocal = rust.GetLocal
@@ -55,32 +58,32 @@ armOf o.AccessStructField = rust.AccessStructField
 armOf o.BuildList = rust.BuildList
 armOf o.Return = rust.Return
 
-abbrev readsOf : Op → ℕ
-readsOf o.LoadConstant = 1
-readsOf o.GetLocal = 1
-readsOf o.GetUpvalue = 1
-readsOf o.GetLastResult = 0
-readsOf o.Negate = 0
-readsOf (o.Arithmetic x) = 0
-readsOf (o.Ordering x) = 0
-readsOf o.Equal = 0
-readsOf o.NotEqual = 0
-readsOf o.LogicalAnd = 0
-readsOf o.LogicalOr = 0
-readsOf o.LogicalNeg = 0
-readsOf o.JumpIfFalse = 1
-readsOf o.Jump = 1
-readsOf o.Call = 2
-readsOf o.CallCallable = 2
-readsOf o.BuildStructInstance = 2
-readsOf o.AccessStructField = 1
-readsOf o.BuildList = 1
-readsOf o.Return = 0
+abbrev namesOf : Op → List Names
+namesOf o.LoadConstant = n.Constant ∷ []
+namesOf o.GetLocal = n.Slot ∷ []
+namesOf o.GetUpvalue = n.Slot ∷ []
+namesOf o.GetLastResult = []
+namesOf o.Negate = []
+namesOf (o.Arithmetic x) = []
+namesOf (o.Ordering x) = []
+namesOf o.Equal = []
+namesOf o.NotEqual = []
+namesOf o.LogicalAnd = []
+namesOf o.LogicalOr = []
+namesOf o.LogicalNeg = []
+namesOf o.JumpIfFalse = n.Offset ∷ []
+namesOf o.Jump = n.Offset ∷ []
+namesOf o.Call = n.Function ∷ n.Count ∷ []
+namesOf o.CallCallable = n.Count ∷ n.Nothing ∷ []
+namesOf o.BuildStructInstance = n.Struct ∷ n.Count ∷ []
+namesOf o.AccessStructField = n.Field ∷ []
+namesOf o.BuildList = n.Count ∷ []
+namesOf o.Return = []
 
 -- a row of the rules' table beside a name of the Rust's
 data Row : Opcode → rust.Op → Type 0 where
-  carries : {name : List ℕ} {listed : ℕ} (p : Op) → Row (record { name = name; listed = listed; read = readsOf p; what = d.Carried p }) (armOf p)
-  leaves : {name : List ℕ} {listed read : ℕ} → Row (record { name = name; listed = listed; read = read; what = d.NotCarried }) rust.Other
+  carries : {name : List ℕ} (p : Op) → Row (record { name = name; names = namesOf p; what = d.Carried p }) (armOf p)
+  leaves : {name : List ℕ} {names : List Names} → Row (record { name = name; names = names; what = d.NotCarried }) rust.Other
 
 infixr 5 _then_
 data Rows : List Opcode → List rust.Op → Type 0 where
@@ -106,7 +109,7 @@ module _ (w : World) (good : SaneWorld w) (few : length (w .functions) ≤ 65536
   -- ---- opcode by opcode: the reads, and the arm behind them
 
   module _ (s : State) (h : Orderly w s) (inside : position s ≤ length (codeOf w s)) where
-    does-the-same : (p : Op) → Agrees w (operandsThen w p (readsOf p) s) (rust.arm (armOf p) (rustAt w s))
+    does-the-same : (p : Op) → Agrees w (operandsThen w p (length (namesOf p)) s) (rust.arm (armOf p) (rustAt w s))
     unfolding rust.arm rust.current-frame execOf rustOf
     does-the-same o.LoadConstant = reads-one w s h inside o.LoadConstant _ (λ t k i j. arms.loads w t good i)
     does-the-same o.GetLocal = reads-one w s h inside o.GetLocal _ (λ t k i j. arms.gets w t (t .frame .base + i))
@@ -136,15 +139,15 @@ module _ (w : World) (good : SaneWorld w) (few : length (w .functions) ≤ 65536
     does-the-same o.BuildList = reads-one w s h inside o.BuildList _ (λ t k i j. builds.builds-list w t k i)
     does-the-same o.Return = reads-none w s h inside o.Return rust.Return (λ t k i j. calls.returns w t)
 
-    row-same : {x : Opcode} {y : rust.Op} → Row x y → Agrees w (decodedThen w (x .what) (x .read) s) (rust.arm y (rustAt w s))
-    unfolding decodedThen Agrees FaultsAs rust.arm
+    row-same : {x : Opcode} {y : rust.Op} → Row x y → Agrees w (decodedThen w (x .what) (operands x) s) (rust.arm y (rustAt w s))
+    unfolding operands decodedThen Agrees FaultsAs rust.arm
     row-same (carries p) = does-the-same p
     row-same leaves = refl
 
     -- the byte as an opcode; one that is none is no `Op`
     decodes-the-same : {xs : List Opcode} {ys : List rust.Op} → Rows xs ys → (byte : ℕ)
-        → (let x = getD xs byte (op "" 0 0 d.Unknown) in Agrees w (decodedThen w (x .what) (x .read) s) (rust.transmute ys byte (λ y. rust.arm y (rustAt w s))))
-    unfolding ascii decodedThen rust.transmute Agrees FaultsAs
+        → (let x = getD xs byte (op "" [] d.Unknown) in Agrees w (decodedThen w (x .what) (operands x) s) (rust.transmute ys byte (λ y. rust.arm y (rustAt w s))))
+    unfolding ascii operands decodedThen rust.transmute Agrees FaultsAs
     decodes-the-same end byte = refl
     decodes-the-same (r then rs) zero = row-same r
     decodes-the-same (r then rs) (suc byte) = decodes-the-same rs byte
@@ -155,11 +158,11 @@ pub step-same : (w : World) → SaneWorld w → length (w .functions) ≤ 65536 
 unfolding stepOf over fetched opcodeAt codeOf rust.turn Agrees FaultsAs
 step-same w good few s sane o = on (eqb (s .units) 0)
   where
-    on : (b : Bool) → Agrees w (if b then faulted f.UnitsSpent s else fetched w (opcodeAt (getD (codeOf w s) (position s) 0)) s) (rust.turn (rustAt w s))
+    on : (b : Bool) → Agrees w (if b then faulted f.UnitsSpent s else fetched w (opcodeIn (codeOf w s) (position s)) s) (rust.turn (rustAt w s))
     on true = tt
     on false =
         let l : position s < length (codeOf w s) = leb-false _ _ o in
         let t = at (suc (position s)) (withUnits (s .units - 1) s) in
         let h : Orderly w t = orderly-at (suc (position s)) (s .units - 1) (sane-orderly sane) in
-        agrees-as w (fetched w (opcodeAt (getD (codeOf w s) (position s) 0)) s) (byte-there w s (sane .frame .known) _ l)
+        agrees-as w (fetched w (opcodeIn (codeOf w s) (position s)) s) (byte-there w s (sane .frame .known) _ l)
         (decodes-the-same w good few t h l rows (getD (codeOf w s) (position s) 0))

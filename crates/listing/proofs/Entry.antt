@@ -41,6 +41,33 @@ puts : {w : Listed} {l : List ℕ} → w ≡ text l → (out : List ℕ) → len
 unfolding putListing putOut
 puts e out h = rw (e, le-leb _ _ h)
 
+-- the whole w was measured in x, and is put where it fits
+module _ (w : Listed) (out : List ℕ) {k : ℕ} {s x : List ℕ} (z : length x ≡ 0) where
+  pub put-refused : (told : Told) → OneOf (1 ∷ []) (tagOf the-type told) → Listing k w s 0 x told → record { answer = told; out = x ++ out } ≡ putListing w out
+  put-refused (Number n) d h = absurd (miss (1 ∷ []) 0 tt d)
+  put-refused (Refused n) d h = rw (empty x out z) (refuses (not-wrote _ h .is-refused) out)
+
+  module _ {told : Told} {n : ℕ} (d : told ≡ Number n) (h : Listing k w s 0 x told) (r : ℕ) (f : r ≡ places 1 (x ++ out)) where
+    pub put-too-long : r < n → record { answer = Refused 17; out = x ++ out } ≡ putListing w out
+    put-too-long g =
+        let p = wrote _ (rw d at h) in
+        let y = p .put .next in
+        let v = rw (empty x out z) at f in
+        rw (empty x out z) (too-long (p .is-text) out (omega arith))
+
+    pub put-whole : n ≤ r → {out' : List ℕ} {told' : Told} → Listing k w (x ++ out) 0 out' told' → record { answer = told'; out = out' } ≡ putListing w out
+    put-whole g q =
+        let p = wrote _ (rw d at h) in
+        let y = p .put .next in
+        let v = rw (empty x out z) at f in
+        let e = p .is-text in
+        let u : 0 + length (p .l) ≡ length (p .l) = omega arith in
+        let a = q .means ∙ ap (toldOf 0) e ∙ ap Number u in
+        let j = q .stored ∙ ap (λ (v : Listed). written (x ++ out) 0 (textOf v)) e ∙ ap (λ (i : List ℕ). written i 0 (p .l)) (empty x out z) in
+        rw (a, j) (puts e out (omega arith))
+
+-- ---- the entry
+
 module _ (c : Counts) (fs t m o : List ℕ) {b : Bool} (ok : (rest : Stores) → b ≡ listOrder c (lent rest fs t m o)) (out : List ℕ) where
   pub out-of-order : b ≡ false → (rest : Stores) → record { answer = Refused 19; out = out } ≡ listOf c (lent rest fs t m o) out
   unfolding listOf
@@ -69,28 +96,15 @@ module _ (c : Counts) (fs t m o : List ℕ) {b : Bool} (ok : (rest : Stores) →
     module _ {k : ℕ} {s x : List ℕ} (z : length x ≡ 0) where
       pub refused : (told : Told) → OneOf (1 ∷ []) (tagOf the-type told) → ((rest : Stores) → Listing k (whole rest) s 0 x told) → (rest : Stores)
           → record { answer = told; out = x ++ out } ≡ listOf c (lent rest fs t m o) out
-      refused (Number n) d h rest = absurd (miss (1 ∷ []) 0 tt d)
-      refused (Refused n) d h rest = rw (empty x out z) (refuses (not-wrote _ (h rest) .is-refused) out ∙ in-order rest)
+      refused told d h rest = put-refused (whole rest) out z told d (h rest) ∙ in-order rest
 
       module _ {told : Told} {n : ℕ} (d : told ≡ Number n) (h : (rest : Stores) → Listing k (whole rest) s 0 x told) (r : ℕ) (f : r ≡ places 1 (x ++ out)) where
         pub no-room : r < n → (rest : Stores) → record { answer = Refused 17; out = x ++ out } ≡ listOf c (lent rest fs t m o) out
-        no-room g rest =
-            let p = wrote _ (rw d at (h rest)) in
-            let y = p .put .next in
-            let v = rw (empty x out z) at f in
-            rw (empty x out z) (too-long (p .is-text) out (omega arith) ∙ in-order rest)
+        no-room g rest = put-too-long (whole rest) out z d (h rest) r f g ∙ in-order rest
 
         pub room-for : n ≤ r → {out' : List ℕ} {told' : Told} → ((rest : Stores) → Listing k (whole rest) (x ++ out) 0 out' told') → (rest : Stores)
             → record { answer = told'; out = out' } ≡ listOf c (lent rest fs t m o) out
-        room-for g q rest =
-            let p = wrote _ (rw d at (h rest)) in
-            let y = p .put .next in
-            let v = rw (empty x out z) at f in
-            let w = p .is-text in
-            let u : 0 + length (p .l) ≡ length (p .l) = omega arith in
-            let a = q rest .means ∙ ap (toldOf 0) w ∙ ap Number u in
-            let j = q rest .stored ∙ ap (λ (v : Listed). written (x ++ out) 0 (textOf v)) w ∙ ap (λ (i : List ℕ). written i 0 (p .l)) (empty x out z) in
-            rw (a, j) (puts w out (omega arith) ∙ in-order rest)
+        room-for g q rest = put-whole (whole rest) out z d (h rest) r f g (q rest) ∙ in-order rest
 
 -- no second answer fits
 pub one-answer : (want : OutRes) (r r' : Told) (o o' : List ℕ) → record { answer = r; out = o } ≡ want → record { answer = r'; out = o' } ≡ want → (r ≡ r') × (o ≡ o')

@@ -11,7 +11,7 @@ use Rattle.model.proofs.Told.{the-type}
 use Rattle.model.specs.declared.Told.{Told}
 use Rattle.model.specs.declared.Told.the-variants.{Number, Refused}
 use Rattle.model.specs.Values.{kindAt}
-use Rattle.model.specs.Listings.{Listed, inFront, andListed, headerLine, linesFor, listingFrom}
+use Rattle.model.specs.Listings.{Listed, inFront, andListed, headerLine, codeLines, listingFrom}
 use Rattle.model.specs.Stores.{Stores, part, nameWord, functionIn, functionsFrom}
 use Rattle.listing.specs.Links.{Listing, lent}
 use Rattle.printing.proofs.Puts.{kept}
@@ -19,7 +19,7 @@ use Rattle.listing.proofs.Judging.{front-and, wrote, not-wrote, Sofar, 
 
 -- one function's listing
 abbrev one : ℕ → List ℕ → List ℕ → Listed
-one i name code = inFront (headerLine i name) (linesFor (length code) code 0)
+one i name code = inFront (headerLine i name) (codeLines code)
 
 module _ (fs t m o : List ℕ) where
   -- the listing of j functions from i on

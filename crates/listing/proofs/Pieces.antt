@@ -6,8 +6,8 @@ use native.Mathlib.Omega.{arith}
 use native.Mathlib.Numerals.{add-one}
 use lib.ListN.{length, getD}
 use Rattle.model.specs.Basics.{ascii}
-use Rattle.model.specs.Opcodes.{opcodeAt}
-use Rattle.model.specs.Programs.{wordAt}
+use Rattle.model.specs.Opcodes.{operands}
+use Rattle.model.specs.Programs.{wordAt, opcodeIn}
 use Rattle.model.specs.Listings.{decimal, paddedTo, operandsFrom, lineOf, headerLine}
 use Rattle.printing.specs.Links.{Put}
 use Rattle.printing.proofs.Puts.{is, within, both, nothing}
@@ -46,14 +46,14 @@ module _ (code : List ℕ) (i : ℕ) where
 
 -- ---- a line
 
-pub line-is : (code : List ℕ) (i b n : ℕ) → n ≡ opcodeAt b .listed
+pub line-is : (code : List ℕ) (i n : ℕ) → n ≡ operands (opcodeIn code i)
     → {s₀ s₁ s₂ s₃ s₄ s₅ s₆ s₇ : List ℕ} {i₀ i₁ i₂ i₃ i₄ i₅ i₆ i₇ : ℕ}
-    → Put 2 (32 ∷ 32 ∷ []) s₀ i₀ s₁ i₁ → Put 20 (like 1000 i) s₁ i₁ s₂ i₂ → Put 1 (32 ∷ []) s₂ i₂ s₃ i₃ → Put 19 (paddedTo 13 (opcodeAt b .name)) s₃ i₃ s₄ i₄
+    → Put 2 (32 ∷ 32 ∷ []) s₀ i₀ s₁ i₁ → Put 20 (like 1000 i) s₁ i₁ s₂ i₂ → Put 1 (32 ∷ []) s₂ i₂ s₃ i₃ → Put 19 (paddedTo 13 (opcodeIn code i .name)) s₃ i₃ s₄ i₄
     → Put 1 (32 ∷ []) s₄ i₄ s₅ i₅ → Put (21 * n) (operandsFrom n code (i + 1)) s₅ i₅ s₆ i₆ → Put 1 (10 ∷ []) s₆ i₆ s₇ i₇
-    → Put (64 + 21 * opcodeAt b .listed) (lineOf code i (opcodeAt b)) s₀ i₀ s₇ i₇
+    → Put (64 + 21 * operands (opcodeIn code i)) (lineOf code i) s₀ i₀ s₇ i₇
 unfolding lineOf ascii
-line-is code i b n e p₁ p₂ p₃ p₄ p₅ p₆ p₇ =
-    within (both (both (both (both p₁ (is p₂ (four i))) (both p₃ p₄)) (both p₅ (rw (e, add-one) at p₆))) p₇) (64 + 21 * opcodeAt b .listed) (omega arith)
+line-is code i n e p₁ p₂ p₃ p₄ p₅ p₆ p₇ =
+    within (both (both (both (both p₁ (is p₂ (four i))) (both p₃ p₄)) (both p₅ (rw (e, add-one) at p₆))) p₇) (64 + 21 * operands (opcodeIn code i)) (omega arith)
 
 -- ---- a header
 

@@ -1,5 +1,5 @@
 // The listing of a program: the `.CODE` part of disassemble.
-mod lines; // lines.rt: the lines of one function's code
+pub mod lines; // lines.rt: the lines of one function's code
 
 use crate::lines::write_lines;
 use layout::reads::first;
@@ -19,14 +19,14 @@ ghost use mathlib.Core.Path.{_≡_};
 ghost use mathlib.Core.List.{List};
 ghost use Prim.Native.Nat.{ℕ, _+_, _*_, _≤_, _<_, _^_};
 ghost use lib.ListN.{length};
-ghost use Rattle.model.specs.Listings.{headerLine, linesFor, inFront, listingOf};
+ghost use Rattle.model.specs.Listings.{headerLine, codeLines, inFront, listingOf};
 ghost use Rattle.model.specs.Stores.{Stores, functionIn, programIn};
 ghost use Rattle.model.specs.Loading.{listOrder, listOf};
 ghost use Rattle.listing.specs.Links.{Listing, lent};
 ghost use Rattle.printing.specs.Links.{Put};
 
 // The line above a function's code.
-fn write_header(i: usize, name: &[u8], out: &mut [u8], at: usize) -> usize
+pub fn write_header(i: usize, name: &[u8], out: &mut [u8], at: usize) -> usize
     requires { ⌜ at + (32 + length (now name)) < 2 ^ 64 ⌝ }
     ensures { λ r. ⌜ Put (32 + length (now (name .entry))) (headerLine i (now (name .entry))) (now (out .entry)) at (now (out .exit)) r ⌝ }
 {
@@ -40,14 +40,14 @@ fn write_header(i: usize, name: &[u8], out: &mut [u8], at: usize) -> usize
 // Function i: its header and its lines.
 fn write_function(i: usize, name: &[u8], code: &[u8], out: &mut [u8], at: usize) -> Told
     requires { ⌜ at + (32 + length (now name) + 64 * length (now code)) < 2 ^ 64 ⌝ }
-    ensures { λ r. ⌜ Listing (32 + length (now (name .entry)) + 64 * length (now (code .entry))) (inFront (headerLine i (now (name .entry))) (linesFor (length (now (code .entry))) (now (code .entry)) 0)) (now (out .entry)) at (now (out .exit)) r ⌝ }
+    ensures { λ r. ⌜ Listing (32 + length (now (name .entry)) + 64 * length (now (code .entry))) (inFront (headerLine i (now (name .entry))) (codeLines (now (code .entry)))) (now (out .entry)) at (now (out .exit)) r ⌝ }
 {
     let next = write_header(i, name, out, at);
     write_lines(code, out, next)
 }
 
 // The code of function i: main and the others have separate stores.
-fn code_of<'a>(functions: &[u64], main: &'a [u8], other: &'a [u8], i: usize) -> &'a [u8]
+pub fn code_of<'a>(functions: &[u64], main: &'a [u8], other: &'a [u8], i: usize) -> &'a [u8]
     ensures { λ r. ⌜ ((rest : Stores) (text : List ℕ) → now r ≡ functionIn (lent rest (now (functions .entry)) text (now (main .entry)) (now (other .entry))) i .code) × (length (now r) < 2 ^ 32) ⌝ }
 {
     let word = second(functions, i);

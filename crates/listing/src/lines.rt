@@ -4,16 +4,16 @@ use model::Told;
 use opcode::decode;
 use opcode::name_byte;
 use opcode::name_len;
-use opcode::num_operands;
+use opcode::operands;
 use printing::put_byte;
 use printing::put_text;
 use printing::write_decimal;
 ghost use mathlib.Core.Path.{_≡_};
 ghost use Prim.Native.Nat.{_+_, _*_, _≤_, _<_, _^_};
 ghost use lib.ListN.{length};
-ghost use Rattle.model.specs.Opcodes.{opcodeAt};
-ghost use Rattle.model.specs.Programs.{wordAt, behind};
-ghost use Rattle.model.specs.Listings.{paddedTo, operandsFrom, lineOf, linesFor};
+ghost use Rattle.model.specs.Opcodes.{operands, opcodeAt};
+ghost use Rattle.model.specs.Programs.{wordAt, opcodeIn, nextIn};
+ghost use Rattle.model.specs.Listings.{paddedTo, operandsFrom, lineOf, codeLines};
 ghost use Rattle.listing.specs.Links.{Listing};
 ghost use Rattle.printing.specs.Links.{Put};
 
@@ -56,24 +56,25 @@ fn write_operands(code: &[u8], i: usize, n: usize, out: &mut [u8], at: usize) ->
     write_operands(code, i + 2, n - 1, out, next)
 }
 
-// The line of the opcode b at position i, whose operands are all there.
-fn write_line(code: &[u8], i: usize, b: u8, out: &mut [u8], at: usize) -> usize
-    requires { ⌜ (behind i (opcodeAt b .listed) ≤ length (now code)) × (at + (64 + 21 * opcodeAt b .listed) < 2 ^ 64) ⌝ }
-    ensures { λ r. ⌜ Put (64 + 21 * opcodeAt b .listed) (lineOf (now (code .entry)) i (opcodeAt b)) (now (out .entry)) at (now (out .exit)) r ⌝ }
+// The line of the instruction at position i, which is all there.
+pub fn write_line(code: &[u8], i: usize, out: &mut [u8], at: usize) -> usize
+    requires { ⌜ (i < length (now code)) × (nextIn (now code) i ≤ length (now code)) × (at + (64 + 21 * operands (opcodeIn (now code) i)) < 2 ^ 64) ⌝ }
+    ensures { λ r. ⌜ Put (64 + 21 * operands (opcodeIn (now (code .entry)) i)) (lineOf (now (code .entry)) i) (now (out .entry)) at (now (out .exit)) r ⌝ }
 {
+    let b = code[i];
     let offset = put_text(b"  ", out, at);
     let space = write_decimal(i, 1000, out, offset);
     let name = put_byte(b' ', out, space);
     let gap = write_name(b, out, name);
-    let operands = put_byte(b' ', out, gap);
-    let end = write_operands(code, i + 1, num_operands(b), out, operands);
+    let start = put_byte(b' ', out, gap);
+    let end = write_operands(code, i + 1, operands(b), out, start);
     put_byte(b'\n', out, end)
 }
 
 // All lines of a code; an unknown opcode is refused 1, and one whose operands are cut short 3, as met first, with the lines before it put.
 pub fn write_lines(code: &[u8], out: &mut [u8], at: usize) -> Told
     requires { ⌜ at + 64 * length (now code) < 2 ^ 64 ⌝ }
-    ensures { λ r. ⌜ Listing (64 * length (now (code .entry))) (linesFor (length (now (code .entry))) (now (code .entry)) 0) (now (out .entry)) at (now (out .exit)) r ⌝ }
+    ensures { λ r. ⌜ Listing (64 * length (now (code .entry))) (codeLines (now (code .entry))) (now (out .entry)) at (now (out .exit)) r ⌝ }
 {
     let mut i = 0;
     let mut next = at;
@@ -82,12 +83,12 @@ pub fn write_lines(code: &[u8], out: &mut [u8], at: usize) -> Told
         if let Decoded::Unknown = decode(b) {
             return Told::Refused(1);
         }
-        let n = num_operands(b);
+        let n = operands(b);
         let left = (code.len() - i - 1) / 2;
         if left < n {
             return Told::Refused(3);
         }
-        next = write_line(code, i, b, out, next);
+        next = write_line(code, i, out, next);
         i = i + 1 + 2 * n;
     }
     Told::Number(next)

@@ -101,6 +101,16 @@ p1-image =
 unfoldable pub p1-listing : List ℕ
 p1-listing = ascii ".CODE 0 (<main>)\n  0000 LoadConstant  0\n  0003 LoadConstant  1\n  0006 Add           \n  0007 Return        \n"
 
+-- the three opcodes whose operands were miscounted: CallCallable, Factorial, FFICallFunction
+unfoldable pub counted-operands : Program
+counted-operands =
+    alone n42 n1
+    (0x1F ∷ 0x00 ∷ 0x00 ∷ 0x26 ∷ 0x00 ∷ 0x07 ∷ 0x01 ∷ 0x00 ∷ 0x1D ∷ 0x00 ∷ 0x00 ∷ 0x01 ∷ 0x00 ∷ 0x02 ∷ 0x00 ∷ 0x25 ∷ [])
+
+unfoldable pub counted-listing : List ℕ
+counted-listing =
+    ascii ".CODE 0 (<main>)\n  0000 CallCallable  0 38\n  0005 Factorial     1\n  0008 FFICallFunction 0 1 2\n  0015 Return        \n"
+
 unfoldable pub p3 : Program
 p3 = alone n1 n0 (0x00 ∷ 0x00 ∷ 0x00 ∷ 0x00 ∷ 0x01 ∷ 0x00 ∷ 0x0B ∷ 0x25 ∷ [])
 
@@ -177,6 +187,7 @@ examples =
     ∷ (bytes (imageOf p1-flat) shows bytes p1-image)
     ∷ (judged (judge p1-image) shows judged (fine p1-flat))
     ∷ (listed (listingOf p1) shows listed (text p1-listing))
+    ∷ (listed (listingOf counted-operands) shows listed (text counted-listing))
     ∷ (bytes (runnerText p1-image) shows bytes (ascii "value scalar 4045800000000000\nspent 4\nstack 0\n"))
     ∷ (bytes (listerText p1-image) shows bytes p1-listing)
     -- P2: 3 units
@@ -208,7 +219,7 @@ examples =
 
 -- P1 to P9 and the jump, together: the rules give what they are said to give
 pub examples-hold : map (λ e. e .gives) examples ≡ map (λ e. e .says) examples
-unfolding from coded program alone p1 p1-flat p1-image p1-listing p3 p4 p5 p6 p7 p8 jumped world loaded shown run again scalarOf examples trailingZeros
+unfolding from coded program alone p1 p1-flat p1-image p1-listing counted-operands counted-listing p3 p4 p5 p6 p7 p8 jumped world loaded shown run again scalarOf examples trailingZeros
     basics.computes opcodes.computes numbers.computes values.computes scalars.computes heap.computes equality.computes programs.computes
     images.computes listings.computes steps.computes runs.computes stores.computes orders.computes loading.computes machines.computes
     reports.computes Ieee.ofBits Ieee.ofFields Ieee.odd Ieee.add Ieee.sum Ieee.round Ieee.units Ieee.size Ieee.span Ieee.climb Ieee.div Ieee.eq

@@ -8,8 +8,8 @@ use Rattle.model.specs.declared.Op.{Op}
 use Rattle.model.specs.declared.Decoded.{Decoded}
 use Rattle.model.specs.declared.Decoded.the-variants as d
 use Rattle.model.specs.Basics.{if_then_else_, ascii}
-use Rattle.model.specs.Opcodes.{Opcode, opcodeAt}
-use Rattle.model.specs.Programs.{Function, Program, wordAt, behind}
+use Rattle.model.specs.Opcodes.{operands}
+use Rattle.model.specs.Programs.{Function, Program, wordAt, opcodeIn, nextIn}
 
 -- n in decimal, f + 1 digits at most
 unfoldable pub decimalFor : ℕ → ℕ → List ℕ
@@ -35,8 +35,9 @@ operandsFrom (suc zero) code i = decimal (wordAt code i)
 operandsFrom (suc (suc n)) code i = decimal (wordAt code i) ++ (32 ∷ operandsFrom (suc n) code (i + 2))
 
 -- two spaces, the offset in four digits or more, a space, the name padded to 13, a space, the operands
-unfoldable pub lineOf : List ℕ → ℕ → Opcode → List ℕ
-lineOf code i c = ascii "  " ++ digitsOrMore 4 i ++ (32 ∷ paddedTo 13 (c .name)) ++ (32 ∷ operandsFrom (c .listed) code (suc i)) ++ ascii "\n"
+unfoldable pub lineOf : List ℕ → ℕ → List ℕ
+lineOf code i =
+    ascii "  " ++ digitsOrMore 4 i ++ (32 ∷ paddedTo 13 (opcodeIn code i .name)) ++ (32 ∷ operandsFrom (operands (opcodeIn code i)) code (suc i)) ++ ascii "\n"
 
 unfoldable pub headerLine : ℕ → List ℕ → List ℕ
 headerLine i name = ascii ".CODE " ++ decimal i ++ ascii " (" ++ name ++ ascii ")\n"
@@ -50,23 +51,27 @@ unfoldable pub inFront : List ℕ → Listed → Listed
 inFront l (text r) = text (l ++ r)
 inFront l (unlisted r n) = unlisted (l ++ r) n
 
--- an opcode at i whose operands are all there, and the lines behind it; 3 where the code ends inside
-unfoldable pub knownThen : (ℕ → Listed) → List ℕ → ℕ → Opcode → Listed
-knownThen k code i c = if leb (behind i (c .listed)) (length code) then inFront (lineOf code i c) (k (behind i (c .listed))) else unlisted [] 3
+-- the line of an instruction that is all there, and the lines behind it; 3 where the code ends inside
+unfoldable pub knownThen : (behind : ℕ → Listed) → (line : ℕ → List ℕ) → List ℕ → ℕ → Listed
+knownThen k line code i = if leb (nextIn code i) (length code) then inFront (line i) (k (nextIn code i)) else unlisted [] 3
 
-unfoldable pub opcodeThen : (ℕ → Listed) → List ℕ → ℕ → Opcode → Decoded → Listed
-opcodeThen k code i c (d.Carried p) = knownThen k code i c
-opcodeThen k code i c d.NotCarried = knownThen k code i c
-opcodeThen k code i c d.Unknown = unlisted [] 1
+unfoldable pub opcodeThen : (behind : ℕ → Listed) → (line : ℕ → List ℕ) → List ℕ → ℕ → Decoded → Listed
+opcodeThen k line code i (d.Carried p) = knownThen k line code i
+opcodeThen k line code i d.NotCarried = knownThen k line code i
+opcodeThen k line code i d.Unknown = unlisted [] 1
 
-unfoldable pub lineThen : (ℕ → Listed) → List ℕ → ℕ → Bool → Listed
-lineThen k code i true = opcodeThen k code i (opcodeAt (getD code i 0)) (opcodeAt (getD code i 0) .what)
-lineThen k code i false = text []
+unfoldable pub lineThen : (behind : ℕ → Listed) → (line : ℕ → List ℕ) → List ℕ → ℕ → Bool → Listed
+lineThen k line code i true = opcodeThen k line code i (opcodeIn code i .what)
+lineThen k line code i false = text []
 
--- the lines from position i on, f instructions at most: 1 or 3 as met first
-unfoldable pub linesFor : ℕ → List ℕ → ℕ → Listed
-linesFor zero code i = text []
-linesFor (suc f) code i = lineThen (linesFor f code) code i (ltb i (length code))
+-- the lines from position i on, n instructions at most: 1 or 3 as met first
+unfoldable pub linesFor : (line : ℕ → List ℕ) → ℕ → List ℕ → ℕ → Listed
+linesFor line zero code i = text []
+linesFor line (suc n) code i = lineThen (linesFor line n code) line code i (ltb i (length code))
+
+-- the lines of a function's code
+abbrev pub codeLines : List ℕ → Listed
+codeLines code = linesFor (lineOf code) (length code) code 0
 
 unfoldable pub andListed : Listed → Listed → Listed
 andListed (text l) r = inFront l r
@@ -75,7 +80,7 @@ andListed (unlisted l n) r = unlisted l n
 -- function i and those after it
 unfoldable pub listingFrom : ℕ → List Function → Listed
 listingFrom i [] = text []
-listingFrom i (f ∷ fs) = inFront (headerLine i (f .name)) (andListed (linesFor (length (f .code)) (f .code) 0) (listingFrom (suc i) fs))
+listingFrom i (f ∷ fs) = inFront (headerLine i (f .name)) (andListed (codeLines (f .code)) (listingFrom (suc i) fs))
 
 unfoldable pub listingOf : Program → Listed
 listingOf p = listingFrom 0 (p .functions)

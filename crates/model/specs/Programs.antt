@@ -6,6 +6,7 @@ use Prim.Native.Nat.{ℕ, zero, suc, _+_, _*_}
 use lib.Dec.{eqb, leb, ltb}
 use lib.ListN.{length, getD}
 use Rattle.model.specs.Basics.{if_then_else_, ascii}
+use Rattle.model.specs.Opcodes.{Opcode, operands, opcodeAt}
 use Rattle.model.specs.Equality.{sameBytes}
 
 -- a constant, of four kinds; a scalar keeps its 64 bits
@@ -108,7 +109,24 @@ wordAt code i = getD code i 0 + 256 * getD code (suc i) 0
 unfoldable pub behind : ℕ → ℕ → ℕ
 behind i n = suc i + 2 * n
 
+-- the opcode at position i
+abbrev pub opcodeIn : List ℕ → ℕ → Opcode
+opcodeIn code i = opcodeAt (getD code i 0)
+
+-- the walk over instructions, which a step and a listing take: from one to the position behind its operands
+abbrev pub nextIn : List ℕ → ℕ → ℕ
+nextIn code i = behind i (operands (opcodeIn code i))
+
+-- the positions where the walk from i on stands, n at most
+unfoldable pub standsFor : ℕ → List ℕ → ℕ → List ℕ
+standsFor zero code i = []
+standsFor (suc n) code i = if ltb i (length code) then i ∷ standsFor n code (nextIn code i) else []
+
+-- all of them: an instruction has a byte or more
+unfoldable pub stands : List ℕ → List ℕ
+stands code = standsFor (length code) code 0
+
 -- all that an example computes with here
 unfoldable pub computes : Type 1
-unfolding mainName functionAt orElse newestFrom functionNamed firstFrom among codesWithin withinLimits wordAt behind before nameAt putIn orderOf
+unfolding mainName functionAt orElse newestFrom functionNamed firstFrom among codesWithin withinLimits wordAt behind standsFor stands before nameAt putIn orderOf
 computes = Type 0

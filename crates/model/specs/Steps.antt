@@ -23,12 +23,12 @@ use Rattle.model.specs.declared.Found.{Found}
 use Rattle.model.specs.declared.Found.the-variants as g
 use Rattle.model.specs.declared.Frame.{Frame}
 use Rattle.model.specs.Basics.{if_then_else_}
-use Rattle.model.specs.Opcodes.{Opcode, opcodeAt}
+use Rattle.model.specs.Opcodes.{Opcode, operands}
 use Rattle.model.specs.Values.{ifReference, ifStruct, popping, poppingScalar, poppingBoolean, textAt}
 use Rattle.model.specs.Scalars.{arithOf, zeroDivisor, orderOf}
 use Rattle.model.specs.Heap.{Cell, Built, built, unbuilt, buildOf, listElements, structFields, fieldOf}
 use Rattle.model.specs.Equality.{Same, same, sameOf}
-use Rattle.model.specs.Programs.{Function, functionAt, functionNamed, wordAt}
+use Rattle.model.specs.Programs.{Function, functionAt, functionNamed, wordAt, opcodeIn}
 
 -- what a run does not change: the program, and the rooms of the stores
 pub record World : Type 0 where
@@ -252,10 +252,10 @@ decodedThen w d.Unknown n s = faulted f.UnknownOpcode s
 
 -- [units] the opcode is fetched for one unit; the position is then after it
 unfoldable pub fetched : World → Opcode → State → Outcome
-fetched w c s = decodedThen w (c .what) (c .read) (at (suc (position s)) (withUnits (s .units - 1) s))
+fetched w c s = decodedThen w (c .what) (operands c) (at (suc (position s)) (withUnits (s .units - 1) s))
 
 unfoldable pub stepOf : World → State → Outcome
-stepOf w s = if eqb (s .units) 0 then faulted f.UnitsSpent s else fetched w (opcodeAt (getD (codeOf w s) (position s) 0)) s
+stepOf w s = if eqb (s .units) 0 then faulted f.UnitsSpent s else fetched w (opcodeIn (codeOf w s) (position s)) s
 
 -- all that an example computes with here
 unfoldable pub computes : Type 1

@@ -60,6 +60,19 @@ pub enum Op {
     Return,
 }
 
+// What an operand names. An offset leads a jump on; Nothing is an operand that the machine reads and does not use, or one of an opcode that is
+// not carried.
+pub enum Names {
+    Constant,
+    Slot,
+    Function,
+    Struct,
+    Field,
+    Count,
+    Offset,
+    Nothing,
+}
+
 // What an opcode byte is: carried, known but not carried, or unknown.
 pub enum Decoded {
     Carried(Op),

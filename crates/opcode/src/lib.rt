@@ -1,11 +1,13 @@
 // The opcodes: what a byte is, how many operands follow it, and its name.
 use model::Arith;
 use model::Decoded;
+use model::Names;
 use model::Op;
 use model::Order;
 ghost use mathlib.Core.Path.{_≡_};
 ghost use lib.ListN.{length, getD};
-ghost use Rattle.model.specs.Opcodes.{opcodeAt};
+ghost use Rattle.model.specs.Opcodes.{operands, opcodeAt};
+ghost use Rattle.model.specs.declared.Names.the-variants.{Nothing};
 
 // What an opcode byte is.
 pub fn decode(b: u8) -> Decoded
@@ -43,9 +45,9 @@ pub fn decode(b: u8) -> Decoded
     }
 }
 
-// How many operands the machine reads behind an opcode.
-pub fn operands_read(b: u8) -> usize
-    ensures { λ r. ⌜ r ≡ opcodeAt b .read ⌝ }
+// How many operands follow an opcode.
+pub fn operands(b: u8) -> usize
+    ensures { λ r. ⌜ r ≡ operands (opcodeAt b) ⌝ }
 {
     match b {
         0..=1 | 3..=4 | 7 | 26..=27 | 32..=33 | 35..=36 => 1,
@@ -55,15 +57,29 @@ pub fn operands_read(b: u8) -> usize
     }
 }
 
-// How many operands the listing shows of an opcode.
-pub fn num_operands(b: u8) -> usize
-    ensures { λ r. ⌜ r ≡ opcodeAt b .listed ⌝ }
+// What an opcode's first operand names; Nothing where it has none.
+pub fn first_names(b: u8) -> Names
+    ensures { λ r. ⌜ r ≡ getD (opcodeAt b .names) 0 Nothing ⌝ }
 {
     match b {
-        0..=1 | 3..=4 | 26..=27 | 31..=33 | 35..=36 => 1,
-        2 | 28..=29 | 34 => 2,
-        30 => 3,
-        _ => 0,
+        0 => Names::Constant,
+        3 | 4 => Names::Slot,
+        26 | 27 => Names::Offset,
+        28 => Names::Function,
+        31 | 36 => Names::Count,
+        34 => Names::Struct,
+        35 => Names::Field,
+        _ => Names::Nothing,
+    }
+}
+
+// What its second operand names.
+pub fn second_names(b: u8) -> Names
+    ensures { λ r. ⌜ r ≡ getD (opcodeAt b .names) 1 Nothing ⌝ }
+{
+    match b {
+        28 | 34 => Names::Count,
+        _ => Names::Nothing,
     }
 }
 

@@ -96,7 +96,7 @@ one-again : (x k : ℕ) → replicate k x ++ (x ∷ []) ≡ x ∷ replicate k x
 one-again x zero = refl
 one-again x (suc k) = ap (λ (r : List ℕ). x ∷ r) (one-again x k)
 
-like-short : (m n : ℕ) → length (like m n) ≤ 20
+pub like-short : (m n : ℕ) → length (like m n) ≤ 20
 unfolding digitsOrMore
 like-short m n =
     let a = short m in

@@ -1,10 +1,12 @@
 // Bytes, texts and numbers put into a lent store, each from place at on. What falls past the store's end is not written; the answer is the
 // place behind all the same.
+ghost use mathlib.Core.Path.{_≡_};
 ghost use mathlib.Core.List.{[], _∷_, _++_};
 ghost use Prim.Native.Nat.{_+_, _<_, _^_};
 ghost use lib.ListN.{length};
 ghost use Rattle.model.specs.Basics.{ascii};
 ghost use Rattle.model.specs.Listings.{decimal, digitsOrMore};
+ghost use Rattle.model.specs.Reports.{hexDigit, hexFor};
 ghost use Rattle.printing.specs.Links.{Put};
 
 // One byte.
@@ -43,6 +45,29 @@ pub fn write_decimal(n: usize, like: usize, out: &mut [u8], at: usize) -> usize
     }
     let next = write_decimal(n / 10, like / 10, out, at);
     put_byte(48 + (n % 10) as u8, out, next)
+}
+
+// A digit below 16, as a capital.
+fn hex_digit(d: u64) -> u8
+    requires { ⌜ d < 16 ⌝ }
+    ensures { λ r. ⌜ r ≡ hexDigit d ⌝ }
+{
+    if d < 10 {
+        return 48 + d as u8;
+    }
+    55 + d as u8
+}
+
+// The n lowest hex digits of w.
+pub fn write_hex(n: usize, w: u64, out: &mut [u8], at: usize) -> usize
+    requires { ⌜ at + n < 2 ^ 64 ⌝ }
+    ensures { λ r. ⌜ Put n (hexFor n w) (now (out .entry)) at (now (out .exit)) r ⌝ }
+{
+    if n == 0 {
+        return at;
+    }
+    let next = write_hex(n - 1, w / 16, out, at);
+    put_byte(hex_digit(w % 16), out, next)
 }
 
 // A text, and a number behind it.

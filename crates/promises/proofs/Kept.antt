@@ -24,7 +24,8 @@ use Rattle.demands.specs.Relent.{Relent}
 use Rattle.demands.proofs.Refusing.{refuses}
 use Rattle.demands.proofs.Written.{steps-within, run-written}
 use Rattle.demands.proofs.Orderly.{new-in-order, load-in-order, chain-kept, run-in-order}
-use Rattle.demands.proofs.Listing.{listing-numbers}
+use Rattle.laws_code.proofs.Numbers.{listing-numbers}
+use Rattle.laws_code.proofs.Walks.{step-takes-the-walk, listing-shows-the-walk}
 use Rattle.demands.proofs.Paying.{step-cost, fault-fee, path-units}
 use Rattle.demands.proofs.Growing.{as-trees}
 use Rattle.demands.proofs.Recovering.{fault-recovers}
@@ -76,6 +77,8 @@ kept = record {
   fault-fee = λ w s n t e. fault-fee w s e;
   path-units = λ w n m k s t p. path-units p;
   keeps-the-table = keeps-the-table;
+  step-takes-the-walk = step-takes-the-walk;
+  listing-shows-the-walk = listing-shows-the-walk;
   as-trees = as-trees;
   image-back = image-back;
   image-only = image-only;

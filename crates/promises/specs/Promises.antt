@@ -8,6 +8,7 @@ use Prim.Native.Nat.{ℕ, suc, _+_, _≤_, _^_}
 use lib.Dec.{eqb}
 use lib.ListN.{length, take}
 use Rattle.model.specs.declared.Op.{Op}
+use Rattle.model.specs.declared.Decoded.the-variants as d
 use Rattle.model.specs.declared.Counts.{Counts}
 use Rattle.model.specs.declared.Vm.{Vm}
 use Rattle.model.specs.declared.Fault.{Fault}
@@ -19,18 +20,19 @@ use Rattle.model.specs.declared.RunResult.{RunResult}
 use Rattle.model.specs.declared.RunResult.the-variants as r
 use Rattle.model.specs.Basics.{written}
 use Rattle.model.specs.Numbers.{Bytes}
-use Rattle.model.specs.Programs.{Program}
+use Rattle.model.specs.Programs.{Program, opcodeIn, nextIn}
 use Rattle.model.specs.Images.{imageOf, fine, judge, Sound}
 use Rattle.model.specs.Stores.{Stores, programIn}
 use Rattle.model.specs.Orders.{programOk}
 use Rattle.model.specs.Loading.{roomFor, loadOf, saveOf, putOut}
-use Rattle.model.specs.Steps.{World, State, faulted, execOf, stepOf}
-use Rattle.model.specs.Listings.{unlisted, listingOf}
+use Rattle.model.specs.Steps.{World, State, position, codeOf, faulted, execOf, stepOf}
+use Rattle.model.specs.Listings.{text, unlisted, listingOf}
 use Rattle.model.specs.Runs.{Machine, Progress, Ran, begin, over, endOf, runOf}
 use Rattle.model.specs.Machines.{Lent, RunPost, answerIn, ran, entriesIn}
 use Rattle.model.specs.Examples.{Example, examples}
 use Rattle.model.specs.Mistakes.{Row, mistakes}
 use Rattle.laws_checks.specs.Table.{checksOf, firstFailed, Keeps}
+use Rattle.laws_code.specs.Walk.{shownFrom, walked}
 use Rattle.laws_runs.specs.Sane.{SaneWorld, Sane}
 use Rattle.laws_runs.specs.Ordered.{CodeBytes}
 use Rattle.laws_runs.specs.Paths.{Steps, rootReturns}
@@ -85,6 +87,10 @@ pub record Promises : Type 0 where
   pub path-units : (w : World) (n : ℕ) (m k : Progress) (s t : State) (p : Steps w n m s k t) → s .units ≡ t .units + spentOn p
   -- an instruction faults exactly if a check of its row fails, and by the number of the first that does
   pub keeps-the-table : (w : World) (op : Op) (a b : ℕ) (s : State) → Keeps (firstFailed w s (checksOf op (s .frame .base) a b)) (execOf w op a b s)
+  -- a step of an opcode goes on from where the walk over instructions stands next, and a listing shows a line for each place where that walk stands
+  pub step-takes-the-walk : (w : World) (s : State) (p : Op) → (s .units ≡ 0 → ⊥) → opcodeIn (codeOf w s) (position s) .what ≡ d.Carried p
+      → nextIn (codeOf w s) (position s) ≤ length (codeOf w s) → stepOf w s ≡ walked w p s
+  pub listing-shows-the-walk : (p : Program) (t : List ℕ) → listingOf p ≡ text t → t ≡ shownFrom 0 (p .functions)
   -- in good order comparisons, lists, structs and fields are those of trees
   pub as-trees : (w : World) (s : State) → Sane w s → AsTrees w s
   -- ---- THE RETURN TRIP: reading a rule image and saving it undo each other; one program has one image

@@ -4,6 +4,7 @@ use mathlib.Core.Bool.{Bool, true, false}
 use mathlib.Core.List.{List, [], _∷_, _++_}
 use Prim.Native.Nat.{ℕ, zero, suc, _+_, _-_, _*_, _/_, _≤_, _<_}
 use native.Mathlib.Omega.{arith}
+use native.Mathlib.Nat.{mul-add}
 use lib.Dec.{ltb, leb}
 use lib.Ieee.{binary64, toBits}
 use lib.ListN.{length, getD, set, drop, replicate, length-append, length-replicate}
@@ -20,10 +21,10 @@ use Rattle.model.specs.declared.Loaded.the-variants as l
 use Rattle.model.specs.Basics.{ascii}
 use Rattle.model.specs.Heap.{Cell, headIn}
 use Rattle.model.specs.Numbers.{Bytes, digits, groupsOf}
-use Rattle.model.specs.Opcodes.{opcodeAt}
-use Rattle.model.specs.Programs.{Function, Program, functionAt, withinLimits, wordAt, behind}
+use Rattle.model.specs.Opcodes.{operands}
+use Rattle.model.specs.Programs.{Function, Program, functionAt, withinLimits, wordAt, behind, opcodeIn}
 use Rattle.model.specs.Images.{joined, counted, constantImage, textImage, runImage, runsOf, functionImage, imageOf, Judged, fine, broken, judge}
-use Rattle.model.specs.Listings.{operandsFrom, lineOf, headerLine, Listed, text, unlisted, inFront, knownThen, opcodeThen, lineThen, linesFor, andListed, listingFrom, listingOf}
+use Rattle.model.specs.Listings.{operandsFrom, lineOf, headerLine, Listed, text, unlisted, inFront, knownThen, opcodeThen, lineThen, linesFor, codeLines, andListed, listingFrom, listingOf}
 use Rattle.model.specs.Runs.{Machine, root, Entry, Reply, value, continue, fault, Ran}
 use Rattle.model.specs.Stores.{Stores, programIn}
 use Rattle.model.specs.Emission.{written}
@@ -74,14 +75,14 @@ unfolding digits groupsOf
 some-digits n = either-way (ltb n 128) (λ e. rw e (omega arith)) (λ e. rw e (omega arith))
 
 module _ (f : Function) where
-  long-image : 2 + length (f .name) + length (f .code) ≤ length (functionImage f)
+  pub long-image : 2 + length (f .name) + length (f .code) ≤ length (functionImage f)
   unfolding functionImage textImage
   long-image =
       let a = some-digits (length (f .name)) in
       let b = some-digits (length (f .code)) in
       simp length-append (omega arith)
 
-  code-in : Bytes (functionImage f) → Bytes (f .code)
+  pub code-in : Bytes (functionImage f) → Bytes (f .code)
   unfolding functionImage
   code-in h =
       let front = textImage (f .name) ++ digits (length (f .code)) in
@@ -109,11 +110,11 @@ module _ (p : Program) where
   abbrev front : List ℕ
   front = counted constantImage (p .constants) ++ counted textImage (p .structs)
 
-  functions-in : Bytes (imageOf p) → Bytes (joined functionImage (p .functions))
+  pub functions-in : Bytes (imageOf p) → Bytes (joined functionImage (p .functions))
   unfolding imageOf counted
   functions-in h = bytes-rest (digits (length (p .functions))) (joined functionImage (p .functions)) (bytes-rest front (counted functionImage (p .functions)) h)
 
-  functions-shorter : length (joined functionImage (p .functions)) ≤ length (imageOf p)
+  pub functions-shorter : length (joined functionImage (p .functions)) ≤ length (imageOf p)
   unfolding imageOf counted
   functions-shorter = simp length-append (omega arith)
 
@@ -147,11 +148,11 @@ module _ (x : Stores) (a : Bytes (x .main)) (b : Bytes (x .other)) where
 
 -- ---- the runner's lines
 
-refused-short : (n : ℕ) → length (refusedLine n) ≤ 29
+pub refused-short : (n : ℕ) → length (refusedLine n) ≤ 29
 unfolding refusedLine ascii
 refused-short n = let a = short n in simp length-append (omega arith)
 
-hex-length : (n w : ℕ) → length (hexFor n w) ≡ n
+pub hex-length : (n w : ℕ) → length (hexFor n w) ≡ n
 unfolding hexFor
 hex-length zero w = refl
 hex-length (suc n) w = let a = hex-length n (w / 16) in simp length-append (omega arith)
@@ -212,58 +213,61 @@ operands-short (suc (suc n)) code i =
     simp length-append (omega arith)
 
 -- a listing of at most k bytes, or a refusal
-abbrev Within : ℕ → Listed → Type 0
+abbrev pub Within : ℕ → Listed → Type 0
 Within k (text b) = length b ≤ k
 Within k (unlisted l n) = Unit
 
-within-front : (b : List ℕ) (w : Listed) (k n : ℕ) → Within k w → length b + k ≤ n → Within n (inFront b w)
+pub within-front : (b : List ℕ) (w : Listed) (k n : ℕ) → Within k w → length b + k ≤ n → Within n (inFront b w)
 unfolding inFront
 within-front b (text r) k n h g = simp length-append (omega arith)
 within-front b (unlisted l e) k n h g = tt
 
-within-and : (v w : Listed) (j k : ℕ) → Within j v → Within k w → Within (j + k) (andListed v w)
+pub within-and : (v w : Listed) (j k : ℕ) → Within j v → Within k w → Within (j + k) (andListed v w)
 unfolding andListed
 within-and (text b) w j k h g = within-front b w k (j + k) g (omega arith)
 within-and (unlisted l e) w j k h g = tt
 
-module _ (code : List ℕ) (bytes : Bytes code) (small : length code ≤ 16384) where
-  line-short : (i : ℕ) → i < length code → length (lineOf code i (opcodeAt (getD code i 0))) ≤ 32 + 21 * opcodeAt (getD code i 0) .listed
-  unfolding lineOf ascii
-  line-short i h =
-      let a = five i (omega arith) in
-      let b = names.short (getD code i 0) (bytes-at code bytes i) in
-      let c = operands-short (opcodeAt (getD code i 0) .listed) code (suc i) in
-      simp length-append (omega arith)
+pub line-short : (code : List ℕ) → Bytes code → length code ≤ 16384 → (i : ℕ) → i < length code → length (lineOf code i) ≤ 32 + 21 * operands (opcodeIn code i)
+unfolding lineOf ascii
+line-short code bytes small i h =
+    let a = five i (omega arith) in
+    let b = names.short (getD code i 0) (bytes-at code bytes i) in
+    let c = operands-short (operands (opcodeIn code i)) code (suc i) in
+    simp length-append (omega arith)
 
-  module _ (k : ℕ → Listed) (rest : (j : ℕ) → j ≤ length code → Within (32 * (length code - j)) (k j)) (i : ℕ) where
-    known-within : i < length code → Within (32 * (length code - i)) (knownThen k code i (opcodeAt (getD code i 0)))
+-- whatever the lines are: w bytes at most for each byte of code
+module _ (line : ℕ → List ℕ) (w : ℕ) (code : List ℕ) (short : (i : ℕ) → i < length code → length (line i) ≤ w * (1 + 2 * operands (opcodeIn code i))) where
+  module _ (k : ℕ → Listed) (rest : (j : ℕ) → j ≤ length code → Within (w * (length code - j)) (k j)) (i : ℕ) where
+    known-within : i < length code → Within (w * (length code - i)) (knownThen k line code i)
     unfolding knownThen behind
     known-within h =
-        let n = opcodeAt (getD code i 0) .listed in
+        let n = operands (opcodeIn code i) in
         either-way (leb (suc i + 2 * n) (length code))
         (λ e.
         let g : suc i + 2 * n ≤ length code = leb-true _ _ e in
-        let z = line-short i h in
-        rw e (within-front (lineOf code i (opcodeAt (getD code i 0))) (k (suc i + 2 * n)) (32 * (length code - (suc i + 2 * n))) _ (rest (suc i + 2 * n) g) (omega arith)))
+        let z = short i h in
+        let y : 1 + 2 * n + (length code - (suc i + 2 * n)) ≡ length code - i = omega arith in
+        let x : w * (1 + 2 * n) + w * (length code - (suc i + 2 * n)) ≡ w * (length code - i) = rw (← y) (sym (mul-add w (1 + 2 * n) (length code - (suc i + 2 * n)))) in
+        rw e (within-front (line i) (k (suc i + 2 * n)) (w * (length code - (suc i + 2 * n))) _ (rest (suc i + 2 * n) g) (omega arith)))
         (λ e. rw e tt)
 
-    opcode-within : i < length code → (x : Decoded) → Within (32 * (length code - i)) (opcodeThen k code i (opcodeAt (getD code i 0)) x)
+    opcode-within : i < length code → (x : Decoded) → Within (w * (length code - i)) (opcodeThen k line code i x)
     unfolding opcodeThen
     opcode-within h (d.Carried p) = known-within h
     opcode-within h d.NotCarried = known-within h
     opcode-within h d.Unknown = tt
 
-    line-within : (b : Bool) → ltb i (length code) ≡ b → Within (32 * (length code - i)) (lineThen k code i b)
+    line-within : (b : Bool) → ltb i (length code) ≡ b → Within (w * (length code - i)) (lineThen k line code i b)
     unfolding lineThen
-    line-within true e = opcode-within (ltb-true _ _ e) (opcodeAt (getD code i 0) .what)
+    line-within true e = opcode-within (ltb-true _ _ e) (opcodeIn code i .what)
     line-within false e = omega arith
 
-  lines-within : (f i : ℕ) → i ≤ length code → Within (32 * (length code - i)) (linesFor f code i)
+  pub lines-within : (f i : ℕ) → i ≤ length code → Within (w * (length code - i)) (linesFor line f code i)
   unfolding linesFor
   lines-within zero i h = omega arith
-  lines-within (suc f) i h = line-within (linesFor f code) (lines-within f) i (ltb i (length code)) refl
+  lines-within (suc f) i h = line-within (linesFor line f code) (lines-within f) i (ltb i (length code)) refl
 
-header-short : (i : ℕ) (name : List ℕ) → length (headerLine i name) ≤ 30 + length name
+pub header-short : (i : ℕ) (name : List ℕ) → length (headerLine i name) ≤ 30 + length name
 unfolding headerLine ascii
 header-short i name = let a = short i in simp length-append (omega arith)
 
@@ -275,19 +279,23 @@ listing-within i (f ∷ fs) h g =
     let z : length (functionImage f ++ joined functionImage fs) ≡ length (functionImage f) + length (joined functionImage fs) = length-append (functionImage f) (joined functionImage fs) in
     let a = long-image f in
     let b = header-short i (f .name) in
-    let own = lines-within (f .code) (code-in f (bytes-front (functionImage f) (joined functionImage fs) h)) (omega arith) (length (f .code)) 0 (omega arith) in
+    let bytes = code-in f (bytes-front (functionImage f) (joined functionImage fs) h) in
+    let short : (j : ℕ) → j < length (f .code) → length (lineOf (f .code) j) ≤ 32 * (1 + 2 * operands (opcodeIn (f .code) j)) =
+    λ j l. let s = line-short (f .code) bytes (omega arith) j l in omega arith in
+    let own = lines-within (lineOf (f .code)) 32 (f .code) short (length (f .code)) 0 (omega arith) in
     let rest = listing-within (suc i) fs (bytes-rest (functionImage f) (joined functionImage fs) h) (omega arith) in
-    within-front (headerLine i (f .name)) (andListed (linesFor (length (f .code)) (f .code) 0) (listingFrom (suc i) fs)) _ _
-    (within-and (linesFor (length (f .code)) (f .code) 0) (listingFrom (suc i) fs) (32 * (length (f .code) - 0)) (32 * length (joined functionImage fs)) own rest) (omega arith)
+    within-front (headerLine i (f .name)) (andListed (codeLines (f .code)) (listingFrom (suc i) fs)) _ _
+    (within-and (codeLines (f .code)) (listingFrom (suc i) fs) (32 * (length (f .code) - 0)) (32 * length (joined functionImage fs)) own rest) (omega arith)
 
-within-more : (w : Listed) (j k : ℕ) → Within j w → j ≤ k → Within k w
+pub within-more : (w : Listed) (j k : ℕ) → Within j w → j ≤ k → Within k w
 within-more (text b) j k h g = omega arith
 within-more (unlisted l n) j k h g = tt
 
-listed-short : (w : Listed) → Within 524288 w → length (listedText w) ≤ 524288
+-- a text of k bytes at most; a refusal is shorter than 29
+pub listed-short : (k : ℕ) → 29 ≤ k → (w : Listed) → Within k w → length (listedText w) ≤ k
 unfolding listedText
-listed-short (text b) h = h
-listed-short (unlisted l n) h = let z = refused-short n in omega arith
+listed-short k g (text b) h = h
+listed-short k g (unlisted l n) h = let z = refused-short n in omega arith
 
 -- ---- both texts fit
 
@@ -315,7 +323,7 @@ module _ (image : List ℕ) (bytes : Bytes image) where
       let i : length (imageOf p) ≡ length image = ap length (sym o) in
       let n = functions-shorter p in
       let z = listing-within 0 (p .functions) (functions-in p (subst Bytes o bytes)) (omega arith) in
-      listed-short (listingFrom 0 (p .functions)) (within-more (listingFrom 0 (p .functions)) _ 524288 z (omega arith))
+      listed-short 524288 (omega arith) (listingFrom 0 (p .functions)) (within-more (listingFrom 0 (p .functions)) _ 524288 z (omega arith))
   loaded-fits h (l.Broken i) s e = let z = refused-short 20 in omega arith
   loaded-fits h (l.Refused n) s e = let z = refused-short n in omega arith
 

@@ -18,10 +18,9 @@ use Rattle.model.specs.declared.Loaded.the-variants as l
 use Rattle.model.specs.declared.Told.{Told}
 use Rattle.model.specs.declared.Told.the-variants as t
 use Rattle.model.specs.Numbers.{Bytes}
-use Rattle.model.specs.Opcodes.{Opcode, opcodeAt}
 use Rattle.model.specs.Values.{places}
-use Rattle.model.specs.Programs.{Function, behind}
-use Rattle.model.specs.Listings.{Listed, text, unlisted, inFront, lineOf, headerLine, knownThen, opcodeThen, lineThen, linesFor, andListed, listingFrom, listingOf}
+use Rattle.model.specs.Programs.{Function, opcodeIn, nextIn}
+use Rattle.model.specs.Listings.{Listed, text, unlisted, inFront, lineOf, headerLine, knownThen, opcodeThen, lineThen, linesFor, codeLines, andListed, listingFrom, listingOf}
 use Rattle.model.specs.Stores.{Stores, programIn}
 use Rattle.model.specs.Orders.{countsOk, textOk, constantsOk, structsOk, functionsOk, mainOk, insideCodes, programOk}
 use Rattle.model.specs.Loading.{loadOf, OutRes, putOut, putListing, listOrder, listOf}
@@ -35,49 +34,47 @@ use Rattle.report.proofs.Prints.{too-long, fits}
 
 -- ---- a listing is refused 1 or 3, and never 17
 
-abbrev Small : Listed → Type 0
+abbrev pub Small : Listed → Type 0
 Small (text b) = Unit
 Small (unlisted l n) = n < 17
 
-small-front : (b : List ℕ) (w : Listed) → Small w → Small (inFront b w)
+pub small-front : (b : List ℕ) (w : Listed) → Small w → Small (inFront b w)
 unfolding inFront
 small-front b (text r) h = tt
 small-front b (unlisted l n) h = h
 
-small-and : (v w : Listed) → Small v → Small w → Small (andListed v w)
+pub small-and : (v w : Listed) → Small v → Small w → Small (andListed v w)
 unfolding andListed
 small-and (text b) w h k = small-front b w k
 small-and (unlisted l n) w h k = h
 
-module _ (k : ℕ → Listed) (h : (j : ℕ) → Small (k j)) (code : List ℕ) (i : ℕ) where
-  small-known : (c : Opcode) → Small (knownThen k code i c)
+module _ (k : ℕ → Listed) (h : (j : ℕ) → Small (k j)) (line : ℕ → List ℕ) (code : List ℕ) (i : ℕ) where
+  small-known : Small (knownThen k line code i)
   unfolding knownThen
-  small-known c =
-      either-way (leb (behind i (c .listed)) (length code)) (λ e. rw e (small-front (lineOf code i c) (k (behind i (c .listed))) (h (behind i (c .listed)))))
-      (λ e. rw e (omega arith))
+  small-known = either-way (leb (nextIn code i) (length code)) (λ e. rw e (small-front (line i) (k (nextIn code i)) (h (nextIn code i)))) (λ e. rw e (omega arith))
 
-  small-opcode : (c : Opcode) (x : Decoded) → Small (opcodeThen k code i c x)
+  small-opcode : (x : Decoded) → Small (opcodeThen k line code i x)
   unfolding opcodeThen
-  small-opcode c (d.Carried p) = small-known c
-  small-opcode c d.NotCarried = small-known c
-  small-opcode c d.Unknown = omega arith
+  small-opcode (d.Carried p) = small-known
+  small-opcode d.NotCarried = small-known
+  small-opcode d.Unknown = omega arith
 
-  small-line : (b : Bool) → Small (lineThen k code i b)
+  small-line : (b : Bool) → Small (lineThen k line code i b)
   unfolding lineThen
-  small-line true = small-opcode (opcodeAt (getD code i 0)) (opcodeAt (getD code i 0) .what)
+  small-line true = small-opcode (opcodeIn code i .what)
   small-line false = tt
 
-small-lines : (f : ℕ) (code : List ℕ) (i : ℕ) → Small (linesFor f code i)
+pub small-lines : (line : ℕ → List ℕ) (f : ℕ) (code : List ℕ) (i : ℕ) → Small (linesFor line f code i)
 unfolding linesFor
-small-lines zero code i = tt
-small-lines (suc f) code i = small-line (linesFor f code) (small-lines f code) code i (ltb i (length code))
+small-lines line zero code i = tt
+small-lines line (suc f) code i = small-line (linesFor line f code) (small-lines line f code) line code i (ltb i (length code))
 
 small-from : (i : ℕ) (fs : List Function) → Small (listingFrom i fs)
 unfolding listingFrom
 small-from i [] = tt
 small-from i (f ∷ fs) =
-    small-front (headerLine i (f .name)) (andListed (linesFor (length (f .code)) (f .code) 0) (listingFrom (suc i) fs))
-    (small-and (linesFor (length (f .code)) (f .code) 0) (listingFrom (suc i) fs) (small-lines (length (f .code)) (f .code) 0) (small-from (suc i) fs))
+    small-front (headerLine i (f .name)) (andListed (codeLines (f .code)) (listingFrom (suc i) fs))
+    (small-and (codeLines (f .code)) (listingFrom (suc i) fs) (small-lines (lineOf (f .code)) (length (f .code)) (f .code) 0) (small-from (suc i) fs))
 
 -- ---- what the listing's answer says: it was put, or it did not fit, or it is refused
 
@@ -92,29 +89,46 @@ says-put out (text b) h =
     (λ e. rw e (λ k. too-long b out (leb-false _ _ e), λ k. absurd (k refl)))
 says-put out (unlisted l n) h = (λ e. absurd (let z : ⊥ = omega arith in z), λ k. (refl, refl))
 
+-- the whole was listed into a store
+module _ (w : Listed) (small : Small w) (out : List ℕ) {x : Told} {out' : List ℕ} (e : record { answer = x; out = out' } ≡ putListing w out) where
+  says : Says out w x out'
+  says = subst (λ (r : OutRes). Says out w (r .answer) (r .out)) (sym e) (says-put out w small)
+
+  pub was-put : {n : ℕ} → x ≡ t.Number n → record { count = n; out = out' } ≡ printed (listedText w) out
+  was-put f = rw f at says
+
+  module _ {n : ℕ} (f : x ≡ t.Refused n) where
+    said : Says out w (t.Refused n) out'
+    said = rw f at says
+
+    pub was-too-long : n ≡ 17 → record { count = 0; out = out' } ≡ printed (listedText w) out
+    was-too-long g = said .0 g
+
+    pub was-refused : (n ≡ 17 → ⊥) → {r : ℕ} {out'' : List ℕ} → record { count = r; out = out'' } ≡ printed (refusedLine n) out' → record { count = r; out = out'' } ≡ printed (listedText w) out
+    was-refused g p = let z = said .1 g in rw (z .0) (rw (z .1) at p)
+
 module _ (c : Counts) (s : Stores) (ok : listOrder c s ≡ true) (out : List ℕ) where
   abbrev listing : Listed
   listing = listingOf (programIn c s)
 
-  says : (x : Told) (out' : List ℕ) → record { answer = x; out = out' } ≡ listOf c s out → Says out listing x out'
-  unfolding listOf listingOf
-  says x out' e =
-      let f : _≡_ {A = OutRes} (record { answer = x; out = out' }) (putListing listing out) = rw ok at e in
-      subst (λ (r : OutRes). Says out listing (r .answer) (r .out)) (sym f) (says-put out listing (small-from 0 (programIn c s .functions)))
+  small : Small listing
+  unfolding listingOf
+  small = small-from 0 (programIn c s .functions)
 
-  module _ {x : Told} {out' : List ℕ} (e : record { answer = x; out = out' } ≡ listOf c s out) {n : ℕ} where
-    pub was-listed : x ≡ t.Number n → record { count = n; out = out' } ≡ printed (listedText listing) out
-    was-listed f = rw f at (says x out' e)
+  module _ {x : Told} {out' : List ℕ} (e : record { answer = x; out = out' } ≡ listOf c s out) where
+    is-put : record { answer = x; out = out' } ≡ putListing listing out
+    unfolding listOf
+    is-put = rw ok at e
 
-    module _ (f : x ≡ t.Refused n) where
-      said : Says out listing (t.Refused n) out'
-      said = rw f at (says x out' e)
+    pub was-listed : {n : ℕ} → x ≡ t.Number n → record { count = n; out = out' } ≡ printed (listedText listing) out
+    was-listed f = was-put listing small out is-put f
 
+    module _ {n : ℕ} (f : x ≡ t.Refused n) where
       pub did-not-fit : n ≡ 17 → record { count = 0; out = out' } ≡ printed (listedText listing) out
-      did-not-fit g = said .0 g
+      did-not-fit g = was-too-long listing small out is-put f g
 
       pub not-listed : (n ≡ 17 → ⊥) → {r : ℕ} {out'' : List ℕ} → record { count = r; out = out'' } ≡ printed (refusedLine n) out' → record { count = r; out = out'' } ≡ printed (listedText listing) out
-      not-listed g p = let z = said .1 g in rw (z .0) (rw (z .1) at p)
+      not-listed g p = was-refused listing small out is-put f g p
 
 -- ---- what was loaded
 

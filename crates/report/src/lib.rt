@@ -31,7 +31,7 @@ ghost use Rattle.run_ends.specs.Links.{programLent};
 ghost use Rattle.report.specs.Links.{Shows, printed, Listable, imageText};
 
 // A refusal. It is measured first, with no room to write into.
-fn print_refused(n: u8, out: &mut [u8]) -> usize
+pub fn print_refused(n: u8, out: &mut [u8]) -> usize
     ensures { λ r. ⌜ record { count = r; out = now (out .exit) } ≡ printed (refusedLine n) (now (out .entry)) ⌝ }
 {
     let none = 0;

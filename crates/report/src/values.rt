@@ -1,9 +1,9 @@
 // A value as the runner prints it.
 use model::Header;
 use model::Value;
-use printing::put_byte;
 use printing::put_count;
 use printing::put_text;
+use printing::write_hex;
 use value::words;
 ghost use mathlib.Core.Path.{_≡_};
 ghost use mathlib.Core.List.{_++_};
@@ -12,31 +12,8 @@ ghost use lib.ListN.{length};
 ghost use Rattle.model.specs.Basics.{ascii};
 ghost use Rattle.model.specs.Heap.{heapOf, headIn};
 ghost use Rattle.model.specs.Listings.{decimal};
-ghost use Rattle.model.specs.Reports.{hexDigit, hexFor, valueText};
+ghost use Rattle.model.specs.Reports.{valueText};
 ghost use Rattle.printing.specs.Links.{Put};
-
-// A digit below 16, as a capital.
-fn hex_digit(d: u64) -> u8
-    requires { ⌜ d < 16 ⌝ }
-    ensures { λ r. ⌜ r ≡ hexDigit d ⌝ }
-{
-    if d < 10 {
-        return 48 + d as u8;
-    }
-    55 + d as u8
-}
-
-// The n lowest hex digits of w.
-fn write_hex(n: usize, w: u64, out: &mut [u8], at: usize) -> usize
-    requires { ⌜ at + n < 2 ^ 64 ⌝ }
-    ensures { λ r. ⌜ Put n (hexFor n w) (now (out .entry)) at (now (out .exit)) r ⌝ }
-{
-    if n == 0 {
-        return at;
-    }
-    let next = write_hex(n - 1, w / 16, out, at);
-    put_byte(hex_digit(w % 16), out, next)
-}
 
 // The header at cell p of the first `used`; where there is none, one of no elements.
 fn header_at(cells: &[u64], used: usize, p: usize) -> Header

@@ -18,7 +18,7 @@ use Rattle.model.specs.declared.Frame.{Frame}
 use Rattle.model.specs.Basics.{ascii}
 use Rattle.model.specs.Values.{vals, valueAt}
 use Rattle.model.specs.Heap.{heapOf, placedBelow}
-use Rattle.model.specs.Opcodes.{Opcode, opcodeAt, opcodes}
+use Rattle.model.specs.Opcodes.{Opcode, operands, opcodeAt, opcodes}
 use Rattle.model.specs.Programs.{wordAt}
 use Rattle.model.specs.Steps.{World, State, Outcome, faulted, codeOf, execOf, operandsThen, decodedThen, fetched, stepOf}
 use Rattle.value.proofs.Stores.{length-vals, vals-slot}
@@ -56,16 +56,16 @@ placedAt i u g = record {
 -- no opcode reads more than three operands
 readsFew : List Opcode → Bool
 readsFew [] = true
-readsFew (c ∷ cs) = leb (c .read) 3 && readsFew cs
+readsFew (c ∷ cs) = leb (operands c) 3 && readsFew cs
 
-few-at : (cs : List Opcode) → readsFew cs ≡ true → (n : ℕ) (c : Opcode) → c .read ≤ 3 → getD cs n c .read ≤ 3
+few-at : (cs : List Opcode) → readsFew cs ≡ true → (n : ℕ) (c : Opcode) → operands c ≤ 3 → operands (getD cs n c) ≤ 3
 unfolding readsFew
 few-at [] h n c l = l
 few-at (b ∷ cs) h zero c l = leb-true _ _ (and-left _ _ h)
-few-at (b ∷ cs) h (suc n) c l = few-at cs (and-right (leb (b .read) 3) _ h) n c l
+few-at (b ∷ cs) h (suc n) c l = few-at cs (and-right (leb (operands b) 3) _ h) n c l
 
-pub read-few : (byte : ℕ) {n : ℕ} → n ≡ opcodeAt byte .read → n ≤ 3
-unfolding ascii opcodes opcodeAt readsFew
+pub read-few : (byte : ℕ) {n : ℕ} → n ≡ operands (opcodeAt byte) → n ≤ 3
+unfolding ascii operands opcodes opcodeAt readsFew
 read-few byte e = rw e (few-at opcodes refl byte _ (omega arith))
 
 -- what is known at another position, with other units, is what was known
@@ -118,28 +118,29 @@ module _ {w : World} {cs : List Frame} {k : Fixed} {g : Going} {code constants f
   unpaid e = arm-block (at .fits .cells) (refused (at .fits .stack) (λ x cs h. no-units w _ e))
 
   module _ (some : g .units ≡ 0 → ⊥) {byte : ℕ} (read : byte ≡ getD code (g .position) 0) where
-    fetched-at : (cs : List Frame) → stepOf w (stateOf g s x cs)
-        ≡ decodedThen w (opcodeAt byte .what) (opcodeAt byte .read) (stateOf (placedAt (g .position + 1) (g .units - 1) g) s x cs)
+    -- what was fetched, and how many operands follow it
+    fetched-at : {what : Decoded} → what ≡ opcodeAt byte .what → {n : ℕ} → n ≡ operands (opcodeAt byte) → (cs : List Frame)
+        → stepOf w (stateOf g s x cs) ≡ decodedThen w what n (stateOf (placedAt (g .position + 1) (g .units - 1) g) s x cs)
     unfolding stepOf fetched codeOf
-    fetched-at cs = rw (ne-eqb (g .units) 0 some, at .coded, ← read, add-one)
+    fetched-at e m cs = rw (e, m, ne-eqb (g .units) 0 some, at .coded, ← read, add-one)
 
     -- no instruction, or not all of it
-    pub unread : {what : Decoded} → what ≡ opcodeAt byte .what → {n : Fault}
-        → ((st : State) → codeOf w st ≡ code → st .frame .position ≡ g .position + 1 → decodedThen w what (opcodeAt byte .read) st ≡ faulted n st)
-        → BlockPost (stepOf w) k g s x (Stopped (placedAt (g .position + 1) (g .units - 1) g) n) s x
+    pub unread : {what : Decoded} → what ≡ opcodeAt byte .what → {n : ℕ} → n ≡ operands (opcodeAt byte) → {m : Fault}
+        → ((st : State) → codeOf w st ≡ code → st .frame .position ≡ g .position + 1 → decodedThen w what n st ≡ faulted m st)
+        → BlockPost (stepOf w) k g s x (Stopped (placedAt (g .position + 1) (g .units - 1) g) m) s x
     unfolding codeOf
-    unread e {n} h =
-        goes-on (g .position + 1) (g .units - 1) (λ cs. fetched-at cs ∙ rw (← e) (h _ (at .coded) refl))
-        (arm-block (cells-still _ _ (at .fits .cells)) (refused (still _ _ (at .fits .stack)) {rule = faulted n} (λ x cs h. refl)))
+    unread e r {m} h =
+        goes-on (g .position + 1) (g .units - 1) (λ cs. fetched-at e r cs ∙ h _ (at .coded) refl)
+        (arm-block (cells-still _ _ (at .fits .cells)) (refused (still _ _ (at .fits .stack)) {rule = faulted m} (λ x cs h. refl)))
 
-    module _ {o : Op} (e : d.Carried o ≡ opcodeAt byte .what) {n : ℕ} (m : n ≡ opcodeAt byte .read) where
+    module _ {o : Op} (e : d.Carried o ≡ opcodeAt byte .what) {n : ℕ} (m : n ≡ operands (opcodeAt byte)) where
       pub cut-short : length code < g .position + 1 + 2 * n → BlockPost (stepOf w) k g s x (Stopped (placedAt (g .position + 1) (g .units - 1) g) f.CodeEnds) s x
       unfolding decodedThen operandsThen
-      cut-short h = unread e (λ st c p. rw (c, p, ← m, lt-leb (g .position + 1 + 2 * n) (length code) h))
+      cut-short h = unread e m (λ st c p. rw (c, p, lt-leb (g .position + 1 + 2 * n) (length code) h))
 
       pub carried : g .position + 1 + 2 * n ≤ length code → {a b : ℕ} → a ≡ wordAt code (g .position + 1) → b ≡ wordAt code (g .position + 1 + 2) → {r : Answer} {t y : List ℕ}
           → BlockPost (execOf w o a b) k (placedAt (g .position + 1 + 2 * n) (g .units - 1) g) s x r t y → BlockPost (stepOf w) k g s x r t y
       unfolding decodedThen operandsThen codeOf
       carried h p q z =
           goes-on (g .position + 1 + 2 * n) (g .units - 1)
-          (λ cs. fetched-at cs ∙ rw (← e, ← m, at .coded, le-leb (g .position + 1 + 2 * n) (length code) h, ← p, ← q)) z
+          (λ cs. fetched-at e m cs ∙ rw (at .coded, le-leb (g .position + 1 + 2 * n) (length code) h, ← p, ← q)) z

@@ -155,7 +155,7 @@ fn step(
         Decoded::Unknown => Answer::Stopped(fetched, Fault::UnknownOpcode),
         Decoded::NotCarried => Answer::Stopped(fetched, Fault::NotCarried),
         Decoded::Carried(o) => {
-            let behind = next + 2 * opcode::operands_read(opcode);
+            let behind = next + 2 * opcode::operands(opcode);
             if code.len() < behind {
                 return Answer::Stopped(fetched, Fault::CodeEnds);
             }

@@ -10,7 +10,7 @@ use super::values::bytes;
 use crate::image::Program;
 use crate::limits::{Answer, Refused, Report};
 use crate::plain::{self, quietly, Ending};
-use crate::print::listing;
+use crate::print::{is_listed_by_000, listing};
 use crate::vm::Vm;
 
 /// A published run and a plain one ended alike, in the words of a panic too.
@@ -165,6 +165,10 @@ impl Count {
 
     /// The listing, where the published one does not cast what it must not.
     pub(super) fn listing(&mut self, at: &str, published: &Published, program: &Program) {
+        if !is_listed_by_000(program) {
+            self.add("listings with an opcode whose operands 000 counts otherwise (difference 3)");
+            return;
+        }
         let ours = listing(program);
         let agrees = match quietly(|| published.listing()) {
             Ok(Some(theirs)) => {

@@ -31,18 +31,18 @@ enum-told-2 c = search
 enum-known-o : tie.Need-enum-known-o
 enum-known-o c = search
 
-operands-read-requires : tie.Need-operands-read-requires
-operands-read-requires c κs = search
+operands-requires : tie.Need-operands-requires
+operands-requires c κs = search
 
 mul-behind : tie.Need-mul-behind
-mul-behind c = omega (arith, read-few _ (c .operands-read .ensures))
+mul-behind c = omega (arith, read-few _ (c .operands .ensures))
 
 add-behind : tie.Need-add-behind
 add-behind c =
     let at-start = c .before .before .before .before .before .before .before .before .before .before .before .before .before in
     omega (
       arith,
-      read-few _ (c .operands-read .ensures),
+      read-few _ (c .operands .ensures),
       code-short
           (at-start .pre .0 .2),
       at-start .pre .1,
@@ -54,7 +54,7 @@ returns-2 c =
     let at-decode = at-o .before .before in
     let at-if1 = at-decode .before .before in
     λ w cs at. cut-short at (at-if1 .if1 .left) refl (sym (at-o .o .given .1) ∙ at-decode .decode .ensures)
-    (c .before .operands-read .ensures) (c .if2 .taken)
+    (c .before .operands .ensures) (c .if2 .taken)
 
 operands-at-requires : tie.Need-operands-at-requires
 operands-at-requires c κs = search needs
@@ -86,14 +86,14 @@ unfolding decodedThen
 returns-3 c =
     let at-if1 = c .before .before .before .before in
     λ w cs at. unread at (at-if1 .if1 .left) refl
-    (sym (c .enum-told .given .1) ∙ c .before .before .decode .ensures) (λ st h p. refl)
+    (sym (c .enum-told .given .1) ∙ c .before .before .decode .ensures) refl (λ st h p. refl)
 
 returns-4 : tie.Need-returns-4
 unfolding decodedThen
 returns-4 c =
     let at-if1 = c .before .before .before .before in
     λ w cs at. unread at (at-if1 .if1 .left) refl
-    (sym (c .enum-told2 .given .1) ∙ c .before .before .decode .ensures) (λ st h p. refl)
+    (sym (c .enum-told2 .given .1) ∙ c .before .before .decode .ensures) refl (λ st h p. refl)
 
 same-length : tie.Need-same-length
 same-length c = search
@@ -106,12 +106,12 @@ returns-5 c =
     let at-execute = c .before .before .before .before in
     let at-operands-at = at-execute .before .before .before in
     let at-if2 = at-operands-at .before in
-    let at-operands-read = at-if2 .before in
-    let at-o = at-operands-read .before .before in
+    let at-operands = at-if2 .before in
+    let at-o = at-operands .before .before in
     let at-decode = at-o .before .before in
     let at-if1 = at-decode .before .before in
     λ w cs at. carried at (at-if1 .if1 .left) refl (sym (at-o .o .given .1) ∙ at-decode .decode .ensures)
-    (at-operands-read .operands-read .ensures) (at-if2 .if2 .left) (at-operands-at .operands-at .ensures .0 .0)
+    (at-operands .operands .ensures) (at-if2 .if2 .left) (at-operands-at .operands-at .ensures .0 .0)
     (at-operands-at .operands-at .ensures .0 .1) (at-execute .execute .ensures w (at .lent))
 
 pub step-spec : {M : Type 1} → statement M
@@ -126,7 +126,7 @@ step-spec =
     enum-told
     enum-told-2
     enum-known-o
-    operands-read-requires
+    operands-requires
     mul-behind
     add-behind
     returns-2

@@ -1,11 +1,13 @@
 -- `write_line`: its pieces one behind the other.
 use native.Mathlib.Omega.{arith}
-use Rattle.model.specs.Opcodes.{opcodeAt}
 use Rattle.listing.proofs.Pieces.{line-is}
-use Rattle.listing.proofs.Turns.{behind-is}
+use Rattle.listing.proofs.Turns.{behind-is, whole-instruction}
 use borrow.Author.Needs.{needs}
 use Rattle.listing.proofs.lines.write_line.Statement.{statement}
 use Rattle.listing.proofs.lines.write_line.Tie as tie
+
+shared-slice-read-b : tie.Need-shared-slice-read-b
+shared-slice-read-b c = search
 
 slice-aggregate-put-text : tie.Need-slice-aggregate-put-text
 slice-aggregate-put-text c = search
@@ -26,21 +28,15 @@ put-byte-requires-2 : tie.Need-put-byte-requires-2
 put-byte-requires-2 c κs = search needs
 
 add-write-operands : tie.Need-add-write-operands
-add-write-operands c =
-    omega (
-      arith,
-      let at-start = c .before .before .before .before .before .before .before .before .before .before .before .before .before .before .before .before .before .before .before .before .before .before .before in
-          behind-is (at-start .args .i) (opcodeAt (at-start .args .b) .listed),
-    )
+add-write-operands c = search (arith, behind-is)
 
-num-operands-requires : tie.Need-num-operands-requires
-num-operands-requires c κs = search
+operands-requires : tie.Need-operands-requires
+operands-requires c κs = search
 
 write-operands-requires : tie.Need-write-operands-requires
 write-operands-requires c κs =
-    let h =
-    let at-start = c .before .before .before .before .before .before .before .before .before .before .before .before .before .before .before .before .before .before .before .before .before .before .before .before .before in
-    behind-is (at-start .args .i) (opcodeAt (at-start .args .b) .listed) in
+    let count = c .before .operands .ensures in
+    let reads = whole-instruction (c .before .before .before .before .before .before .before .before .before .before .before .before .before .before .before .before .before .before .before .before .before .before .before .before .before .before .args .code .now) (c .before .before .before .before .before .before .before .before .before .before .before .before .before .before .before .before .before .before .before .before .before .before .before .before .before .before .args .i) count in
     (omega arith, omega arith)
 
 put-byte-requires-3 : tie.Need-put-byte-requires-3
@@ -51,21 +47,14 @@ same-length c = search needs
 
 returns : tie.Need-returns
 returns c =
-    let at-write-operands = c .before .before .before .before .before .before in
-    let at-num-operands = at-write-operands .before .before in
-    let at-put-byte2 = at-num-operands .before .before .before in
-    let at-write-name = at-put-byte2 .before .before .before .before in
-    let at-put-byte = at-write-name .before .before .before .before in
-    let at-write-decimal = at-put-byte .before .before .before .before in
-    let at-put-text = at-write-decimal .before .before .before .before in
-    line-is _ _ _ _ (at-num-operands .num-operands .ensures) (at-put-text .put-text .ensures)
-    (at-write-decimal .write-decimal .ensures) (at-put-byte .put-byte .ensures) (at-write-name .write-name .ensures)
-    (at-put-byte2 .put-byte2 .ensures) (at-write-operands .write-operands .ensures) (c .before .before .put-byte3 .ensures)
+    line-is _ _ _ (c .before .before .before .before .before .before .before .before .operands .ensures) (c .before .before .before .before .before .before .before .before .before .before .before .before .before .before .before .before .before .before .before .before .before .before .before .before .before .before .before .put-text .ensures) (c .before .before .before .before .before .before .before .before .before .before .before .before .before .before .before .before .before .before .before .before .before .before .before .write-decimal .ensures) (c .before .before .before .before .before .before .before .before .before .before .before .before .before .before .before .before .before .before .before .put-byte .ensures) (c .before .before .before .before .before .before .before .before .before .before .before .before .before .before .before .write-name .ensures)
+    (c .before .before .before .before .before .before .before .before .before .before .before .put-byte2 .ensures) (c .before .before .before .before .before .before .write-operands .ensures) (c .before .before .put-byte3 .ensures)
 
 pub write-line-spec : {M : Type 1} → statement M
 write-line-spec =
     tie.close
     (tie.spec
+    shared-slice-read-b
     slice-aggregate-put-text
     put-text-requires
     write-decimal-requires
@@ -73,7 +62,7 @@ write-line-spec =
     write-name-requires
     put-byte-requires-2
     add-write-operands
-    num-operands-requires
+    operands-requires
     write-operands-requires
     put-byte-requires-3
     same-length

@@ -1,0 +1,3 @@
+-- What the noter prints, and that it fits.
+pub mod Prints
+pub mod Fits

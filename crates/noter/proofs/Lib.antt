@@ -1,0 +1,2 @@
+-- Nothing of the text is lost.
+pub mod Whole
