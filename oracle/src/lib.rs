@@ -22,6 +22,7 @@
 
 pub mod asm;
 pub mod calls;
+pub mod check;
 pub mod command;
 pub mod console;
 pub mod damage;

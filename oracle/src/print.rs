@@ -16,7 +16,8 @@ pub struct Ran {
     pub machine: Machine,
 }
 
-fn load(image: &[u8]) -> Result<Machine, Refused> {
+/// Loads an image as the runner and the lister do.
+pub fn load(image: &[u8]) -> Result<Machine, Refused> {
     if image.len() > MAX_IMAGE {
         return Err(Refused::Limit);
     }
