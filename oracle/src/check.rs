@@ -20,14 +20,8 @@ pub struct Passed {
     /// For each function, the height above its frame's base at each position
     /// of its code and at its end; none where no path comes.
     pub heights: Vec<Vec<Option<usize>>>,
-}
-
-impl Passed {
-    /// The greatest height at which a reached position of the function stands.
-    pub fn greatest(&self, function: usize) -> usize {
-        let reached = self.heights[function].iter().flatten();
-        reached.copied().max().unwrap_or(0)
-    }
+    /// For each function, the greatest of these.
+    pub greatest_heights: Vec<usize>,
 }
 
 /// Refusal 40: the first broken rule and the lowest function that breaks it.
@@ -57,9 +51,9 @@ pub fn check(image: &[u8]) -> Result<Passed, Refusal> {
 pub fn text(image: &[u8]) -> String {
     match check(image) {
         Ok(passed) => {
-            let functions = 0..passed.heights.len();
-            let heights = functions.map(|f| format!("height {f} {}\n", passed.greatest(f)));
-            format!("passed\n{}", heights.collect::<String>())
+            let heights = passed.greatest_heights.iter().enumerate();
+            let lines = heights.map(|(function, height)| format!("height {function} {height}\n"));
+            format!("passed\n{}", lines.collect::<String>())
         }
         Err(Refusal::Loading(Refused::Image(offset))) => format!("refused 20 at {offset}\n"),
         Err(Refusal::Loading(refused)) => print::refused_text(refused),
@@ -67,6 +61,13 @@ pub fn text(image: &[u8]) -> String {
             format!("refused 40 rule {rule} function {function}\n")
         }
     }
+}
+
+/// The record of an image, in the manner of [`print::record`]: the lengths of
+/// two parts (each u32, low byte first), then the parts: the image, and what
+/// the check prints.
+pub fn record(image: &[u8]) -> Vec<u8> {
+    print::in_parts([image, text(image).as_bytes()])
 }
 
 /// Judges a program by the six rules.
@@ -239,8 +240,14 @@ fn rule_6_heights(codes: &[Code], counts: &[usize]) -> Result<Passed, Broken> {
         .iter()
         .zip(counts)
         .map(|(code, count)| heights(code, *count).ok_or(code.breaks(6)));
+    let heights: Vec<Vec<Option<usize>>> = heights.collect::<Result<_, _>>()?;
+    let greatest = |known: &Vec<Option<usize>>| known.iter().flatten().copied().max();
     Ok(Passed {
-        heights: heights.collect::<Result<_, _>>()?,
+        greatest_heights: heights
+            .iter()
+            .map(|known| greatest(known).expect("the start is reached"))
+            .collect(),
+        heights,
     })
 }
 

@@ -23,12 +23,14 @@
 pub mod asm;
 pub mod calls;
 pub mod check;
+pub mod checked_runs;
 pub mod command;
 pub mod console;
 pub mod damage;
 pub mod edges;
 pub mod frames;
 pub mod generate;
+pub mod generate_checked;
 pub mod image;
 pub mod limits;
 pub mod op;
