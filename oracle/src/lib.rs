@@ -16,6 +16,10 @@
 //! compare on, [`edges`] counts those at which a size or number is the largest,
 //! [`asm`] makes an image of a rule that a person wrote.
 //!
+//! [`check`] judges an image before it is installed (document 02, Wish 2),
+//! [`generate_checked`] makes images for it, and [`checked_runs`] runs those
+//! that pass, to see whether they keep what a pass promises.
+//!
 //! [`console`] makes a host's calls from a script and prints each answer:
 //! [`script`] and [`command`] read the lines, [`frames`] are the call frames as
 //! a host holds them, [`readers`] is what it reads. [`calls`] makes scripts.

@@ -131,6 +131,25 @@ fn numbers_are_judged_where_no_path_comes() {
     breaks(2, 1, &["", "00 00 00 25 00 02 00"]);
 }
 
+/// Each sort is judged by how many there are of it, and not of another.
+#[test]
+fn numbers_of_one_sort_are_not_judged_by_another() {
+    let answer = |constants: usize, structs: usize, code: &str| {
+        let mut program = of(&[code, "00 00 00 25"]);
+        program.constants.resize(constants, number(0.0));
+        program.structs = (0..structs).map(|n| vec![b'A' + n as u8]).collect();
+        text(&image(&program))
+    };
+    let broken = "refused 40 rule 2 function 0\n";
+    let passed = "passed\nheight 0 1\nheight 1 1\n";
+    assert_eq!(answer(3, 1, "00 02 00"), passed);
+    assert_eq!(answer(1, 3, "00 02 00"), broken);
+    assert_eq!(answer(1, 3, "22 02 00 00 00"), passed);
+    assert_eq!(answer(3, 1, "22 02 00 00 00"), broken);
+    assert_eq!(answer(3, 3, "1C 02 00 00 00"), broken);
+    assert_eq!(answer(1, 0, "1C 01 00 00 00"), passed);
+}
+
 /// A reference is no number of a function; the name may be nobody's.
 #[test]
 fn a_reference_to_nobody_is_no_number() {
@@ -424,6 +443,34 @@ fn the_greatest_height_is_over_all_reached_positions() {
     // The higher of two ways, on the way and not at its end.
     let three = "00 00 00 00 00 00 00 00 00 24 03 00 1B 03 00";
     passes(&[3], &[&format!("00 01 00 1A 0F 00 {three} 00 00 00 25")]);
+}
+
+/// No store and no limit is a rule: a function may be taken with as many
+/// arguments as an operand can say, and its heights go on from there.
+#[test]
+fn heights_above_sixteen_bits() {
+    let main = "1B 05 00 1C 01 00 FF FF";
+    passes(&[0, 65_535], &[main, "25"]);
+    passes(&[0, 65_537], &[main, "05 05 08 25"]);
+    passes(&[0, 65_536], &[main, "03 FE FF 25"]);
+    passes(&[0, 65_537], &[main, "05 03 FF FF 25"]);
+    breaks(6, 1, &[main, "03 FF FF 25"]);
+    passes(&[0, 65_535], &[main, "24 FF FF 25"]);
+    breaks(6, 1, &[main, "06 24 FF FF 24 02 00 25"]);
+}
+
+/// It is number 0 that makes a function main, and not the name.
+#[test]
+fn main_is_function_0() {
+    let answer = |codes: &[&str]| {
+        let mut program = of(codes);
+        program.functions[1].name = b"<main>".to_vec();
+        text(&image(&program))
+    };
+    assert_eq!(answer(&["", ""]), "refused 40 rule 6 function 1\n");
+    assert_eq!(answer(&["", "1B 00 00"]), "refused 40 rule 5 function 1\n");
+    let called = answer(&["1C 01 00 00 00", "00 00 00 25"]);
+    assert_eq!(called, "passed\nheight 0 1\nheight 1 1\n");
 }
 
 #[test]
