@@ -6,6 +6,7 @@ mod common;
 use common::{number, program};
 use oracle::check::{self, text};
 use oracle::image::{image, Constant, Program};
+use oracle::{damage, generate, print};
 
 /// Two constants, two structs, and the codes.
 fn checked(codes: &[&str]) -> String {
@@ -64,6 +65,22 @@ fn stores_come_before_rules() {
     let mut many = of(&["FF"]);
     many.constants = vec![Constant::Boolean(true); 257];
     assert_eq!(text(&image(&many)), "refused 21\n");
+}
+
+/// On damaged images and on large ones: where loading refuses, the check does,
+/// by the same number and offset; and elsewhere it does not.
+#[test]
+fn loading_and_the_check_refuse_alike() {
+    let damaged = damage::each(7).into_iter();
+    for image in damaged.chain((0..500).map(|index| generate::case(2, index))) {
+        let loaded = print::loader(&image);
+        let said = text(&image);
+        if loaded.starts_with("refused") {
+            assert_eq!(said.replace(" at ", " "), loaded);
+        } else {
+            assert!(said.starts_with("passed\n") || said.starts_with("refused 40 rule "));
+        }
+    }
 }
 
 #[test]
@@ -487,6 +504,17 @@ fn recursion() {
             "1C 01 00 00 00 25",
         ],
     );
+}
+
+/// The examples of document 01. P8 is refused though it runs to 43: function
+/// 1 is passed nothing and adds what stands below its base.
+#[test]
+fn the_examples_of_document_01() {
+    passes(&[2], &["00 00 00 00 01 00 08 25"]);
+    passes(&[2], &["00 00 00 25 00 00 00 00 01 00 0B 25"]);
+    breaks(6, 1, &["1C 01 00 00 00", ""]);
+    breaks(5, 0, &["1B 05 00"]);
+    breaks(6, 1, &["00 00 00 00 01 00 1C 01 00 00 00 25", "08 25"]);
 }
 
 // The order
