@@ -19,11 +19,11 @@ row n = ap (λ (l : List Shown). getD l n (bytes [])) examples-hold
 
 ran : runnerText p1-image ≡ ascii "value scalar 4045800000000000\nspent 4\nstack 0\n"
 unfolding examples
-ran = bytes-same (row 4)
+ran = bytes-same (row 5)
 
 listed : listerText p1-image ≡ p1-listing
 unfolding examples
-listed = bytes-same (row 5)
+listed = bytes-same (row 6)
 
 -- what is told and left where a text fits
 left : (text want out : List ℕ) → text ≡ want → length want ≤ places 1 out → {r : ℕ} {out' : List ℕ} → record { count = r; out = out' } ≡ printed text out
