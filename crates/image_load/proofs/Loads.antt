@@ -60,7 +60,7 @@ got-one e f = got-value (sym e ∙ f)
 got-end : {A : Type 0} {a b : A} {u v : List ℕ} {c : Step A} → c ≡ got a u → c ≡ got b v → u ≡ v
 got-end e f = got-rest (sym e ∙ f)
 
-fine-one : {p q : Program} {c : Judged} → c ≡ fine p → c ≡ fine q → p ≡ q
+pub fine-one : {p q : Program} {c : Judged} → c ≡ fine p → c ≡ fine q → p ≡ q
 fine-one e f = cc
 
 stores-same : {cs cs′ ss ss′ fs fs′ tx tx′ mn mn′ mp mp′ ot ot′ op op′ : List ℕ} → cs ≡ cs′ → ss ≡ ss′ → fs ≡ fs′ → tx ≡ tx′ → mn ≡ mn′ → mp ≡ mp′ → ot ≡ ot′ → op ≡ op′
