@@ -11,6 +11,7 @@ use lib.ListN.{length, getD, List·getD-eq-default}
 use Rattle.model.specs.Basics.{ascii}
 use Rattle.model.specs.Opcodes.{Opcode, operands, opcodes, opcodeAt}
 use Rattle.model.specs.Programs.{wordAt, behind, opcodeIn, nextIn}
+use Rattle.check_rules.specs.Rules.{firstAt, secondAt}
 
 -- past the code a byte is 0
 pub no-byte : (code : List ℕ) {i : ℕ} → length code ≤ i → _≡_ {A = ℕ} 0 (getD code i 0)
@@ -19,6 +20,14 @@ no-byte code h = sym (List·getD-eq-default code 0 h)
 pub word-is : (code : List ℕ) (i : ℕ) {low high : ℕ} → low ≡ getD code i 0 → high ≡ getD code (i + 1) 0 → low + 256 * high ≡ wordAt code i
 unfolding wordAt
 word-is code i e f = rw (e, f, add-one)
+
+-- the operands stand behind the opcode
+module _ (code : List ℕ) (i : ℕ) {x : ℕ} where
+  pub first-is : x ≡ wordAt code (i + 1) → x ≡ firstAt code i
+  first-is e = rw (← add-one) e
+
+  pub second-is : x ≡ wordAt code (i + 1 + 2) → x ≡ secondAt code i
+  second-is e = rw (← add-one i) e
 
 -- an opcode has three operands or fewer
 

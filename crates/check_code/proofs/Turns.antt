@@ -6,8 +6,9 @@ use Prim.Native.Nat.{ℕ, zero, suc, _+_, _-_, _≤_, _<_}
 use native.Mathlib.Omega.{arith}
 use lib.ListN.{length}
 use borrow.Author.Tests.{lt-ltb, le-ltb}
-use Rattle.model.specs.Programs.{nextIn, standsFor, stands}
-use Rattle.check_rules.specs.Rules.{every}
+use Rattle.model.specs.Programs.{Program, nextIn, standsFor, stands}
+use Rattle.check_rules.specs.Rules.{numbersAt, every}
+use Rattle.check_code.specs.Links.{Sized, NumbersOne, NumbersAll}
 use Rattle.check_code.proofs.Instructions.{further-on}
 
 -- nothing is left at the end
@@ -74,3 +75,22 @@ module _ {test : ℕ → Bool} {code : List ℕ} {i : ℕ} (t : Passing test cod
     pub one-passes : r ≡ true → {j : ℕ} → j ≡ nextIn code i → Passing test code j
     unfolding every
     one-passes f z = record { turn = next-turn (t .turn) h (λ is. rw (← e, f)) z }
+
+-- ---- the same for rule 2, in each program that has so many constants, struct names and functions
+
+pub record Numbering (constants structs functions : ℕ) (code : List ℕ) (i : ℕ) : Type 0 where
+  pub each : (p : Program) → Sized constants structs functions p → Passing (numbersAt p code) code i
+
+pub none-numbered : (constants structs functions : ℕ) (code : List ℕ) → Numbering constants structs functions code 0
+none-numbered constants structs functions code = record { each = λ p z. none-tested (numbersAt p code) code }
+
+module _ {constants structs functions : ℕ} {code : List ℕ} {i : ℕ} (t : Numbering constants structs functions code i) where
+  pub all-in-range : length code ≤ i → NumbersAll constants structs functions code true
+  all-in-range h = record { means = λ p z. all-pass (t .each p z) h }
+
+  module _ (h : i < length code) {r : Bool} (e : NumbersOne constants structs functions code i r) where
+    pub one-out-of-range : r ≡ false → NumbersAll constants structs functions code false
+    one-out-of-range f = record { means = λ p z. one-fails (t .each p z) h (e .means p z) f }
+
+    pub one-in-range : r ≡ true → {j : ℕ} → j ≡ nextIn code i → Numbering constants structs functions code j
+    one-in-range f g = record { each = λ p z. one-passes (t .each p z) h (e .means p z) f g }

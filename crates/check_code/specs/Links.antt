@@ -5,8 +5,9 @@ use mathlib.Core.List.{List}
 use Prim.Native.Nat.{ℕ, _<_}
 use lib.Dec.{eqb}
 use lib.ListN.{length, getD}
+use Rattle.model.specs.declared.Names.{Names}
 use Rattle.model.specs.Programs.{Program, stands}
-use Rattle.check_rules.specs.Rules.{isIn, callsAt}
+use Rattle.check_rules.specs.Rules.{inRange, numbersAt, callsAt, isIn, every}
 use Rattle.check_code.specs.Tallies.{tallied}
 
 -- the program has so many constants, struct names and functions
@@ -15,9 +16,16 @@ pub record Sized (constants structs functions : ℕ) (p : Program) : Type 0 wher
   pub of-structs : length (p .structs) ≡ structs
   pub of-functions : length (p .functions) ≡ functions
 
--- r is what the rule says of each program that has so many
-pub record OfSizes (constants structs functions : ℕ) (rule : Program → Bool) (r : Bool) : Type 0 where
-  pub means : (p : Program) → Sized constants structs functions p → r ≡ rule p
+-- r is what rule 2 says in each program that has so many: of a number x of a thing of this kind, of the instruction at i, and of a code
+
+pub record Ranges (constants structs functions : ℕ) (kind : Names) (x : ℕ) (r : Bool) : Type 0 where
+  pub means : (p : Program) → Sized constants structs functions p → r ≡ inRange p kind x
+
+pub record NumbersOne (constants structs functions : ℕ) (code : List ℕ) (i : ℕ) (r : Bool) : Type 0 where
+  pub means : (p : Program) → Sized constants structs functions p → r ≡ numbersAt p code i
+
+pub record NumbersAll (constants structs functions : ℕ) (code : List ℕ) (r : Bool) : Type 0 where
+  pub means : (p : Program) → Sized constants structs functions p → r ≡ every (numbersAt p code) (stands code)
 
 -- the first n marks are clear
 pub record Cleared (n : ℕ) (marks : List ℕ) : Type 0 where
