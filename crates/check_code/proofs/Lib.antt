@@ -2,3 +2,6 @@
 pub mod Instructions
 pub mod Turns
 pub mod Tests
+pub mod Counting
+pub mod Entries
+pub mod Marks

@@ -16,7 +16,7 @@ use Rattle.model.specs.declared.Names.{Names}
 use Rattle.model.specs.declared.Names.the-variants as n
 use Rattle.model.specs.Opcodes.{firstNames, secondNames}
 use Rattle.model.specs.Programs.{opcodeIn, nextIn}
-use Rattle.check_rules.specs.Rules.{firstAt, secondAt, isCarried, wholeAt, inRange, numbersAt, callAt}
+use Rattle.check_rules.specs.Rules.{firstAt, secondAt, isCarried, wholeAt, inRange, numbersAt, callAt, isJump, lands, jumpAt}
 use Rattle.check_code.specs.Links.{Ranges, NumbersOne}
 
 -- ---- 1 whole carried instructions
@@ -97,3 +97,21 @@ module _ (code : List ℕ) (i : ℕ) where
     pub is-no-call : (getD code i 0 ≡ 28 → ⊥) → true ≡ callAt code i
     unfolding callAt
     is-no-call g = rw (ne-eqb _ _ h, ne-eqb _ _ g)
+
+-- ---- 5 jumps land
+
+module _ (b : ℕ) where
+  pub is-conditional : b ≡ 26 → true ≡ (eqb b 26 || eqb b 27)
+  is-conditional e = rw (eq-eqb b 26 e)
+
+  pub not-conditional : (b ≡ 26 → ⊥) → eqb b 27 ≡ (eqb b 26 || eqb b 27)
+  not-conditional h = rw (ne-eqb b 26 h)
+
+module _ (main : Bool) (code : List ℕ) (i : ℕ) {b : Bool} (e : b ≡ isJump code i) where
+  pub jump-lands-or-not : b ≡ true → {n : ℕ} → n ≡ nextIn code i → {a : ℕ} → a ≡ firstAt code i → {r : Bool} → r ≡ lands main code (n + a) → r ≡ jumpAt main code i
+  unfolding jumpAt
+  jump-lands-or-not f g h l = l ∙ rw (← e, f, g, h)
+
+  pub no-jump : b ≡ false → true ≡ jumpAt main code i
+  unfolding jumpAt
+  no-jump f = rw (← e, f)

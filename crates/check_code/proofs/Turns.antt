@@ -28,9 +28,9 @@ pub record Turn {A : Type 0} (code : List ℕ) (found : A) (rest : List ℕ → 
   pub enough : length code ≤ i + left
   pub so-far : found ≡ rest (standsFor left code i)
 
-pub first-turn : {A : Type 0} (code : List ℕ) (rest : List ℕ → A) → Turn code (rest (stands code)) rest 0
+pub first-turn : {A : Type 0} (code : List ℕ) {found : A} (rest : List ℕ → A) → found ≡ rest (stands code) → Turn code found rest 0
 unfolding stands
-first-turn code rest = record { left = length code; enough = omega arith; so-far = refl }
+first-turn code rest e = record { left = length code; enough = omega arith; so-far = e }
 
 module _ {A : Type 0} {code : List ℕ} {found : A} {rest : List ℕ → A} {i : ℕ} (t : Turn code found rest i) where
   pub last-turn : length code ≤ i → found ≡ rest []
@@ -60,7 +60,7 @@ pub record Passing (test : ℕ → Bool) (code : List ℕ) (i : ℕ) : Type 0 wh
   pub turn : Turn code (every test (stands code)) (every test) i
 
 pub none-tested : (test : ℕ → Bool) (code : List ℕ) → Passing test code 0
-none-tested test code = record { turn = first-turn code (every test) }
+none-tested test code = record { turn = first-turn code (every test) refl }
 
 module _ {test : ℕ → Bool} {code : List ℕ} {i : ℕ} (t : Passing test code i) where
   pub all-pass : length code ≤ i → true ≡ every test (stands code)

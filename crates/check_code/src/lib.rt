@@ -8,10 +8,12 @@ use opcode::second_names;
 ghost use mathlib.Core.Path.{_≡_};
 ghost use Prim.Native.Nat.{_+_, _≤_, _<_, _^_};
 ghost use mathlib.Core.List.{[], _∷_};
+ghost use mathlib.Core.Bool.{_||_};
+ghost use lib.Dec.{eqb};
 ghost use lib.ListN.{length, getD};
 ghost use Rattle.model.specs.Opcodes.{opcodeAt};
 ghost use Rattle.model.specs.Programs.{wordAt, nextIn, stands};
-ghost use Rattle.check_rules.specs.Rules.{firstAt, secondAt, isCarried, wholeAt, callAt, isJump, lands, jumpAt, every};
+ghost use Rattle.check_rules.specs.Rules.{firstAt, secondAt, isCarried, wholeAt, callAt, jumpIfFalse, jump, lands, jumpAt, every};
 ghost use Rattle.check_code.specs.Tallies.{entered};
 ghost use Rattle.check_code.specs.Links.{Ranges, NumbersOne, NumbersAll, Cleared, Marked, Enters};
 
@@ -65,7 +67,7 @@ fn second_at(code: &[u8], i: usize) -> usize
 // The position behind the instruction at i, which may lie past the end.
 fn next_at(code: &[u8], i: usize) -> usize
     requires { ⌜ i < length (now code) ⌝ }
-    ensures { λ r. ⌜ (r ≡ nextIn (now (code .entry)) i) ⌝ }
+    ensures { λ r. ⌜ (r ≡ nextIn (now (code .entry)) i) × (r ≤ i + 7) ⌝ }
 {
     let b = code[i];
     let n = operands(b);
@@ -177,6 +179,130 @@ pub fn calls(code: &[u8]) -> bool
     let mut i = 0;
     while i < code.len() {
         if call_at(code, i) {
+            i = next_at(code, i);
+        } else {
+            return false;
+        }
+    }
+    true
+}
+
+// ---- 4 every Call of one function passes the same count
+
+// An entry of the tally after a Call that passes so many.
+fn entry(v: u32, count: u32) -> u32
+    requires { ⌜ count < 0x1_0000 ⌝ }
+    ensures { λ r. ⌜ r ≡ entered v count ⌝ }
+{
+    if v == 0 {
+        return count + 2;
+    }
+    if v == count + 2 {
+        return v;
+    }
+    1
+}
+
+// Enters the instruction at i, if it is a Call.
+fn tally_at(code: &[u8], i: usize, counts: &mut [u32])
+    requires { ⌜ (i < length (now code)) × (0x1_0000 ≤ length (now counts)) ⌝ }
+    ensures { λ r. ⌜ Enters (now (code .entry)) (i ∷ []) (now (counts .entry)) (now (counts .exit)) ⌝ }
+{
+    let b = code[i];
+    if b == CALL {
+        let f = first_at(code, i);
+        let count = second_at(code, i) as u32;
+        let v = counts[f];
+        counts[f] = entry(v, count);
+    }
+}
+
+// Enters the Calls of the code into the tally.
+pub fn tally(code: &[u8], counts: &mut [u32])
+    requires { ⌜ 0x1_0000 ≤ length (now counts) ⌝ }
+    ensures { λ r. ⌜ Enters (now (code .entry)) (stands (now (code .entry))) (now (counts .entry)) (now (counts .exit)) ⌝ }
+{
+    let mut i = 0;
+    while i < code.len() {
+        tally_at(code, i, counts);
+        i = next_at(code, i);
+    }
+}
+
+// ---- 5 jumps land
+
+// Clears the first n marks.
+pub fn clear(n: usize, marks: &mut [u32])
+    requires { ⌜ n ≤ length (now marks) ⌝ }
+    ensures { λ r. ⌜ Cleared n (now (marks .exit)) ⌝ }
+{
+    let mut j = 0;
+    while j < n {
+        marks[j] = 0;
+        j = j + 1;
+    }
+}
+
+// Marks where the instructions begin, and no other position of the code.
+fn mark(code: &[u8], marks: &mut [u32])
+    requires { ⌜ length (now code) ≤ length (now marks) ⌝ }
+    ensures { λ r. ⌜ Marked (now (code .entry)) (now (marks .exit)) ⌝ }
+{
+    let n = code.len();
+    clear(n, marks);
+    let mut i = 0;
+    while i < code.len() {
+        marks[i] = 1;
+        i = next_at(code, i);
+    }
+}
+
+// Does a jump to j land?
+fn lands(main: bool, code: &[u8], j: usize, marks: &[u32]) -> bool
+    requires { ⌜ (length (now code) ≤ length (now marks)) × (Marked (now code) (now marks)) ⌝ }
+    ensures { λ r. ⌜ r ≡ lands main (now (code .entry)) j ⌝ }
+{
+    let end = code.len();
+    if j < end {
+        return marks[j] == 1;
+    }
+    if main {
+        return j == end;
+    }
+    false
+}
+
+fn is_jump(b: u8) -> bool
+    ensures { λ r. ⌜ r ≡ (eqb b jumpIfFalse || eqb b jump) ⌝ }
+{
+    if b == JUMP_IF_FALSE {
+        return true;
+    }
+    b == JUMP
+}
+
+fn jump_at(main: bool, code: &[u8], i: usize, marks: &[u32]) -> bool
+    requires { ⌜ (i < length (now code)) × (length (now code) ≤ length (now marks)) × (Marked (now code) (now marks)) ⌝ }
+    ensures { λ r. ⌜ r ≡ jumpAt main (now (code .entry)) i ⌝ }
+{
+    let b = code[i];
+    if is_jump(b) {
+        let next = next_at(code, i);
+        let offset = first_at(code, i);
+        return lands(main, code, next + offset, marks);
+    }
+    true
+}
+
+// Do the jumps of the code land on an instruction, or in main also on its end? The marks are the caller's, to be written over.
+pub fn jumps(main: bool, code: &[u8], marks: &mut [u32]) -> bool
+    requires { ⌜ length (now code) ≤ length (now marks) ⌝ }
+    ensures { λ r. ⌜ r ≡ every (jumpAt main (now (code .entry))) (stands (now (code .entry))) ⌝ }
+{
+    mark(code, marks);
+    let mut i = 0;
+    while i < code.len() {
+        if jump_at(main, code, i, marks) {
             i = next_at(code, i);
         } else {
             return false;

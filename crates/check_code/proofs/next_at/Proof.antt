@@ -21,7 +21,7 @@ add-result-2 : tie.Need-add-result-2
 add-result-2 c = let few = at-most-three _ (c .operands .ensures) in omega arith
 
 returns : tie.Need-returns
-returns c = search next-is
+returns c = let few = at-most-three _ (c .operands .ensures) in (search next-is, omega arith)
 
 pub next-at-spec : {M : Type 1} → statement M
 next-at-spec =
