@@ -25,9 +25,9 @@ module _ (v k : ℕ) where
   first-call e = rw (eq-eqb v 0 e)
 
   module _ (h : v ≡ 0 → ⊥) where
-    pub same-count : v ≡ k + 2 → v ≡ entered v k
+    pub same-count : v ≡ k + 2 → k + 2 ≡ entered v k
     unfolding entered
-    same-count e = rw (ne-eqb v 0 h, eq-eqb v (k + 2) e)
+    same-count e = rw (ne-eqb v 0 h, eq-eqb v (k + 2) e) (sym e)
 
     pub another-count : (v ≡ k + 2 → ⊥) → 1 ≡ entered v k
     unfolding entered

@@ -194,13 +194,15 @@ fn entry(v: u32, count: u32) -> u32
     requires { ⌜ count < 0x1_0000 ⌝ }
     ensures { λ r. ⌜ r ≡ entered v count ⌝ }
 {
+    let told = count + 2;
     if v == 0 {
-        return count + 2;
+        return told;
     }
-    if v == count + 2 {
-        return v;
+    if v == told {
+        return told;
     }
-    1
+    let differ = 1;
+    differ
 }
 
 // Enters the instruction at i, if it is a Call.

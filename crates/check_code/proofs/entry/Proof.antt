@@ -4,14 +4,11 @@ use borrow.Author.Needs.{needs}
 use Rattle.check_code.proofs.entry.Statement.{statement}
 use Rattle.check_code.proofs.entry.Tie as tie
 
-add-result : tie.Need-add-result
-add-result c = search needs
+add-told : tie.Need-add-told
+add-told c = search needs
 
 returns : tie.Need-returns
 returns c = search first-call
-
-add-if2 : tie.Need-add-if2
-add-if2 c = search needs
 
 returns-2 : tie.Need-returns-2
 returns-2 c = search same-count
@@ -20,4 +17,4 @@ returns-3 : tie.Need-returns-3
 returns-3 c = search another-count
 
 pub entry-spec : {M : Type 1} → statement M
-entry-spec = tie.close (tie.spec add-result returns add-if2 returns-2 returns-3)
+entry-spec = tie.close (tie.spec add-told returns returns-2 returns-3)
