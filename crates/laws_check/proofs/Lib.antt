@@ -1,0 +1,2 @@
+-- an opcode's row is what its step does
+pub mod Rows
