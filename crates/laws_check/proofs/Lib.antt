@@ -1,2 +1,6 @@
 -- an opcode's row is what its step does
 pub mod Rows
+-- paths and the walk
+pub mod Walked
+-- the invariant, kept by every step
+pub mod Kept
