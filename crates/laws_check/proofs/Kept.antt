@@ -30,7 +30,7 @@ use Rattle.laws_check.proofs.Rows.{a-step-keeps-its-row}
 use Rattle.laws_check.proofs.Walked.{or-left, or-right, whole-here, numbers-here, call-here, suffices-here, count-here}
 
 -- a state by its frame, its callers and how many values it has
-good-at : (p : Program) (t : State) {g i base h : ℕ} {cs : List Frame} → t .frame ≡ record { function = g; position = i; base = base } → t .callers ≡ cs
+pub good-at : (p : Program) (t : State) {g i base h : ℕ} {cs : List Frame} → t .frame ≡ record { function = g; position = i; base = base } → t .callers ≡ cs
     → Waiting p cs g base → base + h ≡ length (t .stack) → Stands p g i h → Good p t
 good-at p t {h = h} u c waits sum stands = record { waiting = rw (u, c) waits; height = h; sum = rw u sum; stands = rw u stands }
 
@@ -52,6 +52,11 @@ call-row k a b e =
 leads-on : (main : Bool) (code : List ℕ) (i : ℕ) → isAt jump code i ≡ false → (main || not (isAt return code i)) ≡ true → leadsOn main code i ≡ true
 unfolding leadsOn
 leads-on main code i e h = rw e h
+
+-- the world's code is the program's
+same-code : (p : Program) (w : World) → Serves p w → (s : State) → steps.codeOf w s ≡ codeOf p (s .frame .function)
+unfolding steps.codeOf
+same-code p w of s = rw (of .functions)
 
 module _ (p : Program) (ok : Passed p) (w : World) (of : Serves p w) (s : State) (good : Good p s) (l : position s < length (codeOf p (s .frame .function))) where
   -- the instruction, and the state behind its operands
@@ -107,7 +112,8 @@ module _ (p : Program) (ok : Passed p) (w : World) (of : Serves p w) (s : State)
   unfolding inRange
   missing-unsure (constant e h) = absurd (let z : first < length (p .constants) = ltb-true _ _ (in-range n.Constant e) in let q = of .constants in let y : ⊥ = omega arith in y)
   missing-unsure (function e h) =
-      absurd (let z : first < length (p .functions) = ltb-true _ _ (in-range n.Function e) in let q : length (w .functions) ≡ length (p .functions) = ap length (of .functions) in let y : ⊥ = omega arith in y)
+      let same : length (w .functions) ≡ length (p .functions) = ap length (of .functions) in
+      absurd (let z : first < length (p .functions) = ltb-true _ _ (in-range n.Function e) in let y : ⊥ = omega arith in y)
   missing-unsure (struct e h) = absurd (let z : first < length (p .structs) = ltb-true _ _ (in-range n.Struct e) in let q = of .structs in let y : ⊥ = omega arith in y)
   missing-unsure (slot e h) = absurd (let z = slot-below (eq-eqb byte getLocal e) in let q = good .sum in let y : ⊥ = omega arith in y)
   missing-unsure (unsure u) = u
@@ -183,13 +189,9 @@ module _ (p : Program) (ok : Passed p) (w : World) (of : Serves p w) (s : State)
 
   -- ---- the step
 
-  same-code : steps.codeOf w s ≡ code
-  unfolding steps.codeOf
-  same-code = rw (of .functions)
-
   step-is : (q : Op) → (s .units ≡ 0 → ⊥) → opcode ≡ d.Carried q → nextIn code (position s) ≤ length code → stepOf w s ≡ execOf w q first second behind
   unfolding walked
-  step-is q paid e h = step-takes-the-walk w s q paid (rw same-code e) (rw same-code h) ∙ rw same-code
+  step-is q paid e h = let same = same-code p w of s in step-takes-the-walk w s q paid (rw same e) (rw same h) ∙ rw same
 
   paid-safe : (x : Decoded) → opcode ≡ x → isCarried x ≡ true → (s .units ≡ 0 → ⊥) → Safe p opcode (stepOf w s)
   unfolding isCarried wholeAt
@@ -207,6 +209,9 @@ module _ (p : Program) (ok : Passed p) (w : World) (of : Serves p w) (s : State)
   unpaid-or-paid true e = unfold stepOf in rw e tt
   unpaid-or-paid false e = paid-safe opcode refl carried (eqb-false _ _ e)
 
-  -- THE LAW: a step keeps the invariant, or meets an allowed fault
-  pub a-step-stays-good : Safe p (opcodeIn (steps.codeOf w s) (position s) .what) (stepOf w s)
-  a-step-stays-good = rw same-code (unpaid-or-paid (eqb (s .units) 0) refl)
+-- THE LAW: a step keeps the invariant, or meets an allowed fault
+pub a-step-stays-good : (p : Program) → Passed p → (w : World) → Serves p w → (s : State) → Good p s → position s < length (steps.codeOf w s)
+    → Safe p (opcodeIn (steps.codeOf w s) (position s) .what) (stepOf w s)
+a-step-stays-good p ok w of s good l =
+    let same = same-code p w of s in
+    rw same (unpaid-or-paid p ok w of s good (rw same at l) (eqb (s .units) 0) refl)

@@ -4,3 +4,5 @@ pub mod Rows
 pub mod Walked
 -- the invariant, kept by every step
 pub mod Kept
+-- what is said of a passed program
+pub mod Theorems

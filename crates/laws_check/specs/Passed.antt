@@ -68,6 +68,20 @@ Parts p (r ∷ rs) end = Part p r end × Parts p rs (r .base)
 abbrev pub FramesFit : Program → Type 0
 FramesFit p = (w : World) (s : State) → Comes p w s → Parts p (s .frame ∷ s .callers) (length (s .stack))
 
--- "For a passed program, run on a freshly loaded machine, faults 1 to 4 and 14 never come": whatever a whole run answers
+-- ---- whatever a whole run answers
+
+abbrev pub OfRuns : Program → (ℕ → World → Type 0) → Type 0
+OfRuns p said = (w : World) → Serves p w → (m : Machine) → Fresh m → (u n : ℕ) (did : Tally) (trace : List Entry) → runOf w m u .reply ≡ fault n did trace → said n w
+
+-- "For a passed program, run on a freshly loaded machine, faults 1 to 4 and 14 never come"
 abbrev pub RunsSo : Program → Type 0
-RunsSo p = (w : World) → Serves p w → (m : Machine) → Fresh m → (u n : ℕ) (did : Tally) (trace : List Entry) → runOf w m u .reply ≡ fault n did trace → ruledOut n ≡ false
+RunsSo p = OfRuns p (λ n w. ruledOut n ≡ false)
+
+-- "and 6 comes only from GetUpvalue or a field": the run came to one of these, which asked for what is not there
+pub record Asked (p : Program) (w : World) : Type 0 where
+  pub at : State
+  pub faults : Faults p w at f.OutOfRange
+  pub opcode : Unsure (opcodeIn (steps.codeOf w at) (position at) .what)
+
+abbrev pub RunsAskInRange : Program → Type 0
+RunsAskInRange p = OfRuns p (λ n w. n ≡ 6 → Asked p w)
