@@ -35,6 +35,7 @@ pub record Cleared (n : ℕ) (marks : List ℕ) : Type 0 where
 pub record Marked (code marks : List ℕ) : Type 0 where
   pub tells : (j : ℕ) → j < length code → eqb (getD marks j 0) 1 ≡ isIn j (stands code)
 
--- the Calls at these positions of the code were entered into the tally
+-- the Calls at these positions of the code were entered into the tally. An operand is below 65,536, so an entry stays below two more.
 pub record Enters (code is before after : List ℕ) : Type 0 where
   pub each : (f : ℕ) → getD after f 0 ≡ tallied f (getD before f 0) (callsAt code is)
+  pub few : (f : ℕ) → getD before f 0 < 65538 → getD after f 0 < 65538

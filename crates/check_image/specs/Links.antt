@@ -2,10 +2,8 @@
 use mathlib.Core.Path.{_≡_}
 use mathlib.Core.Bool.{Bool, true, false}
 use mathlib.Core.List.{List}
-use Prim.Native.Nat.{ℕ, _-_, _≤_, _<_}
-use lib.Dec.{eqb}
+use Prim.Native.Nat.{ℕ, _≤_, _<_}
 use lib.ListN.{length, getD, take}
-use Rattle.model.specs.Basics.{if_then_else_}
 use Rattle.model.specs.Programs.{Program}
 use Rattle.model.specs.Images.{fine, judge}
 use Rattle.model.specs.Emission.{written}
@@ -62,20 +60,13 @@ pub record CountsPost (n : ℕ) (counts : List ℕ) (f : ℕ) : Type 0 where
 
 -- ---- rule 6
 
--- an entry that tells a count
-abbrev pub Counted : ℕ → Type 0
-Counted v = v ≡ 1 → ⊥
-
-unfoldable pub countBy : ℕ → ℕ
-countBy v = if eqb v 0 then 0 else v - 2
-
 -- rules 1, 4 and 5 are kept by all
 pub record Measurable (s : List ℕ) (z : Sizes) (counts : List ℕ) : Type 0 where
   pub ready : Ready s z
   pub room : length counts ≡ 65536
   pub tallies : Tallied (ready .says .program) counts
   pub whole : KeptByAll (ready .says .program) r.Instructions
-  pub same : KeptByAll (ready .says .program) r.Counts
+  pub differ : (f : ℕ) → f < length (ready .says .program .functions) → getD counts f 0 ≡ 1 → ⊥
   pub landing : KeptByAll (ready .says .program) r.Jumps
 
 -- the greatest heights of the functions below n

