@@ -2,7 +2,7 @@
 use mathlib.Core.Path.{_≡_, refl, sym, subst}
 use mathlib.Core.Bool.{false}
 use mathlib.Core.List.{List, [], _∷_}
-use Prim.Native.Nat.{ℕ}
+use Prim.Native.Nat.{ℕ, _<_}
 use native.Mathlib.Omega.{arith}
 use borrow.Author.Tests.{leb-false}
 use lib.ListN.{length}
@@ -64,12 +64,12 @@ only-six f.NoFunction e = absurd (let z : ⊥ = omega arith in z)
 module _ (p : Program) (ok : Passed p) where
   -- ---- the invariant holds along every run
 
-  pub a-fresh-machine-is-good : (m : Machine) → JustLoaded m → (u : ℕ) → Good p (begin m u)
+  pub a-fresh-machine-is-good : 0 < length (p .functions) → (m : Machine) → JustLoaded m → (u : ℕ) → Good p (begin m u)
   unfolding Waiting
-  a-fresh-machine-is-good m loaded u =
+  a-fresh-machine-is-good main m loaded u =
       let taken = main-is-taken-with-none p ok in
       let empty : length (m .stack) ≡ 0 = rw (loaded .stack) in
-      good-at p (begin m u) (loaded .frame) (loaded .callers) (refl, refl) (omega arith) starts
+      good-at p (begin m u) (loaded .frame) (loaded .callers) (refl, refl) (omega arith) (record { known = main; path = starts })
 
   module _ (w : World) (of : Serves p w) where
     next-safe : (s : State) → Good p s → over w s ≡ false → Safe p (opcodeIn (steps.codeOf w s) (position s) .what) (stepOf w s)
@@ -82,7 +82,7 @@ module _ (p : Program) (ok : Passed p) where
     a-run-stays-good good (ret {s = s} o q rest) = a-run-stays-good (subst (Safe p _) q (next-safe s good o)) rest
 
   comes-good : {w : World} {s : State} → Comes p w s → Good p s
-  comes-good {w} c = a-run-stays-good w (c .serves) (a-fresh-machine-is-good (c .machine) (c .loaded) (c .units)) (c .path)
+  comes-good {w} c = a-run-stays-good w (c .serves) (a-fresh-machine-is-good (c .serves .main) (c .machine) (c .loaded) (c .units)) (c .path)
 
   fault-allowed : (w : World) (s : State) (n : Fault) → Meets p w s n → Allowed (opcodeIn (steps.codeOf w s) (position s) .what) n
   fault-allowed w s n h =
@@ -104,14 +104,14 @@ module _ (p : Program) (ok : Passed p) where
   callers-fit [] g base h = tt
   callers-fit (c ∷ cs) g base h =
       let waits = h .0 .sum in
-      (record { begins = omega arith; fits = λ m top. let z = top .most (h .0 .stands) in omega arith }, callers-fit cs (c .function) (c .base) (h .1))
+      (record { known = h .0 .stands .known; begins = omega arith; fits = λ m top. let z = top .most (h .0 .stands .path) in omega arith }, callers-fit cs (c .function) (c .base) (h .1))
 
   pub passed-frames-fit : FramesWithin p
   unfolding Parts
   passed-frames-fit w s c =
       let good = comes-good c in
       let sum = good .sum in
-      (record { begins = omega arith; fits = λ m top. let z = top .most (good .stands) in omega arith }, callers-fit (s .callers) _ _ (good .waiting))
+      (record { known = good .stands .known; begins = omega arith; fits = λ m top. let z = top .most (good .stands .path) in omega arith }, callers-fit (s .callers) _ _ (good .waiting))
 
   -- ---- whole runs
 

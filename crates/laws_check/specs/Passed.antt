@@ -58,6 +58,7 @@ AsksInRange p = (w : World) (s : State) → Meets p w s f.OutOfRange → Unsure 
 
 -- a frame's part of the stack, from its base to where the next inner frame's begins or the stack ends, is at most the greatest height of its function
 pub record Part (p : Program) (r : Frame) (end : ℕ) : Type 0 where
+  pub known : r .function < length (p .functions)
   pub begins : r .base ≤ end
   pub fits : (m : ℕ) → Greatest (isMain (r .function)) (countOf p (r .function)) (codeOf p (r .function)) m → end ≤ r .base + m
 
