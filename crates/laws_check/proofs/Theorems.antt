@@ -87,9 +87,7 @@ module _ (p : Program) (ok : Passed p) where
   fault-allowed : (w : World) (s : State) (n : Fault) → Meets p w s n → Allowed (opcodeIn (steps.codeOf w s) (position s) .what) n
   fault-allowed w s n h =
       let c = h .comes in
-      let z : Safe p (opcodeIn (steps.codeOf w s) (position s) .what) (faulted n (h .left)) =
-      subst (Safe p _) (h .step) (a-step-stays-good p ok w (c .serves) s (comes-good c) (h .inside)) in
-      z
+      subst (Safe p (opcodeIn (steps.codeOf w s) (position s) .what)) (h .step) (a-step-stays-good p ok w (c .serves) s (comes-good c) (h .inside))
 
   -- ---- THE THEOREMS
 

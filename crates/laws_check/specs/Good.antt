@@ -1,4 +1,5 @@
 -- THE INVARIANT of a passed program's run: each frame stands where a path of its function comes, with exactly the values that the path has.
+-- "each reached position has one known height above its frame's base, starting at that count (0 in main)"
 use mathlib.Core.Path.{_≡_}
 use mathlib.Core.List.{List, [], _∷_}
 use Prim.Native.Nat.{ℕ, suc, _+_, _<_}

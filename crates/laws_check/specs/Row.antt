@@ -1,4 +1,5 @@
 -- [step] An opcode's row, tied to its step: what it pops, what it pushes and what its operands name is what an instruction does.
+-- So the check counts right: "no instruction pops below the base, reads a slot at or above the height or passes more arguments than the height".
 use mathlib.Core.Path.{_≡_}
 use mathlib.Core.Bool.{Bool, true, false, _||_}
 use mathlib.Core.List.{List, [], _∷_}
