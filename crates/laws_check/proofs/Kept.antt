@@ -147,7 +147,7 @@ module _ (p : Program) (ok : Passed p) (w : World) (of : Serves p w) (s : State)
 
   next-stands : isAt jump code (position s) ≡ false → (main || not (isAt return code (position s))) ≡ true
       → Stands p (s .frame .function) (nextIn code (position s)) (heightAfter code (position s) (good .height))
-  next-stands e h = path-goes (good .stands) l (leads-on main code (position s) e h)
+  next-stands e h = record { known = good .stands .known; path = path-goes (good .stands .path) l (leads-on main code (position s) e h) }
 
   inward-good : (t : State) → byte ≡ call → Inward byte first second first behind t → Good p t
   unfolding heightAfter inRange Waiting
@@ -163,7 +163,7 @@ module _ (p : Program) (ok : Passed p) (w : World) (of : Serves p w) (s : State)
         sum = omega arith;
         stands = rw up at (next-stands (row .no-jump) (or-right main _ (ap not (row .no-return))));
       } in
-      good-at p t (inn .frame) (inn .callers) (waits, good .waiting) (omega arith) starts
+      good-at p t (inn .frame) (inn .callers) (waits, good .waiting) (omega arith) (record { known = known; path = starts })
 
   outward-good : (t : State) (c : Frame) (cs : List Frame) → Outward byte first second c cs behind t → Good p t
   unfolding Waiting
@@ -180,7 +180,7 @@ module _ (p : Program) (ok : Passed p) (w : World) (of : Serves p w) (s : State)
 
   tied-safe : {x : Outcome} → Tied byte first second w behind x → Safe p opcode x
   tied-safe (goes {t = t} e h on) = onward-good _ t on (next-stands e (or-right main _ (ap not h)))
-  tied-safe (leaps {t = t} e on) = onward-good _ t on (path-leaps (good .stands) l e)
+  tied-safe (leaps {t = t} e on) = onward-good _ t on (record { known = good .stands .known; path = path-leaps (good .stands .path) l e })
   tied-safe (calls {t = t} e inn) = inward-good t e inn
   tied-safe (calls-named g e inn) = absurd (no-named-call e)
   tied-safe (comes-back {t = t} c cs e out) = outward-good t c cs out

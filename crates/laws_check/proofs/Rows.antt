@@ -1,6 +1,6 @@
 -- THE ROW IS TIED TO THE STEP: opcode by opcode, over the whole table.
 use mathlib.Core.Path.{_≡_, refl}
-use mathlib.Core.Bool.{Bool, true, false, not, _||_, _&&_}
+use mathlib.Core.Bool.{Bool, true, false, not, _||_, _&&_, true≢false}
 use mathlib.Core.List.{List, [], _∷_}
 use mathlib.Core.Option.{Option, none, some}
 use Prim.Native.Nat.{ℕ, zero, suc, _+_, _-_, _≤_, _<_, min}
@@ -35,7 +35,7 @@ use Rattle.model.specs.Steps.{World, State, Outcome, went, faulted, withStack, 
 use Rattle.value.proofs.Coding.{and-left, and-right}
 use Rattle.laws_runs.proofs.Combinators.{ifScalar-each, ifBoolean-each, ifReference-each, ifStruct-each}
 use Rattle.check_rules.specs.Rules.{jumpIfFalse, jump, call, callCallable, return}
-use Rattle.laws_check.specs.Row.{Unsure, upvalue, field, Missing, constant, function, struct, slot, unsure, Inward, Tied, goes, leaps, calls, calls-named, comes-back, ends, faults}
+use Rattle.laws_check.specs.Row.{Unsure, upvalue, field, Missing, constant, function, struct, slot, unsure, Inward, Tied, goes, leaps, calls, calls-named, comes-back, ends, faults, callsOrReturns, Counted}
 
 -- opcode k is no jump and no Return; its row pops i values and pushes j
 record Plain (k a b i j : ℕ) : Type 0 where
@@ -340,3 +340,16 @@ a-step-keeps-its-row k p e a b w s =
     let z : itsByte k (d.Carried p) ≡ true = rw e at (its-byte k) in
     let same : k ≡ byteOf p = eqb-true _ _ z in
     rw same (op-tied p a b w s)
+
+tied-counted : (k a b : ℕ) (w : World) (s t : State) → callsOrReturns k ≡ false → Tied k a b w s (went t) → Counted k a b s t
+unfolding callsOrReturns
+tied-counted k a b w s t h (goes e q on) = record { enough = on .enough; stack = on .stack }
+tied-counted k a b w s t h (leaps e on) = record { enough = on .enough; stack = on .stack }
+tied-counted k a b w s t h (calls e inn) = absurd (true≢false (rw e at h))
+tied-counted k a b w s t h (calls-named g e inn) = absurd (true≢false (rw e at h))
+tied-counted k a b w s t h (comes-back c cs e out) = absurd (true≢false (rw e at h))
+
+-- in short: where it neither calls nor returns, it pops and pushes as many values as the row says
+pub the-row-counts-the-values : (k : ℕ) (p : Op) → opcodeAt k .what ≡ d.Carried p → callsOrReturns k ≡ false → (a b : ℕ) (w : World) (s t : State)
+    → execOf w p a b s ≡ went t → Counted k a b s t
+the-row-counts-the-values k p e h a b w s t q = tied-counted k a b w s t h (rw q at (a-step-keeps-its-row k p e a b w s))

@@ -1,8 +1,8 @@
 -- THE THEOREMS over a program that passed the check: what its runs never meet, and how high its frames grow.
-use mathlib.Core.Path.{_≡_, refl, sym, subst, _∙_}
+use mathlib.Core.Path.{_≡_, refl, sym, subst}
 use mathlib.Core.Bool.{false}
 use mathlib.Core.List.{List, [], _∷_}
-use Prim.Native.Nat.{ℕ}
+use Prim.Native.Nat.{ℕ, _<_}
 use native.Mathlib.Omega.{arith}
 use borrow.Author.Tests.{leb-false}
 use lib.ListN.{length}
@@ -21,7 +21,7 @@ use Rattle.laws_runs.specs.Demand.{Recovered}
 use Rattle.laws_runs.proofs.Demands.{run-recovered}
 use Rattle.check_rules.specs.Rules.{starts, Passed, codeOf}
 use Rattle.laws_check.specs.Good.{Serves, Waiting, Good, Allowed, Safe}
-use Rattle.laws_check.specs.Passed.{Fresh, Comes, ruledOut, Faults, NeverFaultsSo, AsksInRange, Parts, FramesFit, RunsSo, RunsAskInRange}
+use Rattle.laws_check.specs.Passed.{JustLoaded, Comes, ruledOut, Meets, NeverFaultsSo, AsksInRange, Parts, FramesWithin, RunsSo, RunsAskInRange}
 use Rattle.laws_check.proofs.Walked.{main-is-taken-with-none}
 use Rattle.laws_check.proofs.Kept.{good-at, a-step-stays-good}
 
@@ -64,12 +64,12 @@ only-six f.NoFunction e = absurd (let z : ⊥ = omega arith in z)
 module _ (p : Program) (ok : Passed p) where
   -- ---- the invariant holds along every run
 
-  pub a-fresh-machine-is-good : (m : Machine) → Fresh m → (u : ℕ) → Good p (begin m u)
+  pub a-fresh-machine-is-good : 0 < length (p .functions) → (m : Machine) → JustLoaded m → (u : ℕ) → Good p (begin m u)
   unfolding Waiting
-  a-fresh-machine-is-good m fresh u =
+  a-fresh-machine-is-good main m loaded u =
       let taken = main-is-taken-with-none p ok in
-      let empty : length (m .stack) ≡ 0 = rw (fresh .stack) in
-      good-at p (begin m u) (fresh .frame) (fresh .callers) (refl, refl) (omega arith) starts
+      let empty : length (m .stack) ≡ 0 = rw (loaded .stack) in
+      good-at p (begin m u) (loaded .frame) (loaded .callers) (refl, refl) (omega arith) (record { known = main; path = starts })
 
   module _ (w : World) (of : Serves p w) where
     next-safe : (s : State) → Good p s → over w s ≡ false → Safe p (opcodeIn (steps.codeOf w s) (position s) .what) (stepOf w s)
@@ -82,14 +82,12 @@ module _ (p : Program) (ok : Passed p) where
     a-run-stays-good good (ret {s = s} o q rest) = a-run-stays-good (subst (Safe p _) q (next-safe s good o)) rest
 
   comes-good : {w : World} {s : State} → Comes p w s → Good p s
-  comes-good {w} c = a-run-stays-good w (c .serves) (a-fresh-machine-is-good (c .machine) (c .fresh) (c .units)) (c .path)
+  comes-good {w} c = a-run-stays-good w (c .serves) (a-fresh-machine-is-good (c .serves .main) (c .machine) (c .loaded) (c .units)) (c .path)
 
-  fault-allowed : (w : World) (s : State) (n : Fault) → Faults p w s n → Allowed (opcodeIn (steps.codeOf w s) (position s) .what) n
+  fault-allowed : (w : World) (s : State) (n : Fault) → Meets p w s n → Allowed (opcodeIn (steps.codeOf w s) (position s) .what) n
   fault-allowed w s n h =
       let c = h .comes in
-      let z : Safe p (opcodeIn (steps.codeOf w s) (position s) .what) (faulted n (h .left)) =
-      subst (Safe p _) (h .step) (a-step-stays-good p ok w (c .serves) s (comes-good c) (h .inside)) in
-      z
+      subst (Safe p (opcodeIn (steps.codeOf w s) (position s) .what)) (h .step) (a-step-stays-good p ok w (c .serves) s (comes-good c) (h .inside))
 
   -- ---- THE THEOREMS
 
@@ -104,35 +102,35 @@ module _ (p : Program) (ok : Passed p) where
   callers-fit [] g base h = tt
   callers-fit (c ∷ cs) g base h =
       let waits = h .0 .sum in
-      (record { begins = omega arith; fits = λ m top. let z = top .most (h .0 .stands) in omega arith }, callers-fit cs (c .function) (c .base) (h .1))
+      (record { known = h .0 .stands .known; begins = omega arith; fits = λ m top. let z = top .most (h .0 .stands .path) in omega arith }, callers-fit cs (c .function) (c .base) (h .1))
 
-  pub passed-frames-fit : FramesFit p
+  pub passed-frames-fit : FramesWithin p
   unfolding Parts
   passed-frames-fit w s c =
       let good = comes-good c in
       let sum = good .sum in
-      (record { begins = omega arith; fits = λ m top. let z = top .most (good .stands) in omega arith }, callers-fit (s .callers) _ _ (good .waiting))
+      (record { known = good .stands .known; begins = omega arith; fits = λ m top. let z = top .most (good .stands .path) in omega arith }, callers-fit (s .callers) _ _ (good .waiting))
 
   -- ---- whole runs
 
   -- the step that stopped a run, at a state that it came to
-  run-stops : (w : World) → Serves p w → (m : Machine) → Fresh m → (u n : ℕ) (did : Tally) (trace : List Entry) (r : Recovered w m u n did trace)
-      → Faults p w (r .at) (r .fault)
+  run-stops : (w : World) → Serves p w → (m : Machine) → JustLoaded m → (u n : ℕ) (did : Tally) (trace : List Entry) (r : Recovered w m u n did trace)
+      → Meets p w (r .at) (r .fault)
   unfolding over
-  run-stops w of m fresh u n did trace r = record {
-    comes = record { serves = of; machine = m; fresh = fresh; units = u; count = r .steps; before = _; after = r .kept; path = r .path };
+  run-stops w of m loaded u n did trace r = record {
+    comes = record { serves = of; machine = m; loaded = loaded; units = u; count = r .steps; before = _; after = r .kept; path = r .path };
     inside = leb-false _ _ (r .goes-on);
     left = r .after;
     step = r .stops;
   }
 
   pub passed-runs-so : RunsSo p
-  passed-runs-so w of m fresh u n did trace e =
+  passed-runs-so w of m loaded u n did trace e =
       let r = run-recovered w m u n did trace e in
-      rw (r .number) (passed-never-faults-so w (r .at) (r .fault) (run-stops w of m fresh u n did trace r))
+      rw (r .number) (passed-never-faults-so w (r .at) (r .fault) (run-stops w of m loaded u n did trace r))
 
   pub passed-runs-ask-in-range : RunsAskInRange p
-  passed-runs-ask-in-range w of m fresh u n did trace e six =
-      let r = run-recovered w m u n did trace e in
-      let h : Faults p w (r .at) f.OutOfRange = subst (Faults p w (r .at)) (only-six (r .fault) (sym (r .number) ∙ six)) (run-stops w of m fresh u n did trace r) in
-      record { at = r .at; faults = h; opcode = passed-asks-in-range w (r .at) h }
+  passed-runs-ask-in-range w of m loaded u did trace e =
+      let r = run-recovered w m u 6 did trace e in
+      let six : r .fault ≡ f.OutOfRange = only-six (r .fault) (sym (r .number)) in
+      record { run = r; opcode = passed-asks-in-range w (r .at) (rw six at (run-stops w of m loaded u 6 did trace r)) }

@@ -12,6 +12,7 @@ use Rattle.model.specs.Programs.{Function, Program, functionAt, behind, nextIn,
 use Rattle.check_rules.specs.declared.Rule.the-variants as r
 use Rattle.check_rules.specs.Rules.{every, isIn, lands, jumpAt, isJump, targetAt, Path, starts, goes, leaps, Keeps, Passed, codeOf, isMain, countOf, callsIn, callsAt, Site, countIn, passes, callAt, isAt, call, callCallable, firstAt, secondAt, wholeAt, numbersAt, suffices, Heights}
 use Rattle.value.proofs.Coding.{and-left, and-right}
+use Rattle.laws_check.specs.Good.{Stands}
 
 -- ---- tests of lists
 
@@ -84,14 +85,6 @@ module _ (main : Bool) (count : ℕ) (code : List ℕ) (jumps : every (jumpAt ma
   a-path-comes-to-the-walk (goes {i = i} q k e) l = next-in (length code) code 0 (omega arith) i (a-path-comes-to-the-walk q k) l
   a-path-comes-to-the-walk (leaps {i = i} q k j) l = landed-in (targetAt code i) (jump-lands i (a-path-comes-to-the-walk q k) j) l
 
--- ---- a function that has an instruction is one of the program's
-
-pub with-code-known : (fs : List Function) (f i : ℕ) → i < length (functionAt fs f .code) → f < length fs
-unfolding functionAt
-with-code-known [] f i l = absurd (let z : ⊥ = omega arith in z)
-with-code-known (x ∷ fs) zero i l = omega arith
-with-code-known (x ∷ fs) (suc f) i l = let z = with-code-known fs f i l in omega arith
-
 -- ---- every Call of a function passes its count
 
 module _ (f k : ℕ) where
@@ -155,13 +148,13 @@ module _ (p : Program) (ok : Passed p) where
   unfolding countOf Keeps
   main-is-taken-with-none = main-uncalled (p .functions) (ok r.Calls)
 
-  module _ (f : ℕ) {i h : ℕ} (path : Path (isMain f) (countOf p f) (codeOf p f) i h) (l : i < length (codeOf p f)) where
+  module _ (f : ℕ) {i h : ℕ} (stands-here : Stands p f i h) (l : i < length (codeOf p f)) where
     known : f < length (p .functions)
-    known = with-code-known (p .functions) f i l
+    known = stands-here .known
 
     in-the-walk : isIn i (stands (codeOf p f)) ≡ true
     unfolding Keeps
-    in-the-walk = a-path-comes-to-the-walk (isMain f) (countOf p f) (codeOf p f) (ok r.Jumps f known) path l
+    in-the-walk = a-path-comes-to-the-walk (isMain f) (countOf p f) (codeOf p f) (ok r.Jumps f known) (stands-here .path) l
 
     pub whole-here : wholeAt (codeOf p f) i ≡ true
     unfolding Keeps
@@ -177,7 +170,7 @@ module _ (p : Program) (ok : Passed p) where
 
     pub suffices-here : suffices (codeOf p f) i h ≡ true
     unfolding Keeps
-    suffices-here = let z : Heights (isMain f) (countOf p f) (codeOf p f) = ok r.Heights f known in z .enough path l
+    suffices-here = let z : Heights (isMain f) (countOf p f) (codeOf p f) = ok r.Heights f known in z .enough (stands-here .path) l
 
     pub count-here : isAt call (codeOf p f) i ≡ true → firstAt (codeOf p f) i < length (p .functions) → secondAt (codeOf p f) i ≡ countOf p (firstAt (codeOf p f) i)
     unfolding Keeps

@@ -1,7 +1,8 @@
 -- THE INVARIANT of a passed program's run: each frame stands where a path of its function comes, with exactly the values that the path has.
+-- "each reached position has one known height above its frame's base, starting at that count (0 in main)"
 use mathlib.Core.Path.{_≡_}
 use mathlib.Core.List.{List, [], _∷_}
-use Prim.Native.Nat.{ℕ, suc, _+_}
+use Prim.Native.Nat.{ℕ, suc, _+_, _<_}
 use lib.ListN.{length}
 use Rattle.model.specs.declared.Decoded.{Decoded}
 use Rattle.model.specs.declared.Fault.{Fault}
@@ -12,15 +13,17 @@ use Rattle.model.specs.Steps.{World, State, Outcome, went, returned, faulted, p
 use Rattle.check_rules.specs.Rules.{Path, codeOf, countOf, isMain}
 use Rattle.laws_check.specs.Row.{Unsure}
 
--- a world of the program: its functions, and as many constants and structs. The rooms are any
+-- a world of the program, which has a main: its functions, and as many constants and structs. The rooms are any
 pub record Serves (p : Program) (w : World) : Type 0 where
+  pub main : 0 < length (p .functions)
   pub functions : w .functions ≡ p .functions
   pub constants : length (w .constants) ≡ length (p .constants)
   pub structs : w .structs ≡ length (p .structs)
 
 -- function f can stand at position i with h values above its frame's base
-abbrev pub Stands : Program → (f i h : ℕ) → Type 0
-Stands p f i h = Path (isMain f) (countOf p f) (codeOf p f) i h
+pub record Stands (p : Program) (f i h : ℕ) : Type 0 where
+  pub known : f < length (p .functions)
+  pub path : Path (isMain f) (countOf p f) (codeOf p f) i h
 
 -- a caller waits for a callee with that base: it has `waits` values of its own, and stands where it has one more, the callee's
 pub record Calls (p : Program) (c : Frame) (base : ℕ) : Type 0 where

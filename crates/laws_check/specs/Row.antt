@@ -1,6 +1,7 @@
 -- [step] An opcode's row, tied to its step: what it pops, what it pushes and what its operands name is what an instruction does.
+-- So the check counts right: "no instruction pops below the base, reads a slot at or above the height or passes more arguments than the height".
 use mathlib.Core.Path.{_≡_}
-use mathlib.Core.Bool.{true, false, _||_}
+use mathlib.Core.Bool.{Bool, true, false, _||_}
 use mathlib.Core.List.{List, [], _∷_}
 use Prim.Native.Nat.{ℕ, suc, _+_, _-_, _≤_, _<_, min}
 use lib.Dec.{eqb}
@@ -78,3 +79,11 @@ pub data Tied (k a b : ℕ) (w : World) (s : State) : Outcome → Type 0 where
   comes-back : {t : State} (c : Frame) (cs : List Frame) → k ≡ return → Outward k a b c cs s t → Tied k a b w s (went t)
   ends : {t : State} {v : Value} → k ≡ return → s .callers ≡ [] → Onward k a b (position s) s t → Tied k a b w s (returned v t)
   faults : {n : Fault} {t : State} → Why k a b w s n → Tied k a b w s (faulted n t)
+
+-- in short, where it neither calls nor returns
+unfoldable pub callsOrReturns : ℕ → Bool
+callsOrReturns k = eqb k call || eqb k callCallable || eqb k return
+
+pub record Counted (k a b : ℕ) (s t : State) : Type 0 where
+  pub enough : popped (opcodeAt k) a b ≤ length (s .stack)
+  pub stack : length (t .stack) ≡ length (s .stack) - popped (opcodeAt k) a b + opcodeAt k .pushes
