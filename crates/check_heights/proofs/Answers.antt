@@ -14,7 +14,7 @@ use Rattle.check_heights.specs.Answer.{HeightsPre, HeightsMeans, Heights
 use Rattle.check_heights.specs.Links.{Known, Unknown, Half, ScanMeans, ScanPost, finished}
 use Rattle.check_heights.proofs.Walks.{not-both, path-within}
 use Rattle.check_heights.proofs.Tables.{known-one, known-or-not}
-use Rattle.check_heights.proofs.Scans.{greater-attained}
+use Rattle.check_heights.proofs.Halves.{greater-attained}
 
 -- ---- `finish`
 
