@@ -41,8 +41,8 @@ module _ (main : Bool) (count : ℕ) (code : List ℕ) where
         }
 
     module _ {i top : ℕ} {t : List ℕ} (s : Looping t₀ i top t) where
-      visit-ready : i < length code → {h : ℕ} → Known t i h → VisitPre code i h t
-      visit-ready lt z =
+      reached-ready : i < length code → {h : ℕ} → Known t i h → VisitPre code i h t
+      reached-ready lt z =
           let g = pre .given in
           let p = s .half .paths z in
           let low = path-low p in
@@ -54,7 +54,7 @@ module _ (main : Bool) (count : ℕ) (code : List ℕ) where
           }
 
       pub turn-ready : i < length code → TurnPre code i t
-      turn-ready lt = record { inside = omega (arith, pre .given .room, s .same); ready = visit-ready lt }
+      turn-ready lt = record { inside = omega (arith, pre .given .room, s .same); ready = reached-ready lt }
 
       pub loop-goes : i < length code → {r : Height} {t' : List ℕ} → TurnPost main code i top t r t' → {m : ℕ} → r ≡ a.Greatest m → length t' ≡ length t
           → Looping t₀ (i + 1) m t'
