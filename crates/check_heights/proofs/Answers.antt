@@ -14,7 +14,7 @@ use Rattle.check_heights.specs.Answer.{HeightsPre, HeightsMeans, Heights
 use Rattle.check_heights.specs.Links.{Known, Unknown, Half, ScanMeans, ScanPost, finished}
 use Rattle.check_heights.proofs.Walks.{not-both, path-within}
 use Rattle.check_heights.proofs.Tables.{known-one, known-or-not}
-use Rattle.check_heights.proofs.Scans.{greater-attained}
+use Rattle.check_heights.proofs.Halves.{greater-attained}
 
 -- ---- `finish`
 
@@ -114,7 +114,7 @@ part-ready {code = code} {t} g = record {
 one-greatest : {main : Bool} {count : ℕ} {code : List ℕ} {m n : ℕ} → Greatest main count code m → Greatest main count code n → m ≡ n
 one-greatest p q = let x = p .most (q .path) in let y = q .most (p .path) in omega arith
 
--- THE LAW
+-- THE LAW: two answers that both fit are one
 pub heights-one-answer : {main : Bool} {count : ℕ} {code : List ℕ} (r s : Height) → HeightsPost main count code r → HeightsPost main count code s → r ≡ s
 heights-one-answer (a.Greatest m) (a.Greatest n) p q = ap a.Greatest (one-greatest (p .means .1) (q .means .1))
 heights-one-answer (a.Greatest m) a.Broken p q = absurd (q .means (p .means .0))

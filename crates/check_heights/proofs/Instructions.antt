@@ -79,7 +79,7 @@ one-more : (code : List ℕ) (i h : ℕ) → heightAfter code i h ≤ suc h
 unfolding heightAfter
 one-more code i h = let z = pushes-one (getD code i 0) in omega arith
 
--- THE LAW: a path has at most one value more than the arguments for each position that it has passed
+-- THE LAW: a path has at most the arguments and a value for each byte that it has passed
 pub path-low : {main : Bool} {count : ℕ} {code : List ℕ} {i h : ℕ} → Path main count code i h → h ≤ count + i
 path-low starts = omega arith
 path-low {code = code} (goes {i} {h} p lt on) =

@@ -3,5 +3,6 @@ pub mod Walks
 pub mod Instructions
 pub mod Tables
 pub mod Visits
+pub mod Halves
 pub mod Scans
 pub mod Answers

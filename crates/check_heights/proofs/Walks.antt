@@ -23,7 +23,7 @@ pub and-left : (a b : Bool) → (a && b) ≡ true → a ≡ true
 and-left true b e = refl
 and-left false b e = e
 
-pub and-right : (a b : Bool) → (a && b) ≡ true → b ≡ true
+and-right : (a b : Bool) → (a && b) ≡ true → b ≡ true
 and-right true b e = e
 and-right false b e = absurd (not-both e refl)
 
@@ -34,7 +34,7 @@ or-either false b e = inr e
 -- ---- the walk
 
 -- the walk from 0 on comes to i
-pub data Walk (code : List ℕ) : ℕ → Type 0 where
+data Walk (code : List ℕ) : ℕ → Type 0 where
   first : Walk code 0
   next : {i : ℕ} → Walk code i → i < length code → Walk code (nextIn code i)
 
@@ -81,11 +81,11 @@ module _ (test : ℕ → Bool) (code : List ℕ) where
     every-at w lt = rest-here lt (walk-rest w)
 
 -- an instruction of the walk, or the end
-pub data Place (code : List ℕ) : ℕ → Type 0 where
+data Place (code : List ℕ) : ℕ → Type 0 where
   instruction : {i : ℕ} → Walk code i → i < length code → Place code i
   end : Place code (length code)
 
-pub place-within : {code : List ℕ} {i : ℕ} → Place code i → i ≤ length code
+place-within : {code : List ℕ} {i : ℕ} → Place code i → i ≤ length code
 place-within (instruction w lt) = omega arith
 place-within end = omega arith
 
@@ -139,12 +139,13 @@ module _ (main : Bool) (code : List ℕ) (whole : every (wholeAt code) (stands c
   place-leap (instruction w l) lt j = walk-lands w lt j
   place-leap end lt j = absurd (omega arith)
 
-  -- THE LAW
-  pub path-place : {count i h : ℕ} → Path main count code i h → Place code i
+  -- a path comes to an instruction of the walk or to the end
+  path-place : {count i h : ℕ} → Path main count code i h → Place code i
   path-place starts = walk-place code first (omega arith)
   path-place (goes p lt on) = place-on (path-place p) lt
   path-place (leaps p lt j) = place-leap (path-place p) lt j
 
+  -- THE LAWS: it never leaves the code, and an instruction that it comes to is all there
   pub path-within : {count i h : ℕ} → Path main count code i h → i ≤ length code
   path-within p = place-within (path-place p)
 
