@@ -2,11 +2,11 @@
 use mathlib.Core.Path.{_≡_, refl, sym, ap, _∙_}
 use mathlib.Core.Bool.{Bool, true, false}
 use mathlib.Core.List.{List, [], _∷_, _++_}
-use Prim.Native.Nat.{ℕ, zero, suc, _+_, _≤_, _<_}
+use Prim.Native.Nat.{ℕ, _+_, _≤_, _<_}
 use native.Mathlib.Omega.{arith}
 use native.Mathlib.Decide.{ℕ-discrete}
 use lib.Dec.{eqb}
-use lib.ListN.{length, getD, set, length-set}
+use lib.ListN.{length, getD, set}
 use lib.Seq.{getD-set-same, getD-set-other}
 use borrow.Author.Tests.{eq-eqb, ne-eqb}
 use Rattle.model.specs.Basics.{if_then_else_}
@@ -36,7 +36,7 @@ module _ (v k : ℕ) where
 -- ---- an instruction
 
 module _ (code : List ℕ) (i : ℕ) (s : List ℕ) where
-  pub nothing-to-enter : (getD code i 0 ≡ 28 → ⊥) → Enters code (i ∷ []) s s
+  pub nothing-to-enter : (getD code i 0 ≡ call → ⊥) → Enters code (i ∷ []) s s
   unfolding callsAt tallied
   nothing-to-enter h = record { each = λ g. rw (ne-eqb _ _ h) }
 
@@ -45,7 +45,7 @@ module _ (code : List ℕ) (i : ℕ) (s : List ℕ) where
     one-entry g (yes z) = rw (z, eq-eqb f f refl) (getD-set-same s f w 0 (omega arith) ∙ e)
     one-entry g (no z) = rw (ne-eqb f g (λ y. z (sym y))) (getD-set-other s f g w 0 z)
 
-    pub a-call-entered : getD code i 0 ≡ 28 → f ≡ firstAt code i → k ≡ secondAt code i → Enters code (i ∷ []) s (set s f w)
+    pub a-call-entered : getD code i 0 ≡ call → f ≡ firstAt code i → k ≡ secondAt code i → Enters code (i ∷ []) s (set s f w)
     unfolding callsAt tallied enteredAt
     a-call-entered h a b = record { each = λ g. rw (eq-eqb _ _ h, ← a, ← b) (one-entry g (ℕ-discrete g f)) }
 
