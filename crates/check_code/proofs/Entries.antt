@@ -2,11 +2,11 @@
 use mathlib.Core.Path.{_≡_, refl, sym, ap, _∙_}
 use mathlib.Core.Bool.{Bool, true, false}
 use mathlib.Core.List.{List, [], _∷_, _++_}
-use Prim.Native.Nat.{ℕ, zero, suc, _+_, _≤_, _<_}
+use Prim.Native.Nat.{ℕ, _+_, _≤_, _<_}
 use native.Mathlib.Omega.{arith}
 use native.Mathlib.Decide.{ℕ-discrete}
 use lib.Dec.{eqb}
-use lib.ListN.{length, getD, set, length-set}
+use lib.ListN.{length, getD, set}
 use lib.Seq.{getD-set-same, getD-set-other}
 use borrow.Author.Tests.{eq-eqb, ne-eqb, eqb-true}
 use Rattle.model.specs.Basics.{if_then_else_}
@@ -46,7 +46,7 @@ few-entered v k l = by-case (eqb v 0) (eqb v (k + 2)) refl
 -- ---- an instruction
 
 module _ (code : List ℕ) (i : ℕ) (s : List ℕ) where
-  pub nothing-to-enter : (getD code i 0 ≡ 28 → ⊥) → Enters code (i ∷ []) s s
+  pub nothing-to-enter : (getD code i 0 ≡ call → ⊥) → Enters code (i ∷ []) s s
   unfolding callsAt tallied
   nothing-to-enter h = record { each = λ g. rw (ne-eqb _ _ h); few = λ g l. l }
 
@@ -59,7 +59,7 @@ module _ (code : List ℕ) (i : ℕ) (s : List ℕ) where
     few-entry g (yes z) h = rw (z, getD-set-same s f w 0 (let inside : f < length s = omega arith in inside), e) (few-entered (getD s f 0) k m)
     few-entry g (no z) h = rw (getD-set-other s f g w 0 z) h
 
-    pub a-call-entered : getD code i 0 ≡ 28 → f ≡ firstAt code i → k ≡ secondAt code i → Enters code (i ∷ []) s (set s f w)
+    pub a-call-entered : getD code i 0 ≡ call → f ≡ firstAt code i → k ≡ secondAt code i → Enters code (i ∷ []) s (set s f w)
     unfolding callsAt tallied enteredAt
     a-call-entered h a b = record { each = λ g. rw (eq-eqb _ _ h, ← a, ← b) (one-entry g (ℕ-discrete g f)); few = λ g h. few-entry g (ℕ-discrete g f) h }
 

@@ -1,8 +1,8 @@
 -- The test of one instruction, rule by rule: what the code answers is what the rule says.
-use mathlib.Core.Path.{_≡_, refl, sym, ap, _∙_}
-use mathlib.Core.Bool.{Bool, true, false, not, _&&_, _||_}
+use mathlib.Core.Path.{_≡_, refl, _∙_}
+use mathlib.Core.Bool.{Bool, true, false, not, _||_}
 use mathlib.Core.List.{List, [], _∷_}
-use Prim.Native.Nat.{ℕ, zero, suc, _+_, _*_, _≤_, _<_}
+use Prim.Native.Nat.{ℕ, _+_}
 use lib.Dec.{leb, ltb, eqb}
 use lib.ListN.{length, getD}
 use borrow.Author.Tests.{eq-eqb, ne-eqb}
@@ -16,7 +16,7 @@ use Rattle.model.specs.declared.Names.{Names}
 use Rattle.model.specs.declared.Names.the-variants as n
 use Rattle.model.specs.Opcodes.{firstNames, secondNames}
 use Rattle.model.specs.Programs.{opcodeIn, nextIn}
-use Rattle.check_rules.specs.Rules.{firstAt, secondAt, isCarried, wholeAt, inRange, numbersAt, callAt, isJump, lands, jumpAt}
+use Rattle.check_rules.specs.Rules.{jumpIfFalse, jump, call, callCallable, firstAt, secondAt, isCarried, wholeAt, inRange, numbersAt, callAt, isJump, lands, jumpAt}
 use Rattle.check_code.specs.Links.{Ranges, NumbersOne}
 
 -- ---- 1 whole carried instructions
@@ -85,27 +85,27 @@ module _ {constants structs functions : ℕ} where
 -- ---- 3 no CallCallable and no Call of function 0
 
 module _ (code : List ℕ) (i : ℕ) where
-  pub is-callable : getD code i 0 ≡ 31 → false ≡ callAt code i
+  pub is-callable : getD code i 0 ≡ callCallable → false ≡ callAt code i
   unfolding callAt
   is-callable e = rw (eq-eqb _ _ e)
 
-  module _ (h : getD code i 0 ≡ 31 → ⊥) where
-    pub is-call : getD code i 0 ≡ 28 → {f : ℕ} → f ≡ firstAt code i → not (eqb f 0) ≡ callAt code i
+  module _ (h : getD code i 0 ≡ callCallable → ⊥) where
+    pub is-call : getD code i 0 ≡ call → {f : ℕ} → f ≡ firstAt code i → not (eqb f 0) ≡ callAt code i
     unfolding callAt
     is-call e g = rw (ne-eqb _ _ h, eq-eqb _ _ e, g)
 
-    pub is-no-call : (getD code i 0 ≡ 28 → ⊥) → true ≡ callAt code i
+    pub is-no-call : (getD code i 0 ≡ call → ⊥) → true ≡ callAt code i
     unfolding callAt
     is-no-call g = rw (ne-eqb _ _ h, ne-eqb _ _ g)
 
 -- ---- 5 jumps land
 
 module _ (b : ℕ) where
-  pub is-conditional : b ≡ 26 → true ≡ (eqb b 26 || eqb b 27)
-  is-conditional e = rw (eq-eqb b 26 e)
+  pub is-conditional : b ≡ jumpIfFalse → true ≡ (eqb b jumpIfFalse || eqb b jump)
+  is-conditional e = rw (eq-eqb b jumpIfFalse e)
 
-  pub not-conditional : (b ≡ 26 → ⊥) → eqb b 27 ≡ (eqb b 26 || eqb b 27)
-  not-conditional h = rw (ne-eqb b 26 h)
+  pub not-conditional : (b ≡ jumpIfFalse → ⊥) → eqb b jump ≡ (eqb b jumpIfFalse || eqb b jump)
+  not-conditional h = rw (ne-eqb b jumpIfFalse h)
 
 module _ (main : Bool) (code : List ℕ) (i : ℕ) {b : Bool} (e : b ≡ isJump code i) where
   pub jump-lands-or-not : b ≡ true → {n : ℕ} → n ≡ nextIn code i → {a : ℕ} → a ≡ firstAt code i → {r : Bool} → r ≡ lands main code (n + a) → r ≡ jumpAt main code i

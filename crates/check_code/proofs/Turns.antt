@@ -1,6 +1,6 @@
 -- One law of the walk, for every loop over the instructions of a code.
 use mathlib.Core.Path.{_≡_, refl, sym, ap, _∙_}
-use mathlib.Core.Bool.{Bool, true, false, _&&_}
+use mathlib.Core.Bool.{Bool, true, false}
 use mathlib.Core.List.{List, [], _∷_}
 use Prim.Native.Nat.{ℕ, zero, suc, _+_, _-_, _≤_, _<_}
 use native.Mathlib.Omega.{arith}
@@ -48,7 +48,7 @@ module _ {A : Type 0} {code : List ℕ} {found : A} {rest : List ℕ → A} {i :
     decides d = one-fewer ∙ d _
 
     -- the pass goes on behind it
-    pub next-turn : {then : List ℕ → A} → ((is : List ℕ) → rest (i ∷ is) ≡ then is) → {j : ℕ} → j ≡ nextIn code i → Turn code found then j
+    pub next-turn : {onward : List ℕ → A} → ((is : List ℕ) → rest (i ∷ is) ≡ onward is) → {j : ℕ} → j ≡ nextIn code i → Turn code found onward j
     next-turn d e =
         let y = t .enough in
         let x = further-on code i in

@@ -27,9 +27,9 @@ pub record NumbersOne (constants structs functions : ℕ) (code : List ℕ) (i :
 pub record NumbersAll (constants structs functions : ℕ) (code : List ℕ) (r : Bool) : Type 0 where
   pub means : (p : Program) → Sized constants structs functions p → r ≡ every (numbersAt p code) (stands code)
 
--- the first n marks are clear
-pub record Cleared (n : ℕ) (marks : List ℕ) : Type 0 where
-  pub clear : (j : ℕ) → j < n → getD marks j 0 ≡ 0
+-- the first n places are clear
+pub record Cleared (n : ℕ) (s : List ℕ) : Type 0 where
+  pub clear : (j : ℕ) → j < n → getD s j 0 ≡ 0
 
 -- below the code's end the marks tell where its instructions begin
 pub record Marked (code marks : List ℕ) : Type 0 where

@@ -1,5 +1,5 @@
 -- The tally of the Calls: an entry for each function, which is 0 where no Call names it, 1 where two Calls differ, else the count and two more.
-use mathlib.Core.Bool.{Bool, true, false, _||_}
+use mathlib.Core.Bool.{Bool, false, _||_}
 use mathlib.Core.List.{List, [], _∷_}
 use Prim.Native.Nat.{ℕ, _+_}
 use lib.Dec.{eqb}

@@ -6,9 +6,9 @@ use opcode::first_names;
 use opcode::operands;
 use opcode::second_names;
 ghost use mathlib.Core.Path.{_≡_};
-ghost use Prim.Native.Nat.{_+_, _≤_, _<_, _^_};
-ghost use mathlib.Core.List.{[], _∷_};
 ghost use mathlib.Core.Bool.{_||_};
+ghost use mathlib.Core.List.{[], _∷_};
+ghost use Prim.Native.Nat.{_+_, _≤_, _<_, _^_};
 ghost use lib.Dec.{eqb};
 ghost use lib.ListN.{length, getD};
 ghost use Rattle.model.specs.Opcodes.{opcodeAt};
@@ -76,6 +76,7 @@ fn next_at(code: &[u8], i: usize) -> usize
 
 // ---- 1 whole carried instructions
 
+// Is it carried?
 fn is_carried(b: u8) -> bool
     ensures { λ r. ⌜ r ≡ isCarried (opcodeAt b .what) ⌝ }
 {
@@ -86,6 +87,7 @@ fn is_carried(b: u8) -> bool
     }
 }
 
+// Is the instruction at i carried, and all there?
 fn whole_at(code: &[u8], i: usize) -> bool
     requires { ⌜ i < length (now code) ⌝ }
     ensures { λ r. ⌜ r ≡ wholeAt (now (code .entry)) i ⌝ }
@@ -126,6 +128,7 @@ fn in_range(kind: Names, x: usize, constants: usize, structs: usize, functions: 
     }
 }
 
+// Are the numbers that the instruction at i names in range?
 fn numbers_at(code: &[u8], i: usize, constants: usize, structs: usize, functions: usize) -> bool
     requires { ⌜ i < length (now code) ⌝ }
     ensures { λ r. ⌜ NumbersOne constants structs functions (now (code .entry)) i r ⌝ }
@@ -158,6 +161,7 @@ pub fn numbers(code: &[u8], constants: usize, structs: usize, functions: usize) 
 
 // ---- 3 no CallCallable and no Call of function 0
 
+// Is the instruction at i neither CallCallable nor a Call of function 0?
 fn call_at(code: &[u8], i: usize) -> bool
     requires { ⌜ i < length (now code) ⌝ }
     ensures { λ r. ⌜ r ≡ callAt (now (code .entry)) i ⌝ }
@@ -233,7 +237,7 @@ pub fn tally(code: &[u8], counts: &mut [u32])
 
 // ---- 5 jumps land
 
-// Clears the first n marks.
+// Clears the first n places of marks, or of a tally.
 pub fn clear(n: usize, marks: &mut [u32])
     requires { ⌜ n ≤ length (now marks) ⌝ }
     ensures { λ r. ⌜ Cleared n (now (marks .exit)) ⌝ }
@@ -274,6 +278,7 @@ fn lands(main: bool, code: &[u8], j: usize, marks: &[u32]) -> bool
     false
 }
 
+// Is it one of the two jumps?
 fn is_jump(b: u8) -> bool
     ensures { λ r. ⌜ r ≡ (eqb b jumpIfFalse || eqb b jump) ⌝ }
 {
@@ -283,6 +288,7 @@ fn is_jump(b: u8) -> bool
     b == JUMP
 }
 
+// Does the instruction at i land, if it is a jump?
 fn jump_at(main: bool, code: &[u8], i: usize, marks: &[u32]) -> bool
     requires { ⌜ (i < length (now code)) × (length (now code) ≤ length (now marks)) × (Marked (now code) (now marks)) ⌝ }
     ensures { λ r. ⌜ r ≡ jumpAt main (now (code .entry)) i ⌝ }

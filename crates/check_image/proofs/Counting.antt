@@ -7,7 +7,8 @@ use Prim.Native.Nat.{ℕ, zero, suc, _+_, _-_, _≤_, _<_}
 use native.Mathlib.Omega.{arith}
 use native.Mathlib.Nat.{eq-or-lt-of-le}
 use lib.Dec.{eqb}
-use lib.ListN.{length, getD, take, drop, replicate, take-of-length-le}
+use lib.ListN.{length, getD, take, drop, replicate}
+use lib.Seq.{take-length}
 use Rattle.model.specs.Programs.{Function, Program, functionAt, stands}
 use Rattle.model.specs.Images.{fine, judge}
 use Rattle.image_judge.specs.declared.Sizes.{Sizes}
@@ -82,7 +83,8 @@ module _ {s : List ℕ} {z : Sizes} {before : List ℕ} {f at : ℕ} {counts : L
     tallies = λ p e.
       let t = a .0 h in
       let many = h .says .sizes .functions in
-      let whole = take-of-length-le (programOf h .functions) {n = f} (let w : length (programOf h .functions) ≤ f = omega arith in w) in
+      let last : f ≡ length (programOf h .functions) = let most = t .sofar .most in omega arith in
+      let whole : take f (programOf h .functions) ≡ programOf h .functions = rw last (take-length (programOf h .functions)) in
       let here : Tallied (programOf h) counts =
           record { each = λ g. t .each g ∙ ap (λ (fs : List Function). tallied g 0 (callsIn fs)) whole; few = t .few } in
       subst (λ (q : Program). Tallied q counts) (fine-one (h .says .judged) e) here;

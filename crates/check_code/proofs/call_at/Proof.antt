@@ -1,6 +1,6 @@
 -- `call_at`: CallCallable, Call, and the others.
-use Rattle.check_code.proofs.Tests.{is-callable, is-call, is-no-call}
 use borrow.Author.Needs.{needs}
+use Rattle.check_code.proofs.Tests.{is-callable, is-call, is-no-call}
 use Rattle.check_code.proofs.call_at.Statement.{statement}
 use Rattle.check_code.proofs.call_at.Tie as tie
 

@@ -1,6 +1,6 @@
 -- `entry`: a first Call, one that passes the same count, and one that passes another.
-use Rattle.check_code.proofs.Entries.{first-call, same-count, another-count}
 use borrow.Author.Needs.{needs}
+use Rattle.check_code.proofs.Entries.{first-call, same-count, another-count}
 use Rattle.check_code.proofs.entry.Statement.{statement}
 use Rattle.check_code.proofs.entry.Tie as tie
 

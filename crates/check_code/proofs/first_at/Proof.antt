@@ -1,6 +1,6 @@
 -- `first_at`: behind the opcode.
-use Rattle.check_code.proofs.Instructions.{first-is}
 use borrow.Author.Needs.{needs}
+use Rattle.check_code.proofs.Instructions.{first-is}
 use Rattle.check_code.proofs.first_at.Statement.{statement}
 use Rattle.check_code.proofs.first_at.Tie as tie
 

@@ -1,6 +1,6 @@
 -- `in_range`: three kinds have a number.
-use Rattle.check_code.proofs.Tests.{a-constant, a-struct, a-function, no-number}
 use borrow.Author.Needs.{needs}
+use Rattle.check_code.proofs.Tests.{a-constant, a-struct, a-function, no-number}
 use Rattle.check_code.proofs.in_range.Statement.{statement}
 use Rattle.check_code.proofs.in_range.Tie as tie
 

@@ -1,6 +1,6 @@
 -- `is_carried`: an arm for each kind of opcode.
-use Rattle.check_code.proofs.Tests.{carried, not-carried, unknown}
 use borrow.Author.Needs.{needs}
+use Rattle.check_code.proofs.Tests.{carried, not-carried, unknown}
 use Rattle.check_code.proofs.is_carried.Statement.{statement}
 use Rattle.check_code.proofs.is_carried.Tie as tie
 

@@ -1,7 +1,7 @@
 -- `jump_at`: a jump goes on from behind its operand.
 use native.Mathlib.Omega.{arith}
-use Rattle.check_code.proofs.Tests.{jump-lands-or-not, no-jump}
 use borrow.Author.Needs.{needs}
+use Rattle.check_code.proofs.Tests.{jump-lands-or-not, no-jump}
 use Rattle.check_code.proofs.jump_at.Statement.{statement}
 use Rattle.check_code.proofs.jump_at.Tie as tie
 

@@ -1,6 +1,6 @@
 -- `lands`: inside the code, at its end or past it in main, and elsewhere.
-use Rattle.check_code.proofs.Marks.{inside-the-code, to-the-end, past-the-code}
 use borrow.Author.Needs.{needs}
+use Rattle.check_code.proofs.Marks.{inside-the-code, to-the-end, past-the-code}
 use Rattle.check_code.proofs.lands.Statement.{statement}
 use Rattle.check_code.proofs.lands.Tie as tie
 

@@ -1,8 +1,8 @@
 -- `mark`: an instruction a turn.
 use Prim.Native.Nat.{_-_}
 use native.Mathlib.Omega.{arith}
-use borrow.Author.Needs.{needs}
 use lib.ListN.{length}
+use borrow.Author.Needs.{needs}
 use Rattle.check_code.proofs.Instructions.{nearer}
 use Rattle.check_code.proofs.Marks.{Marking, none-marked, one-marked, all-marked}
 use Rattle.check_code.proofs.mark.Statement.{statement}

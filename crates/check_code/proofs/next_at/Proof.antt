@@ -1,7 +1,7 @@
 -- `next_at`: an instruction has three operands or fewer, so that the sum fits.
 use native.Mathlib.Omega.{arith}
-use Rattle.check_code.proofs.Instructions.{at-most-three, next-is}
 use borrow.Author.Needs.{needs}
+use Rattle.check_code.proofs.Instructions.{at-most-three, next-is}
 use Rattle.check_code.proofs.next_at.Statement.{statement}
 use Rattle.check_code.proofs.next_at.Tie as tie
 

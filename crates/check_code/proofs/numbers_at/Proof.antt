@@ -1,6 +1,6 @@
 -- `numbers_at`: each of two operands.
-use Rattle.check_code.proofs.Tests.{first-out-of-range, in-range-if-second-is}
 use borrow.Author.Needs.{needs}
+use Rattle.check_code.proofs.Tests.{first-out-of-range, in-range-if-second-is}
 use Rattle.check_code.proofs.numbers_at.Statement.{statement}
 use Rattle.check_code.proofs.numbers_at.Tie as tie
 

@@ -1,6 +1,6 @@
 -- `second_at`: behind the first operand.
-use Rattle.check_code.proofs.Instructions.{second-is}
 use borrow.Author.Needs.{needs}
+use Rattle.check_code.proofs.Instructions.{second-is}
 use Rattle.check_code.proofs.second_at.Statement.{statement}
 use Rattle.check_code.proofs.second_at.Tie as tie
 

@@ -1,9 +1,9 @@
 -- `tally`: an instruction a turn.
 use Prim.Native.Nat.{_-_}
+use native.Mathlib.Omega.{arith}
 use lib.ListN.{length}
 use Rattle.check_code.proofs.Instructions.{nearer}
 use Rattle.check_code.proofs.Entries.{Tallying, none-entered, all-entered, one-entered}
-use native.Mathlib.Omega.{arith}
 use Rattle.check_code.proofs.tally.Statement.{statement}
 use Rattle.check_code.proofs.tally.Tie as tie
 

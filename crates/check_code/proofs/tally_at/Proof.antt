@@ -1,6 +1,6 @@
 -- `tally_at`: a Call changes the entry of the function that it names, and no other.
-use Rattle.check_code.proofs.Entries.{nothing-to-enter, a-call-entered}
 use borrow.Author.Needs.{needs}
+use Rattle.check_code.proofs.Entries.{nothing-to-enter, a-call-entered}
 use Rattle.check_code.proofs.tally_at.Statement.{statement}
 use Rattle.check_code.proofs.tally_at.Tie as tie
 

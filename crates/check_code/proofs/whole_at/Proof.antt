@@ -1,6 +1,6 @@
 -- `whole_at`: a carried opcode, and its operands within the code.
-use Rattle.check_code.proofs.Tests.{whole-if-it-ends-inside, not-whole}
 use borrow.Author.Needs.{needs}
+use Rattle.check_code.proofs.Tests.{whole-if-it-ends-inside, not-whole}
 use Rattle.check_code.proofs.whole_at.Statement.{statement}
 use Rattle.check_code.proofs.whole_at.Tie as tie
 

@@ -1,7 +1,7 @@
 -- `word_at`: two bytes, low byte first.
 use native.Mathlib.Omega.{arith}
-use Rattle.check_code.proofs.Instructions.{word-is}
 use borrow.Author.Needs.{needs}
+use Rattle.check_code.proofs.Instructions.{word-is}
 use Rattle.check_code.proofs.word_at.Statement.{statement}
 use Rattle.check_code.proofs.word_at.Tie as tie
 
