@@ -29,7 +29,10 @@ calls-onward : (fs : List Function) (i : ℕ) → i < length fs
 unfolding callsIn functionAt
 calls-onward [] i h = absurd (let z : ⊥ = omega arith in z)
 calls-onward (g ∷ fs) zero h = append-nil _
-calls-onward (g ∷ fs) (suc i) h = ap (λ (l : List Site). callsAt (g .code) (stands (g .code)) ++ l) (calls-onward fs i (omega arith)) ∙ sym (append-assoc _ _ _)
+calls-onward (g ∷ fs) (suc i) h =
+    let first = callsAt (g .code) (stands (g .code)) in
+    let new = callsAt (functionAt fs i .code) (stands (functionAt fs i .code)) in
+    ap (λ (l : List Site). first ++ l) (calls-onward fs i (omega arith)) ∙ sym (append-assoc first (callsIn (take i fs)) new)
 
 -- the Calls of the functions below f stand in the tally
 pub record Tallying (p : Program) (s : List ℕ) (f at : ℕ) (counts : List ℕ) : Type 0 where
@@ -37,51 +40,58 @@ pub record Tallying (p : Program) (s : List ℕ) (f at : ℕ) (counts : List ℕ
   pub each : (g : ℕ) → getD counts g 0 ≡ tallied g 0 (callsIn (take f (p .functions)))
   pub few : (g : ℕ) → getD counts g 0 < 65538
 
-abbrev pub Counts : List ℕ → Sizes → List ℕ → ℕ → ℕ → List ℕ → Type 0
-Counts s z before f at counts = ((h : Ready s z) → Tallying (programOf h) s f at counts) × (length counts ≡ length before)
+pub record Counts (s : List ℕ) (z : Sizes) (before : List ℕ) (f at : ℕ) (counts : List ℕ) : Type 0 where
+  pub tally : (h : Ready s z) → Tallying (programOf h) s f at counts
+  pub same : length counts ≡ length before
 
-zero-at : (n i : ℕ) → getD (replicate n 0) i 0 ≡ 0
+zero-at : (n i : ℕ) → _≡_ {A = ℕ} (getD (replicate n 0) i 0) 0
 zero-at zero i = refl
 zero-at (suc n) zero = refl
 zero-at (suc n) (suc i) = zero-at n i
 
 pub no-calls-yet : (s : List ℕ) (z : Sizes) (counts : List ℕ) → counts ≡ replicate 65536 0 → Counts s z counts 0 (z .first) counts
 unfolding callsIn tallied
-no-calls-yet s z counts e = (λ h. record {
-  sofar = none-yet _ h;
-  each = λ g. rw e (zero-at 65536 g);
-  few = λ g. rw (e, zero-at 65536 g) (let w : 0 < 65538 = omega arith in w);
-}, refl)
+no-calls-yet s z counts e = record {
+  tally = λ h. record {
+    sofar = none-yet _ h;
+    each = λ g. rw e (zero-at 65536 g);
+    few = λ g. rw (e, zero-at 65536 g) (let w : 0 < 65538 = omega arith in w);
+  };
+  same = refl;
+}
 
 module _ {s : List ℕ} {z : Sizes} {before : List ℕ} {f at : ℕ} {counts : List ℕ} (a : Counts s z before f at counts) where
   pub tally-inside : Ready s z → at ≤ length s
-  tally-inside h = inside _ h (a .0 h .sofar)
+  tally-inside h = inside _ h (a .tally h .sofar)
 
   pub calls-entered : f < z .functions → {c : Code} → CodePost (eqb f 0) s at c → {counts' : List ℕ}
       → Enters (take (c .from + c .size - c .from) (drop (c .from) s)) (stands (take (c .from + c .size - c .from) (drop (c .from) s))) counts counts'
       → length counts' ≡ length counts → Counts s z before (f + 1) (c .next) counts'
-  calls-entered l {c} post {counts'} e n = (λ h.
-      let t = a .0 h in
-      let p = programOf h in
-      let known : f < length (p .functions) = let many = h .says .sizes .functions in omega arith in
-      let on : suc f ≡ f + 1 = omega arith in
-      let code = its-code _ h (t .sofar) l post in
-      let entered : (g : ℕ) → getD counts' g 0 ≡ tallied g (getD counts g 0) (callsAt (codeOf p f) (stands (codeOf p f))) = rw code (e .each) in
-      let calls = calls-onward (p .functions) f known in
-      record {
-        sofar = one-more _ h (t .sofar) l post tt;
-        each = λ g.
-          entered g ∙ ap (λ (v : ℕ). tallied g v (callsAt (codeOf p f) (stands (codeOf p f)))) (t .each g)
-          ∙ sym (tallied-behind g 0 (callsIn (take f (p .functions))) _)
-          ∙ ap (tallied g 0) (sym calls)
-          ∙ ap (λ (k : ℕ). tallied g 0 (callsIn (take k (p .functions)))) on;
-        few = λ g. e .few g (t .few g);
-      }, n ∙ a .1)
+  calls-entered l {c} post {counts'} e n = record { tally = λ h. onward h; same = n ∙ a .same }
+    where
+      onward : (h : Ready s z) → Tallying (programOf h) s (f + 1) (c .next) counts'
+      onward h =
+          let t = a .tally h in
+          let p = programOf h in
+          let known : f < length (p .functions) = let many = h .says .sizes .functions in omega arith in
+          let on : suc f ≡ f + 1 = omega arith in
+          let code = its-code _ h (t .sofar) l post in
+          let entered : (g : ℕ) → getD counts' g 0 ≡ tallied g (getD counts g 0) (callsAt (codeOf p f) (stands (codeOf p f))) = rw code (e .each) in
+          let calls = calls-onward (p .functions) f known in
+          record {
+            sofar = one-more _ h (t .sofar) l post tt;
+            each = λ g.
+              entered g ∙ ap (λ (v : ℕ). tallied g v (callsAt (codeOf p f) (stands (codeOf p f)))) (t .each g)
+              ∙ sym (tallied-behind g 0 (callsIn (take f (p .functions))) _)
+              ∙ ap (tallied g 0) (sym calls)
+              ∙ ap (λ (k : ℕ). tallied g 0 (callsIn (take k (p .functions)))) on;
+            few = λ g. e .few g (t .few g);
+          }
 
   pub all-calls-entered : Ready s z → z .functions ≤ f → TalliedPost s counts
   all-calls-entered h l = record {
     tallies = λ p e.
-      let t = a .0 h in
+      let t = a .tally h in
       let many = h .says .sizes .functions in
       let last : f ≡ length (programOf h .functions) = let most = t .sofar .most in omega arith in
       let whole : take f (programOf h .functions) ≡ programOf h .functions = rw last (take-length (programOf h .functions)) in

@@ -119,28 +119,39 @@ module _ (Q : ℕ → Type 0) {s : List ℕ} {z : Sizes} (h : Ready s z) where
 
 -- ---- the rules that every instruction keeps or breaks by itself
 
--- whatever is known of the image; its program is the one that was judged
-abbrev pub Going : Pass → List ℕ → Sizes → ℕ → ℕ → Type 0
-Going pass s z f at = (h : Ready s z) → Sofar (Keeps (h .says .program) (ruleOf pass)) (h .says .program) s f at
+-- whatever is known of the image, the functions below f keep the rule
+pub record Looking (pass : Pass) (s : List ℕ) (z : Sizes) (before marks : List ℕ) (f at : ℕ) : Type 0 where
+  pub sofar : (h : Ready s z) → Sofar (Keeps (programOf h) (ruleOf pass)) (programOf h) s f at
+  pub same : length marks ≡ length before
 
-module _ (pass : Pass) (s : List ℕ) (z : Sizes) (h : Ready s z) where
-  lowest-of : {f : ℕ} → Lowest (Keeps (h .says .program) (ruleOf pass)) (length (h .says .program .functions)) f → LowestPost pass s f
-  lowest-of {f} k = record {
+pub first-look : (pass : Pass) (s : List ℕ) (z : Sizes) (marks : List ℕ) → Looking pass s z marks marks 0 (z .first)
+first-look pass s z marks = record { sofar = λ h. none-yet _ h; same = refl }
+
+module _ {pass : Pass} {s : List ℕ} {z : Sizes} {before marks : List ℕ} {f at : ℕ} (a : Looking pass s z before marks f at) where
+  lowest-of : (h : Ready s z) → Lowest (Keeps (programOf h) (ruleOf pass)) (length (programOf h .functions)) f → LowestPost pass s f
+  lowest-of h k = record {
     lowest = λ p e. subst (λ (q : Program). Lowest (Keeps q (ruleOf pass)) (length (q .functions)) f) (fine-one (h .says .judged) e) k;
   }
 
-  module _ {f at : ℕ} (a : Going pass s z f at) where
-    pub passed-by-all : z .functions ≤ f → LowestPost pass s f
-    passed-by-all l = lowest-of (all-looked-at _ h (a h) l)
+  pub look-inside : Ready s z → at ≤ length s
+  look-inside h = inside _ h (a .sofar h)
 
-    module _ (l : f < z .functions) {c : Code} (post : CodePost (eqb f 0) s at c) {b : Bool}
-        (k : KeepsPost pass (eqb f 0) (take (c .from + c .size - c .from) (drop (c .from) s)) z b) where
-      verdict : Tells b (Keeps (h .says .program) (ruleOf pass) f)
-      verdict = k .tells (h .says .program) (h .says .sizes) f refl (its-code _ h (a h) l post)
+  pub kept-by-all : Ready s z → z .functions ≤ f → LowestPost pass s f
+  kept-by-all h l = lowest-of h (all-looked-at _ h (a .sofar h) l)
 
-      pub broken-by-one : b ≡ false → LowestPost pass s f
-      broken-by-one e = lowest-of (one-breaks _ h (a h) l post (subst (λ (x : Bool). Tells x (Keeps (h .says .program) (ruleOf pass) f)) e verdict))
+  module _ (l : f < z .functions) {c : Code} (post : CodePost (eqb f 0) s at c) where
+    pub code-fits : Ready s z → 65536 ≤ length before → length (take (c .from + c .size - c .from) (drop (c .from) s)) < length marks
+    code-fits h room = let size = its-size _ h (a .sofar h) l post in let n = a .same in omega arith
 
-pub kept-by-one : (pass : Pass) (s : List ℕ) (z : Sizes) {f at : ℕ} → Going pass s z f at → f < z .functions → {c : Code} → CodePost (eqb f 0) s at c → {b : Bool}
-    → KeepsPost pass (eqb f 0) (take (c .from + c .size - c .from) (drop (c .from) s)) z b → b ≡ true → Going pass s z (f + 1) (c .next)
-kept-by-one pass s z {f} a l post k e = λ h. one-more _ h (a h) l post (subst (λ (x : Bool). Tells x (Keeps (h .says .program) (ruleOf pass) f)) e (verdict pass s z h a l post k))
+    module _ {b : Bool} (k : KeepsPost pass (eqb f 0) (take (c .from + c .size - c .from) (drop (c .from) s)) z b) where
+      verdict : (h : Ready s z) → Tells b (Keeps (programOf h) (ruleOf pass) f)
+      verdict h = k .tells (programOf h) (h .says .sizes) f refl (its-code _ h (a .sofar h) l post)
+
+      pub broken-by-one : Ready s z → b ≡ false → LowestPost pass s f
+      broken-by-one h e = lowest-of h (one-breaks _ h (a .sofar h) l post (subst (λ (x : Bool). Tells x (Keeps (programOf h) (ruleOf pass) f)) e (verdict h)))
+
+      pub kept-by-one : b ≡ true → {marks' : List ℕ} → length marks' ≡ length marks → Looking pass s z before marks' (f + 1) (c .next)
+      kept-by-one e n = record {
+        sofar = λ h. one-more _ h (a .sofar h) l post (subst (λ (x : Bool). Tells x (Keeps (programOf h) (ruleOf pass) f)) e (verdict h));
+        same = n ∙ a .same;
+      }

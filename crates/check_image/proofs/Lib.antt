@@ -3,3 +3,5 @@ pub mod Judged
 -- rule 4 and rule 6
 pub mod Counting
 pub mod Measures
+-- all rules in their order, and the entry
+pub mod Findings

@@ -32,14 +32,21 @@ pub record Measuring (p : Program) (s : List ℕ) (f at : ℕ) (tally now : List
   pub rest : (g : ℕ) → f ≤ g → getD now g 0 ≡ getD tally g 0
   pub same : length now ≡ length tally
 
-abbrev pub Heighten : List ℕ → Sizes → List ℕ → ℕ → ℕ → List ℕ → Type 0
-Heighten s z tally f at now = (m : Measurable s z tally) → Measuring (m .ready .says .program) s f at tally now
+-- whatever is known of the image
+pub record Heighten (s : List ℕ) (z : Sizes) (tally before : List ℕ) (f at : ℕ) (now table : List ℕ) : Type 0 where
+  pub measuring : (m : Measurable s z tally) → Measuring (m .ready .says .program) s f at tally now
+  pub entries : length now ≡ length tally
+  pub same : length table ≡ length before
 
-pub none-measured : (s : List ℕ) (z : Sizes) (tally : List ℕ) → Heighten s z tally 0 (z .first) tally
-none-measured s z tally = λ m. record {
-  sofar = none-yet _ (m .ready);
-  greatest = λ g l. absurd (let y : ⊥ = omega arith in y);
-  rest = λ g l. refl;
+pub none-measured : (s : List ℕ) (z : Sizes) (tally table : List ℕ) → Heighten s z tally table 0 (z .first) tally table
+none-measured s z tally table = record {
+  measuring = λ m. record {
+    sofar = none-yet _ (m .ready);
+    greatest = λ g l. absurd (let y : ⊥ = omega arith in y);
+    rest = λ g l. refl;
+    same = refl;
+  };
+  entries = refl;
   same = refl;
 }
 
