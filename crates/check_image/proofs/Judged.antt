@@ -68,6 +68,16 @@ program-codes p h f =
     let counts = leb (length (p .constants)) 65535 && leb (length (p .structs)) 65536 && leb (length (p .functions)) 65536 in
     code-short (p .functions) (both-true counts (codesWithin (p .functions)) h .1) f
 
+pub few-functions : {s : List ℕ} {z : Sizes} → Ready s z → z .functions ≤ 65536
+unfolding withinLimits
+few-functions h =
+    let p = h .says .program in
+    let two = leb (length (p .constants)) 65535 && leb (length (p .structs)) 65536 in
+    let three = both-true (two && leb (length (p .functions)) 65536) (codesWithin (p .functions)) (h .within) .0 in
+    let few : length (p .functions) ≤ 65536 = leb-true _ _ (both-true two (leb (length (p .functions)) 65536) three .1) in
+    let many = h .says .sizes .functions in
+    omega arith
+
 -- the functions below f were looked at, and the next one stands at the place `at`
 pub record Sofar (Q : ℕ → Type 0) (p : Program) (s : List ℕ) (f at : ℕ) : Type 0 where
   pub from : From p s f at

@@ -5,3 +5,4 @@ pub mod Counting
 pub mod Measures
 -- all rules in their order, and the entry
 pub mod Findings
+pub mod Putting

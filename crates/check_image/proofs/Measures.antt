@@ -23,7 +23,7 @@ use Rattle.check_heights.specs.declared.Height.{Height}
 use Rattle.check_heights.specs.declared.Height.the-variants as a
 use Rattle.check_heights.specs.Answer.{HeightsPre, HeightsMeans, HeightsPost}
 use Rattle.check_image.specs.Links.{Lowest, Tallied, Measurable, GreatestBelow, Measured, MeasuredPost}
-use Rattle.check_image.proofs.Judged.{Sofar, none-yet, inside, its-code, its-size, one-breaks, one-more, all-looked-at}
+use Rattle.check_image.proofs.Judged.{few-functions, Sofar, none-yet, inside, its-code, its-size, one-breaks, one-more, all-looked-at}
 
 -- below f the greatest heights stand, from f on the tally's entries
 pub record Measuring (p : Program) (s : List ℕ) (f at : ℕ) (tally now : List ℕ) : Type 0 where
@@ -126,3 +126,29 @@ module _ {s : List ℕ} {z : Sizes} {tally : List ℕ} (m : Measurable s z tally
               rest = λ i n. getD-set-other now f i g 0 (λ (x : i ≡ f). let y : ⊥ = omega arith in y) ∙ t .rest i (omega arith);
               same = length-set now f g ∙ t .same;
             }
+
+module _ {s : List ℕ} {z : Sizes} {tally before : List ℕ} {f at : ℕ} {now table : List ℕ} (t : Heighten s z tally before f at now table) where
+  pub place-inside : Measurable s z tally → at ≤ length s
+  place-inside m = measure-inside m (t .measuring m)
+
+  pub entry-inside : Measurable s z tally → f < z .functions → f < length now
+  entry-inside m l = entry-there m (t .measuring m) l (few-functions (m .ready))
+
+  pub all-even : Measurable s z tally → z .functions ≤ f → MeasuredPost s now f
+  all-even m l = all-measured m (t .measuring m) l
+
+  module _ (l : f < z .functions) {c : Code} (post : CodePost (eqb f 0) s at c) {count : ℕ} (told : count ≡ getD now f 0 - 2) where
+    pub heights-may-be-asked : Measurable s z tally → 65536 ≤ length before → HeightsPre (eqb f 0) count (take (c .from + c .size - c .from) (drop (c .from) s)) table
+    heights-may-be-asked m room = let n = t .same in heights-asked m (t .measuring m) l post told table (omega arith)
+
+    module _ {h : Height} (answer : HeightsPost (eqb f 0) count (take (c .from + c .size - c .from) (drop (c .from) s)) h) where
+      pub one-is-uneven : Measurable s z tally → h ≡ a.Broken → MeasuredPost s now f
+      one-is-uneven m e = one-uneven m (t .measuring m) l post told answer e
+
+      pub one-is-even : {g : ℕ} → h ≡ a.Greatest g → {table' : List ℕ} → length table' ≡ length table
+          → Heighten s z tally before (f + 1) (c .next) (set now f g) table'
+      one-is-even {g} e n = record {
+        measuring = λ m. one-measured m (t .measuring m) l post told answer g e (few-functions (m .ready));
+        entries = length-set now f g ∙ t .entries;
+        same = n ∙ t .same;
+      }

@@ -3,10 +3,9 @@ use mathlib.Core.Path.{_≡_}
 use mathlib.Core.Bool.{Bool, true, false}
 use mathlib.Core.List.{List}
 use Prim.Native.Nat.{ℕ, _≤_, _<_}
-use lib.ListN.{length, getD, take}
+use lib.ListN.{length, getD}
 use Rattle.model.specs.Programs.{Program}
 use Rattle.model.specs.Images.{fine, judge}
-use Rattle.model.specs.Emission.{written}
 use Rattle.image_judge.specs.declared.Sizes.{Sizes}
 use Rattle.image_judge.specs.Links.{SizesOf}
 use Rattle.image_codes.specs.Links.{Ready}
@@ -92,8 +91,3 @@ FindingIs p (f.Breaks q g) hs = Broken p q g
 
 pub record FindingPost (s : List ℕ) (x : Finding) (hs : List ℕ) : Type 0 where
   pub finds : (p : Program) → judge s ≡ fine p → FindingIs p x hs
-
--- ---- the heights put into their store
-
-pub record PutPost (n : ℕ) (from before after : List ℕ) : Type 0 where
-  pub put : after ≡ written before 0 (take n from)

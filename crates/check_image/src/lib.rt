@@ -11,21 +11,22 @@ use image_load::load;
 use image_load::within_limits;
 use layout::reads::room;
 use model::Loaded;
+ghost use mathlib.Core.Path.{_≡_};
 ghost use Prim.Native.Nat.{_≤_};
 ghost use lib.ListN.{length};
 ghost use Rattle.model.specs.Stores.{storesOf as lent};
+ghost use Rattle.model.specs.Emission.{written};
 ghost use Rattle.check_rules.specs.Checks.{CheckAs};
-ghost use Rattle.check_image.specs.Links.{PutPost};
 
-// The first n words of one store put into another.
-fn put_heights(n: usize, from: &[u32], heights: &mut [u32])
-    requires { ⌜ (n ≤ length (now from)) × (n ≤ length (now heights)) ⌝ }
-    ensures { λ _. ⌜ PutPost n (now (from .entry)) (now (heights .entry)) (now (heights .exit)) ⌝ }
+// The heights put into their store, from its start on.
+fn put_heights(greatest: &[u32], heights: &mut [u32])
+    requires { ⌜ length (now greatest) ≤ length (now heights) ⌝ }
+    ensures { λ _. ⌜ now (heights .exit) ≡ written (now (heights .entry)) 0 (now (greatest .entry)) ⌝ }
 {
-    let mut i = 0;
-    while i < n {
-        heights[i] = from[i];
-        i += 1;
+    let mut f = 0;
+    while f < greatest.len() {
+        heights[f] = greatest[f];
+        f += 1;
     }
 }
 
@@ -73,7 +74,7 @@ pub fn check(
             if let Finding::Breaks(q, f) = first_broken(image, z, &mut greatest, &mut table) {
                 return Checked::Breaks(q, f);
             }
-            put_heights(n, &greatest, heights);
+            put_heights(&greatest[..n], heights);
             let loaded = load(
                 image,
                 constants,

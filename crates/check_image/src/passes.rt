@@ -41,10 +41,9 @@ fn lowest(pass: Pass, image: &[u8], z: Sizes, marks: &mut [u32]) -> usize
     requires { ⌜ (Ready (now image) z) × (65536 ≤ length (now marks)) ⌝ }
     ensures { λ r. ⌜ LowestPost pass (now (image .entry)) r ⌝ }
 {
-    let n = z.functions;
     let mut next = z.first;
     let mut f = 0;
-    while f < n {
+    while f < z.functions {
         let c = code_at(image, next, f == 0);
         let from = c.from;
         let end = from + c.size;
@@ -62,10 +61,9 @@ fn tally_all(image: &[u8], z: Sizes, counts: &mut [u32])
     requires { ⌜ (Ready (now image) z) × (now counts ≡ replicate 65536 0) ⌝ }
     ensures { λ _. ⌜ TalliedPost (now (image .entry)) (now (counts .exit)) ⌝ }
 {
-    let n = z.functions;
     let mut next = z.first;
     let mut f = 0;
-    while f < n {
+    while f < z.functions {
         let c = code_at(image, next, f == 0);
         let from = c.from;
         let end = from + c.size;
@@ -106,10 +104,9 @@ fn measure(image: &[u8], z: Sizes, counts: &mut [u32], table: &mut [u32]) -> usi
     requires { ⌜ (Measurable (now image) z (now counts)) × (65536 ≤ length (now table)) ⌝ }
     ensures { λ r. ⌜ MeasuredPost (now (image .entry)) (now (counts .exit)) r ⌝ }
 {
-    let n = z.functions;
     let mut next = z.first;
     let mut f = 0;
-    while f < n {
+    while f < z.functions {
         let c = code_at(image, next, f == 0);
         let from = c.from;
         let end = from + c.size;
