@@ -81,23 +81,23 @@ module _ {s : List ℕ} {z : Sizes} {before : List ℕ} {f at : ℕ} {counts : L
           record {
             sofar = one-more _ h (t .sofar) l post tt;
             each = λ g.
-              entered g ∙ ap (λ (v : ℕ). tallied g v (callsAt (codeOf p f) (stands (codeOf p f)))) (t .each g)
-              ∙ sym (tallied-behind g 0 (callsIn (take f (p .functions))) _)
-              ∙ ap (tallied g 0) (sym calls)
-              ∙ ap (λ (k : ℕ). tallied g 0 (callsIn (take k (p .functions)))) on;
+                entered g ∙ ap (λ (v : ℕ). tallied g v (callsAt (codeOf p f) (stands (codeOf p f)))) (t .each g)
+                ∙ sym (tallied-behind g 0 (callsIn (take f (p .functions))) _)
+                ∙ ap (tallied g 0) (sym calls)
+                ∙ ap (λ (k : ℕ). tallied g 0 (callsIn (take k (p .functions)))) on;
             few = λ g. e .few g (t .few g);
           }
 
   pub all-calls-entered : Ready s z → z .functions ≤ f → TalliedPost s counts
   all-calls-entered h l = record {
     tallies = λ p e.
-      let t = a .tally h in
-      let many = h .says .sizes .functions in
-      let last : f ≡ length (programOf h .functions) = let most = t .sofar .most in omega arith in
-      let whole : take f (programOf h .functions) ≡ programOf h .functions = rw last (take-length (programOf h .functions)) in
-      let here : Tallied (programOf h) counts =
-          record { each = λ g. t .each g ∙ ap (λ (fs : List Function). tallied g 0 (callsIn fs)) whole; few = t .few } in
-      subst (λ (q : Program). Tallied q counts) (fine-one (h .says .judged) e) here;
+        let t = a .tally h in
+        let many = h .says .sizes .functions in
+        let last : f ≡ length (programOf h .functions) = let most = t .sofar .most in omega arith in
+        let whole : take f (programOf h .functions) ≡ programOf h .functions = rw last (take-length (programOf h .functions)) in
+        let here : Tallied (programOf h) counts =
+        record { each = λ g. t .each g ∙ ap (λ (fs : List Function). tallied g 0 (callsIn fs)) whole; few = t .few } in
+        subst (λ (q : Program). Tallied q counts) (fine-one (h .says .judged) e) here;
   }
 
 -- ---- the lowest function whose Calls differ

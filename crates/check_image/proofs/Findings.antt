@@ -67,7 +67,7 @@ module _ {p : Program} {k : ℕ} (a : Earlier p k) (q : Rule) (n : ruleNumber q 
   one-later : KeptByAll p q → Earlier p (suc k)
   one-later all = record {
     kept = λ e l. ⊎-elim (λ (m : ruleNumber e ≡ k). subst (λ (x : Rule). KeptByAll p x) (one-number q e (n ∙ sym m)) all) (λ m. a .kept e m)
-      (eq-or-lt-of-le (let y : ruleNumber e ≤ k = omega arith in y));
+        (eq-or-lt-of-le (let y : ruleNumber e ≤ k = omega arith in y));
   }
 
   module _ {f : ℕ} (low : Lowest (Keeps p q) (length (p .functions)) f) where
@@ -154,5 +154,5 @@ module _ (s : List ℕ) (z : Sizes) (h : Ready s z) where
         let all = one-later a r.Heights refl (kept-by-all a r.Heights refl (measured .lowest) (omega arith)) in
         record {
           finds = λ x e. subst (λ (y : Program). AllKept y hs) (fine-one (h .says .judged) e)
-            (record { passed = λ q. all .kept q (at-most-six q); greatest = λ g k. measured .greatest g (omega arith) });
+              (record { passed = λ q. all .kept q (at-most-six q); greatest = λ g k. measured .greatest g (omega arith) });
         }

@@ -41,8 +41,8 @@ module _ (main : Bool) (code : List ℕ) (z : Sizes) (b : Bool) where
   unfolding ruleOf Keeps
   numbers-tell n = record {
     tells = λ p k f m c.
-      let sized : Sized (z .constants) (z .structs) (z .functions) p = record { of-constants = sym (k .constants); of-structs = sym (k .structs); of-functions = sym (k .functions) } in
-      rw c (tells b _ (n .means p sized));
+        let sized : Sized (z .constants) (z .structs) (z .functions) p = record { of-constants = sym (k .constants); of-structs = sym (k .structs); of-functions = sym (k .functions) } in
+        rw c (tells b _ (n .means p sized));
   }
 
   pub calls-tell : b ≡ every (callAt code) (stands code) → KeepsPost w.Calls main code z b

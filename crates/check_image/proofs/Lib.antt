@@ -6,3 +6,4 @@ pub mod Measures
 -- all rules in their order, and the entry
 pub mod Findings
 pub mod Putting
+pub mod Entries

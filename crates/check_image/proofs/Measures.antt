@@ -120,9 +120,9 @@ module _ {s : List ℕ} {z : Sizes} {tally : List ℕ} (m : Measurable s z tally
             record {
               sofar = one-more _ (m .ready) (t .sofar) l post kept;
               greatest = λ i n. ⊎-elim
-                (λ (x : i ≡ f). rw (x, put) most)
-                (λ k. rw (getD-set-other now f i g 0 (λ (x : i ≡ f). let y : ⊥ = omega arith in y)) (t .greatest i k))
-                (eq-or-lt-of-le (let y : i ≤ f = omega arith in y));
+                  (λ (x : i ≡ f). rw (x, put) most)
+                  (λ k. rw (getD-set-other now f i g 0 (λ (x : i ≡ f). let y : ⊥ = omega arith in y)) (t .greatest i k))
+                  (eq-or-lt-of-le (let y : i ≤ f = omega arith in y));
               rest = λ i n. getD-set-other now f i g 0 (λ (x : i ≡ f). let y : ⊥ = omega arith in y) ∙ t .rest i (omega arith);
               same = length-set now f g ∙ t .same;
             }

@@ -4,14 +4,20 @@ use mathlib.Core.Bool.{Bool, true, false}
 use mathlib.Core.List.{List}
 use Prim.Native.Nat.{ℕ, _≤_, _<_}
 use lib.ListN.{length, getD}
+use Rattle.model.specs.declared.Loaded.{Loaded}
+use Rattle.model.specs.declared.Loaded.the-variants as l
 use Rattle.model.specs.Programs.{Program}
 use Rattle.model.specs.Images.{fine, judge}
+use Rattle.model.specs.Emission.{written}
 use Rattle.image_judge.specs.declared.Sizes.{Sizes}
 use Rattle.image_judge.specs.Links.{SizesOf}
 use Rattle.image_codes.specs.Links.{Ready}
 use Rattle.check_rules.specs.declared.Rule.{Rule}
+use Rattle.check_rules.specs.declared.Checked.{Checked}
+use Rattle.check_rules.specs.declared.Checked.the-variants as c
 use Rattle.check_rules.specs.declared.Rule.the-variants as r
 use Rattle.check_rules.specs.Rules.{callsIn, countOf, Greatest, codeOf, isMain, Keeps, KeptByAll, Passed, Broken}
+use Rattle.check_rules.specs.Checks.{HeightsOf}
 use Rattle.check_code.specs.Tallies.{tallied}
 use Rattle.check_image.specs.declared.passes.Pass.{Pass}
 use Rattle.check_image.specs.declared.passes.Pass.the-variants as w
@@ -91,3 +97,28 @@ FindingIs p (f.Breaks q g) hs = Broken p q g
 
 pub record FindingPost (s : List ℕ) (x : Finding) (hs : List ℕ) : Type 0 where
   pub finds : (p : Program) → judge s ≡ fine p → FindingIs p x hs
+
+-- ---- the entry
+
+-- all rules are kept, and the greatest heights put into their store
+pub record Kept (p : Program) (before after : List ℕ) : Type 0 where
+  pub passed : Passed p
+  pub heights : List ℕ
+  pub each : HeightsOf p heights
+  pub put : after ≡ written before 0 heights
+
+pub record Unkept (p : Program) (q : Rule) (g : ℕ) (before after : List ℕ) : Type 0 where
+  pub broken : Broken p q g
+  pub same : after ≡ before
+
+abbrev pub RulesSay : Program → Finding → (before after : List ℕ) → Type 0
+RulesSay p f.Nothing before after = Kept p before after
+RulesSay p (f.Breaks q g) before after = Unkept p q g before after
+
+pub record RulesPost (s before : List ℕ) (x : Finding) (after : List ℕ) : Type 0 where
+  pub says : (p : Program) → judge s ≡ fine p → RulesSay p x before after
+
+unfoldable pub asChecked : Loaded → Checked
+asChecked (l.Done k) = c.Passed k
+asChecked (l.Broken o) = c.Broken o
+asChecked (l.Refused n) = c.Refused n

@@ -5,6 +5,7 @@ use crate::passes::Finding;
 use crate::passes::first_broken;
 use check_rules::Checked;
 use image_judge::Judgement;
+use image_judge::Sizes;
 use image_judge::judge;
 use image_load::has_room;
 use image_load::load;
@@ -16,7 +17,9 @@ ghost use Prim.Native.Nat.{_≤_};
 ghost use lib.ListN.{length};
 ghost use Rattle.model.specs.Stores.{storesOf as lent};
 ghost use Rattle.model.specs.Emission.{written};
+ghost use Rattle.image_codes.specs.Links.{Ready};
 ghost use Rattle.check_rules.specs.Checks.{CheckAs};
+ghost use Rattle.check_image.specs.Links.{RulesPost, asChecked};
 
 // The heights put into their store, from its start on.
 fn put_heights(greatest: &[u32], heights: &mut [u32])
@@ -27,6 +30,34 @@ fn put_heights(greatest: &[u32], heights: &mut [u32])
     while f < greatest.len() {
         heights[f] = greatest[f];
         f += 1;
+    }
+}
+
+// What the rules say of an image. If none is broken, the heights are put into their store. The two tables have a word for each function and each
+// position that there can be.
+fn judge_rules(image: &[u8], z: Sizes, heights: &mut [u32]) -> Finding
+    requires { ⌜ (Ready (now image) z) × (z .functions ≤ length (now heights)) ⌝ }
+    ensures { λ r. ⌜ RulesPost (now (image .entry)) (now (heights .entry)) r (now (heights .exit)) ⌝ }
+{
+    let mut greatest = [0u32; 65536];
+    let mut table = [0u32; 65536];
+    let found = first_broken(image, z, &mut greatest, &mut table);
+    if let Finding::Breaks(_, _) = found {
+        return found;
+    }
+    let n = z.functions;
+    put_heights(&greatest[..n], heights);
+    Finding::Nothing
+}
+
+// What loading answers, as an answer of the check.
+fn as_checked(loaded: Loaded) -> Checked
+    ensures { λ r. ⌜ r ≡ asChecked loaded ⌝ }
+{
+    match loaded {
+        Loaded::Done(c) => Checked::Passed(c),
+        Loaded::Broken(o) => Checked::Broken(o),
+        Loaded::Refused(n) => Checked::Refused(n),
     }
 }
 
@@ -69,12 +100,9 @@ pub fn check(
             if !fits {
                 return Checked::Refused(21);
             }
-            let mut greatest = [0u32; 65536];
-            let mut table = [0u32; 65536];
-            if let Finding::Breaks(q, f) = first_broken(image, z, &mut greatest, &mut table) {
+            if let Finding::Breaks(q, f) = judge_rules(image, z, heights) {
                 return Checked::Breaks(q, f);
             }
-            put_heights(&greatest[..n], heights);
             let loaded = load(
                 image,
                 constants,
@@ -86,11 +114,7 @@ pub fn check(
                 other,
                 other_places,
             );
-            match loaded {
-                Loaded::Done(c) => Checked::Passed(c),
-                Loaded::Broken(o) => Checked::Broken(o),
-                Loaded::Refused(r) => Checked::Refused(r),
-            }
+            as_checked(loaded)
         }
     }
 }
