@@ -14,6 +14,7 @@ use Rattle.image_load.proofs.Loads.{fine-one}
 use Rattle.check_rules.specs.declared.Rule.{Rule}
 use Rattle.check_rules.specs.declared.Rule.the-variants as r
 use Rattle.check_rules.specs.Rules.{Keeps, ruleNumber, KeptByAll, Passed, Broken}
+use Rattle.check_rules.proofs.One.{one-number}
 use Rattle.check_image.specs.declared.passes.Pass.{Pass}
 use Rattle.check_image.specs.declared.passes.Pass.the-variants as w
 use Rattle.check_image.specs.declared.passes.Finding.the-variants as finding
@@ -21,22 +22,6 @@ use Rattle.check_image.specs.Links.{ruleOf, Lowest, LowestPost, Tallied,
 use Rattle.check_image.proofs.Counting.{entry-keeps, entry-breaks}
 
 -- ---- the order of the rules
-
--- the rule of a number, so that a number tells its rule
-abbrev ruleAt : ℕ → Rule
-ruleAt k = getD (r.Instructions ∷ r.Instructions ∷ r.Numbers ∷ r.Calls ∷ r.Counts ∷ r.Jumps ∷ []) k r.Heights
-
-told-by-its-number : (q : Rule) → ruleAt (ruleNumber q) ≡ q
-unfolding ruleNumber
-told-by-its-number r.Instructions = refl
-told-by-its-number r.Numbers = refl
-told-by-its-number r.Calls = refl
-told-by-its-number r.Counts = refl
-told-by-its-number r.Jumps = refl
-told-by-its-number r.Heights = refl
-
-one-number : (q e : Rule) → ruleNumber q ≡ ruleNumber e → q ≡ e
-one-number q e n = sym (told-by-its-number q) ∙ ap ruleAt n ∙ told-by-its-number e
 
 -- the rules of lower numbers are kept by all
 pub record Earlier (p : Program) (k : ℕ) : Type 0 where

@@ -24,6 +24,9 @@ use Rattle.demands.specs.Relent.{Relent}
 use Rattle.demands.proofs.Refusing.{refuses}
 use Rattle.demands.proofs.Written.{steps-within, run-written}
 use Rattle.demands.proofs.Orderly.{new-in-order, load-in-order, chain-kept, run-in-order}
+use Rattle.check_rules.proofs.One.{check-one}
+use Rattle.laws_check.proofs.Rows.{a-step-keeps-its-row}
+use Rattle.laws_check.proofs.Theorems.{passed-never-faults-so, passed-asks-in-range, passed-runs-so, passed-runs-ask-in-range, passed-frames-fit}
 use Rattle.laws_code.proofs.Numbers.{listing-numbers}
 use Rattle.laws_code.proofs.Walks.{step-takes-the-walk, listing-shows-the-walk}
 use Rattle.demands.proofs.Paying.{step-cost, fault-fee, path-units}
@@ -92,8 +95,15 @@ kept = record {
   relent-stands = λ h k o g. relent-stands o g;
   relent-rust = same-rust;
   relent-alike = λ again h k f c g s l. relent-alike again f c g s l;
+  passed-never-faults-so = passed-never-faults-so;
+  passed-asks-in-range = passed-asks-in-range;
+  passed-runs-so = passed-runs-so;
+  passed-runs-ask-in-range = passed-runs-ask-in-range;
+  passed-frames-fit = passed-frames-fit;
+  a-step-keeps-its-row = a-step-keeps-its-row;
   record-back = λ h w o t n. record-back w (h .vm) n (order-fine h o t);
   run-one = λ m s e u x y e' k' p q. run-one m s e u p q;
+  check-one = λ image heights s x y hs ks t u a b. check-one image heights s a b;
   ask-one = λ q h h' k' a b p r. ask-one q h p r;
   examples-hold = examples-hold;
   mistakes-show = mistakes-show;

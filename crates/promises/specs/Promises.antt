@@ -31,6 +31,13 @@ use Rattle.model.specs.Runs.{Machine, Progress, Ran, begin, over, endOf, runOf}
 use Rattle.model.specs.Machines.{Lent, RunPost, answerIn, ran, entriesIn}
 use Rattle.model.specs.Examples.{Example, examples}
 use Rattle.model.specs.Mistakes.{Row, mistakes}
+use Rattle.model.specs.Opcodes.{opcodeAt}
+use Rattle.check_rules.specs.declared.Checked.{Checked}
+use Rattle.check_rules.specs.Rules.{Passed}
+use Rattle.check_rules.specs.Checks.{CheckAs}
+use Rattle.check_rules.proofs.One.{SameCheck}
+use Rattle.laws_check.specs.Row.{Tied}
+use Rattle.laws_check.specs.Passed.{NeverFaultsSo, AsksInRange, RunsSo, RunsAskInRange, FramesWithin}
 use Rattle.laws_checks.specs.Table.{checksOf, firstFailed, Keeps}
 use Rattle.laws_code.specs.Walk.{shownFrom, walked}
 use Rattle.laws_runs.specs.Sane.{SaneWorld, Sane}
@@ -120,6 +127,17 @@ pub record Promises : Type 0 where
   pub relent-rust : (h k : Held) → InOrder h → Relent h k → rustOf (worldIn k) (machineOf k) ≡ rustOf (worldIn h) (machineOf h)
   -- stores as long: the machines mean the same, so that by `chain-alike` every later call says the same
   pub relent-alike : (again : Bool) (h k : Held) → Fine h → CodeBytes (k .stores) → Relent h k → AsLong (k .stores) (h .stores) → Rooms (k .lent) (h .lent) → AlikeHeld again h k
+  -- ---- THE CHECK of a rule before it is installed: what a program that keeps the six rules never does, on a freshly loaded machine and with any units
+
+  -- faults 1 to 4 and 14 never come, and 6 only from GetUpvalue or a field: of the next step, and of a whole run
+  pub passed-never-faults-so : (p : Program) → Passed p → NeverFaultsSo p
+  pub passed-asks-in-range : (p : Program) → Passed p → AsksInRange p
+  pub passed-runs-so : (p : Program) → Passed p → RunsSo p
+  pub passed-runs-ask-in-range : (p : Program) → Passed p → RunsAskInRange p
+  -- no frame exceeds its function's greatest height
+  pub passed-frames-fit : (p : Program) → Passed p → FramesWithin p
+  -- what an opcode's row says that it pops, pushes and names is what its step does
+  pub a-step-keeps-its-row : (k : ℕ) (p : Op) → opcodeAt k .what ≡ d.Carried p → (a b : ℕ) (w : World) (s : State) → Tied k a b w s (execOf w p a b s)
   -- ---- A HOST IN C: it hands back the machine by handing back the record
 
   -- a record of ten words or more, in which a machine in good order was written, as calls leave it, is taken and read back as that machine
@@ -128,6 +146,8 @@ pub record Promises : Type 0 where
   -- ---- NO SECOND ANSWER fits a contract
 
   pub run-one : (m : Vm) (s : Stores) (e : Lent) (u : ℕ) (x y : RunResult) (e' k' : Lent) → RunPost m s e u x e' → RunPost m s e u y k' → SameRun m x y e' k'
+  pub check-one : (image heights : List ℕ) (s : Stores) (x y : Checked) (hs ks : List ℕ) (t u : Stores) → CheckAs image heights s x hs t → CheckAs image heights s y ks u
+      → SameCheck x y hs ks t u
   pub ask-one : (q : Ask) (h h' k' : Held) (a b : Answer) → After (ask q) h a h' → After (ask q) h b k' → (a ≡ b) × (h' ≡ k')
   -- ---- THE EXAMPLES, and the mistakes that invite themselves
 
