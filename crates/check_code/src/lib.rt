@@ -49,7 +49,7 @@ fn word_at(code: &[u8], i: usize) -> usize
 }
 
 // The first operand of the instruction at i.
-fn first_at(code: &[u8], i: usize) -> usize
+pub fn first_at(code: &[u8], i: usize) -> usize
     requires { ⌜ i < length (now code) ⌝ }
     ensures { λ r. ⌜ (r ≡ firstAt (now (code .entry)) i) × (r < 0x1_0000) ⌝ }
 {
@@ -57,7 +57,7 @@ fn first_at(code: &[u8], i: usize) -> usize
 }
 
 // Its second operand.
-fn second_at(code: &[u8], i: usize) -> usize
+pub fn second_at(code: &[u8], i: usize) -> usize
     requires { ⌜ i < length (now code) ⌝ }
     ensures { λ r. ⌜ (r ≡ secondAt (now (code .entry)) i) × (r < 0x1_0000) ⌝ }
 {
@@ -65,7 +65,7 @@ fn second_at(code: &[u8], i: usize) -> usize
 }
 
 // The position behind the instruction at i, which may lie past the end.
-fn next_at(code: &[u8], i: usize) -> usize
+pub fn next_at(code: &[u8], i: usize) -> usize
     requires { ⌜ i < length (now code) ⌝ }
     ensures { λ r. ⌜ (r ≡ nextIn (now (code .entry)) i) × (r ≤ i + 7) ⌝ }
 {

@@ -18,28 +18,16 @@ use Rattle.check_heights.proofs.Walks.{and-left, behind-is}
 -- ---- operands
 
 module _ (code : List ℕ) (i : ℕ) where
-  pub word-is : {low high : ℕ} → low ≡ getD code i 0 → high ≡ getD code (i + 1) 0 → low + 256 * high ≡ wordAt code i
-  unfolding wordAt
-  word-is {low} {high} p q =
-      let behind : getD code (i + 1) 0 ≡ getD code (suc i) 0 = ap (λ (k : ℕ). getD code k 0) (omega arith) in
-      omega arith
-
-  first-is : {a : ℕ} → a ≡ wordAt code (i + 1) → a ≡ firstAt code i
-  first-is e = e ∙ ap (wordAt code) (omega arith)
-
-  second-is : {b : ℕ} → b ≡ wordAt code (i + 3) → b ≡ secondAt code i
-  second-is e = e ∙ ap (wordAt code) (omega arith)
-
-  pub popped-is : {a b r : ℕ} → a ≡ wordAt code (i + 1) → b ≡ wordAt code (i + 3) → r ≡ popped (opcodeIn code i) a b → r ≡ poppedAt code i
+  pub popped-is : {a b r : ℕ} → a ≡ firstAt code i → b ≡ secondAt code i → r ≡ popped (opcodeIn code i) a b → r ≡ poppedAt code i
   unfolding poppedAt
-  popped-is {a} {b} p q e = e ∙ rw (first-is p, second-is q)
+  popped-is {a} {b} p q e = e ∙ rw (p, q)
 
   -- ---- what suffices, and the height behind
 
-  pub suffices-is : {takes slot : ℕ} (h : ℕ) → takes ≡ poppedAt code i → slot ≡ wordAt code (i + 1)
+  pub suffices-is : {takes slot : ℕ} (h : ℕ) → takes ≡ poppedAt code i → slot ≡ firstAt code i
       → (leb takes h && (not (isAt getLocal code i) || ltb slot h)) ≡ suffices code i h
   unfolding suffices poppedAt
-  suffices-is h p q = rw (p, first-is q)
+  suffices-is h p q = rw (p, q)
 
   pub pops-within : {takes h : ℕ} → takes ≡ poppedAt code i → suffices code i h ≡ true → takes ≤ h
   unfolding suffices poppedAt
@@ -51,14 +39,8 @@ module _ (code : List ℕ) (i : ℕ) where
 
   -- ---- where it goes
 
-  pub next-is : {n : ℕ} → n ≡ operands (opcodeIn code i) → i + 1 + 2 * n ≡ nextIn code i
-  next-is e = rw (e, ← behind-is)
-
-  pub operands-inside : Whole code i → {n : ℕ} → n ≡ operands (opcodeIn code i) → i + 1 + 2 * n ≤ 65535
-  operands-inside w e = omega (arith, next-is e, w .whole, w .codes)
-
-  pub target-is : {next offset : ℕ} → next ≡ nextIn code i → offset ≡ wordAt code (i + 1) → next + offset ≡ targetAt code i
-  target-is p q = rw (p, first-is q)
+  pub target-is : {next offset : ℕ} → next ≡ nextIn code i → offset ≡ firstAt code i → next + offset ≡ targetAt code i
+  target-is p q = rw (p, q)
 
 -- ---- an instruction adds one at most to the height
 

@@ -1,13 +1,15 @@
 // Rule 6 of the check, for one function: each position that a path reaches has one height above the frame's base, and it suffices there.
 // A table has a word for each position of the code: 0 where no path is known to come, else the height and one more.
-use opcode::operands;
+use check_code::first_at;
+use check_code::next_at;
+use check_code::second_at;
 use opcode::popped;
 use opcode::pushes;
 ghost use mathlib.Core.Path.{_≡_};
 ghost use mathlib.Core.Bool.{true};
 ghost use Prim.Native.Nat.{suc, _≤_, _<_, max};
 ghost use lib.ListN.{length, getD, replicate};
-ghost use Rattle.model.specs.Programs.{wordAt, nextIn};
+ghost use Rattle.model.specs.Programs.{nextIn};
 ghost use Rattle.check_rules.specs.Rules.{suffices, leadsOn, isJump, targetAt};
 ghost use Rattle.check_heights.specs.Answer.{HeightsPre, HeightsPost};
 ghost use Rattle.check_heights.specs.Links.{Whole, poppedAt, heightLimit, AfterPre, AfterPost};
@@ -28,34 +30,14 @@ const JUMP: u8 = 27;
 
 const RETURN: u8 = 37;
 
-// The byte at i; 0 past the code.
-fn byte_at(code: &[u8], i: usize) -> u8
-    ensures { λ r. ⌜ r ≡ getD (now (code .entry)) i 0 ⌝ }
-{
-    if i < code.len() {
-        return code[i];
-    }
-    0
-}
-
-// The operand at i, low byte first.
-fn word_at(code: &[u8], i: usize) -> usize
-    requires { ⌜ i < 65540 ⌝ }
-    ensures { λ r. ⌜ (r ≡ wordAt (now (code .entry)) i) × (r < 65536) ⌝ }
-{
-    let low = byte_at(code, i) as usize;
-    let high = byte_at(code, i + 1) as usize;
-    low + 256 * high
-}
-
 // All that the instruction at i pops.
 fn popped_at(code: &[u8], i: usize) -> usize
     requires { ⌜ Whole (now code) i ⌝ }
     ensures { λ r. ⌜ r ≡ poppedAt (now (code .entry)) i ⌝ }
 {
     let b = code[i];
-    let first = word_at(code, i + 1);
-    let second = word_at(code, i + 3);
+    let first = first_at(code, i);
+    let second = second_at(code, i);
     popped(b, first, second)
 }
 
@@ -66,7 +48,7 @@ fn suffices(code: &[u8], i: usize, h: u32) -> bool
 {
     let b = code[i];
     let takes = popped_at(code, i);
-    let slot = word_at(code, i + 1);
+    let slot = first_at(code, i);
     let high = h as usize;
     (takes <= high) & ((b != GET_LOCAL) | (slot < high))
 }
@@ -101,23 +83,13 @@ fn is_jump(code: &[u8], i: usize) -> bool
     (b == JUMP_IF_FALSE) | (b == JUMP)
 }
 
-// The position behind it and its operands.
-fn next_in(code: &[u8], i: usize) -> usize
-    requires { ⌜ Whole (now code) i ⌝ }
-    ensures { λ r. ⌜ r ≡ nextIn (now (code .entry)) i ⌝ }
-{
-    let b = code[i];
-    let n = operands(b);
-    i + 1 + 2 * n
-}
-
 // Where it jumps to.
 fn target_at(code: &[u8], i: usize) -> usize
     requires { ⌜ Whole (now code) i ⌝ }
     ensures { λ r. ⌜ r ≡ targetAt (now (code .entry)) i ⌝ }
 {
-    let next = next_in(code, i);
-    let offset = word_at(code, i + 1);
+    let next = next_at(code, i);
+    let offset = first_at(code, i);
     next + offset
 }
 
@@ -151,7 +123,7 @@ fn enter(main: bool, code: &[u8], i: usize, g: u32, table: &mut [u32]) -> bool
     ensures { λ r. ⌜ EnterPost main (now (code .entry)) i g (now (table .entry)) r (now (table .exit)) ⌝ }
 {
     let on = leads_on(main, code, i);
-    let next = next_in(code, i);
+    let next = next_at(code, i);
     let went = send(on, next, g, table);
     if went {
         let jumps = is_jump(code, i);

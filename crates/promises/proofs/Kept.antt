@@ -15,7 +15,7 @@ use Rattle.laws_programs.proofs.Known.{limited}
 use Rattle.laws_rust.specs.Same.{rustOf}
 use Rattle.laws_rust.proofs.Turns.{step-same}
 use Rattle.laws_rust.proofs.Loop.{run-same}
-use Rattle.laws_rust.proofs.Back.{rust-same}
+use Rattle.laws_rust.proofs.Back.{rust-same, ok-same}
 use Rattle.image.proofs.Trip.{image-back, image-only, one-program-one-image, load-then-save, save-then-load, saved-loads}
 use Rattle.demands.specs.Host.{Held}
 use Rattle.demands.specs.Kept.{InOrder}
@@ -31,7 +31,8 @@ use Rattle.laws_code.proofs.Numbers.{listing-numbers}
 use Rattle.laws_code.proofs.Walks.{step-takes-the-walk, listing-shows-the-walk}
 use Rattle.demands.proofs.Paying.{step-cost, fault-fee, path-units}
 use Rattle.demands.proofs.Growing.{as-trees}
-use Rattle.demands.proofs.Recovering.{fault-recovers}
+use Rattle.demands.proofs.Bytes.{fine-kept}
+use Rattle.demands.proofs.Recovering.{fault-recovers, set-up-alike}
 use Rattle.demands.proofs.MeantChains.{chain-alike}
 use Rattle.demands.proofs.Chains.{past-counts-unseen, ask-one}
 use Rattle.demands.proofs.OneRun.{run-one}
@@ -70,9 +71,11 @@ kept = record {
   new-in-order = λ h h' m p. new-in-order h p;
   load-in-order = λ h h' m image b p. load-in-order h image b p;
   chain-kept = λ calls h k xs t p o. chain-kept t p o;
+  fine-kept = λ c a h h' t p o. fine-kept c a t p o;
   run-in-order = λ u h h' a o p e. run-in-order o p e;
   as-the-rust = λ h f u turns. run-same (worldIn h) (order-world _ _ _ (f .order .machine) (f .code)) (few h f) _ u (order-sane _ _ _ (f .order .machine) u) turns;
   from-the-rust = λ h f u turns l. rust-same (worldIn h) (order-world _ _ _ (f .order .machine) (f .code)) (few h f) _ u (order-sane _ _ _ (f .order .machine) u) l turns;
+  ok-same = ok-same;
   step-same = step-same;
   run-written = λ m s e u q e' p c x a. run-written m s e u p a;
   returns-counted = λ w n m k s t p. returns-counted w p;
@@ -91,6 +94,7 @@ kept = record {
   saved-loads = saved-loads;
   fault-recovers = λ h h' u n did j p q. fault-recovers u p q;
   chain-alike = λ again cs h d e f xs ys a n t p q. chain-alike a n t p q;
+  set-up-alike = λ again x h k d a b o p. set-up-alike again a b o p;
   past-counts-unseen = λ calls h k e f xs ys a p q. past-counts-unseen a p q;
   relent-stands = λ h k o g. relent-stands o g;
   relent-rust = same-rust;

@@ -7,8 +7,8 @@ use Rattle.check_heights.proofs.enter.Tie as tie
 leads-on-requires : tie.Need-leads-on-requires
 leads-on-requires c κs = search needs
 
-next-in-requires : tie.Need-next-in-requires
-next-in-requires c κs = search needs
+next-at-requires : tie.Need-next-at-requires
+next-at-requires c κs = search needs
 
 send-requires : tie.Need-send-requires
 send-requires c κs = search needs
@@ -39,7 +39,7 @@ enter-spec =
     tie.close
     (tie.spec
     leads-on-requires
-    next-in-requires
+    next-at-requires
     send-requires
     is-jump-requires
     target-at-requires

@@ -10,11 +10,8 @@ shared-slice-read-b c = search needs
 popped-at-requires : tie.Need-popped-at-requires
 popped-at-requires c κs = search needs
 
-add-word-at : tie.Need-add-word-at
-add-word-at c = search needs
-
-word-at-requires : tie.Need-word-at-requires
-word-at-requires c κs = search needs
+first-at-requires : tie.Need-first-at-requires
+first-at-requires c κs = search needs
 
 returns : tie.Need-returns
 returns c = search suffices-is
@@ -22,4 +19,4 @@ returns c = search suffices-is
 pub suffices-spec : {M : Type 1} → statement M
 suffices-spec =
     tie.close
-    (tie.spec shared-slice-read-b popped-at-requires add-word-at word-at-requires returns)
+    (tie.spec shared-slice-read-b popped-at-requires first-at-requires returns)

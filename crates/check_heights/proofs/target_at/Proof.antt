@@ -4,14 +4,11 @@ use borrow.Author.Needs.{needs}
 use Rattle.check_heights.proofs.target_at.Statement.{statement}
 use Rattle.check_heights.proofs.target_at.Tie as tie
 
-next-in-requires : tie.Need-next-in-requires
-next-in-requires c κs = search needs
+next-at-requires : tie.Need-next-at-requires
+next-at-requires c κs = search needs
 
-add-word-at : tie.Need-add-word-at
-add-word-at c = search needs
-
-word-at-requires : tie.Need-word-at-requires
-word-at-requires c κs = search needs
+first-at-requires : tie.Need-first-at-requires
+first-at-requires c κs = search needs
 
 add-result : tie.Need-add-result
 add-result c = search needs
@@ -21,4 +18,4 @@ returns c = search target-is
 
 pub target-at-spec : {M : Type 1} → statement M
 target-at-spec =
-    tie.close (tie.spec next-in-requires add-word-at word-at-requires add-result returns)
+    tie.close (tie.spec next-at-requires first-at-requires add-result returns)

@@ -21,20 +21,30 @@ room-requires c κs = search needs
 
 returns : tie.Need-returns
 returns c =
-    too-few-places (c .before .before .before .before .before .before .before .before .before .before .before .before .before .before .before .before .args .image .now) (c .before .before .before .before .before .before .before .before .before .before .before .before .before .before .before .before .args .heights .now)
-    (lent (c .before .before .before .before .before .before .before .before .before .before .before .before .before .before .before .before .args .constants .now) (c .before .before .before .before .before .before .before .before .before .before .before .before .before .before .before .before .args .structs .now) (c .before .before .before .before .before .before .before .before .before .before .before .before .before .before .before .before .args .functions .now) (c .before .before .before .before .before .before .before .before .before .before .before .before .before .before .before .before .args .text .now)
-    (c .before .before .before .before .before .before .before .before .before .before .before .before .before .before .before .before .args .main .now) (c .before .before .before .before .before .before .before .before .before .before .before .before .before .before .before .before .args .main-places .now) (c .before .before .before .before .before .before .before .before .before .before .before .before .before .before .before .before .args .other .now) (c .before .before .before .before .before .before .before .before .before .before .before .before .before .before .before .before .args .other-places .now))
-    (c .before .before .before .before .before .judge .ensures) (c .before .before .before .z .given .1) (c .before .room .ensures (c .before .before .before .before .before .before .before .before .before .before .before .before .before .before .before .before .args .heights .now) refl) (c .if1 .taken)
+    let at-z = c .before .before .before in
+    let at-judge = at-z .before .before in
+    let at-start = at-judge .before .before .before .before .before .before .before .before .before .before .before in
+    too-few-places (at-start .args .image .now) (at-start .args .heights .now)
+    (lent (at-start .args .constants .now) (at-start .args .structs .now) (at-start .args .functions .now)
+    (at-start .args .text .now) (at-start .args .main .now) (at-start .args .main-places .now) (at-start .args .other .now)
+    (at-start .args .other-places .now)) (at-judge .judge .ensures) (at-z .z .given .1)
+    (c .before .room .ensures (at-start .args .heights .now) refl) (c .if1 .taken)
 
 within-limits-requires : tie.Need-within-limits-requires
 within-limits-requires c κs = search needs
 
 returns-2 : tie.Need-returns-2
 returns-2 c =
-    too-large (c .before .before .before .before .before .before .before .before .before .before .before .before .before .before .before .before .before .before .args .image .now) (c .before .before .before .before .before .before .before .before .before .before .before .before .before .before .before .before .before .before .args .heights .now)
-    (lent (c .before .before .before .before .before .before .before .before .before .before .before .before .before .before .before .before .before .before .args .constants .now) (c .before .before .before .before .before .before .before .before .before .before .before .before .before .before .before .before .before .before .args .structs .now) (c .before .before .before .before .before .before .before .before .before .before .before .before .before .before .before .before .before .before .args .functions .now) (c .before .before .before .before .before .before .before .before .before .before .before .before .before .before .before .before .before .before .args .text .now)
-    (c .before .before .before .before .before .before .before .before .before .before .before .before .before .before .before .before .before .before .args .main .now) (c .before .before .before .before .before .before .before .before .before .before .before .before .before .before .before .before .before .before .args .main-places .now) (c .before .before .before .before .before .before .before .before .before .before .before .before .before .before .before .before .before .before .args .other .now) (c .before .before .before .before .before .before .before .before .before .before .before .before .before .before .before .before .before .before .args .other-places .now))
-    (c .before .before .before .before .before .before .before .judge .ensures) (c .before .before .before .before .before .z .given .1) (c .before .before .before .room .ensures (c .before .before .before .before .before .before .before .before .before .before .before .before .before .before .before .before .before .before .args .heights .now) refl) (c .before .before .if1 .left) (c .before .within-limits .ensures) (c .if2 .taken)
+    let at-room = c .before .before .before in
+    let at-z = at-room .before .before in
+    let at-judge = at-z .before .before in
+    let at-start = at-judge .before .before .before .before .before .before .before .before .before .before .before in
+    too-large (at-start .args .image .now) (at-start .args .heights .now)
+    (lent (at-start .args .constants .now) (at-start .args .structs .now) (at-start .args .functions .now)
+    (at-start .args .text .now) (at-start .args .main .now) (at-start .args .main-places .now) (at-start .args .other .now)
+    (at-start .args .other-places .now)) (at-judge .judge .ensures) (at-z .z .given .1)
+    (at-room .room .ensures (at-start .args .heights .now) refl) (c .before .before .if1 .left)
+    (c .before .within-limits .ensures) (c .if2 .taken)
 
 has-room-requires : tie.Need-has-room-requires
 has-room-requires c κs = search needs
@@ -65,22 +75,41 @@ same-length-8 c = search
 
 returns-3 : tie.Need-returns-3
 returns-3 c =
-    too-little-room (c .before .before .before .before .before .before .before .before .before .before .before .before .before .before .before .before .before .before .before .before .before .before .before .before .before .before .before .before .args .image .now) (c .before .before .before .before .before .before .before .before .before .before .before .before .before .before .before .before .before .before .before .before .before .before .before .before .before .before .before .before .args .heights .now)
-    (lent (c .before .before .before .before .before .before .before .before .before .before .before .before .before .before .before .before .before .before .before .before .before .before .before .before .before .before .before .before .args .constants .now) (c .before .before .before .before .before .before .before .before .before .before .before .before .before .before .before .before .before .before .before .before .before .before .before .before .before .before .before .before .args .structs .now) (c .before .before .before .before .before .before .before .before .before .before .before .before .before .before .before .before .before .before .before .before .before .before .before .before .before .before .before .before .args .functions .now) (c .before .before .before .before .before .before .before .before .before .before .before .before .before .before .before .before .before .before .before .before .before .before .before .before .before .before .before .before .args .text .now)
-    (c .before .before .before .before .before .before .before .before .before .before .before .before .before .before .before .before .before .before .before .before .before .before .before .before .before .before .before .before .args .main .now) (c .before .before .before .before .before .before .before .before .before .before .before .before .before .before .before .before .before .before .before .before .before .before .before .before .before .before .before .before .args .main-places .now) (c .before .before .before .before .before .before .before .before .before .before .before .before .before .before .before .before .before .before .before .before .before .before .before .before .before .before .before .before .args .other .now) (c .before .before .before .before .before .before .before .before .before .before .before .before .before .before .before .before .before .before .before .before .before .before .before .before .before .before .before .before .args .other-places .now))
-    (c .before .before .before .before .before .before .before .before .before .before .before .before .before .before .before .before .before .judge .ensures) (c .before .before .before .before .before .before .before .before .before .before .before .before .before .before .before .z .given .1) (c .before .before .before .before .before .before .before .before .before .before .before .before .before .room .ensures (c .before .before .before .before .before .before .before .before .before .before .before .before .before .before .before .before .before .before .before .before .before .before .before .before .before .before .before .before .args .heights .now) refl) (c .before .before .before .before .before .before .before .before .before .before .before .before .if1 .left) (c .before .before .before .before .before .before .before .before .before .before .before .within-limits .ensures) (c .before .before .before .before .before .before .before .before .before .before .if2 .left) (c .before .has-room .ensures) (c .if3 .taken)
+    let at-if2 = c .before .before .before .before .before .before .before .before .before .before in
+    let at-within-limits = at-if2 .before in
+    let at-if1 = at-within-limits .before in
+    let at-room = at-if1 .before in
+    let at-z = at-room .before .before in
+    let at-judge = at-z .before .before in
+    let at-start = at-judge .before .before .before .before .before .before .before .before .before .before .before in
+    too-little-room (at-start .args .image .now) (at-start .args .heights .now)
+    (lent (at-start .args .constants .now) (at-start .args .structs .now) (at-start .args .functions .now)
+    (at-start .args .text .now) (at-start .args .main .now) (at-start .args .main-places .now) (at-start .args .other .now)
+    (at-start .args .other-places .now)) (at-judge .judge .ensures) (at-z .z .given .1)
+    (at-room .room .ensures (at-start .args .heights .now) refl) (at-if1 .if1 .left) (at-within-limits .within-limits .ensures)
+    (at-if2 .if2 .left) (c .before .has-room .ensures) (c .if3 .taken)
 
 judge-rules-requires : tie.Need-judge-rules-requires
-judge-rules-requires c κs = (
-  ready (c .before .before .before .before .before .before .before .before .before .before .before .before .before .before .before .before .before .before .before .before .before .before .before .before .before .before .before .before .before .args .image .now) (c .before .before .before .before .before .before .before .before .before .before .before .before .before .before .before .before .before .before .before .before .before .before .before .before .before .before .before .before .before .args .heights .now)
-      (lent (c .before .before .before .before .before .before .before .before .before .before .before .before .before .before .before .before .before .before .before .before .before .before .before .before .before .before .before .before .before .args .constants .now) (c .before .before .before .before .before .before .before .before .before .before .before .before .before .before .before .before .before .before .before .before .before .before .before .before .before .before .before .before .before .args .structs .now) (c .before .before .before .before .before .before .before .before .before .before .before .before .before .before .before .before .before .before .before .before .before .before .before .before .before .before .before .before .before .args .functions .now) (c .before .before .before .before .before .before .before .before .before .before .before .before .before .before .before .before .before .before .before .before .before .before .before .before .before .before .before .before .before .args .text .now)
-      (c .before .before .before .before .before .before .before .before .before .before .before .before .before .before .before .before .before .before .before .before .before .before .before .before .before .before .before .before .before .args .main .now) (c .before .before .before .before .before .before .before .before .before .before .before .before .before .before .before .before .before .before .before .before .before .before .before .before .before .before .before .before .before .args .main-places .now) (c .before .before .before .before .before .before .before .before .before .before .before .before .before .before .before .before .before .before .before .before .before .before .before .before .before .before .before .before .before .args .other .now) (c .before .before .before .before .before .before .before .before .before .before .before .before .before .before .before .before .before .before .before .before .before .before .before .before .before .before .before .before .before .args .other-places .now))
-      (c .before .before .before .before .before .before .before .before .before .before .before .before .before .before .before .before .before .before .judge .ensures) (c .before .before .before .before .before .before .before .before .before .before .before .before .before .before .before .before .z .given .1) (c .before .before .before .before .before .before .before .before .before .before .before .before .before .before .room .ensures (c .before .before .before .before .before .before .before .before .before .before .before .before .before .before .before .before .before .before .before .before .before .before .before .before .before .before .before .before .before .args .heights .now) refl) (c .before .before .before .before .before .before .before .before .before .before .before .before .before .if1 .left) (c .before .before .before .before .before .before .before .before .before .before .before .before .within-limits .ensures) (c .before .before .before .before .before .before .before .before .before .before .before .if2 .left),
-  places-within (c .before .before .before .before .before .before .before .before .before .before .before .before .before .before .before .before .before .before .before .before .before .before .before .before .before .before .before .before .before .args .image .now) (c .before .before .before .before .before .before .before .before .before .before .before .before .before .before .before .before .before .before .before .before .before .before .before .before .before .before .before .before .before .args .heights .now)
-      (lent (c .before .before .before .before .before .before .before .before .before .before .before .before .before .before .before .before .before .before .before .before .before .before .before .before .before .before .before .before .before .args .constants .now) (c .before .before .before .before .before .before .before .before .before .before .before .before .before .before .before .before .before .before .before .before .before .before .before .before .before .before .before .before .before .args .structs .now) (c .before .before .before .before .before .before .before .before .before .before .before .before .before .before .before .before .before .before .before .before .before .before .before .before .before .before .before .before .before .args .functions .now) (c .before .before .before .before .before .before .before .before .before .before .before .before .before .before .before .before .before .before .before .before .before .before .before .before .before .before .before .before .before .args .text .now)
-      (c .before .before .before .before .before .before .before .before .before .before .before .before .before .before .before .before .before .before .before .before .before .before .before .before .before .before .before .before .before .args .main .now) (c .before .before .before .before .before .before .before .before .before .before .before .before .before .before .before .before .before .before .before .before .before .before .before .before .before .before .before .before .before .args .main-places .now) (c .before .before .before .before .before .before .before .before .before .before .before .before .before .before .before .before .before .before .before .before .before .before .before .before .before .before .before .before .before .args .other .now) (c .before .before .before .before .before .before .before .before .before .before .before .before .before .before .before .before .before .before .before .before .before .before .before .before .before .before .before .before .before .args .other-places .now))
-      (c .before .before .before .before .before .before .before .before .before .before .before .before .before .before .before .before .before .before .judge .ensures) (c .before .before .before .before .before .before .before .before .before .before .before .before .before .before .before .before .z .given .1) (c .before .before .before .before .before .before .before .before .before .before .before .before .before .before .room .ensures (c .before .before .before .before .before .before .before .before .before .before .before .before .before .before .before .before .before .before .before .before .before .before .before .before .before .before .before .before .before .args .heights .now) refl) (c .before .before .before .before .before .before .before .before .before .before .before .before .before .if1 .left),
-)
+judge-rules-requires c κs =
+    let at-if2 = c .before .before .before .before .before .before .before .before .before .before .before in
+    let at-within-limits = at-if2 .before in
+    let at-if1 = at-within-limits .before in
+    let at-room = at-if1 .before in
+    let at-z = at-room .before .before in
+    let at-judge = at-z .before .before in
+    let at-start = at-judge .before .before .before .before .before .before .before .before .before .before .before in (
+      ready (at-start .args .image .now) (at-start .args .heights .now)
+          (lent (at-start .args .constants .now) (at-start .args .structs .now) (at-start .args .functions .now)
+          (at-start .args .text .now) (at-start .args .main .now) (at-start .args .main-places .now) (at-start .args .other .now)
+          (at-start .args .other-places .now)) (at-judge .judge .ensures) (at-z .z .given .1)
+          (at-room .room .ensures (at-start .args .heights .now) refl) (at-if1 .if1 .left)
+          (at-within-limits .within-limits .ensures) (at-if2 .if2 .left),
+      places-within (at-start .args .image .now) (at-start .args .heights .now)
+          (lent (at-start .args .constants .now) (at-start .args .structs .now) (at-start .args .functions .now)
+          (at-start .args .text .now) (at-start .args .main .now) (at-start .args .main-places .now) (at-start .args .other .now)
+          (at-start .args .other-places .now)) (at-judge .judge .ensures) (at-z .z .given .1)
+          (at-room .room .ensures (at-start .args .heights .now) refl) (at-if1 .if1 .left),
+    )
 
 enum-known-q : tie.Need-enum-known-q
 enum-known-q c = search needs
@@ -114,10 +143,23 @@ same-length-17 c = search
 
 returns-4 : tie.Need-returns-4
 returns-4 c =
-    a-rule-is-broken (c .before .before .before .before .before .before .before .before .before .before .before .before .before .before .before .before .before .before .before .before .before .before .before .before .before .before .before .before .before .before .before .before .before .before .before .args .image .now) (c .before .before .before .before .before .before .before .before .before .before .before .before .before .before .before .before .before .before .before .before .before .before .before .before .before .before .before .before .before .before .before .before .before .before .before .args .heights .now)
-    (lent (c .before .before .before .before .before .before .before .before .before .before .before .before .before .before .before .before .before .before .before .before .before .before .before .before .before .before .before .before .before .before .before .before .before .before .before .args .constants .now) (c .before .before .before .before .before .before .before .before .before .before .before .before .before .before .before .before .before .before .before .before .before .before .before .before .before .before .before .before .before .before .before .before .before .before .before .args .structs .now) (c .before .before .before .before .before .before .before .before .before .before .before .before .before .before .before .before .before .before .before .before .before .before .before .before .before .before .before .before .before .before .before .before .before .before .before .args .functions .now) (c .before .before .before .before .before .before .before .before .before .before .before .before .before .before .before .before .before .before .before .before .before .before .before .before .before .before .before .before .before .before .before .before .before .before .before .args .text .now)
-    (c .before .before .before .before .before .before .before .before .before .before .before .before .before .before .before .before .before .before .before .before .before .before .before .before .before .before .before .before .before .before .before .before .before .before .before .args .main .now) (c .before .before .before .before .before .before .before .before .before .before .before .before .before .before .before .before .before .before .before .before .before .before .before .before .before .before .before .before .before .before .before .before .before .before .before .args .main-places .now) (c .before .before .before .before .before .before .before .before .before .before .before .before .before .before .before .before .before .before .before .before .before .before .before .before .before .before .before .before .before .before .before .before .before .before .before .args .other .now) (c .before .before .before .before .before .before .before .before .before .before .before .before .before .before .before .before .before .before .before .before .before .before .before .before .before .before .before .before .before .before .before .before .before .before .before .args .other-places .now))
-    (c .before .before .before .before .before .before .before .before .before .before .before .before .before .before .before .before .before .before .before .before .before .before .before .before .judge .ensures) (c .before .before .before .before .before .before .before .before .before .before .before .before .before .before .before .before .before .before .before .before .before .before .z .given .1) (c .before .before .before .before .before .before .before .before .before .before .before .before .before .before .before .before .before .before .before .before .room .ensures (c .before .before .before .before .before .before .before .before .before .before .before .before .before .before .before .before .before .before .before .before .before .before .before .before .before .before .before .before .before .before .before .before .before .before .before .args .heights .now) refl) (c .before .before .before .before .before .before .before .before .before .before .before .before .before .before .before .before .before .before .before .if1 .left) (c .before .before .before .before .before .before .before .before .before .before .before .before .before .before .before .before .before .before .within-limits .ensures) (c .before .before .before .before .before .before .before .before .before .before .before .before .before .before .before .before .before .if2 .left) (c .before .before .before .before .before .before .before .before .has-room .ensures) (c .before .before .before .before .before .before .before .if3 .left) (c .before .before .before .before .before .judge-rules .ensures) (c .before .q .given .1)
+    let at-judge-rules = c .before .before .before .before .before in
+    let at-if3 = at-judge-rules .before .before in
+    let at-has-room = at-if3 .before in
+    let at-if2 = at-has-room .before .before .before .before .before .before .before .before .before in
+    let at-within-limits = at-if2 .before in
+    let at-if1 = at-within-limits .before in
+    let at-room = at-if1 .before in
+    let at-z = at-room .before .before in
+    let at-judge = at-z .before .before in
+    let at-start = at-judge .before .before .before .before .before .before .before .before .before .before .before in
+    a-rule-is-broken (at-start .args .image .now) (at-start .args .heights .now)
+    (lent (at-start .args .constants .now) (at-start .args .structs .now) (at-start .args .functions .now)
+    (at-start .args .text .now) (at-start .args .main .now) (at-start .args .main-places .now) (at-start .args .other .now)
+    (at-start .args .other-places .now)) (at-judge .judge .ensures) (at-z .z .given .1)
+    (at-room .room .ensures (at-start .args .heights .now) refl) (at-if1 .if1 .left) (at-within-limits .within-limits .ensures)
+    (at-if2 .if2 .left) (at-has-room .has-room .ensures) (at-if3 .if3 .left) (at-judge-rules .judge-rules .ensures)
+    (c .before .q .given .1)
 
 enum-told : tie.Need-enum-told
 enum-told c = search needs
@@ -130,10 +172,12 @@ as-checked-requires c κs = search needs
 
 returns-5 : tie.Need-returns-5
 returns-5 c =
-    is-no-image (c .before .before .before .before .before .before .before .before .before .before .before .before .before .before .args .image .now) (c .before .before .before .before .before .before .before .before .before .before .before .before .before .before .args .heights .now)
-    (lent (c .before .before .before .before .before .before .before .before .before .before .before .before .before .before .args .constants .now) (c .before .before .before .before .before .before .before .before .before .before .before .before .before .before .args .structs .now) (c .before .before .before .before .before .before .before .before .before .before .before .before .before .before .args .functions .now) (c .before .before .before .before .before .before .before .before .before .before .before .before .before .before .args .text .now)
-    (c .before .before .before .before .before .before .before .before .before .before .before .before .before .before .args .main .now) (c .before .before .before .before .before .before .before .before .before .before .before .before .before .before .args .main-places .now) (c .before .before .before .before .before .before .before .before .before .before .before .before .before .before .args .other .now) (c .before .before .before .before .before .before .before .before .before .before .before .before .before .before .args .other-places .now))
-    (c .before .before .before .judge .ensures) (c .before .o .given .1)
+    let at-judge = c .before .before .before in
+    let at-start = at-judge .before .before .before .before .before .before .before .before .before .before .before in
+    is-no-image (at-start .args .image .now) (at-start .args .heights .now)
+    (lent (at-start .args .constants .now) (at-start .args .structs .now) (at-start .args .functions .now)
+    (at-start .args .text .now) (at-start .args .main .now) (at-start .args .main-places .now) (at-start .args .other .now)
+    (at-start .args .other-places .now)) (at-judge .judge .ensures) (c .before .o .given .1)
 
 same-length-18 : tie.Need-same-length-18
 same-length-18 c = search
@@ -164,10 +208,26 @@ same-length-26 c = search
 
 returns-6 : tie.Need-returns-6
 returns-6 c =
-    all-is-passed (c .before .before .before .before .before .before .before .before .before .before .before .before .before .before .before .before .before .before .before .before .before .before .before .before .before .before .before .before .before .before .before .before .before .before .before .before .before .before .before .before .before .before .before .before .before .before .before .before .before .before .before .before .before .before .before .before .before .before .before .before .args .image .now) (c .before .before .before .before .before .before .before .before .before .before .before .before .before .before .before .before .before .before .before .before .before .before .before .before .before .before .before .before .before .before .before .before .before .before .before .before .before .before .before .before .before .before .before .before .before .before .before .before .before .before .before .before .before .before .before .before .before .before .before .before .args .heights .now)
-    (lent (c .before .before .before .before .before .before .before .before .before .before .before .before .before .before .before .before .before .before .before .before .before .before .before .before .before .before .before .before .before .before .before .before .before .before .before .before .before .before .before .before .before .before .before .before .before .before .before .before .before .before .before .before .before .before .before .before .before .before .before .before .args .constants .now) (c .before .before .before .before .before .before .before .before .before .before .before .before .before .before .before .before .before .before .before .before .before .before .before .before .before .before .before .before .before .before .before .before .before .before .before .before .before .before .before .before .before .before .before .before .before .before .before .before .before .before .before .before .before .before .before .before .before .before .before .before .args .structs .now) (c .before .before .before .before .before .before .before .before .before .before .before .before .before .before .before .before .before .before .before .before .before .before .before .before .before .before .before .before .before .before .before .before .before .before .before .before .before .before .before .before .before .before .before .before .before .before .before .before .before .before .before .before .before .before .before .before .before .before .before .before .args .functions .now) (c .before .before .before .before .before .before .before .before .before .before .before .before .before .before .before .before .before .before .before .before .before .before .before .before .before .before .before .before .before .before .before .before .before .before .before .before .before .before .before .before .before .before .before .before .before .before .before .before .before .before .before .before .before .before .before .before .before .before .before .before .args .text .now)
-    (c .before .before .before .before .before .before .before .before .before .before .before .before .before .before .before .before .before .before .before .before .before .before .before .before .before .before .before .before .before .before .before .before .before .before .before .before .before .before .before .before .before .before .before .before .before .before .before .before .before .before .before .before .before .before .before .before .before .before .before .before .args .main .now) (c .before .before .before .before .before .before .before .before .before .before .before .before .before .before .before .before .before .before .before .before .before .before .before .before .before .before .before .before .before .before .before .before .before .before .before .before .before .before .before .before .before .before .before .before .before .before .before .before .before .before .before .before .before .before .before .before .before .before .before .before .args .main-places .now) (c .before .before .before .before .before .before .before .before .before .before .before .before .before .before .before .before .before .before .before .before .before .before .before .before .before .before .before .before .before .before .before .before .before .before .before .before .before .before .before .before .before .before .before .before .before .before .before .before .before .before .before .before .before .before .before .before .before .before .before .before .args .other .now) (c .before .before .before .before .before .before .before .before .before .before .before .before .before .before .before .before .before .before .before .before .before .before .before .before .before .before .before .before .before .before .before .before .before .before .before .before .before .before .before .before .before .before .before .before .before .before .before .before .before .before .before .before .before .before .before .before .before .before .before .before .args .other-places .now))
-    (c .before .before .before .before .before .before .before .before .before .before .before .before .before .before .before .before .before .before .before .before .before .before .before .before .before .before .before .before .before .before .before .before .before .before .before .before .before .before .before .before .before .before .before .before .before .before .before .before .before .judge .ensures) (c .before .before .before .before .before .before .before .before .before .before .before .before .before .before .before .before .before .before .before .before .before .before .before .before .before .before .before .before .before .before .before .before .before .before .before .before .before .before .before .before .before .before .before .before .before .before .before .z .given .1) (c .before .before .before .before .before .before .before .before .before .before .before .before .before .before .before .before .before .before .before .before .before .before .before .before .before .before .before .before .before .before .before .before .before .before .before .before .before .before .before .before .before .before .before .before .before .room .ensures (c .before .before .before .before .before .before .before .before .before .before .before .before .before .before .before .before .before .before .before .before .before .before .before .before .before .before .before .before .before .before .before .before .before .before .before .before .before .before .before .before .before .before .before .before .before .before .before .before .before .before .before .before .before .before .before .before .before .before .before .before .args .heights .now) refl) (c .before .before .before .before .before .before .before .before .before .before .before .before .before .before .before .before .before .before .before .before .before .before .before .before .before .before .before .before .before .before .before .before .before .before .before .before .before .before .before .before .before .before .before .before .if1 .left) (c .before .before .before .before .before .before .before .before .before .before .before .before .before .before .before .before .before .before .before .before .before .before .before .before .before .before .before .before .before .before .before .before .before .before .before .before .before .before .before .before .before .before .before .within-limits .ensures) (c .before .before .before .before .before .before .before .before .before .before .before .before .before .before .before .before .before .before .before .before .before .before .before .before .before .before .before .before .before .before .before .before .before .before .before .before .before .before .before .before .before .before .if2 .left) (c .before .before .before .before .before .before .before .before .before .before .before .before .before .before .before .before .before .before .before .before .before .before .before .before .before .before .before .before .before .before .before .before .before .has-room .ensures) (c .before .before .before .before .before .before .before .before .before .before .before .before .before .before .before .before .before .before .before .before .before .before .before .before .before .before .before .before .before .before .before .before .if3 .left) (c .before .before .before .before .before .before .before .before .before .before .before .before .before .before .before .before .before .before .before .before .before .before .before .before .before .before .before .before .before .before .judge-rules .ensures) (c .before .before .before .before .before .before .before .before .before .before .before .before .before .before .before .before .before .before .before .before .before .before .before .before .before .before .enum-told .given .1) (c .before .before .before .before .before .before .before .before .before .before .before .before .before .before .before .before .before .load .ensures) (c .as-checked .ensures)
+    let at-load = c .before .before .before .before .before .before .before .before .before .before .before .before .before
+    .before .before .before .before in
+    let at-enum-told = at-load .before .before .before .before .before .before .before .before .before in
+    let at-judge-rules = at-enum-told .before .before .before .before in
+    let at-if3 = at-judge-rules .before .before in
+    let at-has-room = at-if3 .before in
+    let at-if2 = at-has-room .before .before .before .before .before .before .before .before .before in
+    let at-within-limits = at-if2 .before in
+    let at-if1 = at-within-limits .before in
+    let at-room = at-if1 .before in
+    let at-z = at-room .before .before in
+    let at-judge = at-z .before .before in
+    let at-start = at-judge .before .before .before .before .before .before .before .before .before .before .before in
+    all-is-passed (at-start .args .image .now) (at-start .args .heights .now)
+    (lent (at-start .args .constants .now) (at-start .args .structs .now) (at-start .args .functions .now)
+    (at-start .args .text .now) (at-start .args .main .now) (at-start .args .main-places .now) (at-start .args .other .now)
+    (at-start .args .other-places .now)) (at-judge .judge .ensures) (at-z .z .given .1)
+    (at-room .room .ensures (at-start .args .heights .now) refl) (at-if1 .if1 .left) (at-within-limits .within-limits .ensures)
+    (at-if2 .if2 .left) (at-has-room .has-room .ensures) (at-if3 .if3 .left) (at-judge-rules .judge-rules .ensures)
+    (at-enum-told .enum-told .given .1) (at-load .load .ensures) (c .as-checked .ensures)
 
 pub check-spec : {M : Type 1} → statement M
 check-spec =

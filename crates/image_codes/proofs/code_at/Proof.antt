@@ -34,11 +34,20 @@ enum-told-2 c = search needs
 
 returns-2 : tie.Need-returns-2
 returns-2 c =
-    no-runs _ _ _ (c .before .before .before .before .before .before .before .before .pre) _ (c .before .before .before .before .before .before .read-head .ensures) _ (c .before .before .before .before .h .given .1) _ (c .before .before .check-runs .ensures) (c .enum-told2 .given .1)
+    let at-h = c .before .before .before .before in
+    let at-read-head = at-h .before .before in
+    let at-start = at-read-head .before .before in
+    no-runs _ _ _ (at-start .pre) _ (at-read-head .read-head .ensures) _ (at-h .h .given .1) _
+    (c .before .before .check-runs .ensures) (c .enum-told2 .given .1)
 
 returns-3 : tie.Need-returns-3
 returns-3 c =
-    function-found _ _ _ (c .before .before .before .before .before .before .before .before .before .pre) _ (c .before .before .before .before .before .before .before .read-head .ensures) _ (c .before .before .before .before .before .h .given .1) _ (c .before .before .before .check-runs .ensures) (c .before .next .given .1)
+    let at-check-runs = c .before .before .before in
+    let at-h = at-check-runs .before .before in
+    let at-read-head = at-h .before .before in
+    let at-start = at-read-head .before .before in
+    function-found _ _ _ (at-start .pre) _ (at-read-head .read-head .ensures) _ (at-h .h .given .1) _
+    (at-check-runs .check-runs .ensures) (c .before .next .given .1)
 
 pub code-at-spec : {M : Type 1} → statement M
 code-at-spec =

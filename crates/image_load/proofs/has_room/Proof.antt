@@ -30,11 +30,21 @@ room-requires-8 : tie.Need-room-requires-8
 room-requires-8 c κs = search needs
 
 returns : tie.Need-returns
-returns c = λ p h.
-    let a = c .before .before .before .before .before .before .before .before .before .before .before .before .before .before .before .before .before .before .before .before .before .before .before .before .args in
-    room-by p _ _ _ _ _ _ _ _ _ _ h (c .before .before .before .before .before .before .before .before .before .before .before .before .before .before .before .room .ensures (a .constants .now) refl) (c .before .before .before .before .before .before .before .before .before .before .before .before .before .room2 .ensures (a .structs .now) refl)
-    (c .before .before .before .before .before .before .before .before .before .before .before .room3 .ensures (a .functions .now) refl) (c .before .before .before .before .before .before .before .before .before .room4 .ensures (a .text .now) refl) (c .before .before .before .before .before .before .before .room5 .ensures (a .main .now) refl)
-    (c .before .before .before .before .before .room6 .ensures (a .main-places .now) refl) (c .before .before .before .room7 .ensures (a .other .now) refl) (c .before .room8 .ensures (a .other-places .now) refl)
+returns c =
+    let at-room7 = c .before .before .before in
+    let at-room6 = at-room7 .before .before in
+    let at-room5 = at-room6 .before .before in
+    let at-room4 = at-room5 .before .before in
+    let at-room3 = at-room4 .before .before in
+    let at-room2 = at-room3 .before .before in
+    let at-room = at-room2 .before .before in
+    let at-start = at-room .before .before .before .before .before .before .before .before .before in
+    λ p h. let a = at-start .args in
+    room-by p _ _ _ _ _ _ _ _ _ _ h (at-room .room .ensures (a .constants .now) refl)
+    (at-room2 .room2 .ensures (a .structs .now) refl) (at-room3 .room3 .ensures (a .functions .now) refl)
+    (at-room4 .room4 .ensures (a .text .now) refl) (at-room5 .room5 .ensures (a .main .now) refl)
+    (at-room6 .room6 .ensures (a .main-places .now) refl) (at-room7 .room7 .ensures (a .other .now) refl)
+    (c .before .room8 .ensures (a .other-places .now) refl)
 
 pub has-room-spec : {M : Type 1} → statement M
 has-room-spec =

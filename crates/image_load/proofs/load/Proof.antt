@@ -48,17 +48,31 @@ same-length-8 c = search
 
 returns-2 : tie.Need-returns-2
 returns-2 c =
-    load-21 (c .before .before .before .before .before .before .before .before .before .before .before .before .before .before .before .before .before .before .before .before .before .before .before .before .before .args .image .now)
-    (lent (c .before .before .before .before .before .before .before .before .before .before .before .before .before .before .before .before .before .before .before .before .before .before .before .before .before .args .constants .now) (c .before .before .before .before .before .before .before .before .before .before .before .before .before .before .before .before .before .before .before .before .before .before .before .before .before .args .structs .now) (c .before .before .before .before .before .before .before .before .before .before .before .before .before .before .before .before .before .before .before .before .before .before .before .before .before .args .functions .now) (c .before .before .before .before .before .before .before .before .before .before .before .before .before .before .before .before .before .before .before .before .before .before .before .before .before .args .text .now)
-    (c .before .before .before .before .before .before .before .before .before .before .before .before .before .before .before .before .before .before .before .before .before .before .before .before .before .args .main .now) (c .before .before .before .before .before .before .before .before .before .before .before .before .before .before .before .before .before .before .before .before .before .before .before .before .before .args .main-places .now) (c .before .before .before .before .before .before .before .before .before .before .before .before .before .before .before .before .before .before .before .before .before .before .before .before .before .args .other .now) (c .before .before .before .before .before .before .before .before .before .before .before .before .before .before .before .before .before .before .before .before .before .before .before .before .before .args .other-places .now)) _ (c .before .before .before .before .before .before .before .before .before .before .before .before .before .before .before .judge .ensures) _ (c .before .before .before .before .before .before .before .before .before .before .before .before .before .z .given .1) _
-    (c .before .before .before .before .before .before .before .before .before .before .before .within-limits .ensures) (c .before .before .before .before .before .before .before .before .before .before .if1 .left) _ (c .before .has-room .ensures) (c .if2 .taken)
+    let at-if1 = c .before .before .before .before .before .before .before .before .before .before in
+    let at-within-limits = at-if1 .before in
+    let at-z = at-within-limits .before .before in
+    let at-judge = at-z .before .before in
+    let at-start = at-judge .before .before .before .before .before .before .before .before .before .before in
+    load-21 (at-start .args .image .now)
+    (lent (at-start .args .constants .now) (at-start .args .structs .now) (at-start .args .functions .now)
+    (at-start .args .text .now) (at-start .args .main .now) (at-start .args .main-places .now) (at-start .args .other .now)
+    (at-start .args .other-places .now)) _ (at-judge .judge .ensures) _ (at-z .z .given .1) _
+    (at-within-limits .within-limits .ensures) (at-if1 .if1 .left) _ (c .before .has-room .ensures) (c .if2 .taken)
 
 load-all-requires : tie.Need-load-all-requires
 load-all-requires c κs =
-    load-fits (c .before .before .before .before .before .before .before .before .before .before .before .before .before .before .before .before .before .before .before .before .before .before .before .before .before .before .before .before .before .before .before .before .before .args .image .now)
-    (lent (c .before .before .before .before .before .before .before .before .before .before .before .before .before .before .before .before .before .before .before .before .before .before .before .before .before .before .before .before .before .before .before .before .before .args .constants .now) (c .before .before .before .before .before .before .before .before .before .before .before .before .before .before .before .before .before .before .before .before .before .before .before .before .before .before .before .before .before .before .before .before .before .args .structs .now) (c .before .before .before .before .before .before .before .before .before .before .before .before .before .before .before .before .before .before .before .before .before .before .before .before .before .before .before .before .before .before .before .before .before .args .functions .now) (c .before .before .before .before .before .before .before .before .before .before .before .before .before .before .before .before .before .before .before .before .before .before .before .before .before .before .before .before .before .before .before .before .before .args .text .now)
-    (c .before .before .before .before .before .before .before .before .before .before .before .before .before .before .before .before .before .before .before .before .before .before .before .before .before .before .before .before .before .before .before .before .before .args .main .now) (c .before .before .before .before .before .before .before .before .before .before .before .before .before .before .before .before .before .before .before .before .before .before .before .before .before .before .before .before .before .before .before .before .before .args .main-places .now) (c .before .before .before .before .before .before .before .before .before .before .before .before .before .before .before .before .before .before .before .before .before .before .before .before .before .before .before .before .before .before .before .before .before .args .other .now) (c .before .before .before .before .before .before .before .before .before .before .before .before .before .before .before .before .before .before .before .before .before .before .before .before .before .before .before .before .before .before .before .before .before .args .other-places .now)) _ (c .before .before .before .before .before .before .before .before .before .before .before .before .before .before .before .before .before .before .before .before .before .before .before .judge .ensures) _ (c .before .before .before .before .before .before .before .before .before .before .before .before .before .before .before .before .before .before .before .before .before .z .given .1) _
-    (c .before .before .before .before .before .before .before .before .before .before .before .before .before .before .before .before .before .before .before .within-limits .ensures) (c .before .before .before .before .before .before .before .before .before .before .before .before .before .before .before .before .before .before .if1 .left) _ (c .before .before .before .before .before .before .before .before .before .has-room .ensures) (c .before .before .before .before .before .before .before .before .if2 .left)
+    let at-if2 = c .before .before .before .before .before .before .before .before in
+    let at-has-room = at-if2 .before in
+    let at-if1 = at-has-room .before .before .before .before .before .before .before .before .before in
+    let at-within-limits = at-if1 .before in
+    let at-z = at-within-limits .before .before in
+    let at-judge = at-z .before .before in
+    let at-start = at-judge .before .before .before .before .before .before .before .before .before .before in
+    load-fits (at-start .args .image .now)
+    (lent (at-start .args .constants .now) (at-start .args .structs .now) (at-start .args .functions .now)
+    (at-start .args .text .now) (at-start .args .main .now) (at-start .args .main-places .now) (at-start .args .other .now)
+    (at-start .args .other-places .now)) _ (at-judge .judge .ensures) _ (at-z .z .given .1) _
+    (at-within-limits .within-limits .ensures) (at-if1 .if1 .left) _ (at-has-room .has-room .ensures) (at-if2 .if2 .left)
 
 returns-3 : tie.Need-returns-3
 returns-3 c = search load-broken
@@ -89,11 +103,21 @@ same-length-16 c = search
 
 returns-4 : tie.Need-returns-4
 returns-4 c =
-    load-done (c .before .before .before .before .before .before .before .before .before .before .before .before .before .before .before .before .before .before .before .before .before .before .before .before .before .before .before .before .before .before .before .before .before .before .before .before .before .before .before .before .before .before .before .before .before .before .before .before .before .before .args .image .now)
-    (lent (c .before .before .before .before .before .before .before .before .before .before .before .before .before .before .before .before .before .before .before .before .before .before .before .before .before .before .before .before .before .before .before .before .before .before .before .before .before .before .before .before .before .before .before .before .before .before .before .before .before .before .args .constants .now) (c .before .before .before .before .before .before .before .before .before .before .before .before .before .before .before .before .before .before .before .before .before .before .before .before .before .before .before .before .before .before .before .before .before .before .before .before .before .before .before .before .before .before .before .before .before .before .before .before .before .before .args .structs .now) (c .before .before .before .before .before .before .before .before .before .before .before .before .before .before .before .before .before .before .before .before .before .before .before .before .before .before .before .before .before .before .before .before .before .before .before .before .before .before .before .before .before .before .before .before .before .before .before .before .before .before .args .functions .now) (c .before .before .before .before .before .before .before .before .before .before .before .before .before .before .before .before .before .before .before .before .before .before .before .before .before .before .before .before .before .before .before .before .before .before .before .before .before .before .before .before .before .before .before .before .before .before .before .before .before .before .args .text .now)
-    (c .before .before .before .before .before .before .before .before .before .before .before .before .before .before .before .before .before .before .before .before .before .before .before .before .before .before .before .before .before .before .before .before .before .before .before .before .before .before .before .before .before .before .before .before .before .before .before .before .before .before .args .main .now) (c .before .before .before .before .before .before .before .before .before .before .before .before .before .before .before .before .before .before .before .before .before .before .before .before .before .before .before .before .before .before .before .before .before .before .before .before .before .before .before .before .before .before .before .before .before .before .before .before .before .before .args .main-places .now) (c .before .before .before .before .before .before .before .before .before .before .before .before .before .before .before .before .before .before .before .before .before .before .before .before .before .before .before .before .before .before .before .before .before .before .before .before .before .before .before .before .before .before .before .before .before .before .before .before .before .before .args .other .now) (c .before .before .before .before .before .before .before .before .before .before .before .before .before .before .before .before .before .before .before .before .before .before .before .before .before .before .before .before .before .before .before .before .before .before .before .before .before .before .before .before .before .before .before .before .before .before .before .before .before .before .args .other-places .now)) _ (c .before .before .before .before .before .before .before .before .before .before .before .before .before .before .before .before .before .before .before .before .before .before .before .before .before .before .before .before .before .before .before .before .before .before .before .before .before .before .before .before .judge .ensures) _ (c .before .before .before .before .before .before .before .before .before .before .before .before .before .before .before .before .before .before .before .before .before .before .before .before .before .before .before .before .before .before .before .before .before .before .before .before .before .before .z .given .1) _
-    (c .before .before .before .before .before .before .before .before .before .before .before .before .before .before .before .before .before .before .before .before .before .before .before .before .before .before .before .before .before .before .before .before .before .before .before .before .within-limits .ensures) (c .before .before .before .before .before .before .before .before .before .before .before .before .before .before .before .before .before .before .before .before .before .before .before .before .before .before .before .before .before .before .before .before .before .before .before .if1 .left) _ (c .before .before .before .before .before .before .before .before .before .before .before .before .before .before .before .before .before .before .before .before .before .before .before .before .before .before .has-room .ensures) (c .before .before .before .before .before .before .before .before .before .before .before .before .before .before .before .before .before .before .before .before .before .before .before .before .before .if2 .left) _
-    (c .before .before .before .before .before .before .before .before .before .before .before .before .before .before .before .before .load-all .ensures)
+    let at-load-all = c .before .before .before .before .before .before .before .before .before .before .before .before .before
+    .before .before .before in
+    let at-if2 = at-load-all .before .before .before .before .before .before .before .before .before in
+    let at-has-room = at-if2 .before in
+    let at-if1 = at-has-room .before .before .before .before .before .before .before .before .before in
+    let at-within-limits = at-if1 .before in
+    let at-z = at-within-limits .before .before in
+    let at-judge = at-z .before .before in
+    let at-start = at-judge .before .before .before .before .before .before .before .before .before .before in
+    load-done (at-start .args .image .now)
+    (lent (at-start .args .constants .now) (at-start .args .structs .now) (at-start .args .functions .now)
+    (at-start .args .text .now) (at-start .args .main .now) (at-start .args .main-places .now) (at-start .args .other .now)
+    (at-start .args .other-places .now)) _ (at-judge .judge .ensures) _ (at-z .z .given .1) _
+    (at-within-limits .within-limits .ensures) (at-if1 .if1 .left) _ (at-has-room .has-room .ensures) (at-if2 .if2 .left) _
+    (at-load-all .load-all .ensures)
 
 pub load-spec : {M : Type 1} → statement M
 load-spec =

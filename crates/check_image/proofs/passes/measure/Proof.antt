@@ -16,19 +16,29 @@ loop-holds : tie.Need-loop-holds Inv-loop μ-loop
 loop-holds c = none-measured _ _ _ _
 
 code-at-requires : tie.Need-code-at-requires Inv-loop μ-loop
-code-at-requires c κs = place-inside (c .before .before .loop .inv) (c .before .before .before .before .before .before .pre .0)
+code-at-requires c κs =
+    let at-loop = c .before .before in
+    let at-start = at-loop .before .before .before .before in
+    place-inside (at-loop .loop .inv) (at-start .pre .0)
 
 add-end : tie.Need-add-end Inv-loop μ-loop
 add-end c = search needs
 
 mul-taken-with : tie.Need-mul-taken-with Inv-loop μ-loop
 mul-taken-with c =
-    let inside = entry-inside (c .before .before .before .before .loop .inv) (c .before .before .before .before .before .before .before .before .pre .0) (c .before .before .if1 .taken) in
+    let inside =
+    let at-loop = c .before .before .before .before in
+    let at-start = at-loop .before .before .before .before in
+    entry-inside (at-loop .loop .inv) (at-start .pre .0) (c .before .before .if1 .taken) in
     search needs
 
 slice-read-taken-with : tie.Need-slice-read-taken-with Inv-loop μ-loop
 slice-read-taken-with c =
-    let inside = entry-inside (c .before .before .before .before .before .loop .inv) (c .before .before .before .before .before .before .before .before .before .pre .0) (c .before .before .before .if1 .taken) in
+    let inside =
+    let at-if1 = c .before .before .before in
+    let at-loop = at-if1 .before .before in
+    let at-start = at-loop .before .before .before .before in
+    entry-inside (at-loop .loop .inv) (at-start .pre .0) (at-if1 .if1 .taken) in
     search needs
 
 taken-with-requires : tie.Need-taken-with-requires Inv-loop μ-loop
@@ -45,7 +55,12 @@ part-heights-end c = c .before .before .before .code-at .ensures .inside
 
 heights-requires : tie.Need-heights-requires Inv-loop μ-loop
 heights-requires c κs =
-    heights-may-be-asked (c .before .before .before .before .before .before .before .before .loop .inv) (c .before .before .before .before .before .before .if1 .taken) (c .before .before .before .before .before .code-at .ensures) (c .before .before .taken-with .ensures) (c .before .before .before .before .before .before .before .before .before .before .before .before .pre .0) (c .before .before .before .before .before .before .before .before .before .before .before .before .pre .1)
+    let at-code-at = c .before .before .before .before .before in
+    let at-if1 = at-code-at .before in
+    let at-loop = at-if1 .before .before in
+    let at-start = at-loop .before .before .before .before in
+    heights-may-be-asked (at-loop .loop .inv) (at-if1 .if1 .taken) (at-code-at .code-at .ensures)
+    (c .before .before .taken-with .ensures) (at-start .pre .0) (at-start .pre .1)
 
 enum-known-m : tie.Need-enum-known-m Inv-loop μ-loop
 enum-known-m c = search needs
@@ -57,20 +72,38 @@ same-length : tie.Need-same-length Inv-loop μ-loop
 same-length c = search
 
 same-length-2 : tie.Need-same-length-2 Inv-loop μ-loop
-same-length-2 c = c .before .before .before .before .heights .kept .1 .1 .1 .0 ∙ c .before .before .before .before .before .before .before .before .before .before .before .before .before .loop .inv .same
+same-length-2 c =
+    let at-heights = c .before .before .before .before in
+    let at-loop = at-heights .before .before .before .before .before .before .before .before .before in
+    at-heights .heights .kept .1 .1 .1 .0 ∙ at-loop .loop .inv .same
 
 returns : tie.Need-returns Inv-loop μ-loop
 returns c =
-    one-is-uneven (c .before .before .before .before .before .before .before .before .before .before .before .before .before .loop .inv) (c .before .before .before .before .before .before .before .before .before .before .before .if1 .taken) (c .before .before .before .before .before .before .before .before .before .before .code-at .ensures) (c .before .before .before .before .before .before .before .taken-with .ensures) (c .before .before .before .before .heights .ensures) (c .before .before .before .before .before .before .before .before .before .before .before .before .before .before .before .before .before .pre .0) (c .enum-told .given .1)
+    let at-heights = c .before .before .before .before in
+    let at-taken-with = at-heights .before .before .before in
+    let at-code-at = at-taken-with .before .before .before in
+    let at-if1 = at-code-at .before in
+    let at-loop = at-if1 .before .before in
+    let at-start = at-loop .before .before .before .before in
+    one-is-uneven (at-loop .loop .inv) (at-if1 .if1 .taken) (at-code-at .code-at .ensures) (at-taken-with .taken-with .ensures)
+    (at-heights .heights .ensures) (at-start .pre .0) (c .enum-told .given .1)
 
 mul-counts : tie.Need-mul-counts Inv-loop μ-loop
 mul-counts c =
-    let inside = entry-inside (c .before .before .before .before .before .before .before .before .before .before .before .before .before .before .loop .inv) (c .before .before .before .before .before .before .before .before .before .before .before .before .before .before .before .before .before .before .pre .0) (c .before .before .before .before .before .before .before .before .before .before .before .before .if1 .taken) in
+    let inside =
+    let at-if1 = c .before .before .before .before .before .before .before .before .before .before .before .before in
+    let at-loop = at-if1 .before .before in
+    let at-start = at-loop .before .before .before .before in
+    entry-inside (at-loop .loop .inv) (at-start .pre .0) (at-if1 .if1 .taken) in
     search needs
 
 slice-write-counts : tie.Need-slice-write-counts Inv-loop μ-loop
 slice-write-counts c =
-    let inside = entry-inside (c .before .before .before .before .before .before .before .before .before .before .before .before .before .before .loop .inv) (c .before .before .before .before .before .before .before .before .before .before .before .before .before .before .before .before .before .before .pre .0) (c .before .before .before .before .before .before .before .before .before .before .before .before .if1 .taken) in
+    let inside =
+    let at-if1 = c .before .before .before .before .before .before .before .before .before .before .before .before in
+    let at-loop = at-if1 .before .before in
+    let at-start = at-loop .before .before .before .before in
+    entry-inside (at-loop .loop .inv) (at-start .pre .0) (at-if1 .if1 .taken) in
     search needs
 
 add-f : tie.Need-add-f Inv-loop μ-loop
@@ -81,7 +114,12 @@ loop-less c = search needs
 
 loop-again : tie.Need-loop-again Inv-loop μ-loop
 loop-again c =
-    one-is-even (c .before .before .before .before .before .before .before .before .before .before .before .before .before .before .loop .inv) (c .before .before .before .before .before .before .before .before .before .before .before .before .if1 .taken) (c .before .before .before .before .before .before .before .before .before .before .before .code-at .ensures) (c .before .before .before .before .before .before .before .before .taken-with .ensures) (c .before .before .before .before .before .heights .ensures) (c .before .m .given .1) search
+    one-is-even
+    (c .before .before .before .before .before .before .before .before .before .before .before .before .before .before .loop .inv)
+    (c .before .before .before .before .before .before .before .before .before .before .before .before .if1 .taken)
+    (c .before .before .before .before .before .before .before .before .before .before .before .code-at .ensures)
+    (c .before .before .before .before .before .before .before .before .taken-with .ensures)
+    (c .before .before .before .before .before .heights .ensures) (c .before .m .given .1) search
 
 same-length-3 : tie.Need-same-length-3 Inv-loop μ-loop
 same-length-3 c = c .before .before .loop .inv .entries
@@ -90,7 +128,10 @@ same-length-4 : tie.Need-same-length-4 Inv-loop μ-loop
 same-length-4 c = c .before .before .loop .inv .same
 
 returns-2 : tie.Need-returns-2 Inv-loop μ-loop
-returns-2 c = all-even (c .before .before .loop .inv) (c .before .before .before .before .before .before .pre .0) (c .if1 .left)
+returns-2 c =
+    let at-loop = c .before .before in
+    let at-start = at-loop .before .before .before .before in
+    all-even (at-loop .loop .inv) (at-start .pre .0) (c .if1 .left)
 
 pub measure-spec : {M : Type 1} → statement M
 measure-spec =

@@ -18,7 +18,10 @@ loop-holds : tie.Need-loop-holds Inv-loop μ-loop
 loop-holds c = no-calls-yet _ _ _ (c .before .before .pre .1)
 
 code-at-requires : tie.Need-code-at-requires Inv-loop μ-loop
-code-at-requires c κs = tally-inside (c .before .before .loop .inv) (c .before .before .before .before .before .pre .0)
+code-at-requires c κs =
+    let at-loop = c .before .before in
+    let at-start = at-loop .before .before .before in
+    tally-inside (at-loop .loop .inv) (at-start .pre .0)
 
 add-end : tie.Need-add-end Inv-loop μ-loop
 add-end c = search needs
@@ -34,7 +37,9 @@ part-tally-end c = c .before .code-at .ensures .inside
 
 tally-requires : tie.Need-tally-requires Inv-loop μ-loop
 tally-requires c κs =
-    let same = c .before .before .before .before .before .before .loop .inv .same in
+    let same =
+    let at-loop = c .before .before .before .before .before .before in
+    at-loop .loop .inv .same in
     let many : length (c .before .before .before .before .before .before .before .before .before .args .counts .now) ≡ 65536 = ap length (c .before .before .before .before .before .before .before .before .before .pre .1) ∙ length-replicate {A = ℕ} 65536 0 in
     omega arith
 
@@ -46,13 +51,18 @@ loop-less c = search needs
 
 loop-again : tie.Need-loop-again Inv-loop μ-loop
 loop-again c =
-    calls-entered (c .before .before .before .before .before .before .before .before .before .loop .inv) (c .before .before .before .before .before .before .before .if1 .taken) (c .before .before .before .before .before .before .code-at .ensures) (c .before .before .tally .ensures) search
+    calls-entered (c .before .before .before .before .before .before .before .before .before .loop .inv)
+    (c .before .before .before .before .before .before .before .if1 .taken)
+    (c .before .before .before .before .before .before .code-at .ensures) (c .before .before .tally .ensures) search
 
 same-length : tie.Need-same-length Inv-loop μ-loop
 same-length c = c .before .before .loop .inv .same
 
 returns : tie.Need-returns Inv-loop μ-loop
-returns c = all-calls-entered (c .before .before .loop .inv) (c .before .before .before .before .before .pre .0) (c .if1 .left)
+returns c =
+    let at-loop = c .before .before in
+    let at-start = at-loop .before .before .before in
+    all-calls-entered (at-loop .loop .inv) (at-start .pre .0) (c .if1 .left)
 
 pub tally-all-spec : {M : Type 1} → statement M
 tally-all-spec =
