@@ -21,7 +21,11 @@ pops-spec =
     (tie.spec
     (λ c. (at-keys count keys tt _ (c .match .keys1), omega arith))
     (λ c. (in-range count (keys ∷ []) 8 4 tt _ (c .before .before .match .rest) (omega arith) (omega arith), omega arith))
-    (λ c. let at-match = c .before .before .before .before in (in-range count (keys ∷ []) 14 8 tt _ (at-match .match .rest) (omega arith) (omega arith), omega arith))
+    (λ c.
+    let at-match = c .before .before .before .before in
+    (in-range count (keys ∷ []) 14 8 tt _ (at-match .match .rest) (omega arith) (omega arith), omega arith))
     (λ c. (in-range count (keys ∷ []) 0 8 tt _ (c .before .match .rest) (omega arith) (omega arith), omega arith))
     (λ c. (in-range count (keys ∷ []) 12 2 tt _ (c .before .before .before .match .rest) (omega arith) (omega arith), omega arith))
-    (λ c. let at-match = c .before .before .before .before in (in-range count (keys ∷ []) 22 234 tt _ (at-match .match .rest) (omega arith) (omega arith), omega arith)))
+    (λ c.
+    let at-match = c .before .before .before .before in
+    (in-range count (keys ∷ []) 22 234 tt _ (at-match .match .rest) (omega arith) (omega arith), omega arith)))

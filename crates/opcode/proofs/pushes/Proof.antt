@@ -21,11 +21,23 @@ pushes-spec =
     (tie.spec
     (λ c. (in-range count (keys ∷ []) 0 3 tt _ (c .before .match .rest) (omega arith) (omega arith), omega arith))
     (λ c. (in-range count (keys ∷ []) 7 1 tt _ (c .before .before .before .match .rest) (omega arith) (omega arith), omega arith))
-    (λ c. let at-match = c .before .before .before .before .before in (in-range count (keys ∷ []) 12 2 tt _ (at-match .match .rest) (omega arith) (omega arith), omega arith))
-    (λ c. let at-match = c .before .before .before .before .before .before .before in (in-range count (keys ∷ []) 23 11 tt _ (at-match .match .rest) (omega arith) (omega arith), omega arith))
-    (λ c. let at-match = c .before .before .before .before .before .before .before .before in (in-range count (keys ∷ []) 37 219 tt _ (at-match .match .rest) (omega arith) (omega arith), omega arith))
+    (λ c.
+    let at-match = c .before .before .before .before .before in
+    (in-range count (keys ∷ []) 12 2 tt _ (at-match .match .rest) (omega arith) (omega arith), omega arith))
+    (λ c.
+    let at-match = c .before .before .before .before .before .before .before in
+    (in-range count (keys ∷ []) 23 11 tt _ (at-match .match .rest) (omega arith) (omega arith), omega arith))
+    (λ c.
+    let at-match = c .before .before .before .before .before .before .before .before in
+    (in-range count (keys ∷ []) 37 219 tt _ (at-match .match .rest) (omega arith) (omega arith), omega arith))
     (λ c. (at-keys count keys tt _ (c .match .keys1), omega arith))
     (λ c. (in-range count (keys ∷ []) 3 4 tt _ (c .before .before .match .rest) (omega arith) (omega arith), omega arith))
-    (λ c. let at-match = c .before .before .before .before in (in-range count (keys ∷ []) 8 4 tt _ (at-match .match .rest) (omega arith) (omega arith), omega arith))
-    (λ c. let at-match = c .before .before .before .before .before .before in (in-range count (keys ∷ []) 14 9 tt _ (at-match .match .rest) (omega arith) (omega arith), omega arith))
-    (λ c. let at-match = c .before .before .before .before .before .before .before .before in (in-range count (keys ∷ []) 34 3 tt _ (at-match .match .rest) (omega arith) (omega arith), omega arith)))
+    (λ c.
+    let at-match = c .before .before .before .before in
+    (in-range count (keys ∷ []) 8 4 tt _ (at-match .match .rest) (omega arith) (omega arith), omega arith))
+    (λ c.
+    let at-match = c .before .before .before .before .before .before in
+    (in-range count (keys ∷ []) 14 9 tt _ (at-match .match .rest) (omega arith) (omega arith), omega arith))
+    (λ c.
+    let at-match = c .before .before .before .before .before .before .before .before in
+    (in-range count (keys ∷ []) 34 3 tt _ (at-match .match .rest) (omega arith) (omega arith), omega arith)))
