@@ -30,7 +30,12 @@ same-length-2 : tie.Need-same-length-2
 same-length-2 c = search needs
 
 returns-2 : tie.Need-returns-2
-returns-2 c = room-for _ _ (search needs) (c .before .before .before .before .before .before .before .before .put-checked .ensures) _ (c .before .before .before .before .before .room .ensures _ refl) (c .before .before .before .before .if1 .left) (c .before .before .put-checked2 .ensures)
+returns-2 c =
+    let at-if1 = c .before .before .before .before in
+    let at-room = at-if1 .before in
+    let at-measured = at-room .before .before .before in
+    room-for _ _ (search needs) (at-measured .put-checked .ensures) _ (at-room .room .ensures _ refl) (at-if1 .if1 .left)
+    (c .before .before .put-checked2 .ensures)
 
 pub print-checked-spec : {M : Type 1} → statement M
 print-checked-spec =

@@ -16,7 +16,13 @@ put-text-requires : tie.Need-put-text-requires
 put-text-requires c κs = search needs
 
 put-heights-requires : tie.Need-put-heights-requires
-put-heights-requires c κs = let h = heights-inside (c .before .before .before .before .before .before .before .before .before .before .before .pre) (c .before .before .before .before .before .before .before .answer .given .1) in let l = c .before .before .before .before .before .before .before .before .before .before .before .pre .small in (h, omega (arith, c .before .before .before .put-text .ensures .near))
+put-heights-requires c κs =
+    let at-text = c .before .before .before in
+    let at-answer = at-text .before .before .before .before in
+    let at-start = at-answer .before .before .before .before in
+    let h = heights-inside (at-start .pre) (at-answer .answer .given .1) in
+    let l = at-start .pre .small in
+    (h, omega (arith, at-text .put-text .ensures .near))
 
 enum-known-answer-2 : tie.Need-enum-known-answer-2
 enum-known-answer-2 c = search needs
