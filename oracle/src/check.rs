@@ -9,10 +9,10 @@
 //! followed one by one, in no clever order: this is a second writing, to
 //! compare the proved one with, and shares no idea with it but the document.
 
-use crate::image::Program;
+use crate::image::{parse, Program};
 use crate::limits::Refused;
 use crate::op::Op;
-use crate::print;
+use crate::print::{self, MAX_IMAGE};
 
 /// What is known of a program that has passed.
 #[derive(Clone, Debug, PartialEq, Eq)]
@@ -35,14 +35,21 @@ pub struct Broken {
 /// Why an image is not passed.
 #[derive(Clone, Copy, Debug, PartialEq, Eq)]
 pub enum Refusal {
-    /// It is not even loaded. Of loading's numbers 17 cannot come: it is for
-    /// a host that lends too little for the heights, and nothing is lent here.
+    /// It is not even loaded, or there are more functions than places for
+    /// their heights (17, right behind 20).
     Loading(Refused),
     Rule(Broken),
 }
 
-/// Checks an image as the runner would load it.
+/// The places for heights that the program has.
+const HEIGHTS: usize = 256;
+
+/// Checks an image as the runner would load it, with places for 256 heights.
 pub fn check(image: &[u8]) -> Result<Passed, Refusal> {
+    let has_places = |program: &Program| program.functions.len() <= HEIGHTS;
+    if image.len() <= MAX_IMAGE && parse(image).is_ok_and(|program| !has_places(&program)) {
+        return Err(Refusal::Loading(Refused::ResultStore));
+    }
     let machine = print::load(image).map_err(Refusal::Loading)?;
     judge(&machine.program).map_err(Refusal::Rule)
 }

@@ -67,6 +67,16 @@ fn stores_come_before_rules() {
     assert_eq!(text(&image(&many)), "refused 21\n");
 }
 
+/// 17 comes before 21: there are places for 256 heights, and as many for
+/// functions.
+#[test]
+fn heights_come_before_stores() {
+    let codes = vec!["25"; 257];
+    assert_eq!(text(&image(&of(&codes))), "refused 17\n");
+    let all = text(&image(&of(&codes[..256])));
+    assert_eq!(all, "refused 40 rule 6 function 0\n");
+}
+
 /// On damaged images and on large ones: where loading refuses, the check does,
 /// by the same number and offset; and elsewhere it does not.
 #[test]
@@ -75,7 +85,10 @@ fn loading_and_the_check_refuse_alike() {
     for image in damaged.chain((0..500).map(|index| generate::case(2, index))) {
         let loaded = print::loader(&image);
         let said = text(&image);
-        if loaded.starts_with("refused") {
+        if said == "refused 17\n" {
+            // More functions than places for heights, and so than places.
+            assert_eq!(loaded, "refused 21\n");
+        } else if loaded.starts_with("refused") {
             assert_eq!(said.replace(" at ", " "), loaded);
         } else {
             assert!(said.starts_with("passed\n") || said.starts_with("refused 40 rule "));
