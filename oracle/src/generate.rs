@@ -111,35 +111,35 @@ pub fn short_damaged(rng: &mut Rng, most: usize) -> Vec<u8> {
 // Writing code
 
 #[derive(Default)]
-struct Code(Vec<u8>);
+pub(crate) struct Code(pub(crate) Vec<u8>);
 
 impl Code {
-    fn op(&mut self, op: Op) -> &mut Self {
+    pub(crate) fn op(&mut self, op: Op) -> &mut Self {
         self.0.push(op as u8);
         self
     }
 
-    fn op1(&mut self, op: Op, a: usize) -> &mut Self {
+    pub(crate) fn op1(&mut self, op: Op, a: usize) -> &mut Self {
         self.op(op).word(a)
     }
 
-    fn op2(&mut self, op: Op, a: usize, b: usize) -> &mut Self {
+    pub(crate) fn op2(&mut self, op: Op, a: usize, b: usize) -> &mut Self {
         self.op(op).word(a).word(b)
     }
 
-    fn word(&mut self, word: usize) -> &mut Self {
+    pub(crate) fn word(&mut self, word: usize) -> &mut Self {
         self.0.extend_from_slice(&(word as u16).to_le_bytes());
         self
     }
 
     /// An instruction with a forward offset still to come; gives its place.
-    fn jump(&mut self, op: Op) -> usize {
+    pub(crate) fn jump(&mut self, op: Op) -> usize {
         self.op1(op, 0);
         self.0.len()
     }
 
     /// Lets the jump that ended at `from` land here.
-    fn land(&mut self, from: usize) {
+    pub(crate) fn land(&mut self, from: usize) {
         let offset = (self.0.len() - from) as u16;
         self.0[from - 2..from].copy_from_slice(&offset.to_le_bytes());
     }
@@ -170,7 +170,7 @@ fn places(rng: &mut Rng, length: usize) -> Vec<u32> {
     out
 }
 
-fn function(rng: &mut Rng, name: &[u8], code: Code) -> Function {
+pub(crate) fn function(rng: &mut Rng, name: &[u8], code: Code) -> Function {
     Function {
         name: name.to_vec(),
         places: places(rng, code.0.len()),
@@ -232,7 +232,7 @@ pub fn scalar(rng: &mut Rng) -> u64 {
     }
 }
 
-fn number(value: f64) -> Constant {
+pub(crate) fn number(value: f64) -> Constant {
     Constant::Scalar(value.to_bits())
 }
 
@@ -260,7 +260,7 @@ pub fn some_constant(rng: &mut Rng) -> Constant {
     }
 }
 
-fn struct_names(count: usize) -> Vec<Vec<u8>> {
+pub(crate) fn struct_names(count: usize) -> Vec<Vec<u8>> {
     (0..count).map(|n| format!("S{n}").into_bytes()).collect()
 }
 

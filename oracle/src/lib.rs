@@ -16,18 +16,25 @@
 //! compare on, [`edges`] counts those at which a size or number is the largest,
 //! [`asm`] makes an image of a rule that a person wrote.
 //!
+//! [`check`] judges an image before it is installed (document 02, Wish 2),
+//! [`generate_checked`] makes images for it, and [`checked_runs`] runs those
+//! that pass, to see whether they keep what a pass promises.
+//!
 //! [`console`] makes a host's calls from a script and prints each answer:
 //! [`script`] and [`command`] read the lines, [`frames`] are the call frames as
 //! a host holds them, [`readers`] is what it reads. [`calls`] makes scripts.
 
 pub mod asm;
 pub mod calls;
+pub mod check;
+pub mod checked_runs;
 pub mod command;
 pub mod console;
 pub mod damage;
 pub mod edges;
 pub mod frames;
 pub mod generate;
+pub mod generate_checked;
 pub mod image;
 pub mod limits;
 pub mod op;

@@ -366,6 +366,11 @@ impl Machine {
 
     /// Runs until the current frame's code is at its end, or a fault.
     pub fn run(&mut self, units: u64) -> Report {
+        self.run_watched(units, |_| ())
+    }
+
+    /// The same run, shown to somebody before each step and at its end.
+    pub fn run_watched(&mut self, units: u64, mut watch: impl FnMut(&Machine)) -> Report {
         let stack_at_start = self.stack.clone();
         let mut cells_to_keep = self.cells_used;
         let mut answer = Answer::Continue;
@@ -376,6 +381,7 @@ impl Machine {
 
         let fault = loop {
             most = self.taken_since(most);
+            watch(self);
             // The end comes before the units: a run that is over asks none.
             if self.is_at_the_end() {
                 return Report {

@@ -9,7 +9,9 @@ use oracle::plain::Ending;
 use oracle::print::{self, value_text};
 use oracle::published::{self, Count, State};
 use oracle::vm::Bounds;
-use oracle::{asm, calls, console, damage, edges, generate, image};
+use oracle::{
+    asm, calls, check, checked_runs, console, damage, edges, generate, generate_checked, image,
+};
 
 const HELP: &str = "\
 oracle: source document 000 (numbat's vm.rs) as published; the same written again
@@ -45,6 +47,18 @@ over f64, the plain machine; and document 01's machine, written for itself
   oracle damage STEP            the records of damaged small images: names and
                                 runs in every way, and bytes in each STEP-th
                                 way (1: in every way)
+  oracle check [FILE]           what the check of an image before it is installed
+                                says: `passed` and `height FUNCTION N` for each
+                                function; or `refused N`, 20 with `at OFFSET`,
+                                40 with `rule R function F`
+  oracle checks SEED COUNT      the records of generated images for the check, on
+                                standard output: two parts each, the image and
+                                what `check` prints
+  oracle checked-runs SEED COUNT [UNITS]
+                                checks the same images and runs those that pass
+                                with so many units (10,000): how many passed or
+                                were refused by each rule, how the runs ended,
+                                and each breach of what a pass promises
   oracle console [LINE]         plays a script of host calls from standard input
                                 and prints what the console prints for it; LINE
                                 is the number of its first line (1)
@@ -101,6 +115,14 @@ fn main() -> ExitCode {
         ["damage", step] => {
             number(step).and_then(|step| records(damage::each(step.max(1) as usize).into_iter()))
         }
+        ["check"] => read("-").and_then(|bytes| put(check::text(&bytes).as_bytes())),
+        ["check", file] => read(file).and_then(|bytes| put(check::text(&bytes).as_bytes())),
+        ["checks", seed, count] => numbers(seed, count).and_then(|(s, c)| checks(s, c)),
+        ["checked-runs", seed, count] => {
+            numbers(seed, count).and_then(|(s, c)| checked_runs(s, c, checked_runs::UNITS))
+        }
+        ["checked-runs", seed, count, units] => numbers(seed, count)
+            .and_then(|(s, c)| number(units).and_then(|units| checked_runs(s, c, units))),
         ["console"] => read("-").and_then(|script| console(&script, 1)),
         ["console", first] => {
             number(first).and_then(|first| read("-").and_then(|script| console(&script, first)))
@@ -274,10 +296,43 @@ fn judged(what: &str, count: u64, counted: Count) -> Done {
 }
 
 fn records(images: impl Iterator<Item = Vec<u8>>) -> Done {
+    put_all(images.map(|image| print::record(&image)))
+}
+
+fn checks(seed: u64, count: u64) -> Done {
+    put_all((0..count).map(|index| check::record(&generate_checked::case(seed, index))))
+}
+
+fn put_all(parts: impl Iterator<Item = Vec<u8>>) -> Done {
     let mut out = std::io::BufWriter::new(std::io::stdout().lock());
-    for image in images {
-        out.write_all(&print::record(&image))
+    for part in parts {
+        out.write_all(&part)
             .map_err(|e| format!("standard output: {e}"))?;
     }
     out.flush().map_err(|e| format!("standard output: {e}"))
+}
+
+/// How many breaches are shown; all are counted.
+const BREACHES: usize = 20;
+
+fn checked_runs(seed: u64, count: u64, units: u64) -> Done {
+    let tally = checked_runs::tally(seed, count, units);
+    let mut out = format!("images: {}\n", tally.images);
+    out += &format!("passed rules 1 to 5: {}\n", tally.passed_rules_1_to_5());
+    out += &format!("passed: {}\n", tally.passed);
+    for (refusal, count) in &tally.refused {
+        out += &format!("{refusal}: {count}\n");
+    }
+    for (ending, count) in &tally.endings {
+        out += &format!("runs that ended in {ending}: {count}\n");
+    }
+    for violation in tally.violations.iter().take(BREACHES) {
+        out += &format!("{violation}\n");
+    }
+    let violations = tally.violations.len();
+    put(format!("{out}violations: {violations}\n").as_bytes())?;
+    if violations > 0 {
+        return Err("a passed program did what none may".to_owned());
+    }
+    Ok(())
 }

@@ -16,7 +16,8 @@ pub struct Ran {
     pub machine: Machine,
 }
 
-fn load(image: &[u8]) -> Result<Machine, Refused> {
+/// Loads an image as the runner and the lister do.
+pub fn load(image: &[u8]) -> Result<Machine, Refused> {
     if image.len() > MAX_IMAGE {
         return Err(Refused::Limit);
     }
@@ -60,16 +61,17 @@ pub fn loader(image: &[u8]) -> String {
 /// first), then the parts: the image, what loading it answers, what the runner
 /// prints, what the lister prints.
 pub fn record(image: &[u8]) -> Vec<u8> {
-    let parts = [
+    in_parts([
         image,
         loader(image).as_bytes(),
         runner(image).as_bytes(),
         &lister(image),
-    ]
-    .map(<[u8]>::to_vec);
-    let lengths = parts
-        .each_ref()
-        .map(|part| (part.len() as u32).to_le_bytes());
+    ])
+}
+
+/// The lengths of the parts (each u32, low byte first), then the parts.
+pub fn in_parts<const N: usize>(parts: [&[u8]; N]) -> Vec<u8> {
+    let lengths = parts.map(|part| (part.len() as u32).to_le_bytes());
     [lengths.concat(), parts.concat()].concat()
 }
 

@@ -1,4 +1,4 @@
--- The theorems. Demand 1: `refuses`, `listing-numbers`, `steps-within`, `new-in-order`, `load-in-order`, `chain-kept`, `run-in-order`.
+-- The theorems. Demand 1: `refuses`, `steps-within`, `new-in-order`, `load-in-order`, `chain-kept`, `run-in-order`.
 -- Demand 2: `run-written`, with `step-cost`, `fault-fee`, `path-units`, `run-is-steps` and `as-trees`.
 -- Demand 3: `fault-recovers`, with `fault-leaves`, `chain-alike`, `chains-agree` and `past-counts-unseen`. Demand 4: `run-one`, `ask-one`.
 
@@ -17,7 +17,7 @@ pub mod Went
 pub mod Paying
 pub mod Growing
 pub mod Written
--- `listing-numbers`, `refuses`
+-- `refuses`
 pub mod Refusing
 -- good order where a program grows; `new-in-order`, `load-in-order`, `chain-kept`, `run-in-order`
 pub mod Wider

@@ -16,7 +16,7 @@ use Rattle.model.specs.Images.{joined, series, readText, mainFirst, readFunctio
 use Rattle.number.specs.Links.{NumPost}
 use Rattle.number.specs.declared.Num.{Num}
 use Rattle.number.specs.declared.Num.the-variants as n
-use Rattle.image_judge.specs.Links.{Good, Bad, partOf, TextPost, runsFor, RunsAt, BehindIs, RunsPost, functionOf, HeadAt, BegunIs, HeadPost, SpanAt, SpannedIs, SpanPost, othersFor, OthersAt, RestIs, OthersPost, FunctionsPost}
+use Rattle.image_judge.specs.Links.{Good, Bad, partOf, TextPost, runsFor, RunsAt, BehindIs, RunsPost, functionOf, HeadAt, BegunIs, HeadPost, SpanAt, SpannedIs, SpanPost, othersFor, OthersAt, RestIs, OthersPost, functionsFor, FunctionsPost}
 use Rattle.image_judge.specs.declared.Text.{Text}
 use Rattle.image_judge.specs.declared.Text.the-variants as t
 use Rattle.image_judge.specs.declared.Behind.{Behind}
@@ -289,17 +289,20 @@ module _ (s : List ℕ) (at : ℕ) (pre : at ≤ length s) (x : Num) (q : NumPos
                 let mg = span-is true s first r u m g in let cg = rest-is (count - 1) s (m .next) y k c f in
                 let a = mg .room in let b = cg .room in let d = cg .good .within in omega arith
 
-            pub all-read : FunctionsPost s at (d.Fine (record { next = c .next; count = count; text = m .name + c .text; main = m .code; other = c .code; within = leb (m .code) 65535 && c .within }))
-            unfolding readFunctions andThen joined functionAt codesWithin othersFor
+            pub all-read : FunctionsPost s at (d.Fine (record { first = first; next = c .next; count = count; text = m .name + c .text; main = m .code; other = c .code; within = leb (m .code) 65535 && c .within }))
+            unfolding readFunctions functionsFor andThen joined functionAt codesWithin othersFor
             all-read =
                 let mg = span-is true s first r u m g in let cg = rest-is (count - 1) s (m .next) y k c f in
                 let a = mg .room in let b = cg .room in let na = number-at .ahead in let ma = mg .good .ahead in let ca = cg .good .ahead in
                 let n1 = mg .name in let n2 = cg .text in
                 let la = length-append (mg .held .name) (joined (λ f. f .name) (cg .held)) in
+                let both : Good (allFor count) s first (c .next) (mg .held ∷ cg .held) =
+                record { means = split (drop first s) ∙ rw (mg .good .means, cg .good .means); ahead = omega arith; within = cg .good .within } in
                 record {
                   is = record {
                     held = mg .held ∷ cg .held;
-                    good = good-both allFor some (record { means = split (drop first s) ∙ rw (mg .good .means, cg .good .means); ahead = omega arith; within = cg .good .within });
+                    good = good-both allFor some both;
+                    begins = both;
                     count = one ∙ ap suc (sym (series-count readFunction behindMain (count - 1) false (drop (m .next) s) (cg .held) (drop (c .next) s) (cg .good .means)));
                     text = omega arith;
                     main = mg .code;

@@ -8,7 +8,7 @@ use Rattle.model.specs.Numbers.{Step, bad, andThen}
 use Rattle.model.specs.Programs.{Constant, Function, Program}
 use Rattle.model.specs.Images.{joined, readConstants, readStructs, readFunctions, readEnd, parse, fine, broken, judgedStep, judge}
 use Rattle.model.specs.Loading.{constantText, constantTexts, structTexts, textsOf, mainOf, othersOf}
-use Rattle.image_judge.specs.Links.{Good, Bad, SectionAt, CheckedIs, CheckPost, FunctionsAt, CodedIs, FunctionsPost, JudgePost}
+use Rattle.image_judge.specs.Links.{Good, Bad, SectionAt, CheckedIs, CheckPost, functionsFor, FunctionsAt, CodedIs, FunctionsPost, JudgePost}
 use Rattle.image_judge.specs.declared.Section.{Section}
 use Rattle.image_judge.specs.declared.Checked.{Checked}
 use Rattle.image_judge.specs.declared.Checked.the-variants as c
@@ -109,6 +109,7 @@ module _ (s : List ℕ) where
                 main = fs .main;
                 other = fs .other;
                 within = fs .within;
+                first = fs .first;
               }))
               unfolding parse readEnd textsOf constantTexts structTexts mainOf othersOf
               judge-5 l =
@@ -130,5 +131,8 @@ module _ (s : List ℕ) where
                         other = fg .other;
                         within = fg .within;
                       };
+                      begins =
+                          let ends : fs .next ≡ length s = let w = fg .good .within in omega arith in
+                          subst (λ (n : ℕ). Good (functionsFor (fs .count)) s (fs .first) n (fg .held)) ends (fg .begins);
                     };
                   }

@@ -1,6 +1,6 @@
 -- What the answers of the code stand for. `s` is the image, and a place is an offset in it.
 use mathlib.Core.Path.{_≡_}
-use mathlib.Core.Bool.{Bool, false, not}
+use mathlib.Core.Bool.{Bool, true, false, not}
 use mathlib.Core.List.{List, [], _∷_}
 use Prim.Native.Nat.{ℕ, zero, suc, _+_, _-_, _≤_, _<_, _^_}
 use lib.Dec.{ltb, eqb}
@@ -205,9 +205,14 @@ RestIs n s at (o.Broken k) = Bad (othersFor n) s at k
 pub record OthersPost (n : ℕ) (s : List ℕ) (at : ℕ) (r : Rest) : Type 0 where
   pub is : RestIs n s at r
 
+-- all functions, the first of them main
+unfoldable pub functionsFor : ℕ → List ℕ → Step (List Function)
+functionsFor n b = series readFunction (λ x f. false) n true b
+
 pub record FunctionsAt (s : List ℕ) (at : ℕ) (z : Ended) : Type 0 where
   pub held : List Function
   pub good : Good readFunctions s at (z .next) held
+  pub begins : Good (functionsFor (z .count)) s (z .first) (z .next) held
   pub count : z .count ≡ length held
   pub text : z .text ≡ length (joined (λ f. f .name) held)
   pub main : z .main ≡ length (functionAt held 0 .code)
@@ -238,6 +243,7 @@ pub record Says (s : List ℕ) (z : Sizes) : Type 0 where
   pub program : Program
   pub judged : judge s ≡ fine program
   pub sizes : SizesOf program z
+  pub begins : Good (functionsFor (z .functions)) s (z .first) (length s) (program .functions)
 
 abbrev pub JudgementIs : List ℕ → Judgement → Type 0
 JudgementIs s (j.Fine z) = Says s z

@@ -269,7 +269,7 @@ pub enum Behind {
 }
 
 // Judges the runs of `size` bytes of code.
-fn check_runs(image: &[u8], at: usize, size: usize) -> Behind
+pub fn check_runs(image: &[u8], at: usize, size: usize) -> Behind
     requires { ⌜ at ≤ length (now image) ⌝ }
     ensures { λ r. ⌜ RunsPost (now (image .entry)) at size r ⌝ }
 {
@@ -422,9 +422,10 @@ fn check_others(image: &[u8], at: usize, n: usize) -> Rest
     })
 }
 
-// All functions: where the image ends, how many they are, the bytes of their names, of main's code and of the others', and whether each code
+// All functions: where main begins, where the image ends, how many they are, the bytes of their names, of main's code and of the others', and whether each code
 // is within the limit.
 pub struct Ended {
+    pub first: usize,
     pub next: usize,
     pub count: usize,
     pub text: usize,
@@ -456,6 +457,7 @@ fn check_functions(image: &[u8], at: usize) -> Coded
             let behind = m.next;
             match check_others(image, behind, count - 1) {
                 Rest::Fine(z) => Coded::Fine(Ended {
+                    first,
                     next: z.next,
                     count,
                     text: m.name + z.text,
@@ -470,7 +472,7 @@ fn check_functions(image: &[u8], at: usize) -> Coded
     }
 }
 
-// What an image needs of the stores, and whether each code is within the limit.
+// What an image needs of the stores, whether each code is within the limit, and where its first function begins.
 pub struct Sizes {
     pub constants: usize,
     pub structs: usize,
@@ -479,6 +481,7 @@ pub struct Sizes {
     pub main: usize,
     pub other: usize,
     pub within: bool,
+    pub first: usize,
 }
 
 // What an image needs, or the offset of the first item that breaks a rule.
@@ -511,6 +514,7 @@ pub fn judge(image: &[u8]) -> Judgement
                                 main: f.main,
                                 other: f.other,
                                 within: f.within,
+                                first: f.first,
                             })
                         }
                         Coded::Broken(o) => Judgement::Broken(o),

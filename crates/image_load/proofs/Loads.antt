@@ -1,6 +1,6 @@
 -- Loading: judged, then the limits, then the room, then written.
 use mathlib.Core.Path.{_≡_, sym, ap, subst, _∙_}
-use mathlib.Core.Bool.{true, false, not, _&&_}
+use mathlib.Core.Bool.{Bool, true, false, not, _&&_}
 use mathlib.Core.List.{List, [], _∷_, _++_}
 use Prim.Native.Nat.{ℕ, _+_, _≤_}
 use native.Mathlib.Omega.{arith}
@@ -60,7 +60,7 @@ got-one e f = got-value (sym e ∙ f)
 got-end : {A : Type 0} {a b : A} {u v : List ℕ} {c : Step A} → c ≡ got a u → c ≡ got b v → u ≡ v
 got-end e f = got-rest (sym e ∙ f)
 
-fine-one : {p q : Program} {c : Judged} → c ≡ fine p → c ≡ fine q → p ≡ q
+pub fine-one : {p q : Program} {c : Judged} → c ≡ fine p → c ≡ fine q → p ≡ q
 fine-one e f = cc
 
 stores-same : {cs cs′ ss ss′ fs fs′ tx tx′ mn mn′ mp mp′ ot ot′ op op′ : List ℕ} → cs ≡ cs′ → ss ≡ ss′ → fs ≡ fs′ → tx ≡ tx′ → mn ≡ mn′ → mp ≡ mp′ → ot ≡ ot′ → op ≡ op′
@@ -215,7 +215,7 @@ pub limits-by : (p : Program) (z : Sizes) → SizesOf p z → (leb (z .constants
 unfolding withinLimits
 limits-by p z h = rw (h .constants, h .structs, h .functions, h .within)
 
-room-by : (p : Program) (z : Sizes) (x : Stores) (r1 r2 r3 r4 r5 r6 r7 r8 : ℕ) → SizesOf p z → r1 ≡ places 2 (x .constants) → r2 ≡ places 2 (x .structs) → r3 ≡ places 2 (x .functions)
+pub room-by : (p : Program) (z : Sizes) (x : Stores) (r1 r2 r3 r4 r5 r6 r7 r8 : ℕ) → SizesOf p z → r1 ≡ places 2 (x .constants) → r2 ≡ places 2 (x .structs) → r3 ≡ places 2 (x .functions)
     → r4 ≡ places 1 (x .text) → r5 ≡ places 1 (x .main) → r6 ≡ places 1 (x .mainPlaces) → r7 ≡ places 1 (x .other) → r8 ≡ places 1 (x .otherPlaces)
     → (leb (z .constants) r1 && leb (z .structs) r2 && leb (z .functions) r3 && leb (z .text) r4 && leb (z .main) r5 && leb (z .main) r6 && leb (z .other) r7 && leb (z .other) r8) ≡ roomFor p x
 unfolding roomFor
@@ -237,36 +237,28 @@ module _ (s : List ℕ) (x : Stores) (r : Judgement) (h : JudgePost s r) where
     g : Says s z
     g = judged-is s r h z e
 
-    -- the limits, by the numbers
-    limits : (leb (z .constants) 65535 && leb (z .structs) 65536 && leb (z .functions) 65536 && z .within) ≡ withinLimits (g .program)
-    limits = limits-by (g .program) z (g .sizes)
-
-    pub load-22 : not (leb (z .constants) 65535 && leb (z .structs) 65536 && leb (z .functions) 65536 && z .within) ≡ true → record { answer = l.Refused 22; stores = x } ≡ loadOf s x
-    unfolding loadOf loadJudged
-    load-22 a = rw (g .judged, sym limits ∙ not-true _ a)
-
-    module _ (a : not (leb (z .constants) 65535 && leb (z .structs) 65536 && leb (z .functions) 65536 && z .within) ≡ false)
-        (r1 r2 r3 r4 r5 r6 r7 r8 : ℕ) (e1 : r1 ≡ places 2 (x .constants)) (e2 : r2 ≡ places 2 (x .structs)) (e3 : r3 ≡ places 2 (x .functions)) (e4 : r4 ≡ places 1 (x .text))
-        (e5 : r5 ≡ places 1 (x .main)) (e6 : r6 ≡ places 1 (x .mainPlaces)) (e7 : r7 ≡ places 1 (x .other)) (e8 : r8 ≡ places 1 (x .otherPlaces)) where
-      within : withinLimits (g .program) ≡ true
-      within = sym limits ∙ not-false _ a
-
-      roomy : (leb (z .constants) r1 && leb (z .structs) r2 && leb (z .functions) r3 && leb (z .text) r4 && leb (z .main) r5 && leb (z .main) r6 && leb
-          (z .other) r7 && leb (z .other) r8) ≡ roomFor (g .program) x
-      roomy = room-by (g .program) z x r1 r2 r3 r4 r5 r6 r7 r8 (g .sizes) e1 e2 e3 e4 e5 e6 e7 e8
-
-      pub load-21 : not (leb (z .constants) r1 && leb (z .structs) r2 && leb (z .functions) r3 && leb (z .text) r4 && leb (z .main) r5 && leb
-          (z .main) r6 && leb (z .other) r7 && leb (z .other) r8) ≡ true
-          → record { answer = l.Refused 21; stores = x } ≡ loadOf s x
+    module _ (w : Bool) (tells : (p : Program) → SizesOf p z → w ≡ withinLimits p) where
+      pub load-22 : not w ≡ true → record { answer = l.Refused 22; stores = x } ≡ loadOf s x
       unfolding loadOf loadJudged
-      load-21 b = rw (g .judged, within, sym roomy ∙ not-true _ b)
+      load-22 a = rw (g .judged, sym (tells (g .program) (g .sizes)) ∙ not-true _ a)
 
-      module _ (b : not (leb (z .constants) r1 && leb (z .structs) r2 && leb (z .functions) r3 && leb (z .text) r4 && leb (z .main) r5 && leb
-          (z .main) r6 && leb (z .other) r7 && leb (z .other) r8) ≡ false) where
-        pub load-fits : Fits s x
-        load-fits = record { program = g .program; judged = g .judged; room = sym roomy ∙ not-false _ b }
+      module _ (a : not w ≡ false) (f : Bool) (holds : (p : Program) → SizesOf p z → f ≡ roomFor p x) where
+        within : withinLimits (g .program) ≡ true
+        within = sym (tells (g .program) (g .sizes)) ∙ not-false _ a
 
-        pub load-done : (x′ : Stores) → LaidPost s x x′ → record { answer = l.Done (counts (z .constants) (z .structs) (z .functions) (z .text) 0); stores = x′ } ≡ loadOf s x
-        unfolding loadOf loadJudged countsFor
-        load-done x′ k = rw (g .judged, within, sym roomy ∙ not-false _ b, ← g .sizes .constants, ← g .sizes .structs, ← g .sizes .functions, ← g .sizes .text)
-            (ap (λ (y : Stores). record { answer = l.Done (counts (z .constants) (z .structs) (z .functions) (z .text) 0); stores = y }) (k .laid (g .program) (g .judged)))
+        pub load-21 : not f ≡ true → record { answer = l.Refused 21; stores = x } ≡ loadOf s x
+        unfolding loadOf loadJudged
+        load-21 b = rw (g .judged, within, sym (holds (g .program) (g .sizes)) ∙ not-true _ b)
+
+        module _ (b : not f ≡ false) where
+          roomy : roomFor (g .program) x ≡ true
+          roomy = sym (holds (g .program) (g .sizes)) ∙ not-false _ b
+
+          pub load-fits : Fits s x
+          load-fits = record { program = g .program; judged = g .judged; room = roomy }
+
+          pub load-done : (x′ : Stores) → LaidPost s x x′ → record { answer = l.Done (counts (z .constants) (z .structs) (z .functions) (z .text) 0); stores = x′ } ≡ loadOf s x
+          unfolding loadOf loadJudged countsFor
+          load-done x′ k =
+              rw (g .judged, within, roomy, ← g .sizes .constants, ← g .sizes .structs, ← g .sizes .functions, ← g .sizes .text)
+              (ap (λ (y : Stores). record { answer = l.Done (counts (z .constants) (z .structs) (z .functions) (z .text) 0); stores = y }) (k .laid (g .program) (g .judged)))

@@ -82,8 +82,8 @@ namesOf o.Return = []
 
 -- a row of the rules' table beside a name of the Rust's
 data Row : Opcode → rust.Op → Type 0 where
-  carries : {name : List ℕ} (p : Op) → Row (record { name = name; names = namesOf p; what = d.Carried p }) (armOf p)
-  leaves : {name : List ℕ} {names : List Names} → Row (record { name = name; names = names; what = d.NotCarried }) rust.Other
+  carries : {name : List ℕ} {pops pushes : ℕ} (p : Op) → Row (record { name = name; names = namesOf p; pops = pops; pushes = pushes; what = d.Carried p }) (armOf p)
+  leaves : {name : List ℕ} {names : List Names} {pops pushes : ℕ} → Row (record { name = name; names = names; pops = pops; pushes = pushes; what = d.NotCarried }) rust.Other
 
 infixr 5 _then_
 data Rows : List Opcode → List rust.Op → Type 0 where
@@ -146,7 +146,7 @@ module _ (w : World) (good : SaneWorld w) (few : length (w .functions) ≤ 65536
 
     -- the byte as an opcode; one that is none is no `Op`
     decodes-the-same : {xs : List Opcode} {ys : List rust.Op} → Rows xs ys → (byte : ℕ)
-        → (let x = getD xs byte (op "" [] d.Unknown) in Agrees w (decodedThen w (x .what) (operands x) s) (rust.transmute ys byte (λ y. rust.arm y (rustAt w s))))
+        → (let x = getD xs byte (op "" [] 0 0 d.Unknown) in Agrees w (decodedThen w (x .what) (operands x) s) (rust.transmute ys byte (λ y. rust.arm y (rustAt w s))))
     unfolding ascii operands decodedThen rust.transmute Agrees FaultsAs
     decodes-the-same end byte = refl
     decodes-the-same (r then rs) zero = row-same r

@@ -24,7 +24,7 @@ pub mod Emission
 pub mod Loading
 pub mod Machines
 pub mod Readers
--- what the two programs print
+-- what the runner and the lister print
 pub mod Reports
 -- the examples to hold
 pub mod Examples

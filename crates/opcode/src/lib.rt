@@ -5,8 +5,9 @@ use model::Names;
 use model::Op;
 use model::Order;
 ghost use mathlib.Core.Path.{_≡_};
+ghost use Prim.Native.Nat.{_≤_, _<_};
 ghost use lib.ListN.{length, getD};
-ghost use Rattle.model.specs.Opcodes.{operands, opcodeAt};
+ghost use Rattle.model.specs.Opcodes.{operands, asCount, popped, opcodeAt};
 ghost use Rattle.model.specs.declared.Names.the-variants.{Nothing};
 
 // What an opcode byte is.
@@ -81,6 +82,45 @@ pub fn second_names(b: u8) -> Names
         28 | 34 => Names::Count,
         _ => Names::Nothing,
     }
+}
+
+// How many values an opcode pops, beside those that an operand counts.
+pub fn pops(b: u8) -> usize
+    ensures { λ r. ⌜ (r ≡ opcodeAt b .pops) × (r ≤ 2) ⌝ }
+{
+    match b {
+        8..=11 | 14..=21 => 2,
+        6 | 22 | 26 | 31 | 35 | 37 => 1,
+        _ => 0,
+    }
+}
+
+// How many values an opcode pushes.
+pub fn pushes(b: u8) -> usize
+    ensures { λ r. ⌜ (r ≡ opcodeAt b .pushes) × (r ≤ 1) ⌝ }
+{
+    match b {
+        0 | 3..=6 | 8..=11 | 14..=22 | 28 | 31 | 34..=36 => 1,
+        _ => 0,
+    }
+}
+
+// An operand as a count of values.
+fn as_count(kind: Names, x: usize) -> usize
+    ensures { λ r. ⌜ (r ≡ asCount kind x) × (r ≤ x) ⌝ }
+{
+    match kind {
+        Names::Count => x,
+        _ => 0,
+    }
+}
+
+// All that an instruction with these operands pops.
+pub fn popped(b: u8, first: usize, second: usize) -> usize
+    requires { ⌜ (first < 65536) × (second < 65536) ⌝ }
+    ensures { λ r. ⌜ (r ≡ popped (opcodeAt b) first second) × (r < 131076) ⌝ }
+{
+    pops(b) + as_count(first_names(b), first) + as_count(second_names(b), second)
 }
 
 // The names of the opcodes, from number 0 on, each with spaces up to 19 letters.

@@ -15,7 +15,7 @@ use Rattle.laws_programs.proofs.Known.{limited}
 use Rattle.laws_rust.specs.Same.{rustOf}
 use Rattle.laws_rust.proofs.Turns.{step-same}
 use Rattle.laws_rust.proofs.Loop.{run-same}
-use Rattle.laws_rust.proofs.Back.{rust-same}
+use Rattle.laws_rust.proofs.Back.{rust-same, ok-same}
 use Rattle.image.proofs.Trip.{image-back, image-only, one-program-one-image, load-then-save, save-then-load, saved-loads}
 use Rattle.demands.specs.Host.{Held}
 use Rattle.demands.specs.Kept.{InOrder}
@@ -24,11 +24,15 @@ use Rattle.demands.specs.Relent.{Relent}
 use Rattle.demands.proofs.Refusing.{refuses}
 use Rattle.demands.proofs.Written.{steps-within, run-written}
 use Rattle.demands.proofs.Orderly.{new-in-order, load-in-order, chain-kept, run-in-order}
+use Rattle.check_rules.proofs.One.{check-one}
+use Rattle.laws_check.proofs.Rows.{a-step-keeps-its-row}
+use Rattle.laws_check.proofs.Theorems.{passed-never-faults-so, passed-asks-in-range, passed-runs-so, passed-runs-ask-in-range, passed-frames-fit}
 use Rattle.laws_code.proofs.Numbers.{listing-numbers}
 use Rattle.laws_code.proofs.Walks.{step-takes-the-walk, listing-shows-the-walk}
 use Rattle.demands.proofs.Paying.{step-cost, fault-fee, path-units}
 use Rattle.demands.proofs.Growing.{as-trees}
-use Rattle.demands.proofs.Recovering.{fault-recovers}
+use Rattle.demands.proofs.Bytes.{fine-kept}
+use Rattle.demands.proofs.Recovering.{fault-recovers, set-up-alike}
 use Rattle.demands.proofs.MeantChains.{chain-alike}
 use Rattle.demands.proofs.Chains.{past-counts-unseen, ask-one}
 use Rattle.demands.proofs.OneRun.{run-one}
@@ -67,9 +71,11 @@ kept = record {
   new-in-order = λ h h' m p. new-in-order h p;
   load-in-order = λ h h' m image b p. load-in-order h image b p;
   chain-kept = λ calls h k xs t p o. chain-kept t p o;
+  fine-kept = λ c a h h' t p o. fine-kept c a t p o;
   run-in-order = λ u h h' a o p e. run-in-order o p e;
   as-the-rust = λ h f u turns. run-same (worldIn h) (order-world _ _ _ (f .order .machine) (f .code)) (few h f) _ u (order-sane _ _ _ (f .order .machine) u) turns;
   from-the-rust = λ h f u turns l. rust-same (worldIn h) (order-world _ _ _ (f .order .machine) (f .code)) (few h f) _ u (order-sane _ _ _ (f .order .machine) u) l turns;
+  ok-same = ok-same;
   step-same = step-same;
   run-written = λ m s e u q e' p c x a. run-written m s e u p a;
   returns-counted = λ w n m k s t p. returns-counted w p;
@@ -88,12 +94,20 @@ kept = record {
   saved-loads = saved-loads;
   fault-recovers = λ h h' u n did j p q. fault-recovers u p q;
   chain-alike = λ again cs h d e f xs ys a n t p q. chain-alike a n t p q;
+  set-up-alike = λ again x h k d a b o p. set-up-alike again a b o p;
   past-counts-unseen = λ calls h k e f xs ys a p q. past-counts-unseen a p q;
   relent-stands = λ h k o g. relent-stands o g;
   relent-rust = same-rust;
   relent-alike = λ again h k f c g s l. relent-alike again f c g s l;
+  passed-never-faults-so = passed-never-faults-so;
+  passed-asks-in-range = passed-asks-in-range;
+  passed-runs-so = passed-runs-so;
+  passed-runs-ask-in-range = passed-runs-ask-in-range;
+  passed-frames-fit = passed-frames-fit;
+  a-step-keeps-its-row = a-step-keeps-its-row;
   record-back = λ h w o t n. record-back w (h .vm) n (order-fine h o t);
   run-one = λ m s e u x y e' k' p q. run-one m s e u p q;
+  check-one = λ image heights s x y hs ks t u a b. check-one image heights s a b;
   ask-one = λ q h h' k' a b p r. ask-one q h p r;
   examples-hold = examples-hold;
   mistakes-show = mistakes-show;

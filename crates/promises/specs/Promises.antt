@@ -3,7 +3,7 @@
 use mathlib.Core.Path.{_≡_}
 use mathlib.Core.Bool.{Bool, true, false, _||_}
 use mathlib.Core.List.{List, [], _∷_, map}
-use mathlib.Core.Option.{some}
+use mathlib.Core.Option.{Option, some}
 use Prim.Native.Nat.{ℕ, suc, _+_, _≤_, _^_}
 use lib.Dec.{eqb}
 use lib.ListN.{length, take}
@@ -20,6 +20,7 @@ use Rattle.model.specs.declared.RunResult.{RunResult}
 use Rattle.model.specs.declared.RunResult.the-variants as r
 use Rattle.model.specs.Basics.{written}
 use Rattle.model.specs.Numbers.{Bytes}
+use Rattle.model.specs.Trees.{Tree}
 use Rattle.model.specs.Programs.{Program, opcodeIn, nextIn}
 use Rattle.model.specs.Images.{imageOf, fine, judge, Sound}
 use Rattle.model.specs.Stores.{Stores, programIn}
@@ -31,13 +32,20 @@ use Rattle.model.specs.Runs.{Machine, Progress, Ran, begin, over, endOf, runOf}
 use Rattle.model.specs.Machines.{Lent, RunPost, answerIn, ran, entriesIn}
 use Rattle.model.specs.Examples.{Example, examples}
 use Rattle.model.specs.Mistakes.{Row, mistakes}
+use Rattle.model.specs.Opcodes.{opcodeAt}
+use Rattle.check_rules.specs.declared.Checked.{Checked}
+use Rattle.check_rules.specs.Rules.{Passed}
+use Rattle.check_rules.specs.Checks.{CheckAs}
+use Rattle.check_rules.proofs.One.{SameCheck}
+use Rattle.laws_check.specs.Row.{Tied}
+use Rattle.laws_check.specs.Passed.{NeverFaultsSo, AsksInRange, RunsSo, RunsAskInRange, FramesWithin}
 use Rattle.laws_checks.specs.Table.{checksOf, firstFailed, Keeps}
 use Rattle.laws_code.specs.Walk.{shownFrom, walked}
 use Rattle.laws_runs.specs.Sane.{SaneWorld, Sane}
 use Rattle.laws_runs.specs.Ordered.{CodeBytes}
 use Rattle.laws_runs.specs.Paths.{Steps, rootReturns}
 use Rattle.laws_rust.specs.Vm as rust
-use Rattle.laws_rust.specs.Same.{rustOf, rustAt, Agrees, RunAs, Unlimited, AnswersAs}
+use Rattle.laws_rust.specs.Same.{rustOf, rustAt, Agrees, RunAs, Unlimited, AnswersAs, Means}
 use Rattle.image.specs.Loads.{LoadsAs}
 use Rattle.image.proofs.Sounds.{Below}
 use Rattle.demands.specs.Host.{Held, Ask, Call, run, ask, new, load, Answer, started, After, RanBy, Chain}
@@ -47,7 +55,7 @@ use Rattle.demands.specs.Jobs.{AllTyped, anew}
 use Rattle.demands.specs.Meant.{Fine, worldIn, machineOf, AsLong, AlikeHeld, AlikeChains}
 use Rattle.demands.specs.Units.{Demand2, Costs, pairsAt, Fee, spentOn}
 use Rattle.demands.specs.Trees.{AsTrees}
-use Rattle.demands.specs.Recovery.{Demand3}
+use Rattle.demands.specs.Recovery.{SetUp, Demand3}
 use Rattle.demands.specs.Agree.{Rooms, Agree}
 use Rattle.demands.specs.Relent.{Relent, StandsFor}
 use Rattle.demands.specs.One.{SameRun}
@@ -67,6 +75,8 @@ pub record Promises : Type 0 where
   pub load-in-order : (h h' : Held) (m : Vm) (image : List ℕ) → Bytes image → After (ask (load image)) h (started (st.Done m)) h' → InOrder h'
   -- every call keeps it so, and a run of it is not refused 19
   pub chain-kept : (calls : List Call) (h k : Held) (xs : List Answer) → AllTyped calls → Chain calls h xs k → InOrder h → InOrder k
+  -- and code stays bytes
+  pub fine-kept : (c : Call) (a : Answer) (h h' : Held) → AllTyped (c ∷ []) → After c h a h' → Fine h → Fine h'
   pub run-in-order : (u : ℕ) (h h' : Held) (a : Answer) → InOrder h → RanBy u h a h' → refusedBy a ≡ some 19 → ⊥
   -- ---- DEMAND 2: answer, stack, frames and last result are the Rust's own; every step is a written one
 
@@ -77,6 +87,10 @@ pub record Promises : Type 0 where
   -- and the other way: whatever the Rust comes to, in however many turns, the run answers so where it meets no limit
   pub from-the-rust : (h : Held) → Fine h → (u turns : ℕ) → Unlimited (endOf (worldIn h) (begin (machineOf h) u))
       → AnswersAs (worldIn h) (runOf (worldIn h) (machineOf h) u) (rust.run turns (rustOf (worldIn h) (machineOf h)))
+  -- what the Rust answers is what the run answers, and it leaves the same machine
+  pub ok-same : (w : World) → SaneWorld w → length (w .functions) ≤ 65536 → (m : Machine) (u : ℕ) → Sane w (begin m u) → Unlimited (endOf w (begin m u))
+      → (turns : ℕ) (x : Option Tree) (vm : rust.Vm) → rust.run turns (rustOf w m) ≡ rust.ok x vm
+      → Means w (runOf w m u .machine) (runOf w m u .reply) x × (vm ≡ rustOf w (runOf w m u .machine))
   -- step for step: a step of the rules does what a turn of the Rust's loop does
   pub step-same : (w : World) → SaneWorld w → length (w .functions) ≤ 65536 → (s : State) → Sane w s → over w s ≡ false → Agrees w (stepOf w s) (rust.turn (rustAt w s))
   -- what the code answers is a path of written steps, with their units and root Returns
@@ -111,6 +125,8 @@ pub record Promises : Type 0 where
       → Demand3 u h n did (entriesIn j 0 (h' .lent .backtrace)) h'
   pub chain-alike : (again : Bool) (cs : List Call) (h d e f : Held) (xs ys : List Answer) → AlikeHeld again h d → (anew cs ≡ true → again ≡ true) → AllTyped cs
       → (p : Chain cs h xs e) (q : Chain cs d ys f) → AlikeChains again p q
+  -- two machines set up in one state mean the same
+  pub set-up-alike : (again : Bool) (x : Machine) (h k d : Held) → SetUp x h k → SetUp x h d → Fine k → Fine d → AlikeHeld again k d
   pub past-counts-unseen : (calls : List Call) (h k e f : Held) (xs ys : List Answer) → Agree h k → Chain calls h xs e → Chain calls k ys f → xs ≡ ys
   -- ---- STORES LENT ANEW, between two calls: elsewhere or longer, the same below the counts
 
@@ -120,6 +136,17 @@ pub record Promises : Type 0 where
   pub relent-rust : (h k : Held) → InOrder h → Relent h k → rustOf (worldIn k) (machineOf k) ≡ rustOf (worldIn h) (machineOf h)
   -- stores as long: the machines mean the same, so that by `chain-alike` every later call says the same
   pub relent-alike : (again : Bool) (h k : Held) → Fine h → CodeBytes (k .stores) → Relent h k → AsLong (k .stores) (h .stores) → Rooms (k .lent) (h .lent) → AlikeHeld again h k
+  -- ---- THE CHECK of a rule before it is installed: what a program that keeps the six rules never does, on a freshly loaded machine and with any units
+
+  -- faults 1 to 4 and 14 never come, and 6 only from GetUpvalue or a field: of the next step, and of a whole run
+  pub passed-never-faults-so : (p : Program) → Passed p → NeverFaultsSo p
+  pub passed-asks-in-range : (p : Program) → Passed p → AsksInRange p
+  pub passed-runs-so : (p : Program) → Passed p → RunsSo p
+  pub passed-runs-ask-in-range : (p : Program) → Passed p → RunsAskInRange p
+  -- no frame exceeds its function's greatest height
+  pub passed-frames-fit : (p : Program) → Passed p → FramesWithin p
+  -- what an opcode's row says that it pops, pushes and names is what its step does
+  pub a-step-keeps-its-row : (k : ℕ) (p : Op) → opcodeAt k .what ≡ d.Carried p → (a b : ℕ) (w : World) (s : State) → Tied k a b w s (execOf w p a b s)
   -- ---- A HOST IN C: it hands back the machine by handing back the record
 
   -- a record of ten words or more, in which a machine in good order was written, as calls leave it, is taken and read back as that machine
@@ -128,6 +155,8 @@ pub record Promises : Type 0 where
   -- ---- NO SECOND ANSWER fits a contract
 
   pub run-one : (m : Vm) (s : Stores) (e : Lent) (u : ℕ) (x y : RunResult) (e' k' : Lent) → RunPost m s e u x e' → RunPost m s e u y k' → SameRun m x y e' k'
+  pub check-one : (image heights : List ℕ) (s : Stores) (x y : Checked) (hs ks : List ℕ) (t u : Stores) → CheckAs image heights s x hs t → CheckAs image heights s y ks u
+      → SameCheck x y hs ks t u
   pub ask-one : (q : Ask) (h h' k' : Held) (a b : Answer) → After (ask q) h a h' → After (ask q) h b k' → (a ≡ b) × (h' ≡ k')
   -- ---- THE EXAMPLES, and the mistakes that invite themselves
 

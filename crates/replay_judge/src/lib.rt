@@ -58,7 +58,7 @@ fn put_answer(answer: Loaded, out: &mut [u8]) -> usize
 // ---- texts against texts
 
 // Whether the first n bytes of a store are these.
-fn same_front(s: &[u8], n: usize, want: &[u8]) -> bool
+pub fn same_front(s: &[u8], n: usize, want: &[u8]) -> bool
     ensures { λ r. ⌜ r ≡ sameBytes (take n (now (s .entry))) (now (want .entry)) ⌝ }
 {
     let end = lesser(n, s.len());

@@ -24,7 +24,11 @@ first-names-spec =
     (λ c. names-it 3 (at-keys (named 0) (34 ∷ []) tt _ (c .match .keys4)))
     (λ c. names-it 4 (at-keys (named 0) (35 ∷ []) tt _ (c .match .keys5)))
     (λ c. names-it 1 (in-range (named 0) arms 3 2 tt _ (c .before .before .match .rest) (omega arith) (omega arith)))
-    (λ c. names-it 6 (in-range (named 0) arms 26 2 tt _ (c .before .before .before .before .match .rest) (omega arith) (omega arith)))
+    (λ c.
+    let at-match = c .before .before .before .before in
+    names-it 6 (in-range (named 0) arms 26 2 tt _ (at-match .match .rest) (omega arith) (omega arith)))
     (λ c. names-it 7 (in-range (named 0) arms 0 3 tt _ (c .before .match .rest) (omega arith) (omega arith)))
     (λ c. names-it 7 (in-range (named 0) arms 5 21 tt _ (c .before .before .before .match .rest) (omega arith) (omega arith)))
-    (λ c. names-it 7 (in-range (named 0) arms 28 228 tt _ (c .before .before .before .before .match .rest) (omega arith) (omega arith))))
+    (λ c.
+    let at-match = c .before .before .before .before in
+    names-it 7 (in-range (named 0) arms 28 228 tt _ (at-match .match .rest) (omega arith) (omega arith))))

@@ -36,7 +36,10 @@ operands-requires c κs = search
 write-operands-requires : tie.Need-write-operands-requires
 write-operands-requires c κs =
     let count = c .before .operands .ensures in
-    let reads = whole-instruction (c .before .before .before .before .before .before .before .before .before .before .before .before .before .before .before .before .before .before .before .before .before .before .before .before .before .before .args .code .now) (c .before .before .before .before .before .before .before .before .before .before .before .before .before .before .before .before .before .before .before .before .before .before .before .before .before .before .args .i) count in
+    let reads =
+    let at-start = c .before .before .before .before .before .before .before .before .before .before .before .before .before
+    .before .before .before .before .before .before .before .before .before .before .before .before .before in
+    whole-instruction (at-start .args .code .now) (at-start .args .i) count in
     (omega arith, omega arith)
 
 put-byte-requires-3 : tie.Need-put-byte-requires-3
@@ -47,8 +50,16 @@ same-length c = search needs
 
 returns : tie.Need-returns
 returns c =
-    line-is _ _ _ (c .before .before .before .before .before .before .before .before .operands .ensures) (c .before .before .before .before .before .before .before .before .before .before .before .before .before .before .before .before .before .before .before .before .before .before .before .before .before .before .before .put-text .ensures) (c .before .before .before .before .before .before .before .before .before .before .before .before .before .before .before .before .before .before .before .before .before .before .before .write-decimal .ensures) (c .before .before .before .before .before .before .before .before .before .before .before .before .before .before .before .before .before .before .before .put-byte .ensures) (c .before .before .before .before .before .before .before .before .before .before .before .before .before .before .before .write-name .ensures)
-    (c .before .before .before .before .before .before .before .before .before .before .before .put-byte2 .ensures) (c .before .before .before .before .before .before .write-operands .ensures) (c .before .before .put-byte3 .ensures)
+    let at-write-operands = c .before .before .before .before .before .before in
+    let at-operands = at-write-operands .before .before in
+    let at-put-byte2 = at-operands .before .before .before in
+    let at-write-name = at-put-byte2 .before .before .before .before in
+    let at-put-byte = at-write-name .before .before .before .before in
+    let at-write-decimal = at-put-byte .before .before .before .before in
+    let at-put-text = at-write-decimal .before .before .before .before in
+    line-is _ _ _ (at-operands .operands .ensures) (at-put-text .put-text .ensures) (at-write-decimal .write-decimal .ensures)
+    (at-put-byte .put-byte .ensures) (at-write-name .write-name .ensures) (at-put-byte2 .put-byte2 .ensures)
+    (at-write-operands .write-operands .ensures) (c .before .before .put-byte3 .ensures)
 
 pub write-line-spec : {M : Type 1} → statement M
 write-line-spec =

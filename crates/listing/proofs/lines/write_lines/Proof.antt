@@ -50,7 +50,10 @@ returns-2 c = search cut-short
 
 write-line-requires : tie.Need-write-line-requires Inv-loop μ-loop
 write-line-requires c κs =
-    let reads = whole-instruction (c .before .before .before .before .before .before .before .before .before .before .args .code .now) (c .before .before .before .before .before .before .before .loop .i) (c .before .before .operands .ensures) in
+    let reads =
+    let at-loop = c .before .before .before .before .before .before .before in
+    let at-start = at-loop .before .before .before in
+    whole-instruction (at-start .args .code .now) (at-loop .loop .i) (c .before .before .operands .ensures) in
     (omega arith, omega arith, omega arith)
 
 add-i : tie.Need-add-i Inv-loop μ-loop

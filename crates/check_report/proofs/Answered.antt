@@ -1,0 +1,55 @@
+-- What is answered of an image can be printed, and its heights are as many as were lent.
+use mathlib.Core.Path.{_≡_, refl, _∙_}
+use mathlib.Core.List.{List}
+use Prim.Native.Nat.{ℕ, _+_, _*_, _≤_, _<_, _^_}
+use native.Mathlib.Omega.{arith}
+use lib.ListN.{length, replicate, length-replicate}
+use Rattle.model.specs.Stores.{Stores}
+use Rattle.model.specs.Emission.{written}
+use Rattle.model.specs.Loading.{countsFor}
+use Rattle.layout.proofs.Writing.{length-written}
+use Rattle.image_load.proofs.Loads.{one-word}
+use Rattle.check_rules.specs.declared.Checked.{Checked}
+use Rattle.check_rules.specs.Checks.{CheckAs, not-an-image, no-place, past-a-limit, no-room, breaks, passes}
+use Rattle.printing.specs.Links.{Put}
+use Rattle.printing.proofs.Puts.{within}
+use Rattle.check_report.specs.Texts.{factsText}
+use Rattle.check_report.specs.Links.{Inside, Tellable, Answers, too-long, checked, Facts}
+
+module _ {image heights : List ℕ} {s : Stores} where
+  inside-check : {a : Checked} {hs : List ℕ} {s' : Stores} → CheckAs image heights s a hs s' → Inside a (length hs)
+  unfolding countsFor
+  inside-check (not-an-image e) = tt
+  inside-check (no-place e h) = tt
+  inside-check (past-a-limit e h w) = tt
+  inside-check (no-room e h w r) = tt
+  inside-check (breaks e h w r b) = tt
+  inside-check (passes {p = p} e h w r y {hs = hs} g) = rw (length-written heights 0 hs) (one-word _ heights h .0)
+
+  same-check : {a : Checked} {hs : List ℕ} {s' : Stores} → CheckAs image heights s a hs s' → length hs ≡ length heights
+  same-check (not-an-image e) = refl
+  same-check (no-place e h) = refl
+  same-check (past-a-limit e h w) = refl
+  same-check (no-room e h w r) = refl
+  same-check (breaks e h w r b) = refl
+  same-check (passes e h w r y {hs = hs} g) = length-written heights 0 hs
+
+module _ {image heights : List ℕ} where
+  as-many : {a : Checked} {hs : List ℕ} → Answers image heights a hs → length hs ≡ length heights
+  as-many (too-long h) = refl
+  as-many (checked h k) = same-check k
+
+  inside : {a : Checked} {hs : List ℕ} → Answers image heights a hs → Inside a (length hs)
+  inside (too-long h) = tt
+  inside (checked h k) = inside-check k
+
+-- with a place for the heights of 256 functions
+module _ {image hs : List ℕ} {a : Checked} (h : Answers image (replicate 256 0) a hs) where
+  places-256 : length hs ≡ 256
+  places-256 = as-many h ∙ length-replicate {A = ℕ} 256 0
+
+  pub tellable : Tellable a hs
+  tellable = let e = places-256 in record { inside = inside h; small = omega arith }
+
+  pub facts-put : {out out' : List ℕ} {r : ℕ} → Put (96 + 64 * length hs) (factsText a hs) out 0 out' r → Facts image out r out'
+  facts-put p = let e = places-256 in record { answer = a; heights = hs; answers = h; put = within p 16480 (omega arith) }

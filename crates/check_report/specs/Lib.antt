@@ -1,0 +1,3 @@
+-- What the checker prints, and what the contracts cite besides.
+pub mod Texts
+pub mod Links

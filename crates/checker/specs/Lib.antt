@@ -1,0 +1,2 @@
+-- What is shown of an image.
+pub mod Shown

@@ -1,0 +1,136 @@
+-- THE THEOREMS over a program that passed the check: what its runs never meet, and how high its frames grow.
+use mathlib.Core.Path.{_≡_, refl, sym, subst}
+use mathlib.Core.Bool.{false}
+use mathlib.Core.List.{List, [], _∷_}
+use Prim.Native.Nat.{ℕ, _<_}
+use native.Mathlib.Omega.{arith}
+use borrow.Author.Tests.{leb-false}
+use lib.ListN.{length}
+use Rattle.model.specs.declared.Decoded.{Decoded}
+use Rattle.model.specs.declared.Fault.{Fault}
+use Rattle.model.specs.declared.Fault.the-variants as f
+use Rattle.model.specs.declared.Frame.{Frame}
+use Rattle.model.specs.declared.Tally.{Tally}
+use Rattle.model.specs.Values.{faultNumber}
+use Rattle.model.specs.Programs.{Program, opcodeIn}
+use Rattle.model.specs.Steps.{World, State, faulted, position, stepOf}
+use Rattle.model.specs.Steps as steps
+use Rattle.model.specs.Runs.{Machine, Progress, Entry, fault, begin, over}
+use Rattle.laws_runs.specs.Paths.{Steps, none, on, ret}
+use Rattle.laws_runs.specs.Demand.{Recovered}
+use Rattle.laws_runs.proofs.Demands.{run-recovered}
+use Rattle.check_rules.specs.Rules.{starts, Passed, codeOf}
+use Rattle.laws_check.specs.Good.{Serves, Waiting, Good, Allowed, Safe}
+use Rattle.laws_check.specs.Passed.{JustLoaded, Comes, ruledOut, Meets, NeverFaultsSo, AsksInRange, Parts, FramesWithin, RunsSo, RunsAskInRange}
+use Rattle.laws_check.proofs.Walked.{main-is-taken-with-none}
+use Rattle.laws_check.proofs.Kept.{good-at, a-step-stays-good}
+
+-- a fault that is allowed has none of the numbers that are ruled out
+allowed-not-ruled-out : (x : Decoded) (n : Fault) → Allowed x n → ruledOut (faultNumber n) ≡ false
+unfolding ruledOut faultNumber
+allowed-not-ruled-out x f.UnknownOpcode h = absurd h
+allowed-not-ruled-out x f.NotCarried h = absurd h
+allowed-not-ruled-out x f.CodeEnds h = absurd h
+allowed-not-ruled-out x f.TooFewValues h = absurd h
+allowed-not-ruled-out x (f.WrongKind v) h = refl
+allowed-not-ruled-out x f.OutOfRange h = refl
+allowed-not-ruled-out x f.NoLastResult h = refl
+allowed-not-ruled-out x f.ZeroDivisor h = refl
+allowed-not-ruled-out x f.StackFull h = refl
+allowed-not-ruled-out x f.FramesFull h = refl
+allowed-not-ruled-out x f.CellsFull h = refl
+allowed-not-ruled-out x f.TooDeep h = refl
+allowed-not-ruled-out x f.UnitsSpent h = refl
+allowed-not-ruled-out x f.NoFunction h = absurd h
+
+-- 6 is the number of one fault
+only-six : (n : Fault) → faultNumber n ≡ 6 → n ≡ f.OutOfRange
+unfolding faultNumber
+only-six f.UnknownOpcode e = absurd (let z : ⊥ = omega arith in z)
+only-six f.NotCarried e = absurd (let z : ⊥ = omega arith in z)
+only-six f.CodeEnds e = absurd (let z : ⊥ = omega arith in z)
+only-six f.TooFewValues e = absurd (let z : ⊥ = omega arith in z)
+only-six (f.WrongKind v) e = absurd (let z : ⊥ = omega arith in z)
+only-six f.OutOfRange e = refl
+only-six f.NoLastResult e = absurd (let z : ⊥ = omega arith in z)
+only-six f.ZeroDivisor e = absurd (let z : ⊥ = omega arith in z)
+only-six f.StackFull e = absurd (let z : ⊥ = omega arith in z)
+only-six f.FramesFull e = absurd (let z : ⊥ = omega arith in z)
+only-six f.CellsFull e = absurd (let z : ⊥ = omega arith in z)
+only-six f.TooDeep e = absurd (let z : ⊥ = omega arith in z)
+only-six f.UnitsSpent e = absurd (let z : ⊥ = omega arith in z)
+only-six f.NoFunction e = absurd (let z : ⊥ = omega arith in z)
+
+module _ (p : Program) (ok : Passed p) where
+  -- ---- the invariant holds along every run
+
+  pub a-fresh-machine-is-good : 0 < length (p .functions) → (m : Machine) → JustLoaded m → (u : ℕ) → Good p (begin m u)
+  unfolding Waiting
+  a-fresh-machine-is-good main m loaded u =
+      let taken = main-is-taken-with-none p ok in
+      let empty : length (m .stack) ≡ 0 = rw (loaded .stack) in
+      good-at p (begin m u) (loaded .frame) (loaded .callers) (refl, refl) (omega arith) (record { known = main; path = starts })
+
+  module _ (w : World) (of : Serves p w) where
+    next-safe : (s : State) → Good p s → over w s ≡ false → Safe p (opcodeIn (steps.codeOf w s) (position s) .what) (stepOf w s)
+    unfolding over
+    next-safe s good o = a-step-stays-good p ok w of s good (leb-false _ _ o)
+
+    pub a-run-stays-good : {n : ℕ} {m k : Progress} {s t : State} → Good p s → Steps w n m s k t → Good p t
+    a-run-stays-good good none = good
+    a-run-stays-good good (on {s = s} o q rest) = a-run-stays-good (subst (Safe p _) q (next-safe s good o)) rest
+    a-run-stays-good good (ret {s = s} o q rest) = a-run-stays-good (subst (Safe p _) q (next-safe s good o)) rest
+
+  comes-good : {w : World} {s : State} → Comes p w s → Good p s
+  comes-good {w} c = a-run-stays-good w (c .serves) (a-fresh-machine-is-good (c .serves .main) (c .machine) (c .loaded) (c .units)) (c .path)
+
+  fault-allowed : (w : World) (s : State) (n : Fault) → Meets p w s n → Allowed (opcodeIn (steps.codeOf w s) (position s) .what) n
+  fault-allowed w s n h =
+      let c = h .comes in
+      subst (Safe p (opcodeIn (steps.codeOf w s) (position s) .what)) (h .step) (a-step-stays-good p ok w (c .serves) s (comes-good c) (h .inside))
+
+  -- ---- THE THEOREMS
+
+  pub passed-never-faults-so : NeverFaultsSo p
+  passed-never-faults-so w s n h = allowed-not-ruled-out _ n (fault-allowed w s n h)
+
+  pub passed-asks-in-range : AsksInRange p
+  passed-asks-in-range w s h = fault-allowed w s f.OutOfRange h
+
+  callers-fit : (cs : List Frame) (g base : ℕ) → Waiting p cs g base → Parts p cs base
+  unfolding Waiting Parts
+  callers-fit [] g base h = tt
+  callers-fit (c ∷ cs) g base h =
+      let waits = h .0 .sum in
+      (record { known = h .0 .stands .known; begins = omega arith; fits = λ m top. let z = top .most (h .0 .stands .path) in omega arith }, callers-fit cs (c .function) (c .base) (h .1))
+
+  pub passed-frames-fit : FramesWithin p
+  unfolding Parts
+  passed-frames-fit w s c =
+      let good = comes-good c in
+      let sum = good .sum in
+      (record { known = good .stands .known; begins = omega arith; fits = λ m top. let z = top .most (good .stands .path) in omega arith }, callers-fit (s .callers) _ _ (good .waiting))
+
+  -- ---- whole runs
+
+  -- the step that stopped a run, at a state that it came to
+  run-stops : (w : World) → Serves p w → (m : Machine) → JustLoaded m → (u n : ℕ) (did : Tally) (trace : List Entry) (r : Recovered w m u n did trace)
+      → Meets p w (r .at) (r .fault)
+  unfolding over
+  run-stops w of m loaded u n did trace r = record {
+    comes = record { serves = of; machine = m; loaded = loaded; units = u; count = r .steps; before = _; after = r .kept; path = r .path };
+    inside = leb-false _ _ (r .goes-on);
+    left = r .after;
+    step = r .stops;
+  }
+
+  pub passed-runs-so : RunsSo p
+  passed-runs-so w of m loaded u n did trace e =
+      let r = run-recovered w m u n did trace e in
+      rw (r .number) (passed-never-faults-so w (r .at) (r .fault) (run-stops w of m loaded u n did trace r))
+
+  pub passed-runs-ask-in-range : RunsAskInRange p
+  passed-runs-ask-in-range w of m loaded u did trace e =
+      let r = run-recovered w m u 6 did trace e in
+      let six : r .fault ≡ f.OutOfRange = only-six (r .fault) (sym (r .number)) in
+      record { run = r; opcode = passed-asks-in-range w (r .at) (rw six at (run-stops w of m loaded u 6 did trace r)) }

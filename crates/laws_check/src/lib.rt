@@ -1,0 +1,1 @@
+// What a program that passed the check never does: laws, no code.
