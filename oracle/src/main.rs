@@ -11,6 +11,7 @@ use oracle::published::{self, Count, State};
 use oracle::vm::Bounds;
 use oracle::{
     asm, calls, check, checked_runs, console, damage, edges, generate, generate_checked, image,
+    source,
 };
 
 const HELP: &str = "\
@@ -22,7 +23,14 @@ over f64, the plain machine; and document 01's machine, written for itself
   oracle list --notes FILE      what the noter prints
   oracle judge FILE             `ok`, or `refused 20 OFFSET`; also checks that
                                 the image of what was read is FILE again
-  oracle asm FILE               the image of a rule source (examples/README.md)
+  oracle asm FILE [-o IMAGE]    the image of a rule source (examples/README.md), on
+                                standard output or in a file, which is replaced
+                                by a whole image or not at all
+  oracle source FILE            a rule source from which asm makes the image FILE
+  oracle sources SEED COUNT FILE..
+                                makes a source of each of COUNT generated images
+                                and of the images FILE, and an image of it: one
+                                line for each that does not come back, and a count
   oracle rust FILE              what the published Rust does: its answer, error or
                                 panic, and stack, frames and last result after
   oracle published SEED COUNT   runs and lists generated images on the published
@@ -99,12 +107,14 @@ const CALLS: usize = 48_000;
 fn main() -> ExitCode {
     let arguments: Vec<String> = std::env::args().skip(1).collect();
     let arguments: Vec<&str> = arguments.iter().map(String::as_str).collect();
+    if let Some(status) = author(&arguments) {
+        return status;
+    }
     let done = match arguments.as_slice() {
         ["run", file] => read(file).and_then(|bytes| put(print::runner(&bytes).as_bytes())),
         ["list", "--notes", file] => read(file).and_then(|bytes| put(&print::noter(&bytes))),
         ["list", file] => read(file).and_then(|bytes| put(&print::lister(&bytes))),
         ["judge", file] => read(file).and_then(|bytes| judge(&bytes)),
-        ["asm", file] => read(file).and_then(|source| assemble(file, &source)),
         ["rust", file] => read(file).and_then(|bytes| rust(&bytes)),
         ["generate", seed, count, dir] => numbers(seed, count).and_then(|(s, c)| write(s, c, dir)),
         ["sample", seed, count] => numbers(seed, count).and_then(|(s, c)| sample(s, c)),
@@ -189,9 +199,98 @@ fn judge(bytes: &[u8]) -> Done {
     }
 }
 
-fn assemble(file: &str, source: &[u8]) -> Done {
-    let program = asm::assemble(source).map_err(|e| format!("{file}, {e}"))?;
-    put(&image::image(&program))
+/// The commands of those who write rules. Their statuses are those of
+/// `./chaffwheel`: 4 refused, 5 trouble with files, 6 a difference.
+fn author(arguments: &[&str]) -> Option<ExitCode> {
+    let done = match arguments {
+        ["asm", file] => assemble(file, "-"),
+        ["asm", file, "-o", image] => assemble(file, image),
+        ["source", file] => write_source(file),
+        ["sources", seed, count, files @ ..] => sources(seed, count, files),
+        _ => return None,
+    };
+    Some(match done {
+        Ok(status) => ExitCode::from(status),
+        Err(words) => {
+            eprintln!("oracle: {words}");
+            ExitCode::from(5)
+        }
+    })
+}
+
+/// How many errors of a source are shown; all are counted.
+const ERRORS: usize = 20;
+
+fn assemble(file: &str, to: &str) -> Result<u8, String> {
+    let errors = match asm::assemble(&read(file)?) {
+        Ok(program) => {
+            let image = image::image(&program);
+            match to {
+                "-" => put(&image)?,
+                _ => replace(to, &image)?,
+            }
+            return Ok(0);
+        }
+        Err(errors) => errors,
+    };
+    for error in errors.iter().take(ERRORS) {
+        eprintln!("{file}, {error}");
+    }
+    if errors.len() > 1 {
+        let shown = errors.len().min(ERRORS);
+        eprintln!("{file}: {} errors, {shown} shown", errors.len());
+    }
+    Ok(4)
+}
+
+/// Writes a file beside and puts it in place when it is whole.
+fn replace(path: &str, bytes: &[u8]) -> Done {
+    let beside = format!("{path}.{}.new", std::process::id());
+    let written = std::fs::write(&beside, bytes).and_then(|()| std::fs::rename(&beside, path));
+    written.map_err(|error| {
+        let _ = std::fs::remove_file(&beside);
+        format!("{path}: {error}")
+    })
+}
+
+fn write_source(file: &str) -> Result<u8, String> {
+    match image::parse(&read(file)?) {
+        Ok(program) => put(source::source(&program).as_bytes()).map(|()| 0),
+        Err(offset) => {
+            eprintln!("{file}: refused 20 at {offset}, so it has no source");
+            Ok(4)
+        }
+    }
+}
+
+fn sources(seed: &str, count: &str, files: &[&str]) -> Result<u8, String> {
+    let (seed, count) = numbers(seed, count)?;
+    let (mut sources, mut none, mut differ) = (0, 0, 0);
+    let mut judge = |name: String, bytes: &[u8]| match source::comes_back(bytes) {
+        None => {
+            none += 1;
+            Ok(())
+        }
+        Some(true) => {
+            sources += 1;
+            Ok(())
+        }
+        Some(false) => {
+            differ += 1;
+            put(format!("{name} does not come back\n").as_bytes())
+        }
+    };
+    for file in files {
+        judge((*file).to_owned(), &read(file)?)?;
+    }
+    for index in 0..count {
+        judge(format!("image {index}"), &generate::case(seed, index))?;
+    }
+    put(format!(
+        "{sources} images came back from their sources, {none} were no image, {differ} differences\n"
+    )
+    .as_bytes())?;
+    Ok(if differ == 0 { 0 } else { 6 })
 }
 
 fn rust(bytes: &[u8]) -> Done {
