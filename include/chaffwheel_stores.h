@@ -2,8 +2,9 @@
  * m's stores lent. Each call is one line that lends; nothing is kept or judged here, and none of it is proved. What a function does and refuses
  * stands at chaffwheel_X. Every cw_ function leaves what it tells in m->answer.
  *
- * The host starts from a struct of zeros, sets each pointer to memory of its own that it has written, and each _len to the count of its elements
- * (words, bytes or frames, not places): docs/EMBEDDING.md, "What the host lends". Then cw_new or cw_load makes the machine. */
+ * cw_stores_from lays the stores into one block of memory of the host's. A host that wants other sizes starts from a struct of zeros, sets each
+ * pointer to memory of its own that it has written, and each _len to the count of its elements (words, bytes or frames, not places):
+ * docs/EMBEDDING.md, "What the host lends". Then cw_new or cw_load makes the machine. */
 #ifndef CHAFFWHEEL_STORES_H
 #define CHAFFWHEEL_STORES_H
 
@@ -30,6 +31,48 @@ struct chaffwheel_stores {
     CHAFFWHEEL_STORE(uint64_t, copy);
     CHAFFWHEEL_STORE(uint32_t, trace);
 };
+
+/* ---- room for the stores. The runner's sizes, in places; a machine of scale n has n times as many of each. */
+enum {
+    CW_CONSTANTS = 256, CW_STRUCTS = 256, CW_FUNCTIONS = 256, CW_TEXT = 16384, CW_MAIN_CODE = 8192, CW_OTHER_CODE = 8192,
+    CW_STACK = 1024, CW_CELLS = 2048, CW_FRAMES = 256
+};
+
+/* How many bytes the stores of a machine take; the block is aligned for uint64_t, as calloc's is. */
+static inline size_t cw_stores_size(size_t scale)
+{
+    size_t words = 2 * (CW_CONSTANTS + CW_STRUCTS + CW_FUNCTIONS + 2 * CW_STACK + CW_CELLS);
+    size_t places = CW_MAIN_CODE + CW_OTHER_CODE + 2 * CW_FRAMES;
+    size_t bytes = CW_TEXT + CW_MAIN_CODE + CW_OTHER_CODE;
+    return scale * (words * sizeof(uint64_t) + CW_FRAMES * sizeof(chaffwheel_frame) + places * sizeof(uint32_t) + bytes);
+}
+
+/* Makes stores of that scale of a block of cw_stores_size(scale) bytes that the host has written, with zeros if you like: cw_stores_from(m,
+ * calloc(1, cw_stores_size(1)), 1). The block is the host's to free, when m is used no more. */
+static inline void cw_stores_from(struct chaffwheel_stores *m, void *block, size_t scale)
+{
+    uint64_t *words = (uint64_t *)block;
+    size_t i;
+    for (i = 0; i < CHAFFWHEEL_VM; i++)
+        m->vm[i] = 0;
+    for (i = 0; i < CHAFFWHEEL_ANSWER; i++)
+        m->answer[i] = 0;
+#define CW_TAKE(name, from, count) (m->name = (from), m->name##_len = (count) * scale)
+    CW_TAKE(constants, words, 2 * CW_CONSTANTS);
+    CW_TAKE(structs, m->constants + m->constants_len, 2 * CW_STRUCTS);
+    CW_TAKE(functions, m->structs + m->structs_len, 2 * CW_FUNCTIONS);
+    CW_TAKE(stack, m->functions + m->functions_len, 2 * CW_STACK);
+    CW_TAKE(copy, m->stack + m->stack_len, 2 * CW_STACK);
+    CW_TAKE(cells, m->copy + m->copy_len, 2 * CW_CELLS);
+    CW_TAKE(frames, (chaffwheel_frame *)(void *)(m->cells + m->cells_len), CW_FRAMES);
+    CW_TAKE(main_places, (uint32_t *)(void *)(m->frames + m->frames_len), CW_MAIN_CODE);
+    CW_TAKE(other_places, m->main_places + m->main_places_len, CW_OTHER_CODE);
+    CW_TAKE(trace, m->other_places + m->other_places_len, 2 * CW_FRAMES);
+    CW_TAKE(text, (uint8_t *)(void *)(m->trace + m->trace_len), CW_TEXT);
+    CW_TAKE(main_code, m->text + m->text_len, CW_MAIN_CODE);
+    CW_TAKE(other_code, m->main_code + m->main_code_len, CW_OTHER_CODE);
+#undef CW_TAKE
+}
 
 #define CW_LEND(name) m->name, m->name##_len
 #define CW_VM m->vm, CHAFFWHEEL_VM
