@@ -49,6 +49,8 @@ over f64, the plain machine; and document 01's machine, written for itself
                                 of text; or `refused N`, 20 with its offset
   oracle batch SEED COUNT       the records of generated images, on standard
                                 output
+  oracle records FILE           counts the records of a file by how loading, running
+                                and listing ended
   oracle tally SEED COUNT       counts those of the same images at which a size is
                                 full, one short or one over, or a number of the
                                 image none or very large
@@ -121,6 +123,7 @@ fn main() -> ExitCode {
         ["load", file] => read(file).and_then(|bytes| put(print::loader(&bytes).as_bytes())),
         ["batch", seed, count] => numbers(seed, count)
             .and_then(|(s, c)| records((0..c).map(|index| generate::case(s, index)))),
+        ["records", file] => read(file).and_then(|bytes| count_records(&bytes)),
         ["tally", seed, count] => numbers(seed, count).and_then(|(s, c)| tally(s, c)),
         ["damage", step] => {
             number(step).and_then(|step| records(damage::each(step.max(1) as usize).into_iter()))
@@ -396,6 +399,45 @@ fn judged(what: &str, count: u64, counted: Count) -> Done {
 
 fn records(images: impl Iterator<Item = Vec<u8>>) -> Done {
     put_all(images.map(|image| print::record(&image)))
+}
+
+/// The parts of a record behind its image, and what their first lines are
+/// counted as: all but a value, a continue, a fault or a refusal is one.
+const PARTS: [(&str, &str); 3] = [("load", "loaded"), ("run", "value"), ("list", "a listing")];
+
+fn count_records(mut bytes: &[u8]) -> Done {
+    let mut endings: BTreeMap<(usize, String), u64> = BTreeMap::new();
+    let mut records = 0;
+    while !bytes.is_empty() {
+        let mut parts = vec![];
+        let (head, mut rest) = bytes.split_at_checked(16).ok_or("a record is cut short")?;
+        for length in head.chunks_exact(4) {
+            let length = u32::from_le_bytes(length.try_into().expect("four bytes"));
+            let cut = rest.split_at_checked(length as usize);
+            let (part, behind) = cut.ok_or("a record is cut short")?;
+            parts.push(part);
+            rest = behind;
+        }
+        for (index, (part, (_, otherwise))) in parts[1..].iter().zip(PARTS).enumerate() {
+            let text = String::from_utf8_lossy(part);
+            let mut words = text.split_whitespace();
+            let ending = match words.next() {
+                Some(word @ ("refused" | "fault")) => {
+                    format!("{word} {}", words.next().unwrap_or_default())
+                }
+                Some("continue") => "continue".to_owned(),
+                _ => otherwise.to_owned(),
+            };
+            *endings.entry((index, ending)).or_default() += 1;
+        }
+        records += 1;
+        bytes = rest;
+    }
+    let mut out = format!("{records} records\n");
+    for ((index, ending), count) in endings {
+        out += &format!("{}: {ending}: {count}\n", PARTS[index].0);
+    }
+    put(out.as_bytes())
 }
 
 fn checks(seed: u64, count: u64) -> Done {
