@@ -98,6 +98,32 @@ static inline uint32_t cw_run(struct chaffwheel_stores *m, uint64_t units)
         CW_LEND(cells), CW_LEND(frames), CW_LEND(copy), CW_LEND(trace), CW_ANSWER);
 }
 
+/* ---- the same rule for many readings: what a host may write between runs (docs/EMBEDDING.md, "Many readings"). These two are the host's own
+ * writes, and no calls: the next run judges what it is lent, whatever was written. */
+
+/* Puts the machine back to the start of main, with an empty stack. The last result stays: it is what the rule counted so far. The cells are free
+ * again unless the last result is a list or struct, which lies in them. */
+static inline void cw_rewind(struct chaffwheel_stores *m)
+{
+    m->vm[CHAFFWHEEL_STACK] = 0;
+    m->vm[CHAFFWHEEL_FRAMES] = 1;
+    m->frames[0].function = 0;
+    m->frames[0].position = 0;
+    m->frames[0].base = 0;
+    if (m->vm[CHAFFWHEEL_LAST_KIND] != CHAFFWHEEL_LIST && m->vm[CHAFFWHEEL_LAST_KIND] != CHAFFWHEEL_STRUCT)
+        m->vm[CHAFFWHEEL_CELLS] = 0;
+}
+
+/* Makes constant i the number of these 64 bits; false if the program has no such constant, and then nothing is written. */
+static inline bool cw_set_scalar(struct chaffwheel_stores *m, size_t i, uint64_t bits)
+{
+    if (i >= m->vm[CHAFFWHEEL_CONSTANTS] || i >= m->constants_len / 2)
+        return false;
+    m->constants[2 * i] = CHAFFWHEEL_SCALAR;
+    m->constants[2 * i + 1] = bits;
+    return true;
+}
+
 /* the backtrace goes to m->trace */
 static inline uint32_t cw_backtrace(struct chaffwheel_stores *m)
 {
