@@ -8,6 +8,7 @@
 #ifndef CHAFFWHEEL_STORES_H
 #define CHAFFWHEEL_STORES_H
 
+#include <string.h>
 #include "chaffwheel.h"
 
 #define CHAFFWHEEL_STORE(type, name) type *name; size_t name##_len
@@ -112,6 +113,21 @@ static inline void cw_rewind(struct chaffwheel_stores *m)
     m->frames[0].base = 0;
     if (m->vm[CHAFFWHEEL_LAST_KIND] != CHAFFWHEEL_LIST && m->vm[CHAFFWHEEL_LAST_KIND] != CHAFFWHEEL_STRUCT)
         m->vm[CHAFFWHEEL_CELLS] = 0;
+}
+
+/* A number as its 64 bits, and back. */
+static inline uint64_t cw_bits_of(double number)
+{
+    uint64_t bits;
+    memcpy(&bits, &number, sizeof bits);
+    return bits;
+}
+
+static inline double cw_number_of(uint64_t bits)
+{
+    double number;
+    memcpy(&number, &bits, sizeof number);
+    return number;
 }
 
 /* Makes constant i the number of these 64 bits; false if the program has no such constant, and then nothing is written. */

@@ -1,22 +1,7 @@
 /* The same rule for many readings: examples/tariff.img is loaded once, and for each reading its two first constants are written, the reading and the one
  * before it. A reading that is below the one before answers with a text; then the one before stays. */
 #include <stdio.h>
-#include <string.h>
 #include "machine.h"
-
-static uint64_t bits_of(double number)
-{
-    uint64_t bits;
-    memcpy(&bits, &number, sizeof bits);
-    return bits;
-}
-
-static double number_of(uint64_t bits)
-{
-    double number;
-    memcpy(&number, &bits, sizeof number);
-    return number;
-}
 
 int main(int argc, char **argv)
 {
@@ -35,15 +20,15 @@ int main(int argc, char **argv)
     uint32_t refused = cw_load(&m, image, length);
     for (i = 0; !refused && i < sizeof readings / sizeof *readings; i++) {
         cw_rewind(&m);
-        cw_set_scalar(&m, 0, bits_of(readings[i]));
-        cw_set_scalar(&m, 1, bits_of(before));
+        cw_set_scalar(&m, 0, cw_bits_of(readings[i]));
+        cw_set_scalar(&m, 1, cw_bits_of(before));
         refused = cw_run(&m, 1000);
         if (refused)
             break;
         if (m.answer[CHAFFWHEEL_OUTCOME] == CHAFFWHEEL_FAULT)
             printf("from %g to %g: fault, %s\n", before, readings[i], chaffwheel_text_of_number(m.answer[CHAFFWHEEL_FAULT_NUMBER]));
         else if (m.answer[CHAFFWHEEL_OUTCOME] == CHAFFWHEEL_VALUE && m.answer[CHAFFWHEEL_KIND] == CHAFFWHEEL_SCALAR) {
-            printf("from %g to %g: %.2f\n", before, readings[i], number_of(m.answer[CHAFFWHEEL_PAYLOAD]));
+            printf("from %g to %g: %.2f\n", before, readings[i], cw_number_of(m.answer[CHAFFWHEEL_PAYLOAD]));
             before = readings[i];
         } else
             printf("from %g to %g: no bill\n", before, readings[i]);
