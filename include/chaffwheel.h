@@ -4,13 +4,8 @@
  * this boundary assumes. The library allocates nothing, keeps nothing between calls, and holds no pointer after a call has returned: all
  * stores are the host's. chaffwheel_stores.h gathers them in a struct and lends them, so that a call is `cw_run(m, units)`.
  *
- * Each function returns 0, or the number of its refusal. A refusal changes no store; only 20 writes its offset to answer[0].
- *
- *    1  opcode 38 or more                3  the code ends inside an instruction     5  a value of the wrong kind
- *    6  no such place or element         7  no last result                         14  no function of that name
- *   16  a frame's place lies outside its code                                      17  a lent result or copy store is too short
- *   19  records not in good order       20  an image breaks a rule                 21  a store would be exceeded
- *   22  a limit would be exceeded       23  a patch not wholly inside the current function's code
+ * Each function returns CHAFFWHEEL_OK, or the number of its refusal (the names are below). A refusal changes no store; only 20 writes its offset
+ * to answer[0].
  *
  * Their order, at all but chaffwheel_new and chaffwheel_load: 19 where vm has fewer than 10 words, its last result is not exactly the words of a
  * value or of none, or a value that is handed in is not exactly the words of a value; then the function's own 19; then 17 where answer has fewer
@@ -28,6 +23,12 @@
 #ifdef __cplusplus
 extern "C" {
 #endif
+
+/* The version: the last of the three moves with each change, the first where a host has to be changed. */
+#define CHAFFWHEEL_VERSION_MAJOR 0
+#define CHAFFWHEEL_VERSION_MINOR 3
+#define CHAFFWHEEL_VERSION_PATCH 0
+#define CHAFFWHEEL_VERSION (CHAFFWHEEL_VERSION_MAJOR * 10000 + CHAFFWHEEL_VERSION_MINOR * 100 + CHAFFWHEEL_VERSION_PATCH)
 
 /* A lent slice: a pointer and a count of elements, as two arguments. The count must be true. `const`: it is only read. */
 #define CHAFFWHEEL_SLICE(type, name) type *name, size_t name##_len
@@ -70,11 +71,121 @@ enum {
     CHAFFWHEEL_OUTCOME = 0,      /* one of the three below */
     CHAFFWHEEL_SPENT = 1,        /* units */
     CHAFFWHEEL_RETURNS = 2,      /* root Returns that the run completed. 0: NOTHING HAS COUNTED */
-    CHAFFWHEEL_KIND = 3,         /* of the value. After a fault: its number, 1 to 14. 0 with "continue" */
-    CHAFFWHEEL_PAYLOAD = 4,      /* of the value. After a fault: the entries of its backtrace. 0 with "continue" */
+    /* with CHAFFWHEEL_VALUE; both are 0 with CHAFFWHEEL_CONTINUE */
+    CHAFFWHEEL_KIND = 3,
+    CHAFFWHEEL_PAYLOAD = 4,
+    /* with CHAFFWHEEL_FAULT: the same words */
+    CHAFFWHEEL_FAULT_NUMBER = 3, /* 1 to 14 */
+    CHAFFWHEEL_TRACE_LENGTH = 4, /* the entries of its backtrace */
     CHAFFWHEEL_ANSWER = 5        /* words of an answer: enough for every function */
 };
 enum { CHAFFWHEEL_VALUE = 1, CHAFFWHEEL_CONTINUE = 2, CHAFFWHEEL_FAULT = 3 };
+
+/* What the other functions answer, in words: a value that is shown; the header of a list or struct; and in the first word alone how many bytes or
+ * entries were written, the number of what was emitted, or of a refusal 20 its offset. */
+enum { CHAFFWHEEL_SHOWN_KIND = 0, CHAFFWHEEL_SHOWN_PAYLOAD = 1 };
+enum { CHAFFWHEEL_HEADER_COUNT = 0, CHAFFWHEEL_HEADER_STRUCT = 1, CHAFFWHEEL_HEADER_DEPTH = 2 };
+enum { CHAFFWHEEL_TOLD = 0 };
+
+/* The numbers that come back: of a fault (1 to 14), and of a refusal. docs/NUMBERS.md says what to do about each. */
+enum {
+    CHAFFWHEEL_OK = 0,
+    CHAFFWHEEL_UNKNOWN_OPCODE = 1,
+    CHAFFWHEEL_NOT_CARRIED = 2,
+    CHAFFWHEEL_CODE_CUT = 3,
+    CHAFFWHEEL_TOO_FEW_VALUES = 4,
+    CHAFFWHEEL_WRONG_KIND = 5,
+    CHAFFWHEEL_OUT_OF_RANGE = 6,
+    CHAFFWHEEL_NO_LAST_RESULT = 7,
+    CHAFFWHEEL_ZERO_DIVISOR = 8,
+    CHAFFWHEEL_STACK_FULL = 9,
+    CHAFFWHEEL_FRAMES_FULL = 10,
+    CHAFFWHEEL_CELLS_FULL = 11,
+    CHAFFWHEEL_TOO_DEEP = 12,
+    CHAFFWHEEL_UNITS_SPENT = 13,
+    CHAFFWHEEL_NO_FUNCTION = 14,
+    CHAFFWHEEL_NO_PLACE = 16,
+    CHAFFWHEEL_STORE_SHORT = 17,
+    CHAFFWHEEL_NOT_IN_ORDER = 19,
+    CHAFFWHEEL_BROKEN_IMAGE = 20,
+    CHAFFWHEEL_NO_ROOM = 21,
+    CHAFFWHEEL_LIMIT = 22,
+    CHAFFWHEEL_PATCH_OUTSIDE = 23,
+    CHAFFWHEEL_NOT_PASSED = 40
+};
+
+/* What a number means, in a sentence; the same as docs/NUMBERS.md has, and not proved. */
+static inline const char *chaffwheel_text_of_number(uint64_t number)
+{
+    switch (number) {
+    case CHAFFWHEEL_OK: return "nothing is wrong";
+    case CHAFFWHEEL_UNKNOWN_OPCODE: return "the code has a byte that is no opcode";
+    case CHAFFWHEEL_NOT_CARRIED: return "the code has an opcode that this machine does not carry";
+    case CHAFFWHEEL_CODE_CUT: return "the code ends inside an instruction";
+    case CHAFFWHEEL_TOO_FEW_VALUES: return "an instruction found too few values on the stack";
+    case CHAFFWHEEL_WRONG_KIND: return "a value has the wrong kind: a number was wanted and a text was there, or the like";
+    case CHAFFWHEEL_OUT_OF_RANGE: return "a number asks for something that is not there: a constant, a slot, a function, a struct, a field, an element";
+    case CHAFFWHEEL_NO_LAST_RESULT: return "there is no last result";
+    case CHAFFWHEEL_ZERO_DIVISOR: return "a division by zero";
+    case CHAFFWHEEL_STACK_FULL: return "the stack is full";
+    case CHAFFWHEEL_FRAMES_FULL: return "the call frames are full";
+    case CHAFFWHEEL_CELLS_FULL: return "the cells for lists and structs are full";
+    case CHAFFWHEEL_TOO_DEEP: return "a list or struct is nested deeper than 64";
+    case CHAFFWHEEL_UNITS_SPENT: return "the units are spent";
+    case CHAFFWHEEL_NO_FUNCTION: return "no function has that name";
+    case CHAFFWHEEL_NO_PLACE: return "a frame stands outside its code, so that it has no place";
+    case CHAFFWHEEL_STORE_SHORT: return "a store that was lent for a result or a copy is too short";
+    case CHAFFWHEEL_NOT_IN_ORDER: return "the machine's records are not in good order";
+    case CHAFFWHEEL_BROKEN_IMAGE: return "the image breaks a rule of its format";
+    case CHAFFWHEEL_NO_ROOM: return "a store has too little room for the program";
+    case CHAFFWHEEL_LIMIT: return "a limit would be exceeded";
+    case CHAFFWHEEL_PATCH_OUTSIDE: return "a patch lies outside the code of the current function";
+    case CHAFFWHEEL_NOT_PASSED: return "the rule does not pass the check";
+    default: return "a number that does not come back";
+    }
+}
+
+/* The opcodes, for emission; those that are not carried can be emitted and listed, and are fault 2 in a run. */
+enum {
+    CHAFFWHEEL_OP_LOAD_CONSTANT = 0,
+    CHAFFWHEEL_OP_APPLY_PREFIX = 1, /* not carried */
+    CHAFFWHEEL_OP_SET_UNIT_CONSTANT = 2, /* not carried */
+    CHAFFWHEEL_OP_GET_LOCAL = 3,
+    CHAFFWHEEL_OP_GET_UPVALUE = 4,
+    CHAFFWHEEL_OP_GET_LAST_RESULT = 5,
+    CHAFFWHEEL_OP_NEGATE = 6,
+    CHAFFWHEEL_OP_FACTORIAL = 7, /* not carried */
+    CHAFFWHEEL_OP_ADD = 8,
+    CHAFFWHEEL_OP_SUBTRACT = 9,
+    CHAFFWHEEL_OP_MULTIPLY = 10,
+    CHAFFWHEEL_OP_DIVIDE = 11,
+    CHAFFWHEEL_OP_POWER = 12, /* not carried */
+    CHAFFWHEEL_OP_CONVERT_TO = 13, /* not carried */
+    CHAFFWHEEL_OP_LESS_THAN = 14,
+    CHAFFWHEEL_OP_GREATER_THAN = 15,
+    CHAFFWHEEL_OP_LESS_OR_EQUAL = 16,
+    CHAFFWHEEL_OP_GREATOR_OR_EQUAL = 17,
+    CHAFFWHEEL_OP_EQUAL = 18,
+    CHAFFWHEEL_OP_NOT_EQUAL = 19,
+    CHAFFWHEEL_OP_LOGICAL_AND = 20,
+    CHAFFWHEEL_OP_LOGICAL_OR = 21,
+    CHAFFWHEEL_OP_LOGICAL_NEG = 22,
+    CHAFFWHEEL_OP_ADD_DATETIME = 23, /* not carried */
+    CHAFFWHEEL_OP_SUB_DATETIME = 24, /* not carried */
+    CHAFFWHEEL_OP_DIFF_DATETIME = 25, /* not carried */
+    CHAFFWHEEL_OP_JUMP_IF_FALSE = 26,
+    CHAFFWHEEL_OP_JUMP = 27,
+    CHAFFWHEEL_OP_CALL = 28,
+    CHAFFWHEEL_OP_FFI_CALL_FUNCTION = 29, /* not carried */
+    CHAFFWHEEL_OP_FFI_CALL_PROCEDURE = 30, /* not carried */
+    CHAFFWHEEL_OP_CALL_CALLABLE = 31,
+    CHAFFWHEEL_OP_PRINT_STRING = 32, /* not carried */
+    CHAFFWHEEL_OP_JOIN_STRING = 33, /* not carried */
+    CHAFFWHEEL_OP_BUILD_STRUCT_INSTANCE = 34,
+    CHAFFWHEEL_OP_ACCESS_STRUCT_FIELD = 35,
+    CHAFFWHEEL_OP_BUILD_LIST = 36,
+    CHAFFWHEEL_OP_RETURN = 37
+};
 
 /* ---- making a machine, and running it */
 

@@ -2,11 +2,13 @@
  * m's stores lent. Each call is one line that lends; nothing is kept or judged here, and none of it is proved. What a function does and refuses
  * stands at chaffwheel_X. Every cw_ function leaves what it tells in m->answer.
  *
- * The host starts from a struct of zeros, sets each pointer to memory of its own that it has written, and each _len to the count of its elements
- * (words, bytes or frames, not places): docs/EMBEDDING.md, "What the host lends". Then cw_new or cw_load makes the machine. */
+ * cw_stores_from lays the stores into one block of memory of the host's. A host that wants other sizes starts from a struct of zeros, sets each
+ * pointer to memory of its own that it has written, and each _len to the count of its elements (words, bytes or frames, not places):
+ * docs/EMBEDDING.md, "What the host lends". Then cw_new or cw_load makes the machine. */
 #ifndef CHAFFWHEEL_STORES_H
 #define CHAFFWHEEL_STORES_H
 
+#include <string.h>
 #include "chaffwheel.h"
 
 #define CHAFFWHEEL_STORE(type, name) type *name; size_t name##_len
@@ -31,6 +33,48 @@ struct chaffwheel_stores {
     CHAFFWHEEL_STORE(uint32_t, trace);
 };
 
+/* ---- room for the stores. The runner's sizes, in places; a machine of scale n has n times as many of each. */
+enum {
+    CW_CONSTANTS = 256, CW_STRUCTS = 256, CW_FUNCTIONS = 256, CW_TEXT = 16384, CW_MAIN_CODE = 8192, CW_OTHER_CODE = 8192,
+    CW_STACK = 1024, CW_CELLS = 2048, CW_FRAMES = 256
+};
+
+/* How many bytes the stores of a machine take; the block is aligned for uint64_t, as calloc's is. */
+static inline size_t cw_stores_size(size_t scale)
+{
+    size_t words = 2 * (CW_CONSTANTS + CW_STRUCTS + CW_FUNCTIONS + 2 * CW_STACK + CW_CELLS);
+    size_t places = CW_MAIN_CODE + CW_OTHER_CODE + 2 * CW_FRAMES;
+    size_t bytes = CW_TEXT + CW_MAIN_CODE + CW_OTHER_CODE;
+    return scale * (words * sizeof(uint64_t) + CW_FRAMES * sizeof(chaffwheel_frame) + places * sizeof(uint32_t) + bytes);
+}
+
+/* Makes stores of that scale of a block of cw_stores_size(scale) bytes that the host has written, with zeros if you like: cw_stores_from(m,
+ * calloc(1, cw_stores_size(1)), 1). The block is the host's to free, when m is used no more. */
+static inline void cw_stores_from(struct chaffwheel_stores *m, void *block, size_t scale)
+{
+    uint64_t *words = (uint64_t *)block;
+    size_t i;
+    for (i = 0; i < CHAFFWHEEL_VM; i++)
+        m->vm[i] = 0;
+    for (i = 0; i < CHAFFWHEEL_ANSWER; i++)
+        m->answer[i] = 0;
+#define CW_TAKE(name, from, count) (m->name = (from), m->name##_len = (count) * scale)
+    CW_TAKE(constants, words, 2 * CW_CONSTANTS);
+    CW_TAKE(structs, m->constants + m->constants_len, 2 * CW_STRUCTS);
+    CW_TAKE(functions, m->structs + m->structs_len, 2 * CW_FUNCTIONS);
+    CW_TAKE(stack, m->functions + m->functions_len, 2 * CW_STACK);
+    CW_TAKE(copy, m->stack + m->stack_len, 2 * CW_STACK);
+    CW_TAKE(cells, m->copy + m->copy_len, 2 * CW_CELLS);
+    CW_TAKE(frames, (chaffwheel_frame *)(void *)(m->cells + m->cells_len), CW_FRAMES);
+    CW_TAKE(main_places, (uint32_t *)(void *)(m->frames + m->frames_len), CW_MAIN_CODE);
+    CW_TAKE(other_places, m->main_places + m->main_places_len, CW_OTHER_CODE);
+    CW_TAKE(trace, m->other_places + m->other_places_len, 2 * CW_FRAMES);
+    CW_TAKE(text, (uint8_t *)(void *)(m->trace + m->trace_len), CW_TEXT);
+    CW_TAKE(main_code, m->text + m->text_len, CW_MAIN_CODE);
+    CW_TAKE(other_code, m->main_code + m->main_code_len, CW_OTHER_CODE);
+#undef CW_TAKE
+}
+
 #define CW_LEND(name) m->name, m->name##_len
 #define CW_VM m->vm, CHAFFWHEEL_VM
 #define CW_ANSWER m->answer, CHAFFWHEEL_ANSWER
@@ -53,6 +97,47 @@ static inline uint32_t cw_run(struct chaffwheel_stores *m, uint64_t units)
 {
     return chaffwheel_run(units, CW_VM, CW_LEND(constants), CW_LEND(structs), CW_LEND(functions), CW_LEND(text), CW_CODE, CW_LEND(stack),
         CW_LEND(cells), CW_LEND(frames), CW_LEND(copy), CW_LEND(trace), CW_ANSWER);
+}
+
+/* ---- the same rule for many readings: what a host may write between runs (docs/EMBEDDING.md, "Many readings"). These two are the host's own
+ * writes, and no calls: the next run judges what it is lent, whatever was written. */
+
+/* Puts the machine back to the start of main, with an empty stack. The last result stays: it is what the rule counted so far. The cells are free
+ * again unless the last result is a list or struct, which lies in them. */
+static inline void cw_rewind(struct chaffwheel_stores *m)
+{
+    m->vm[CHAFFWHEEL_STACK] = 0;
+    m->vm[CHAFFWHEEL_FRAMES] = 1;
+    m->frames[0].function = 0;
+    m->frames[0].position = 0;
+    m->frames[0].base = 0;
+    if (m->vm[CHAFFWHEEL_LAST_KIND] != CHAFFWHEEL_LIST && m->vm[CHAFFWHEEL_LAST_KIND] != CHAFFWHEEL_STRUCT)
+        m->vm[CHAFFWHEEL_CELLS] = 0;
+}
+
+/* A number as its 64 bits, and back. */
+static inline uint64_t cw_bits_of(double number)
+{
+    uint64_t bits;
+    memcpy(&bits, &number, sizeof bits);
+    return bits;
+}
+
+static inline double cw_number_of(uint64_t bits)
+{
+    double number;
+    memcpy(&number, &bits, sizeof number);
+    return number;
+}
+
+/* Makes constant i the number of these 64 bits; false if the program has no such constant, and then nothing is written. */
+static inline bool cw_set_scalar(struct chaffwheel_stores *m, size_t i, uint64_t bits)
+{
+    if (i >= m->vm[CHAFFWHEEL_CONSTANTS] || i >= m->constants_len / 2)
+        return false;
+    m->constants[2 * i] = CHAFFWHEEL_SCALAR;
+    m->constants[2 * i + 1] = bits;
+    return true;
 }
 
 /* the backtrace goes to m->trace */

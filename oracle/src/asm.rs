@@ -23,12 +23,17 @@
 //! The place of a code byte is the number of its line, so a backtrace points
 //! into the source. Constants and structs are numbered from 0 in the order of
 //! their lines, functions from 1; main is function 0 wherever it stands.
+//!
+//! What cannot be meant is refused, though a machine would load it: a source
+//! without main, a number of no constant, struct or function, a Call of main.
+//! `bytes` still says it. All that is wrong is told at once.
 
 use std::collections::HashMap;
 use std::fmt;
 
 use crate::image::{Constant, Function, Program};
 use crate::limits::{MAX_CODE, MAX_CONSTANTS, MAX_FUNCTIONS, MAX_STRUCTS};
+use crate::near::near;
 use crate::op::{Op, OPS};
 
 /// What is wrong in a source, where, and what to do about it.
@@ -74,13 +79,16 @@ impl Operand {
     }
 }
 
-/// An operand that is a name, to be replaced when all lines are read.
+/// An operand that names something, to be judged when all lines are read.
 struct Use {
     line: usize,
     function: usize,
+    /// Of its instruction, and of itself.
+    start: usize,
     offset: usize,
     operand: Operand,
-    name: String,
+    /// None: its number stands in the code already.
+    name: Option<String>,
 }
 
 #[derive(Default)]
@@ -96,27 +104,46 @@ struct Reader {
     uses: Vec<Use>,
     /// The function that code is read into; none before the first.
     current: Option<usize>,
+    /// Code stood outside every function, or main was spelt wrong: that was told.
+    stray: bool,
     main_line: Option<usize>,
     /// None: the line's number.
     place: Option<u32>,
 }
 
-/// Reads a source into the program that it says.
-pub fn assemble(source: &[u8]) -> Result<Program, Error> {
+/// Reads a source into the program that it says, or tells all that is wrong, by
+/// line.
+pub fn assemble(source: &[u8]) -> Result<Program, Vec<Error>> {
     // Some editors put a byte order mark before a text.
     let source = source.strip_prefix(b"\xEF\xBB\xBF").unwrap_or(source);
     let mut reader = Reader::default();
     reader.functions.insert("main".to_owned(), 0);
+    let mut errors = vec![];
+    let mut last = 0;
     for (index, bytes) in source.split(|byte| *byte == b'\n').enumerate() {
         let line = index + 1;
-        std::str::from_utf8(bytes)
+        last = line;
+        let said = std::str::from_utf8(bytes)
             .map_err(|_| "this is no UTF-8 text; write such bytes of a text as \\xHH".to_owned())
             .and_then(tokens)
-            .and_then(|tokens| reader.statement(line, &tokens))
-            .map_err(|words| Error { line, words })?;
+            .and_then(|tokens| {
+                reader
+                    .statement(line, &tokens)
+                    .inspect_err(|_| reader.go_on(&tokens))
+            });
+        errors.extend(said.err().map(|words| Error { line, words }));
     }
-    reader.finish()
+    errors.extend(reader.finish(last));
+    errors.sort_by_key(|error| error.line);
+    if errors.is_empty() {
+        Ok(reader.program)
+    } else {
+        Err(errors)
+    }
 }
+
+/// What a line may begin with, besides an instruction and a label.
+const STATEMENTS: [&str; 6] = ["constant", "struct", "main", "function", "place", "bytes"];
 
 #[derive(Debug, PartialEq, Eq)]
 enum Token {
@@ -190,7 +217,7 @@ fn hex_byte(digits: &str) -> u8 {
 }
 
 /// Whether a word can name something: a letter, then letters, digits, `_`, `-`.
-fn is_name(word: &str) -> bool {
+pub(crate) fn is_name(word: &str) -> bool {
     word.starts_with(|c: char| c.is_ascii_alphabetic())
         && word
             .chars()
@@ -208,13 +235,17 @@ fn name_of(word: &str) -> Words<String> {
 }
 
 fn define(names: &mut HashMap<String, usize>, kind: &str, word: &str, number: usize) -> Words<()> {
-    match names.insert(name_of(word)?, number) {
-        None => Ok(()),
-        Some(_) => Err(format!(
+    if names.contains_key(word) {
+        return Err(format!(
             "another {kind} has the name {word}; give this one a name of its own"
-        )),
+        ));
     }
+    names.insert(name_of(word)?, number);
+    Ok(())
 }
+
+/// The number of what a wrong line was to define.
+const UNKNOWN: usize = usize::MAX;
 
 fn within(count: usize, limit: usize, what: &str) -> Words<()> {
     if count <= limit {
@@ -262,6 +293,42 @@ fn scalar(word: &str) -> Words<u64> {
 }
 
 impl Reader {
+    /// Behind a wrong line: what it was to define counts as defined, so that what
+    /// names it is not wrong as well.
+    fn go_on(&mut self, tokens: &[Token]) {
+        use Token::Word;
+        let [Word(kind), rest @ ..] = tokens else {
+            return;
+        };
+        let name = match rest {
+            [Word(name), ..] => name.clone(),
+            _ => String::new(),
+        };
+        match kind.as_str() {
+            "constant" => {
+                self.constants.entry(name).or_insert(UNKNOWN);
+            }
+            "struct" => {
+                self.structs.entry(name).or_insert(UNKNOWN);
+            }
+            "function" => {
+                self.stray |= name == "main";
+                self.functions.entry(name).or_insert(UNKNOWN);
+                self.current.get_or_insert(0);
+            }
+            "main" => {
+                self.stray = true;
+                self.current.get_or_insert(0);
+            }
+            "place" => {}
+            _ if self.current.is_none() => {
+                self.current = Some(0);
+                self.stray = true;
+            }
+            _ => {}
+        }
+    }
+
     fn statement(&mut self, line: usize, tokens: &[Token]) -> Words<()> {
         use Token::{Text, Word};
         let Some(first) = tokens.first() else {
@@ -325,9 +392,13 @@ impl Reader {
                 )
             }
             _ => {
-                return Err(format!(
-                    "`{kind}` is no kind of constant; take scalar, boolean, string or reference"
-                ))
+                let kinds = ["scalar", "boolean", "string", "reference"];
+                return Err(match near(kind, kinds.into_iter()) {
+                    Some(near) => format!("`{kind}` is no kind of constant; did you mean {near}?"),
+                    None => format!(
+                        "`{kind}` is no kind of constant; take scalar, boolean, string or reference"
+                    ),
+                });
             }
         };
         within(number + 1, MAX_CONSTANTS, "these are more constants")?;
@@ -445,18 +516,15 @@ impl Reader {
 
     fn instruction(&mut self, line: usize, name: &str, words: &[Token]) -> Words<()> {
         let Some(op) = OPS.into_iter().find(|op| op.to_string() == name) else {
-            return Err(
-                match OPS
-                    .into_iter()
-                    .find(|op| op.to_string().eq_ignore_ascii_case(name))
-                {
-                    Some(op) => format!("`{name}` is not understood; write {}", op.to_string()),
-                    None => format!(
+            let carried = OPS.into_iter().filter(|op| op.is_carried());
+            let words = carried.map(Op::to_string).chain(STATEMENTS);
+            return Err(match near(name, words) {
+                Some(near) => format!("`{name}` is not understood; did you mean {near}?"),
+                None => format!(
                     "`{name}` is no statement and no instruction; instructions are named as in \
                      the listing (docs/RULES.md, Opcodes)"
                 ),
-                },
-            );
+            });
         };
         if !op.is_carried() {
             return Err(format!(
@@ -493,9 +561,12 @@ impl Reader {
                 ));
             };
             let number = match decimal::<u16>(word) {
-                Some(number) => number,
+                Some(number) => {
+                    uses.push((start + bytes.len(), *operand, None));
+                    number
+                }
                 None if is_name(word) && !matches!(operand, Operand::Number) => {
-                    uses.push((start + bytes.len(), *operand, word.clone()));
+                    uses.push((start + bytes.len(), *operand, Some(word.clone())));
                     0
                 }
                 None => {
@@ -513,6 +584,7 @@ impl Reader {
             .extend(uses.into_iter().map(|(offset, operand, name)| Use {
                 line,
                 function,
+                start,
                 offset,
                 operand,
                 name,
@@ -520,53 +592,130 @@ impl Reader {
         Ok(())
     }
 
-    /// Puts numbers for names, now that every name is known.
-    fn finish(mut self) -> Result<Program, Error> {
+    /// Puts numbers for names, now that every name is known, and tells what is
+    /// wrong with those that were used.
+    fn finish(&mut self, last: usize) -> Vec<Error> {
+        let mut errors = vec![];
         for used in std::mem::take(&mut self.uses) {
-            let number = self.number(&used).map_err(|words| Error {
-                line: used.line,
-                words,
-            })?;
-            let code = &mut self.program.functions[used.function].code;
-            code[used.offset..used.offset + 2].copy_from_slice(&number.to_le_bytes());
+            let line = used.line;
+            match self.number(&used) {
+                Ok(None) => {}
+                Ok(Some(number)) => {
+                    let code = &mut self.program.functions[used.function].code;
+                    code[used.offset..used.offset + 2].copy_from_slice(&number.to_le_bytes());
+                    errors.extend(self.meant(&used, number).map(|words| Error { line, words }));
+                }
+                Err(words) => errors.push(Error { line, words }),
+            }
         }
         for (line, number, name) in &self.references {
-            let function = self.functions.get(name).ok_or_else(|| Error {
-                line: *line,
-                words: format!(
-                    "no function is named {name}; add a line `function {name}`, or put the name \
-                     in quotes to refer to a function that is not here"
-                ),
-            })?;
-            self.program.constants[*number] =
-                Constant::FunctionReference(self.program.functions[*function].name.clone());
+            match self.functions.get(name) {
+                Some(&UNKNOWN) => {}
+                Some(function) => {
+                    let name = self.program.functions[*function].name.clone();
+                    self.program.constants[*number] = Constant::FunctionReference(name);
+                }
+                None => errors.push(Error {
+                    line: *line,
+                    words: match near(name, self.functions.keys().map(String::as_str)) {
+                        Some(near) => {
+                            format!("no function is named {name}; did you mean {near}?")
+                        }
+                        None => format!(
+                            "no function is named {name}; add a line `function {name}`, or put \
+                             the name in quotes to refer to a function that is not here"
+                        ),
+                    },
+                }),
+            }
         }
-        Ok(self.program)
+        if self.main_line.is_none() && !self.stray {
+            errors.push(Error {
+                line: last,
+                words: "there is no main; add a line `main`, and below it the code of the rule"
+                    .to_owned(),
+            });
+        }
+        errors
     }
 
-    fn number(&self, used: &Use) -> Words<u16> {
-        let name = &used.name;
+    /// What is wrong with a number that can be loaded, and cannot be meant.
+    fn meant(&self, used: &Use, number: u16) -> Option<String> {
+        let (kind, count) = match used.operand {
+            Operand::Constant => ("constant", self.program.constants.len()),
+            Operand::Struct => ("struct", self.program.structs.len()),
+            Operand::Function => ("function", self.program.functions.len()),
+            Operand::Label | Operand::Number => return None,
+        };
+        let code = &self.program.functions[used.function].code[used.start..];
+        let read = Op::from_byte(code[0]).map_or(0, Op::operands_read);
+        let bytes = code[..1 + 2 * read].iter();
+        let bytes: String = bytes.map(|byte| format!(" {byte:02X}")).collect();
+        if count == 0 {
+            return Some(format!(
+                "there is no {kind} {number}: none is given; add a line `{kind} NAME ..`, or \
+                 write `bytes{bytes}` if fault 6 is what you want"
+            ));
+        }
+        if usize::from(number) >= count {
+            return Some(format!(
+                "there is no {kind} {number}, they go from 0 to {}; correct the number, or write \
+                 `bytes{bytes}` if fault 6 is what you want",
+                count - 1
+            ));
+        }
+        if matches!(used.operand, Operand::Function) && number == 0 {
+            return Some(format!(
+                "a Call of main passes no check (rule 3); put what is to be repeated into a \
+                 function of its own, or write `bytes{bytes}` if this is what you want"
+            ));
+        }
+        None
+    }
+
+    /// The number of an operand; none if a wrong line was to define it.
+    fn number(&self, used: &Use) -> Words<Option<u16>> {
+        let Some(name) = &used.name else {
+            let code = &self.program.functions[used.function].code[used.offset..];
+            return Ok(Some(u16::from_le_bytes([code[0], code[1]])));
+        };
         let (kind, names) = match used.operand {
             Operand::Constant => ("constant", &self.constants),
             Operand::Struct => ("struct", &self.structs),
             Operand::Function => ("function", &self.functions),
-            Operand::Label => return self.jump(used),
+            Operand::Label => return self.jump(used, name).map(Some),
             Operand::Number => unreachable!("a number has no name to look for"),
         };
-        let number = *names.get(name).ok_or_else(|| {
-            format!("no {kind} is named {name}; add a line `{kind} {name} ..` or correct the name")
-        })?;
-        Ok(u16::try_from(number).expect("no limit is above 65,536"))
+        let number =
+            *names
+                .get(name)
+                .ok_or_else(|| match near(name, names.keys().map(String::as_str)) {
+                    Some(near) => format!("no {kind} is named {name}; did you mean {near}?"),
+                    None => format!(
+                    "no {kind} is named {name}; add a line `{kind} {name} ..` or correct the name"
+                ),
+                })?;
+        if number == UNKNOWN {
+            return Ok(None);
+        }
+        Ok(Some(
+            u16::try_from(number).expect("no limit is above 65,536"),
+        ))
     }
 
     /// A jump adds its operand to the position after it, so it only goes on.
-    fn jump(&self, used: &Use) -> Words<u16> {
-        let name = &used.name;
-        let label = (used.function, name.clone());
+    fn jump(&self, used: &Use, name: &str) -> Words<u16> {
+        let label = (used.function, name.to_owned());
         let target = *self.labels.get(&label).ok_or_else(|| {
-            format!(
-                "this function has no label {name}; add a line `{name}:` where the jump is to go"
-            )
+            let here = self.labels.keys();
+            let here = here.filter(|(function, _)| *function == used.function);
+            match near(name, here.map(|(_, label)| label.as_str())) {
+                Some(near) => format!("this function has no label {name}; did you mean {near}?"),
+                None => format!(
+                    "this function has no label {name}; add a line `{name}:` where the jump is \
+                     to go"
+                ),
+            }
         })?;
         let after = used.offset + 2;
         let distance = target.checked_sub(after).ok_or_else(|| {

@@ -14,7 +14,8 @@
 //! Both read programs from the rule image ([`image`]). [`print`] holds what
 //! the runner and the lister print, [`generate`] and [`damage`] make images to
 //! compare on, [`edges`] counts those at which a size or number is the largest,
-//! [`asm`] makes an image of a rule that a person wrote.
+//! [`asm`] makes an image of a rule that a person wrote, [`source`] such a rule
+//! of an image.
 //!
 //! [`check`] judges an image before it is installed (document 02, Wish 2),
 //! [`generate_checked`] makes images for it, and [`checked_runs`] runs those
@@ -37,11 +38,13 @@ pub mod generate;
 pub mod generate_checked;
 pub mod image;
 pub mod limits;
+mod near;
 pub mod op;
 pub mod plain;
 pub mod print;
 pub mod published;
 pub mod readers;
 pub mod script;
+pub mod source;
 pub mod value;
 pub mod vm;

@@ -11,6 +11,7 @@ use oracle::published::{self, Count, State};
 use oracle::vm::Bounds;
 use oracle::{
     asm, calls, check, checked_runs, console, damage, edges, generate, generate_checked, image,
+    source,
 };
 
 const HELP: &str = "\
@@ -22,7 +23,14 @@ over f64, the plain machine; and document 01's machine, written for itself
   oracle list --notes FILE      what the noter prints
   oracle judge FILE             `ok`, or `refused 20 OFFSET`; also checks that
                                 the image of what was read is FILE again
-  oracle asm FILE               the image of a rule source (examples/README.md)
+  oracle asm FILE [-o IMAGE]    the image of a rule source (examples/README.md), on
+                                standard output or in a file, which is replaced
+                                by a whole image or not at all
+  oracle source FILE            a rule source from which asm makes the image FILE
+  oracle sources SEED COUNT FILE..
+                                makes a source of each of COUNT generated images
+                                and of the images FILE, and an image of it: one
+                                line for each that does not come back, and a count
   oracle rust FILE              what the published Rust does: its answer, error or
                                 panic, and stack, frames and last result after
   oracle published SEED COUNT   runs and lists generated images on the published
@@ -41,6 +49,8 @@ over f64, the plain machine; and document 01's machine, written for itself
                                 of text; or `refused N`, 20 with its offset
   oracle batch SEED COUNT       the records of generated images, on standard
                                 output
+  oracle records FILE           counts the records of a file by how loading, running
+                                and listing ended
   oracle tally SEED COUNT       counts those of the same images at which a size is
                                 full, one short or one over, or a number of the
                                 image none or very large
@@ -99,18 +109,21 @@ const CALLS: usize = 48_000;
 fn main() -> ExitCode {
     let arguments: Vec<String> = std::env::args().skip(1).collect();
     let arguments: Vec<&str> = arguments.iter().map(String::as_str).collect();
+    if let Some(status) = author(&arguments) {
+        return status;
+    }
     let done = match arguments.as_slice() {
         ["run", file] => read(file).and_then(|bytes| put(print::runner(&bytes).as_bytes())),
         ["list", "--notes", file] => read(file).and_then(|bytes| put(&print::noter(&bytes))),
         ["list", file] => read(file).and_then(|bytes| put(&print::lister(&bytes))),
         ["judge", file] => read(file).and_then(|bytes| judge(&bytes)),
-        ["asm", file] => read(file).and_then(|source| assemble(file, &source)),
         ["rust", file] => read(file).and_then(|bytes| rust(&bytes)),
         ["generate", seed, count, dir] => numbers(seed, count).and_then(|(s, c)| write(s, c, dir)),
         ["sample", seed, count] => numbers(seed, count).and_then(|(s, c)| sample(s, c)),
         ["load", file] => read(file).and_then(|bytes| put(print::loader(&bytes).as_bytes())),
         ["batch", seed, count] => numbers(seed, count)
             .and_then(|(s, c)| records((0..c).map(|index| generate::case(s, index)))),
+        ["records", file] => read(file).and_then(|bytes| count_records(&bytes)),
         ["tally", seed, count] => numbers(seed, count).and_then(|(s, c)| tally(s, c)),
         ["damage", step] => {
             number(step).and_then(|step| records(damage::each(step.max(1) as usize).into_iter()))
@@ -189,9 +202,98 @@ fn judge(bytes: &[u8]) -> Done {
     }
 }
 
-fn assemble(file: &str, source: &[u8]) -> Done {
-    let program = asm::assemble(source).map_err(|e| format!("{file}, {e}"))?;
-    put(&image::image(&program))
+/// The commands of those who write rules. Their statuses are those of
+/// `./chaffwheel`: 4 refused, 5 trouble with files, 6 a difference.
+fn author(arguments: &[&str]) -> Option<ExitCode> {
+    let done = match arguments {
+        ["asm", file] => assemble(file, "-"),
+        ["asm", file, "-o", image] => assemble(file, image),
+        ["source", file] => write_source(file),
+        ["sources", seed, count, files @ ..] => sources(seed, count, files),
+        _ => return None,
+    };
+    Some(match done {
+        Ok(status) => ExitCode::from(status),
+        Err(words) => {
+            eprintln!("oracle: {words}");
+            ExitCode::from(5)
+        }
+    })
+}
+
+/// How many errors of a source are shown; all are counted.
+const ERRORS: usize = 20;
+
+fn assemble(file: &str, to: &str) -> Result<u8, String> {
+    let errors = match asm::assemble(&read(file)?) {
+        Ok(program) => {
+            let image = image::image(&program);
+            match to {
+                "-" => put(&image)?,
+                _ => replace(to, &image)?,
+            }
+            return Ok(0);
+        }
+        Err(errors) => errors,
+    };
+    for error in errors.iter().take(ERRORS) {
+        eprintln!("{file}, {error}");
+    }
+    if errors.len() > 1 {
+        let shown = errors.len().min(ERRORS);
+        eprintln!("{file}: {} errors, {shown} shown", errors.len());
+    }
+    Ok(4)
+}
+
+/// Writes a file beside and puts it in place when it is whole.
+fn replace(path: &str, bytes: &[u8]) -> Done {
+    let beside = format!("{path}.{}.new", std::process::id());
+    let written = std::fs::write(&beside, bytes).and_then(|()| std::fs::rename(&beside, path));
+    written.map_err(|error| {
+        let _ = std::fs::remove_file(&beside);
+        format!("{path}: {error}")
+    })
+}
+
+fn write_source(file: &str) -> Result<u8, String> {
+    match image::parse(&read(file)?) {
+        Ok(program) => put(source::source(&program).as_bytes()).map(|()| 0),
+        Err(offset) => {
+            eprintln!("{file}: refused 20 at {offset}, so it has no source");
+            Ok(4)
+        }
+    }
+}
+
+fn sources(seed: &str, count: &str, files: &[&str]) -> Result<u8, String> {
+    let (seed, count) = numbers(seed, count)?;
+    let (mut sources, mut none, mut differ) = (0, 0, 0);
+    let mut judge = |name: String, bytes: &[u8]| match source::comes_back(bytes) {
+        None => {
+            none += 1;
+            Ok(())
+        }
+        Some(true) => {
+            sources += 1;
+            Ok(())
+        }
+        Some(false) => {
+            differ += 1;
+            put(format!("{name} does not come back\n").as_bytes())
+        }
+    };
+    for file in files {
+        judge((*file).to_owned(), &read(file)?)?;
+    }
+    for index in 0..count {
+        judge(format!("image {index}"), &generate::case(seed, index))?;
+    }
+    put(format!(
+        "{sources} images came back from their sources, {none} were no image, {differ} differences\n"
+    )
+    .as_bytes())?;
+    Ok(if differ == 0 { 0 } else { 6 })
 }
 
 fn rust(bytes: &[u8]) -> Done {
@@ -297,6 +399,45 @@ fn judged(what: &str, count: u64, counted: Count) -> Done {
 
 fn records(images: impl Iterator<Item = Vec<u8>>) -> Done {
     put_all(images.map(|image| print::record(&image)))
+}
+
+/// The parts of a record behind its image, and what their first lines are
+/// counted as: all but a value, a continue, a fault or a refusal is one.
+const PARTS: [(&str, &str); 3] = [("load", "loaded"), ("run", "value"), ("list", "a listing")];
+
+fn count_records(mut bytes: &[u8]) -> Done {
+    let mut endings: BTreeMap<(usize, String), u64> = BTreeMap::new();
+    let mut records = 0;
+    while !bytes.is_empty() {
+        let mut parts = vec![];
+        let (head, mut rest) = bytes.split_at_checked(16).ok_or("a record is cut short")?;
+        for length in head.chunks_exact(4) {
+            let length = u32::from_le_bytes(length.try_into().expect("four bytes"));
+            let cut = rest.split_at_checked(length as usize);
+            let (part, behind) = cut.ok_or("a record is cut short")?;
+            parts.push(part);
+            rest = behind;
+        }
+        for (index, (part, (_, otherwise))) in parts[1..].iter().zip(PARTS).enumerate() {
+            let text = String::from_utf8_lossy(part);
+            let mut words = text.split_whitespace();
+            let ending = match words.next() {
+                Some(word @ ("refused" | "fault")) => {
+                    format!("{word} {}", words.next().unwrap_or_default())
+                }
+                Some("continue") => "continue".to_owned(),
+                _ => otherwise.to_owned(),
+            };
+            *endings.entry((index, ending)).or_default() += 1;
+        }
+        records += 1;
+        bytes = rest;
+    }
+    let mut out = format!("{records} records\n");
+    for ((index, ending), count) in endings {
+        out += &format!("{}: {ending}: {count}\n", PARTS[index].0);
+    }
+    put(out.as_bytes())
 }
 
 fn checks(seed: u64, count: u64) -> Done {

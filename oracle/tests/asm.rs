@@ -8,12 +8,13 @@ use common::{hex, number};
 use oracle::asm::assemble;
 use oracle::generate;
 use oracle::image::{image, parse, Constant, Program, MAIN};
-use oracle::op::{Op, OPS};
+use oracle::op::OPS;
 use oracle::print;
+use oracle::source::{comes_back, source};
 
 #[track_caller]
 fn program(source: &str) -> Program {
-    assemble(source.as_bytes()).unwrap_or_else(|error| panic!("{error}"))
+    assemble(source.as_bytes()).unwrap_or_else(|errors| panic!("{errors:?}"))
 }
 
 #[track_caller]
@@ -42,10 +43,9 @@ fn p1_with_all_places_0_is_the_image_written_out_in_document_01() {
 #[test]
 fn nothing_said_is_an_empty_main() {
     for source in [
-        "",
-        "\n",
-        "# nothing\n  \t # at all",
         "main",
+        "main\n",
+        "# nothing\n  \t # more\nmain",
         "\u{FEFF}main\r\n",
     ] {
         assert_eq!(program(source), Program::new(), "{source:?}");
@@ -57,7 +57,10 @@ fn every_carried_instruction_has_its_name_and_as_many_operands_as_the_machine_re
     for op in OPS.into_iter().filter(|op| op.is_carried()) {
         let operands = [258, 772];
         let operands = &operands[..op.operands_read()];
-        let mut source = format!("main\n{}", op.to_string());
+        let mut source = (0..=258)
+            .map(|n| format!("constant c{n} boolean true\nstruct s{n}\nfunction f{n}\n"))
+            .collect::<String>();
+        source += &format!("main\n{}", op.to_string());
         let mut code = vec![op as u8];
         for operand in operands {
             source += &format!(" {operand}");
@@ -73,7 +76,6 @@ fn names_stand_for_numbers_wherever_their_lines_are() {
 main
   LoadConstant b
   Call g 1
-  Call main 0
   BuildStructInstance T 2
 constant a scalar 1
 constant b scalar 2
@@ -83,10 +85,12 @@ function f
 function g";
     assert_eq!(
         main_code(source),
-        hex("00 01 00  1C 02 00 01 00  1C 00 00 00 00  22 01 00 02 00")
+        hex("00 01 00  1C 02 00 01 00  22 01 00 02 00")
     );
     // A constant, a struct, a function and a label may share a name.
-    let source = "constant x scalar 1\nstruct x\nfunction x\nJump x\nx:\nLoadConstant x\nCall x 0";
+    let source =
+        "constant x scalar 1\nstruct x\nfunction x\nJump x\nx:\nLoadConstant x\nCall x 0\n\
+                  main";
     assert_eq!(
         program(source).functions[1].code,
         hex("1B 00 00  00 00 00  1C 01 00 00 00")
@@ -131,6 +135,7 @@ constant i reference late
 constant j reference main
 constant k reference "nobody"
 function late "its text"
+main
 "#;
     let text = |text: &[u8]| text.to_vec();
     assert_eq!(
@@ -167,82 +172,55 @@ fn texts_stand_for_names_in_the_image() {
 
 #[test]
 fn a_place_is_the_line_unless_said() {
-    let source = "main\nAdd\n\nLoadConstant 0\nplace 4294967295\nAdd\nplace line\nAdd\nbytes 1B 05";
+    let source = "main\nAdd\n\nGetLocal 0\nplace 4294967295\nAdd\nplace line\nAdd\nbytes 1B 05";
     let program = program(source);
-    assert_eq!(program.functions[0].code, hex("08 00 00 00 08 08 1B 05"));
+    assert_eq!(program.functions[0].code, hex("08 03 00 00 08 08 1B 05"));
     assert_eq!(program.functions[0].places, [2, 4, 4, 4, u32::MAX, 8, 9, 9]);
 }
 
-/// A source that says a program: whole carried instructions by name, all
-/// other code as bytes, a place for each.
-fn source_of(program: &Program) -> String {
-    let quoted = |text: &[u8]| -> String {
-        let bytes: String = text.iter().map(|byte| format!("\\x{byte:02X}")).collect();
-        format!("\"{bytes}\"")
-    };
-    let mut out = String::new();
-    for (index, constant) in program.constants.iter().enumerate() {
-        out += &format!("constant c{index} ");
-        out += &match constant {
-            Constant::Scalar(bits) => format!("scalar 0x{bits:016X}\n"),
-            Constant::Boolean(boolean) => format!("boolean {boolean}\n"),
-            Constant::String(text) => format!("string {}\n", quoted(text)),
-            Constant::FunctionReference(name) => format!("reference {}\n", quoted(name)),
-        };
-    }
-    for (index, name) in program.structs.iter().enumerate() {
-        out += &format!("struct s{index} {}\n", quoted(name));
-    }
-    for (index, function) in program.functions.iter().enumerate() {
-        out += &match index {
-            0 => "main\n".to_owned(),
-            _ => format!("function f{index} {}\n", quoted(&function.name)),
-        };
-        let mut offset = 0;
-        while offset < function.code.len() {
-            let op = Op::from_byte(function.code[offset]).filter(|op| op.is_carried());
-            let end = offset + 1 + 2 * op.map_or(0, Op::operands_read);
-            let one_place = |place: &u32| *place == function.places[offset];
-            out += &format!("place {}\n", function.places[offset]);
-            match (op, function.code.get(offset + 1..end)) {
-                (Some(op), Some(operands))
-                    if function.places[offset..end].iter().all(one_place) =>
-                {
-                    out += op.to_string();
-                    for pair in operands.chunks_exact(2) {
-                        out += &format!(" {}", u16::from_le_bytes([pair[0], pair[1]]));
-                    }
-                    out += "\n";
-                    offset = end;
-                }
-                _ => {
-                    out += &format!("bytes {:02X}\n", function.code[offset]);
-                    offset += 1;
-                }
-            }
+#[test]
+fn every_image_comes_back_from_its_source() {
+    let mut sources = 0;
+    for index in 0..2_000 {
+        if let Some(same) = comes_back(&generate::case(20, index)) {
+            assert!(same, "{index}");
+            sources += 1;
         }
     }
-    out
+    assert!(sources > 1_000, "{sources}");
 }
 
 #[test]
-fn every_program_has_a_source() {
-    let mut programs = 0;
-    for index in 0..2_000 {
-        if let Ok(program) = parse(&generate::case(20, index)) {
-            assert_eq!(assemble(source_of(&program).as_bytes()), Ok(program));
-            programs += 1;
-        }
-    }
-    assert!(programs > 1_000, "{programs}");
+fn a_source_says_what_no_instruction_says_by_bytes() {
+    let said = "constant c0 scalar 1\nconstant c1 scalar 0x7FF8000000000001\n\
+                constant c2 string \"a \\\"\\x00\"\nstruct s0 \"\"\nstruct Meter\n\nmain\n\
+                place 7\n  LoadConstant c2\n  JumpIfFalse at12\n  Jump 9999\n  \
+                bytes FF\n  bytes FF\n  bytes FF\nat12:\n  Call f1 0\n\
+                place 8\n  bytes 1C\nplace 9\n  bytes 0C\n\nfunction f1 \"two words\"\n\n\
+                function twice\nplace 1\n  Jump at3\nat3:\n";
+    let written = source(&program(said));
+    assert_eq!(
+        written.split_once('\n').map(|(_, rest)| rest),
+        Some(said),
+        "{written}"
+    );
 }
 
 #[track_caller]
 fn wrong(source: &str, line: usize, words: &str) {
-    let error = assemble(source.as_bytes()).expect_err(source);
+    // A main is put behind those that are about something else.
+    let source = if source.contains("main") {
+        source.to_owned()
+    } else {
+        format!("{source}\nmain")
+    };
+    let errors = assemble(source.as_bytes()).expect_err(&source);
     assert_eq!(
-        (error.line, error.words.as_str()),
-        (line, words),
+        errors
+            .iter()
+            .map(|error| (error.line, error.words.as_str()))
+            .collect::<Vec<_>>(),
+        [(line, words)],
         "{source}"
     );
 }
@@ -255,15 +233,15 @@ fn what_is_wrong_in_a_line() {
         "a line begins with a word, not with a text; see examples/README.md",
     );
     wrong(
-        "# first\nlaod x",
-        2,
-        "`laod` is no statement and no instruction; instructions are named as in the listing \
+        "# first\nmain\nmultiplication x",
+        3,
+        "`multiplication` is no statement and no instruction; instructions are named as in the listing \
          (docs/RULES.md, Opcodes)",
     );
     wrong(
         "main\nloadconstant 0",
         2,
-        "`loadconstant` is not understood; write LoadConstant",
+        "`loadconstant` is not understood; did you mean LoadConstant?",
     );
     wrong(
         "main\nPower",
@@ -322,7 +300,7 @@ fn what_is_wrong_in_a_line() {
         "nothing follows main; its code begins on the next line",
     );
     assert_eq!(
-        assemble(b"\n# caf\xE9").unwrap_err().to_string(),
+        assemble(b"main\n# caf\xE9").unwrap_err()[0].to_string(),
         "line 2: this is no UTF-8 text; write such bytes of a text as \\xHH"
     );
 }
@@ -514,7 +492,8 @@ fn what_no_machine_can_load_is_refused_at_its_line() {
     let constants: String = (0..65_535)
         .map(|n| format!("constant c{n} boolean true\n"))
         .collect();
-    assert_eq!(program(&constants).constants.len(), 65_535);
+    let with_main = |source: &str| program(&(source.to_owned() + "main"));
+    assert_eq!(with_main(&constants).constants.len(), 65_535);
     wrong(
         &(constants + "constant c boolean true"),
         65_536,
@@ -522,7 +501,7 @@ fn what_no_machine_can_load_is_refused_at_its_line() {
     );
     // Main is one of the 65,536.
     let functions: String = (0..65_535).map(|n| format!("function f{n}\n")).collect();
-    assert_eq!(program(&functions).functions.len(), 65_536);
+    assert_eq!(with_main(&functions).functions.len(), 65_536);
     wrong(
         &(functions + "function f"),
         65_536,
@@ -538,7 +517,13 @@ fn the_examples_are_as_made() {
         let Some(name) = file.strip_suffix(".rule") else {
             continue;
         };
-        let program = assemble(&example(&file)).unwrap_or_else(|error| panic!("{file}, {error}"));
+        let program =
+            assemble(&example(&file)).unwrap_or_else(|errors| panic!("{file}, {errors:?}"));
+        assert_eq!(
+            comes_back(&example(&format!("{name}.img"))),
+            Some(true),
+            "{name}"
+        );
         let image = image(&program);
         assert_eq!(parse(&image), Ok(program), "{name}");
         assert_eq!(example(&format!("{name}.img")), image, "{name}");
@@ -586,4 +571,88 @@ fn the_p_images_have_document_01s_constants_and_code() {
         let said: Vec<Vec<u8>> = codes.into_iter().map(hex).collect();
         assert_eq!(read, said, "{name}");
     }
+}
+
+#[test]
+fn all_that_is_wrong_is_told_at_once_and_nothing_twice() {
+    let source = "constant rate scaler 1\nfunction f\nLoadConstant rate\nGreaterOrEqual\n\
+                  function 2nd\nAdd\nmain\nCall f\nLoadConstant rte";
+    let errors = assemble(source.as_bytes()).unwrap_err();
+    let told: Vec<String> = errors.iter().map(ToString::to_string).collect();
+    assert_eq!(
+        told,
+        [
+            "line 1: `scaler` is no kind of constant; did you mean scalar?",
+            "line 4: `GreaterOrEqual` is not understood; did you mean GreatorOrEqual?",
+            "line 5: `2nd` is no name; a name is a letter, then letters, digits, _ and -",
+            "line 8: Call has two operands (a function's name or number, then a number), and one \
+             is given here",
+            "line 9: no constant is named rte; did you mean rate?",
+        ]
+    );
+}
+
+#[test]
+fn what_cannot_be_meant_is_refused() {
+    let none = "there is no main; add a line `main`, and below it the code of the rule";
+    for (source, line) in [("", 1), ("# nothing\n", 2), ("function f\nReturn", 2)] {
+        let errors = assemble(source.as_bytes()).unwrap_err();
+        assert_eq!(errors.len(), 1, "{source}");
+        assert_eq!(
+            (errors[0].line, errors[0].words.as_str()),
+            (line, none),
+            "{source}"
+        );
+    }
+    wrong(
+        "constant a scalar 1\nmain\nLoadConstant 1",
+        3,
+        "there is no constant 1, they go from 0 to 0; correct the number, or write `bytes 00 01 \
+         00` if fault 6 is what you want",
+    );
+    wrong(
+        "main\nLoadConstant 0",
+        2,
+        "there is no constant 0: none is given; add a line `constant NAME ..`, or write `bytes 00 \
+         00 00` if fault 6 is what you want",
+    );
+    wrong(
+        "main\nCall 1 2",
+        2,
+        "there is no function 1, they go from 0 to 0; correct the number, or write `bytes 1C 01 \
+         00 02 00` if fault 6 is what you want",
+    );
+    wrong(
+        "main\nBuildStructInstance 7 0",
+        2,
+        "there is no struct 7: none is given; add a line `struct NAME ..`, or write `bytes 22 07 \
+         00 00 00` if fault 6 is what you want",
+    );
+    for call in ["Call main 0", "Call 0 0"] {
+        wrong(
+            &format!("main\n{call}"),
+            2,
+            "a Call of main passes no check (rule 3); put what is to be repeated into a function \
+             of its own, or write `bytes 1C 00 00 00 00` if this is what you want",
+        );
+    }
+}
+
+#[test]
+fn near_names_are_hinted_at() {
+    wrong(
+        "function bill\nmain\nCall bil 0",
+        3,
+        "no function is named bil; did you mean bill?",
+    );
+    wrong(
+        "main\nJump ende\nend:",
+        2,
+        "this function has no label ende; did you mean end?",
+    );
+    wrong(
+        "function bill\nconstant b reference bil\nmain",
+        2,
+        "no function is named bil; did you mean bill?",
+    );
 }

@@ -1,21 +1,33 @@
 // Reads a rule image from standard input, and prints the listing of each of its functions with notes.
-use libc::STDIN_FILENO;
-use libc::STDOUT_FILENO;
-ghost use Rattle.noter.specs.Shown.{Shown, ShownAll};
+use streams::Input;
+ghost use Rattle.streams.specs.Reads.{ReadAs};
+ghost use Rattle.streams.specs.Answers.{Answered, Shown};
+ghost use Rattle.noter.specs.Says.{Says, SaysAll};
+
+// Prints the listing with notes of an image that was read; of one that could not be read, nothing.
+fn answer(input: Input, image: &[u8], out: &mut [u8])
+    requires { ⌜ ReadAs input (now image) ⌝ }
+    ensures { λ _. ⌜ Answered Says input (now (image .entry)) (now (out .entry)) (now (out .exit)) ⌝ }
+{
+    let Input::Bytes(n) = input else {
+        return;
+    };
+    let len = noted_report::note_image(&image[..n], out);
+    streams::write_output(&out[..len]);
+}
 
 // Reads an image and prints its listing with notes.
 fn show(image: &mut [u8], out: &mut [u8])
-    ensures { λ _. ⌜ Shown (now (image .exit)) (now (out .entry)) (now (out .exit)) ⌝ }
+    ensures { λ _. ⌜ Shown Says (now (image .exit)) (now (out .entry)) (now (out .exit)) ⌝ }
 {
-    let n = io::read_full(STDIN_FILENO, image);
-    let len = noted_report::note_image(&image[..n], out);
-    io::write_all(STDOUT_FILENO, &out[..len]);
+    let input = streams::read_input(image);
+    answer(input, image, out);
 }
 
 // The same with a store that every text fits, which so is never lost. The store's length is told by its type: that of the array in main would
 // be counted byte by byte.
 fn show_all(image: &mut [u8], out: &mut [u8; 1048576])
-    ensures { λ _. ⌜ ShownAll (now (image .exit)) (now (out .entry)) (now (out .exit)) ⌝ }
+    ensures { λ _. ⌜ Shown SaysAll (now (image .exit)) (now (out .entry)) (now (out .exit)) ⌝ }
 {
     show(image, out);
 }

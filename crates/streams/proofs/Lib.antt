@@ -1,0 +1,2 @@
+-- What a reading tells, and that it is answered.
+pub mod Told
