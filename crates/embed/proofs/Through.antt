@@ -27,7 +27,7 @@ use Rattle.model.specs.Readers.{textBytesOf}
 use Rattle.model.specs.Machines.{Lent, runAnswer, RunPost, StartRes}
 use Rattle.embed_words.specs.Coding.{vmIn, slicesRefusal, outRefusal, atEntry, atListing, crossed, Coded, runCoded, ranNumber, startedCoded, unmade, emittedCoded, toldCoded}
 use Rattle.embed_words.specs.Coding.{RunThrough, startThrough, outThrough, through, emitThrough}
-use Rattle.embed_words.proofs.Answers.{told-refused, told-coded, goes-through, held-up}
+use Rattle.embed_answers.proofs.Answers.{told-refused, told-coded, goes-through, held-up}
 use Rattle.embed.proofs.Own.{Says, says-crossed, Foretells, save-foretells, list-foretells, text-foretells}
 
 emitted-coded : (x : Emitted) (w a : List ℕ) → emittedNumber x ≡ emittedCoded x w a .number

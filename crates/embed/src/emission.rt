@@ -1,8 +1,8 @@
 // Emission for a host in C: a program is written into the stores that the host lends. Where a number is told it stands in answer[0].
-use embed_words::answer_told;
-use embed_words::crossed_order;
-use embed_words::slices_refusal;
-use embed_words::tell_emitted;
+use embed_answers::answer_told;
+use embed_answers::tell_emitted;
+use embed_refusals::crossed_order;
+use embed_refusals::slices_refusal;
 use embed_words::vm_of;
 use emission_code::add_op;
 use emission_code::add_op1;

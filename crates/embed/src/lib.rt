@@ -2,17 +2,17 @@
 pub mod emission; // emission.rt: a program is written
 pub mod reading; // reading.rt: a machine is read
 
-use embed_words::answer_listed;
-use embed_words::answer_told;
-use embed_words::crossed;
-use embed_words::crossed_order;
-use embed_words::lent_room;
-use embed_words::out_refusal;
-use embed_words::slices_refusal;
-use embed_words::tell;
-use embed_words::tell_run;
-use embed_words::tell_started;
-use embed_words::tell_unmade;
+use embed_answers::answer_listed;
+use embed_answers::answer_told;
+use embed_answers::tell;
+use embed_answers::tell_run;
+use embed_answers::tell_started;
+use embed_answers::tell_unmade;
+use embed_refusals::crossed;
+use embed_refusals::crossed_order;
+use embed_refusals::lent_room;
+use embed_refusals::out_refusal;
+use embed_refusals::slices_refusal;
 use embed_words::vm_of;
 use image_save::save;
 use listing::disassemble;

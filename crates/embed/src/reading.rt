@@ -1,10 +1,10 @@
 // What a host in C reads of a machine. A value that is shown stands in answer[0] and answer[1], its kind and its payload; a value that the host hands in is two such words.
-use embed_words::answer_header;
-use embed_words::answer_shown;
-use embed_words::answer_told;
-use embed_words::lent_room;
-use embed_words::slices_refusal;
-use embed_words::value_refusal;
+use embed_answers::answer_header;
+use embed_answers::answer_shown;
+use embed_answers::answer_told;
+use embed_refusals::lent_room;
+use embed_refusals::slices_refusal;
+use embed_refusals::value_refusal;
 use embed_words::vm_of;
 use readers::block_header;
 use readers::element;
