@@ -17,7 +17,7 @@ use Rattle.run_ends.specs.Links.{programLent}
 use Rattle.machine.proofs.Tests.{is-zero, not-zero}
 use Rattle.embed_words.specs.Coding.{vmIn, slicesRefusal, atEntry, crossed, toldCoded, outThrough}
 use Rattle.embed.proofs.Own.{trace-says}
-use Rattle.embed.proofs.Through.{out-through, out-refused}
+use Rattle.laws_embed.proofs.Through.{out-through, out-refused}
 use Rattle.embed_refusals.proofs.slices_refusal as why
 use Rattle.embed_refusals.proofs.slices_refusal.Symbol as why-def
 use Rattle.embed_refusals.proofs.slices_refusal.Symbol.{name as #why}
