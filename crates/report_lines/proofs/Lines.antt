@@ -18,7 +18,7 @@ use Rattle.model.specs.Runs.{Entry, entry}
 use Rattle.model.specs.Machines.{Lent, machineIn, entriesIn, answerIn}
 use Rattle.model.specs.Reports.{valueText, entryLines, spentLines, replyLines, refusedLine, reportOf}
 use Rattle.value.proofs.Stores.{length-vals}
-use Rattle.report.specs.Links.{Shows}
+use Rattle.report_lines.specs.Links.{Shows}
 use Rattle.printing.specs.Links.{Put}
 use Rattle.printing.proofs.Puts.{is, within, both, nothing}
 

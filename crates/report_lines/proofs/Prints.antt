@@ -12,7 +12,7 @@ use Rattle.layout.proofs.Bools.{either-way}
 use Rattle.image_load.proofs.Loads.{one-word}
 use Rattle.listing.proofs.Entry.{empty}
 use Rattle.printing.specs.Links.{Put}
-use Rattle.report.specs.Links.{Printed, printed}
+use Rattle.report_lines.specs.Links.{Printed, printed}
 
 module _ (bytes out : List ℕ) where
   pub too-long : places 1 out < length bytes → record { count = 0; out = out } ≡ printed bytes out

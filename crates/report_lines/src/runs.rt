@@ -15,7 +15,7 @@ ghost use Rattle.model.specs.Heap.{heapOf};
 ghost use Rattle.model.specs.Listings.{decimal};
 ghost use Rattle.model.specs.Machines.{entriesIn, answerIn};
 ghost use Rattle.model.specs.Reports.{valueText, entryLines, refusedLine, reportOf};
-ghost use Rattle.report.specs.Links.{Shows};
+ghost use Rattle.report_lines.specs.Links.{Shows};
 ghost use Rattle.printing.specs.Links.{Put};
 
 // The units spent, and how many values are on the stack.

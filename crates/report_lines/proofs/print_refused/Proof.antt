@@ -1,9 +1,9 @@
 -- `print_refused`: measured, then put.
 use mathlib.Core.Path.{refl}
 use borrow.Author.Needs.{needs}
-use Rattle.report.proofs.Prints.{no-room, room-for}
-use Rattle.report.proofs.print_refused.Statement.{statement}
-use Rattle.report.proofs.print_refused.Tie as tie
+use Rattle.report_lines.proofs.Prints.{no-room, room-for}
+use Rattle.report_lines.proofs.print_refused.Statement.{statement}
+use Rattle.report_lines.proofs.print_refused.Tie as tie
 
 slice-relend-prefix-put-refused : tie.Need-slice-relend-prefix-put-refused
 slice-relend-prefix-put-refused c = search needs

@@ -1,9 +1,9 @@
 -- `print_report`: measured, then put.
 use mathlib.Core.Path.{refl}
 use borrow.Author.Needs.{needs}
-use Rattle.report.proofs.Prints.{no-room, room-for}
-use Rattle.report.proofs.print_report.Statement.{statement}
-use Rattle.report.proofs.print_report.Tie as tie
+use Rattle.report_lines.proofs.Prints.{no-room, room-for}
+use Rattle.report_lines.proofs.print_report.Statement.{statement}
+use Rattle.report_lines.proofs.print_report.Tie as tie
 
 slice-relend-prefix-put-report : tie.Need-slice-relend-prefix-put-report
 slice-relend-prefix-put-report c = search needs

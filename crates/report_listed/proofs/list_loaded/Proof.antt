@@ -1,8 +1,8 @@
 -- `list_loaded`: each answer of loading.
 use borrow.Author.Needs.{needs}
-use Rattle.report.proofs.Lists.{done-printed, refused-printed, broken-printed, can-list}
-use Rattle.report.proofs.list_loaded.Statement.{statement}
-use Rattle.report.proofs.list_loaded.Tie as tie
+use Rattle.report_listed.proofs.Listed.{done-printed, refused-printed, broken-printed, can-list}
+use Rattle.report_listed.proofs.list_loaded.Statement.{statement}
+use Rattle.report_listed.proofs.list_loaded.Tie as tie
 
 enum-known-loaded : tie.Need-enum-known-loaded
 enum-known-loaded c = search

@@ -1,8 +1,8 @@
 -- `list_program`: what the listing answers.
 use borrow.Author.Needs.{needs}
-use Rattle.report.proofs.Lists.{was-listed, did-not-fit, not-listed}
-use Rattle.report.proofs.list_program.Statement.{statement}
-use Rattle.report.proofs.list_program.Tie as tie
+use Rattle.report_listed.proofs.Listed.{was-listed, did-not-fit, not-listed}
+use Rattle.report_listed.proofs.list_program.Statement.{statement}
+use Rattle.report_listed.proofs.list_program.Tie as tie
 
 disassemble-requires : tie.Need-disassemble-requires
 disassemble-requires c κs = search

@@ -1,9 +1,9 @@
 -- `put_answer`: its pieces one behind the other.
 use borrow.Author.Needs.{needs}
 use Rattle.model.specs.Basics.{ascii}
-use Rattle.report.proofs.Lines.{answer-is}
-use Rattle.report.proofs.runs.put_answer.Statement.{statement}
-use Rattle.report.proofs.runs.put_answer.Tie as tie
+use Rattle.report_lines.proofs.Lines.{answer-is}
+use Rattle.report_lines.proofs.runs.put_answer.Statement.{statement}
+use Rattle.report_lines.proofs.runs.put_answer.Tie as tie
 
 slice-aggregate-put-text : tie.Need-slice-aggregate-put-text
 slice-aggregate-put-text c = search

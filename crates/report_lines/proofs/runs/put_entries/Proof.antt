@@ -2,9 +2,9 @@
 use Prim.Native.Nat.{_-_}
 use borrow.Author.Needs.{needs}
 use Rattle.printing.proofs.Puts.{kept}
-use Rattle.report.proofs.Lines.{Traced, none-traced, one-more, all-traced}
-use Rattle.report.proofs.runs.put_entries.Statement.{statement}
-use Rattle.report.proofs.runs.put_entries.Tie as tie
+use Rattle.report_lines.proofs.Lines.{Traced, none-traced, one-more, all-traced}
+use Rattle.report_lines.proofs.runs.put_entries.Statement.{statement}
+use Rattle.report_lines.proofs.runs.put_entries.Tie as tie
 
 abbrev Inv-loop : tie.InvT-loop
 Inv-loop n backtrace out₀ at i₀ next₀ out i next = Traced n backtrace out₀ at out i next

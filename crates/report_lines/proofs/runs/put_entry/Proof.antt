@@ -1,9 +1,9 @@
 -- `put_entry`: the function, and a line with the place.
 use borrow.Author.Needs.{needs}
 use Rattle.model.specs.Basics.{ascii}
-use Rattle.report.proofs.Lines.{entry-is}
-use Rattle.report.proofs.runs.put_entry.Statement.{statement}
-use Rattle.report.proofs.runs.put_entry.Tie as tie
+use Rattle.report_lines.proofs.Lines.{entry-is}
+use Rattle.report_lines.proofs.runs.put_entry.Statement.{statement}
+use Rattle.report_lines.proofs.runs.put_entry.Tie as tie
 
 slice-aggregate-put-count : tie.Need-slice-aggregate-put-count
 slice-aggregate-put-count c = search

@@ -1,9 +1,9 @@
 -- `put_refused`: one line.
 use borrow.Author.Needs.{needs}
 use Rattle.model.specs.Basics.{ascii}
-use Rattle.report.proofs.Lines.{refused-is}
-use Rattle.report.proofs.runs.put_refused.Statement.{statement}
-use Rattle.report.proofs.runs.put_refused.Tie as tie
+use Rattle.report_lines.proofs.Lines.{refused-is}
+use Rattle.report_lines.proofs.runs.put_refused.Statement.{statement}
+use Rattle.report_lines.proofs.runs.put_refused.Tie as tie
 
 slice-aggregate-put-line : tie.Need-slice-aggregate-put-line
 slice-aggregate-put-line c = search

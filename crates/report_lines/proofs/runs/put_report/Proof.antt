@@ -2,9 +2,9 @@
 use native.Mathlib.Omega.{arith}
 use borrow.Author.Needs.{needs}
 use Rattle.model.specs.Basics.{ascii}
-use Rattle.report.proofs.Lines.{cells-inside, entries-inside, refused-report, value-report, continue-report, fault-report}
-use Rattle.report.proofs.runs.put_report.Statement.{statement}
-use Rattle.report.proofs.runs.put_report.Tie as tie
+use Rattle.report_lines.proofs.Lines.{cells-inside, entries-inside, refused-report, value-report, continue-report, fault-report}
+use Rattle.report_lines.proofs.runs.put_report.Statement.{statement}
+use Rattle.report_lines.proofs.runs.put_report.Tie as tie
 
 enum-known-r : tie.Need-enum-known-r
 enum-known-r c = search

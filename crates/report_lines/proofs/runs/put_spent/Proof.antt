@@ -1,9 +1,9 @@
 -- `put_spent`: two lines.
 use borrow.Author.Needs.{needs}
 use Rattle.model.specs.Basics.{ascii}
-use Rattle.report.proofs.Lines.{spent-is}
-use Rattle.report.proofs.runs.put_spent.Statement.{statement}
-use Rattle.report.proofs.runs.put_spent.Tie as tie
+use Rattle.report_lines.proofs.Lines.{spent-is}
+use Rattle.report_lines.proofs.runs.put_spent.Statement.{statement}
+use Rattle.report_lines.proofs.runs.put_spent.Tie as tie
 
 slice-aggregate-put-line : tie.Need-slice-aggregate-put-line
 slice-aggregate-put-line c = search

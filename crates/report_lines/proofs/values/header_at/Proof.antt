@@ -1,9 +1,9 @@
 -- `header_at`: a header, a value, or no cell.
 use mathlib.Core.Path.{sym, _∙_}
 use borrow.Author.Needs.{needs}
-use Rattle.report.proofs.Pieces.{past-cells, header-there, no-header}
-use Rattle.report.proofs.values.header_at.Statement.{statement}
-use Rattle.report.proofs.values.header_at.Tie as tie
+use Rattle.report_lines.proofs.Pieces.{past-cells, header-there, no-header}
+use Rattle.report_lines.proofs.values.header_at.Statement.{statement}
+use Rattle.report_lines.proofs.values.header_at.Tie as tie
 
 is-header-requires : tie.Need-is-header-requires
 is-header-requires c κs = search needs

@@ -1,9 +1,9 @@
 -- `put_struct`: two counts.
 use borrow.Author.Needs.{needs}
 use Rattle.model.specs.Basics.{ascii}
-use Rattle.report.proofs.Pieces.{struct-is}
-use Rattle.report.proofs.values.put_struct.Statement.{statement}
-use Rattle.report.proofs.values.put_struct.Tie as tie
+use Rattle.report_lines.proofs.Pieces.{struct-is}
+use Rattle.report_lines.proofs.values.put_struct.Statement.{statement}
+use Rattle.report_lines.proofs.values.put_struct.Tie as tie
 
 slice-aggregate-put-count : tie.Need-slice-aggregate-put-count
 slice-aggregate-put-count c = search

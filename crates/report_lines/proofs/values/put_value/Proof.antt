@@ -1,9 +1,9 @@
 -- `put_value`: a text for each kind.
 use borrow.Author.Needs.{needs}
 use Rattle.model.specs.Basics.{ascii}
-use Rattle.report.proofs.Pieces.{scalar-is, true-is, false-is, string-is, reference-is, list-is, instance-is}
-use Rattle.report.proofs.values.put_value.Statement.{statement}
-use Rattle.report.proofs.values.put_value.Tie as tie
+use Rattle.report_lines.proofs.Pieces.{scalar-is, true-is, false-is, string-is, reference-is, list-is, instance-is}
+use Rattle.report_lines.proofs.values.put_value.Statement.{statement}
+use Rattle.report_lines.proofs.values.put_value.Tie as tie
 
 enum-known-v : tie.Need-enum-known-v
 enum-known-v c = search
