@@ -1,16 +1,17 @@
 // Lists and structs in a store of cells: building them, reading a field, equality, and the test of good order.
+use layout::reads::room;
+use layout::reads::same_bytes;
 use model::DEPTH_LIMIT;
 use model::Fault;
 use model::Found;
 use model::Header;
-use model::MOST_PLACES;
 use model::Value;
 use value::words;
 ghost use mathlib.Core.Path.{_≡_};
 ghost use mathlib.Core.Bool.{false, _&&_, Bool·beq};
 ghost use Prim.Native.Nat.{_+_, _*_, _<_, _≤_};
 ghost use lib.ListN.{length, getD};
-ghost use Rattle.model.specs.Values.{places, vals, textAt};
+ghost use Rattle.model.specs.Values.{vals, textAt};
 ghost use Rattle.model.specs.Heap.{heapOf, depthIn, deepest, fieldOf, wholeBelow, placedBelow, blockOk, heapOk, exactCells};
 ghost use Rattle.model.specs.Equality.{sameBytes, sameOf};
 ghost use Rattle.cells.specs.Links.{elementsOf, Held, TopPre, CopyPost, BuildPost, FieldPre, verdict, EqualPre, Inside, Compared};
@@ -69,17 +70,6 @@ fn deepest_of(list: bool, stack: &[u64], sp: usize, n: usize, cells: &[u64], use
     d
 }
 
-// How many cells a store has room for.
-fn room_of(cells: &[u64]) -> usize
-    ensures { λ r. ⌜ r ≡ places 2 (now (cells .entry)) ⌝ }
-{
-    let n = cells.len() / 2;
-    if n < MOST_PLACES {
-        return n;
-    }
-    MOST_PLACES
-}
-
 // Copies the n values on top of a stack to the cells from place `from` on.
 fn copy(list: bool, stack: &[u64], sp: usize, n: usize, cells: &mut [u64], from: usize)
     requires { ⌜ (n ≤ sp) × (2 * sp ≤ length (now stack)) × (2 * (from + n) ≤ length (now cells)) ⌝ }
@@ -110,9 +100,9 @@ pub fn build(
     if DEPTH_LIMIT <= d {
         return Built::Bad(Fault::TooDeep);
     }
-    let room = room_of(cells);
+    let all = room(cells.len(), 2);
     let end = used + n + 1;
-    if room < end {
+    if all < end {
         return Built::Bad(Fault::CellsFull);
     }
     let h = Header {
@@ -158,25 +148,16 @@ fn same_bool(x: bool, y: bool) -> bool
     if x { y } else { !y }
 }
 
-// Whether the n bytes of text from o on are the m bytes from p on: lengths first.
+// Whether the n bytes of text from o on are the m bytes from p on.
 fn same_text(text: &[u8], o: u32, n: u32, p: u32, m: u32) -> bool
     requires { ⌜ (o + n ≤ length (now text)) × (p + m ≤ length (now text)) ⌝ }
     ensures { λ r. ⌜ r ≡ sameBytes (textAt (now (text .entry)) o n) (textAt (now (text .entry)) p m) ⌝ }
 {
-    if n != m {
-        return false;
-    }
     let a = o as usize;
     let b = p as usize;
-    let count = n as usize;
-    let mut i = 0;
-    while i < count {
-        if text[a + i] != text[b + i] {
-            return false;
-        }
-        i += 1;
-    }
-    true
+    let to = a + n as usize;
+    let end = b + m as usize;
+    same_bytes(&text[a..to], &text[b..end])
 }
 
 // Compares two values up to the elements that they hold.

@@ -1,10 +1,3 @@
-pub mod Weights
-pub mod Rests
-pub mod Answers
 pub mod Obeys
 pub mod Turning
 pub mod Tellings
-pub mod Alongs
-pub mod Nexts
-pub mod Numbers
-pub mod Calls

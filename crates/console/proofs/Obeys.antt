@@ -1,58 +1,27 @@
 -- What a line does that needs no frames: each group from what its command's function says.
-use mathlib.Core.Path.{_≡_, refl, sym, ap, _∙_}
-use mathlib.Core.Bool.{Bool, true, false, _||_}
+use mathlib.Core.Path.{_≡_, refl, _∙_}
+use mathlib.Core.Bool.{true, false}
 use mathlib.Core.List.{List, [], _∷_}
 use Prim.Native.Nat.{ℕ}
 use denote.Enum.Declared.{tagOf}
 use types.Run.{OneOf, miss}
-use Rattle.model.specs.declared.Counts.{Counts}
 use Rattle.model.specs.declared.Vm.{Vm}
 use Rattle.model.specs.declared.Emitted.{Emitted}
 use Rattle.model.specs.Stores.{Stores}
-use Rattle.layout.specs.Links.{Is, codeLent, bytesLent, constantsLent}
-use Rattle.model.specs.Stores.{storesOf}
-use Rattle.console.specs.declared.damage.Changed.{Changed}
-use Rattle.console.specs.declared.script.Args.{Args}
-use Rattle.console.specs.declared.emission.Kind.{Kind}
-use Rattle.console.specs.declared.emission.Kind.the-variants as k
+use Rattle.layout.specs.Links.{Is}
+use Rattle.console_damage.specs.declared.Changed.{Changed}
+use Rattle.console_script.specs.declared.Args.{Args}
+use Rattle.console_emission.specs.declared.Kind.{Kind}
 use Rattle.console.specs.declared.commands.Group.{Group}
 use Rattle.console.specs.declared.commands.Group.the-variants as g
 use Rattle.console.proofs.commands.Group.{the-type}
-use Rattle.console.specs.Words.{wordOf}
+use Rattle.console_script.specs.Words.{wordOf}
 use Rattle.console.specs.Asks.{groupOf}
 use Rattle.console.specs.Said.{afterEmitted, afterDamage}
-use Rattle.console.specs.Damage.{PokedWords, PokedBytes, PokedPlaces, countAsked, resultAsked, wordsAsked, bytesAsked, placesAsked, frameAt, frameArgs, frameAsked}
-use Rattle.console.specs.Emits.{codeAsked, patchAsked, constantAsked, nameAsked, allNames, emitAsked}
-use Rattle.console.specs.Calls.{Held, held}
+use Rattle.console_damage.specs.Damage.{PokedWords, PokedBytes, PokedPlaces, countAsked, resultAsked, wordsAsked, bytesAsked, placesAsked, frameAt, frameArgs, frameAsked}
+use Rattle.console_emission.specs.Emits.{emitAsked}
+use Rattle.console_frames.specs.Calls.{Held, held}
 use Rattle.console.specs.Turns.{emitted, pokedProgram, pokedIn, withFrames, obeyedBy, obeyed}
-
--- ---- a line that emits, by its kind
-
-module _ (c : Counts) (line : List ℕ) (kind : Kind) (p : Stores) {r : Emitted} where
-  pub code-emitted : kind ≡ k.Code → (functions′ main′ mainPlaces′ other′ otherPlaces′ : List ℕ)
-      → ((rest : Stores) → Is (codeAsked c line (codeLent rest (p .functions) (p .main) (p .mainPlaces) (p .other) (p .otherPlaces))) r
-      (codeLent rest functions′ main′ mainPlaces′ other′ otherPlaces′))
-      → Is (emitAsked kind c line p) r (codeLent p functions′ main′ mainPlaces′ other′ otherPlaces′)
-  unfolding emitAsked codeLent
-  code-emitted e functions′ main′ mainPlaces′ other′ otherPlaces′ h = rw e (h p)
-
-  pub patch-emitted : kind ≡ k.Patch → (main′ other′ : List ℕ)
-      → ((rest : Stores) → Is (patchAsked c line (bytesLent rest (p .functions) (p .main) (p .other))) r (bytesLent rest (p .functions) main′ other′))
-      → Is (emitAsked kind c line p) r (bytesLent p (p .functions) main′ other′)
-  unfolding emitAsked codeLent bytesLent
-  patch-emitted e main′ other′ h = rw e (h p)
-
-  pub constant-emitted : kind ≡ k.Constant → (constants′ text′ : List ℕ)
-      → ((rest : Stores) → Is (constantAsked c line (constantsLent rest (p .constants) (p .text))) r (constantsLent rest constants′ text′))
-      → Is (emitAsked kind c line p) r (constantsLent p constants′ text′)
-  unfolding emitAsked constantsLent
-  constant-emitted e constants′ text′ h = rw e (h p)
-
-  pub name-emitted : kind ≡ k.Name → (structs′ functions′ text′ : List ℕ)
-      → ((rest : Stores) → Is (nameAsked c line (allNames rest (p .structs) (p .functions) (p .text))) r (allNames rest structs′ functions′ text′))
-      → Is (emitAsked kind c line p) r (allNames p structs′ functions′ text′)
-  unfolding emitAsked allNames
-  name-emitted e structs′ functions′ text′ h = rw e (h p)
 
 -- ---- a line that shows or puts a frame
 

@@ -5,16 +5,17 @@ use mathlib.Core.List.{List, _++_}
 use Prim.Native.Nat.{ℕ, _*_, _/_, min}
 use lib.ListN.{length, take, drop}
 use Rattle.model.specs.declared.Vm.{Vm}
-use Rattle.console.specs.declared.script.Line.{Line}
-use Rattle.console.specs.declared.bridge.Call.{Call}
-use Rattle.console.specs.declared.bridge.Answer.{Answer}
+use Rattle.console_script.specs.declared.Line.{Line}
+use Rattle.console_frames.specs.declared.Call.{Call}
+use Rattle.console_frames.specs.declared.Answer.{Answer}
 use Rattle.console.specs.declared.commands.Lent.{Lent}
 use Rattle.console.specs.declared.commands.Asked.{Asked}
 use Rattle.console.specs.declared.commands.Asked.the-variants as q
-use Rattle.console.specs.Words.{cutOf, blank, firstLine, lineOf, nextLine}
+use Rattle.console_script.specs.Words.{cutOf, blank, firstLine, lineOf, nextLine}
 use Rattle.console.specs.Asks.{Heard, askOf}
 use Rattle.console.specs.Said.{noMachine, afterAnswer}
-use Rattle.console.specs.Calls.{Held, held, wordsLent, lentTo, backFrom, Bridged, OverFrames}
+use Rattle.console_frames.specs.Calls.{Held, held, Bridged}
+use Rattle.console.specs.Lendings.{wordsLent, lentTo, backFrom, OverFrames}
 use Rattle.console.specs.Turns.{obeyed, TurnedBy, Turned, Played, over, line}
 
 pub over-is : (m : Vm) (call : Call) (image : List ℕ) (lent : Lent)

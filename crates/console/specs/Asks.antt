@@ -14,14 +14,14 @@ use Rattle.model.specs.Equality.{sameBytes}
 use Rattle.model.specs.declared.Told.the-variants as t
 use Rattle.model.specs.Loading.{OutRes}
 use Rattle.model.specs.Readers.{blockHeaderOf, elementOf, textBytesOf}
-use Rattle.console.specs.declared.bridge.Call.the-variants as c
+use Rattle.console_frames.specs.declared.Call.the-variants as c
 use Rattle.console.specs.declared.commands.Lent.{Lent}
 use Rattle.console.specs.declared.commands.Asked.{Asked}
 use Rattle.console.specs.declared.commands.Asked.the-variants as q
 use Rattle.console.specs.declared.commands.Group.{Group}
 use Rattle.console.specs.declared.commands.Group.the-variants as g
-use Rattle.console.specs.declared.emission.Kind.the-variants as k
-use Rattle.console.specs.Words.{wordsFrom, wordOf, numberOf, roomOf, hexOf}
+use Rattle.console_emission.specs.declared.Kind.the-variants as k
+use Rattle.console_script.specs.Words.{wordsFrom, wordOf, numberOf, roomOf, hexOf}
 
 -- ---- calls over frames
 

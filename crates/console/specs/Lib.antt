@@ -1,10 +1,4 @@
-pub mod Lines
-pub mod Words
-pub mod Sums
-pub mod Damage
 pub mod Said
 pub mod Asks
-pub mod Emits
-pub mod Resting
-pub mod Calls
+pub mod Lendings
 pub mod Turns

@@ -5,7 +5,6 @@ use lib.Dec.{ltb}
 use lib.ListN.{length}
 use Rattle.model.specs.declared.Header.{Header}
 use Rattle.model.specs.declared.Vm.{Vm}
-use Rattle.model.specs.declared.Counts.{Counts}
 use Rattle.model.specs.declared.Emitted.{Emitted}
 use Rattle.model.specs.declared.Emitted.the-variants as e
 use Rattle.model.specs.declared.Started.{Started}
@@ -16,9 +15,10 @@ use Rattle.model.specs.declared.Last.the-variants.{Nothing}
 use Rattle.model.specs.Basics.{if_then_else_}
 use Rattle.model.specs.Values.{payloadAt}
 use Rattle.model.specs.Heap.{headerOf}
-use Rattle.console.specs.declared.bridge.Answer.{Answer}
-use Rattle.console.specs.declared.bridge.Answer.the-variants as a
-use Rattle.console.specs.declared.damage.Changed.{Changed}
+use Rattle.console_frames.specs.declared.Answer.{Answer}
+use Rattle.console_frames.specs.declared.Answer.the-variants as a
+use Rattle.console_damage.specs.declared.Changed.{Changed}
+use Rattle.console_damage.specs.Damage.{withProgram}
 
 -- the header at cell p, of no elements where there is no such cell
 unfoldable pub headerIn : List ℕ → ℕ → Header
@@ -27,10 +27,6 @@ headerIn cells p = if ltb p (length cells / 2) then headerOf (payloadAt cells p)
 -- before any is made: nothing is in good order yet
 unfoldable pub noMachine : Vm
 noMachine = record { program = record { constants = 0; structs = 0; functions = 0; text = 0; current = 0 }; stack = 0; frames = 0; cells = 0; last = Nothing }
-
--- a machine with other counts of its program
-unfoldable pub withProgram : Vm → Counts → Vm
-withProgram m c = record { program = c; stack = m .stack; frames = m .frames; cells = m .cells; last = m .last }
 
 unfoldable pub afterEmitted : Vm → Emitted → Vm
 afterEmitted m (e.Done c n) = withProgram m c

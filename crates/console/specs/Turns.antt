@@ -6,17 +6,18 @@ use Prim.Native.Nat.{ℕ}
 use Rattle.model.specs.declared.Vm.{Vm}
 use Rattle.model.specs.Stores.{Stores}
 use Rattle.model.specs.Emission.{Res}
-use Rattle.console.specs.declared.script.Line.{Line}
+use Rattle.console_script.specs.declared.Line.{Line}
 use Rattle.console.specs.declared.commands.Asked.{Asked}
 use Rattle.console.specs.declared.commands.Asked.the-variants as q
 use Rattle.console.specs.declared.commands.Group.{Group}
 use Rattle.console.specs.declared.commands.Group.the-variants as g
-use Rattle.console.specs.Words.{wordOf, cutOf, blank, lineOf, nextLine}
+use Rattle.console_script.specs.Words.{wordOf, cutOf, blank, lineOf, nextLine}
 use Rattle.console.specs.Asks.{Heard, askOf, groupOf}
 use Rattle.console.specs.Said.{afterEmitted, afterDamage}
-use Rattle.console.specs.Emits.{emitAsked}
-use Rattle.console.specs.Damage.{countAsked, resultAsked, frameAsked, wordsAsked, bytesAsked, placesAsked}
-use Rattle.console.specs.Calls.{Held, OverFrames}
+use Rattle.console_emission.specs.Emits.{emitAsked}
+use Rattle.console_damage.specs.Damage.{countAsked, resultAsked, frameAsked, wordsAsked, bytesAsked, placesAsked}
+use Rattle.console_frames.specs.Calls.{Held}
+use Rattle.console.specs.Lendings.{OverFrames}
 
 -- the machine, and what the stores hold
 pub record Host : Type 0 where

@@ -1,15 +1,12 @@
 // What a line asks, and all that needs no frames.
-use crate::bridge::Call;
-use crate::damage;
-use crate::emission;
-use crate::emission::Kind;
 use crate::reading;
 use crate::say;
-use crate::script;
-use crate::script::Args;
-use crate::script::Most;
-use crate::script::word;
-use crate::stores;
+use console_emission::Kind;
+use console_frames::Call;
+use console_script::Args;
+use console_script::Most;
+use console_script::stores;
+use console_script::word;
 use emission_code::current_offset;
 use emission_tables::functions::get_function_idx;
 use layout::reads::same_bytes;
@@ -21,9 +18,9 @@ use model::Vm;
 ghost use mathlib.Core.Path.{_≡_};
 ghost use Rattle.console.specs.Asks.{lentWhole, askNew, askTrace, askRun, askLoad, askOf, isCode, isConstant, isName, isLook, isRead, isSaid, groupOf};
 ghost use Rattle.console.specs.Said.{noMachine, afterDamage};
-ghost use Rattle.console.specs.Sums.{sumOf};
-ghost use Rattle.console.specs.Damage.{frameArgs, frameAsked};
-ghost use Rattle.console.specs.Calls.{held};
+ghost use Rattle.console_damage.specs.Sums.{sumOf};
+ghost use Rattle.console_damage.specs.Damage.{frameArgs, frameAsked};
+ghost use Rattle.console_frames.specs.Calls.{held};
 ghost use Rattle.console.specs.Turns.{obeyed};
 
 // How much a call over frames is lent: bytes of the space, which are its image, and places of the copy store and of the backtrace store.
@@ -43,7 +40,7 @@ pub enum Asked {
 fn lent_whole(image: usize) -> Lent
     ensures { λ r. ⌜ r ≡ lentWhole image ⌝ }
 {
-    let whole = script::whole();
+    let whole = console_script::whole();
     Lent {
         image,
         copy: whole,
@@ -55,7 +52,7 @@ fn lent_whole(image: usize) -> Lent
 fn ask_new(line: &[u8]) -> Asked
     ensures { λ r. ⌜ r ≡ askNew (now (line .entry)) ⌝ }
 {
-    let rest = script::words_from(line, 1);
+    let rest = console_script::words_from(line, 1);
     if rest.len() == 0 {
         return Asked::Frames(Call::New, lent_whole(0));
     }
@@ -66,11 +63,11 @@ fn ask_new(line: &[u8]) -> Asked
 fn ask_trace(line: &[u8]) -> Asked
     ensures { λ r. ⌜ r ≡ askTrace (now (line .entry)) ⌝ }
 {
-    let room = script::read_room(line, 1);
+    let room = console_script::read_room(line, 1);
     if room.good {
         let lent = Lent {
             image: 0,
-            copy: script::whole(),
+            copy: console_script::whole(),
             trace: room.is as usize,
         };
         return Asked::Frames(Call::Trace, lent);
@@ -82,13 +79,13 @@ fn ask_trace(line: &[u8]) -> Asked
 fn ask_run(line: &[u8]) -> Asked
     ensures { λ r. ⌜ r ≡ askRun (now (line .entry)) ⌝ }
 {
-    let units = script::decimal(word(line, 1));
-    let room = script::read_room(line, 2);
+    let units = console_script::decimal(word(line, 1));
+    let room = console_script::read_room(line, 2);
     if units.good & room.good {
         let lent = Lent {
             image: 0,
             copy: room.is as usize,
-            trace: script::whole(),
+            trace: console_script::whole(),
         };
         return Asked::Frames(Call::Run(units.is), lent);
     }
@@ -99,7 +96,7 @@ fn ask_run(line: &[u8]) -> Asked
 fn ask_load(line: &[u8], space: &mut stores::Space) -> Asked
     ensures { λ r. ⌜ record { asked = r; space = now (space .exit) } ≡ askLoad (now (line .entry)) (now (space .entry)) ⌝ }
 {
-    let b = script::read_bytes(script::words_from(line, 1), space);
+    let b = console_script::read_bytes(console_script::words_from(line, 1), space);
     if b.good {
         return Asked::Frames(Call::Load, lent_whole(b.size));
     }
@@ -238,7 +235,7 @@ fn group_of(what: &[u8]) -> Group
 // A comment that begins with `#!` is echoed.
 fn echo(line: &[u8]) {
     if same_bytes(word(line, 0), b"#!") {
-        say::say(script::words_from(line, 1));
+        say::say(console_script::words_from(line, 1));
         say::say(b"\n");
     }
 }
@@ -258,7 +255,7 @@ fn save(
     other_places: &[u32],
 ) {
     let mut space = [0u8; 16384];
-    let n = script::at_most(room, space.len());
+    let n = console_script::at_most(room, space.len());
     let told = image_save::save(
         c,
         constants,
@@ -275,7 +272,7 @@ fn save(
         Told::Number(size) => {
             say::say_count(b"image ", size);
             say::say(b" ");
-            say::say_bytes(script::front(&space, size));
+            say::say_bytes(console_script::front(&space, size));
         }
         Told::Refused(no) => say::say_refused(no, number),
     }
@@ -292,10 +289,10 @@ fn list<'a>(
     other: &'a [u8],
 ) {
     let mut space = [0u8; 16384];
-    let n = script::at_most(room, space.len());
+    let n = console_script::at_most(room, space.len());
     let told = listing::disassemble(c, functions, text, main, other, &mut space[..n]);
     match told {
-        Told::Number(size) => say::say(script::front(&space, size)),
+        Told::Number(size) => say::say(console_script::front(&space, size)),
         Told::Refused(no) => say::say_refused(no, number),
     }
 }
@@ -303,9 +300,9 @@ fn list<'a>(
 // `find HEX`.
 fn find(c: Counts, line: &[u8], number: u64, functions: &[u64], text: &[u8]) {
     let mut space = [0u8; 16384];
-    let b = script::read_bytes(script::words_from(line, 1), &mut space);
+    let b = console_script::read_bytes(console_script::words_from(line, 1), &mut space);
     if b.good {
-        let name = script::front(&space, b.size);
+        let name = console_script::front(&space, b.size);
         say::say_told(get_function_idx(c, name, functions, text), number);
         return;
     }
@@ -335,7 +332,7 @@ fn look<'a>(
         find(c, line, number, functions, text);
         return;
     }
-    let room = script::read_room(line, 1);
+    let room = console_script::read_room(line, 1);
     if !room.good {
         say::say_unknown(number);
         return;
@@ -360,7 +357,7 @@ fn look<'a>(
 }
 
 // Damage is not answered, unless it is not understood.
-fn damaged(m: Vm, d: damage::Changed, number: u64) -> Vm
+fn damaged(m: Vm, d: console_damage::Changed, number: u64) -> Vm
     ensures { λ r. ⌜ r ≡ afterDamage m d ⌝ }
 {
     if d.good {
@@ -381,7 +378,7 @@ fn frame_args(line: &[u8], end: usize) -> Args
     ensures { λ r. ⌜ r ≡ frameArgs (now (line .entry)) end ⌝ }
 {
     let most = 0xFFFF_FFFF_FFFF;
-    script::read_args(
+    console_script::read_args(
         line,
         1,
         end,
@@ -401,7 +398,7 @@ fn frame(line: &[u8], number: u64, frames: &mut [u64])
 {
     let one = frame_args(line, 2);
     if one.good {
-        say::say_frame(damage::frame_in(frames, one.a as usize));
+        say::say_frame(console_damage::frame_in(frames, one.a as usize));
         return;
     }
     let all = frame_args(line, 5);
@@ -411,7 +408,7 @@ fn frame(line: &[u8], number: u64, frames: &mut [u64])
             position: all.c as usize,
             base: all.d as usize,
         };
-        damage::put_frame(frames, all.a as usize, f);
+        console_damage::put_frame(frames, all.a as usize, f);
         return;
     }
     say::say_unknown(number);
@@ -436,20 +433,20 @@ fn sum(
 ) -> u64
     ensures { λ r. ⌜ r ≡ sumOf m (now (constants .entry)) (now (structs .entry)) (now (functions .entry)) (now (text .entry)) (now (main .entry)) (now («main_places» .entry)) (now (other .entry)) (now («other_places» .entry)) (now (stack .entry)) (now (cells .entry)) (now (copy .entry)) (now (trace .entry)) (now (frames .entry)) ⌝ }
 {
-    let a = damage::mixed_counts(0, m);
-    let b = damage::mixed_words(a, constants);
-    let c = damage::mixed_words(b, structs);
-    let d = damage::mixed_words(c, functions);
-    let e = damage::mixed_bytes(d, text);
-    let f = damage::mixed_bytes(e, main);
-    let g = damage::mixed_places(f, main_places);
-    let h = damage::mixed_bytes(g, other);
-    let i = damage::mixed_places(h, other_places);
-    let j = damage::mixed_words(i, stack);
-    let k = damage::mixed_words(j, cells);
-    let n = damage::mixed_words(k, copy);
-    let o = damage::mixed_places(n, trace);
-    damage::mixed_words(o, frames)
+    let a = console_damage::mixed_counts(0, m);
+    let b = console_damage::mixed_words(a, constants);
+    let c = console_damage::mixed_words(b, structs);
+    let d = console_damage::mixed_words(c, functions);
+    let e = console_damage::mixed_bytes(d, text);
+    let f = console_damage::mixed_bytes(e, main);
+    let g = console_damage::mixed_places(f, main_places);
+    let h = console_damage::mixed_bytes(g, other);
+    let i = console_damage::mixed_places(h, other_places);
+    let j = console_damage::mixed_words(i, stack);
+    let k = console_damage::mixed_words(j, cells);
+    let n = console_damage::mixed_words(k, copy);
+    let o = console_damage::mixed_places(n, trace);
+    console_damage::mixed_words(o, frames)
 }
 
 // What a line tells of a machine and its stores.
@@ -535,7 +532,7 @@ pub fn obey(
     let group = group_of(word(line, 0));
     match group {
         Group::Emit(kind) => {
-            let e = emission::emit(
+            let e = console_emission::emit(
                 m.program,
                 kind,
                 line,
@@ -550,10 +547,10 @@ pub fn obey(
             );
             return say::say_emitted(m, e, number);
         }
-        Group::Count => return damaged(m, damage::with_count(m, line), number),
-        Group::Result => return damaged(m, damage::with_result(m, line), number),
+        Group::Count => return damaged(m, console_damage::with_count(m, line), number),
+        Group::Result => return damaged(m, console_damage::with_result(m, line), number),
         Group::Poke => {
-            let good = damage::poke(
+            let good = console_damage::poke(
                 line,
                 constants,
                 structs,

@@ -1,32 +1,29 @@
 // Makes host calls from a script on standard input, through the public entries, and prints each answer. The script's own comments say what its
 // commands are.
-mod stores; // stores.rt: how large each store is
-mod script; // script.rt: lines, words, numbers
 mod say; // say.rt: what is printed
-mod emission; // emission.rt: the commands that emit
-mod damage; // damage.rt: the commands that damage, and the checksum
-mod bridge; // bridge.rt: the calls over frames
 mod reading; // reading.rt: the commands that read a machine
 mod commands; // commands.rt: what a line asks, and all that needs no frames
 
-use crate::bridge::Call;
-use crate::bridge::with_frames;
 use crate::commands::Asked;
 use crate::commands::Lent;
 use crate::commands::ask;
 use crate::commands::no_machine;
 use crate::commands::obey;
 use crate::say::say_answer;
-use crate::script::Line;
-use crate::script::bytes_of;
-use crate::script::cut;
-use crate::script::first_line;
-use crate::script::front;
-use crate::script::next_line;
-use crate::script::two_each;
+use console_frames::Call;
+use console_frames::with_frames;
+use console_script::Line;
+use console_script::bytes_of;
+use console_script::cut;
+use console_script::first_line;
+use console_script::front;
+use console_script::next_line;
+use console_script::stores;
+use console_script::two_each;
 use model::Vm;
-ghost use Rattle.console.specs.Words.{firstLine, lineOf};
-ghost use Rattle.console.specs.Calls.{held, OverFrames};
+ghost use Rattle.console_script.specs.Words.{firstLine, lineOf};
+ghost use Rattle.console_frames.specs.Calls.{held};
+ghost use Rattle.console.specs.Lendings.{OverFrames};
 ghost use Rattle.console.specs.Turns.{Turned, Played};
 ghost use Rattle.console.specs.Said.{noMachine};
 

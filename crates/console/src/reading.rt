@@ -1,8 +1,7 @@
 // The commands that read a machine: each calls the readers.
 use crate::say;
-use crate::script;
-use crate::script::word;
-use crate::stores;
+use console_script::stores;
+use console_script::word;
 use layout::reads::same_bytes;
 use model::Headed;
 use model::Shown;
@@ -42,7 +41,7 @@ fn text_of(m: Vm, s: Shown, room: usize, text: &[u8], out: &mut [u8]) -> Told
 {
     match s {
         Shown::Value(v) => {
-            let n = script::at_most(room, out.len());
+            let n = console_script::at_most(room, out.len());
             text_bytes(m, v, text, &mut out[..n])
         }
         Shown::Refused(n) => Told::Refused(n),
@@ -59,13 +58,13 @@ pub fn read(
     cells: &stores::Cells,
 ) {
     let what = word(line, 0);
-    let rest = script::words_from(line, 1);
+    let rest = console_script::words_from(line, 1);
     if same_bytes(what, b"last") & (rest.len() == 0) {
         say::say_shown(last_result(m), cells, number);
         return;
     }
-    let i = script::decimal(word(line, 1));
-    let j = script::read_room(line, 2);
+    let i = console_script::decimal(word(line, 1));
+    let j = console_script::read_room(line, 2);
     if !i.good | !j.good {
         say::say_unknown(number);
         return;
@@ -77,7 +76,7 @@ pub fn read(
         say::say_text(told, &space, number);
         return;
     }
-    let more = script::words_from(line, 2);
+    let more = console_script::words_from(line, 2);
     if same_bytes(what, b"element") & (more.len() > 0) {
         say::say_shown(element_of(m, shown, j.is as usize, cells), cells, number);
         return;

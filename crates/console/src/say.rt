@@ -1,7 +1,7 @@
 // What is printed: a line for each answer.
-use crate::bridge::Answer;
-use crate::script::front;
-use crate::stores;
+use console_frames::Answer;
+use console_script::front;
+use console_script::stores;
 use model::Emitted;
 use model::Frame;
 use model::Headed;

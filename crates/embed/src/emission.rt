@@ -1,27 +1,4 @@
 // Emission for a host in C: a program is written into the stores that the host lends. Where a number is told it stands in answer[0].
-use embed_words::answer_told;
-use embed_words::crossed_order;
-use embed_words::slices_refusal;
-use embed_words::tell_emitted;
-use embed_words::vm_of;
-use emission_code::add_op;
-use emission_code::add_op1;
-use emission_code::add_op2;
-use emission_code::add_op3;
-use emission_code::code_order;
-use emission_code::current_offset;
-use emission_code::patch_order;
-use emission_code::patch_u16_value_at;
-use emission_tables::constants::add_constant;
-use emission_tables::constants::constant_order;
-use emission_tables::functions::begin_function;
-use emission_tables::functions::end_function;
-use emission_tables::functions::function_order;
-use emission_tables::functions::get_function_idx;
-use emission_tables::structs::add_struct_info;
-use emission_tables::structs::struct_order;
-use model::Constant;
-use program::order::counts_ok;
 ghost use mathlib.Core.Path.{_≡_};
 ghost use mathlib.Core.List.{[]};
 ghost use Rattle.model.specs.declared.Counts.{Counts};
@@ -49,25 +26,17 @@ pub extern "C" fn chaffwheel_add_op(
         r (now (vm .exit)) (now (answer .exit))
         (λ (rest : Stores). codeLent rest (now (functions .exit)) (now (main .exit)) (now («main_places» .exit)) (now (other .exit)) (now («other_places» .exit))) ⌝ }
 {
-    let why = slices_refusal(vm, 1, answer);
-    let m = vm_of(vm);
-    let c = m.program;
-    if why == 0 {
-        let done = add_op(
-            c,
-            op,
-            place,
-            functions,
-            main,
-            main_places,
-            other,
-            other_places,
-        );
-        let n = tell_emitted(done, vm, answer);
-        return n;
-    }
-    let good = code_order(c, functions, main, main_places, other, other_places);
-    let n = crossed_order(why, good);
+    let n = embed_code::add_op(
+        vm,
+        op,
+        place,
+        functions,
+        main,
+        main_places,
+        other,
+        other_places,
+        answer,
+    );
     n
 }
 
@@ -90,26 +59,18 @@ pub extern "C" fn chaffwheel_add_op1(
         r (now (vm .exit)) (now (answer .exit))
         (λ (rest : Stores). codeLent rest (now (functions .exit)) (now (main .exit)) (now («main_places» .exit)) (now (other .exit)) (now («other_places» .exit))) ⌝ }
 {
-    let why = slices_refusal(vm, 1, answer);
-    let m = vm_of(vm);
-    let c = m.program;
-    if why == 0 {
-        let done = add_op1(
-            c,
-            op,
-            a,
-            place,
-            functions,
-            main,
-            main_places,
-            other,
-            other_places,
-        );
-        let n = tell_emitted(done, vm, answer);
-        return n;
-    }
-    let good = code_order(c, functions, main, main_places, other, other_places);
-    let n = crossed_order(why, good);
+    let n = embed_code::add_op1(
+        vm,
+        op,
+        a,
+        place,
+        functions,
+        main,
+        main_places,
+        other,
+        other_places,
+        answer,
+    );
     n
 }
 
@@ -133,27 +94,19 @@ pub extern "C" fn chaffwheel_add_op2(
         r (now (vm .exit)) (now (answer .exit))
         (λ (rest : Stores). codeLent rest (now (functions .exit)) (now (main .exit)) (now («main_places» .exit)) (now (other .exit)) (now («other_places» .exit))) ⌝ }
 {
-    let why = slices_refusal(vm, 1, answer);
-    let m = vm_of(vm);
-    let c = m.program;
-    if why == 0 {
-        let done = add_op2(
-            c,
-            op,
-            a,
-            b,
-            place,
-            functions,
-            main,
-            main_places,
-            other,
-            other_places,
-        );
-        let n = tell_emitted(done, vm, answer);
-        return n;
-    }
-    let good = code_order(c, functions, main, main_places, other, other_places);
-    let n = crossed_order(why, good);
+    let n = embed_code::add_op2(
+        vm,
+        op,
+        a,
+        b,
+        place,
+        functions,
+        main,
+        main_places,
+        other,
+        other_places,
+        answer,
+    );
     n
 }
 
@@ -178,28 +131,20 @@ pub extern "C" fn chaffwheel_add_op3(
         r (now (vm .exit)) (now (answer .exit))
         (λ (rest : Stores). codeLent rest (now (functions .exit)) (now (main .exit)) (now («main_places» .exit)) (now (other .exit)) (now («other_places» .exit))) ⌝ }
 {
-    let why = slices_refusal(vm, 1, answer);
-    let m = vm_of(vm);
-    let c = m.program;
-    if why == 0 {
-        let done = add_op3(
-            c,
-            op,
-            a,
-            b,
-            d,
-            place,
-            functions,
-            main,
-            main_places,
-            other,
-            other_places,
-        );
-        let n = tell_emitted(done, vm, answer);
-        return n;
-    }
-    let good = code_order(c, functions, main, main_places, other, other_places);
-    let n = crossed_order(why, good);
+    let n = embed_code::add_op3(
+        vm,
+        op,
+        a,
+        b,
+        d,
+        place,
+        functions,
+        main,
+        main_places,
+        other,
+        other_places,
+        answer,
+    );
     n
 }
 
@@ -218,16 +163,7 @@ pub extern "C" fn chaffwheel_patch_u16_value_at(
         (λ (rest : Stores). bytesLent rest (now (functions .entry)) (now (main .entry)) (now (other .entry)))
         r (now (vm .exit)) (now (answer .exit)) (λ (rest : Stores). bytesLent rest (now (functions .entry)) (now (main .exit)) (now (other .exit))) ⌝ }
 {
-    let why = slices_refusal(vm, 1, answer);
-    let m = vm_of(vm);
-    let c = m.program;
-    if why == 0 {
-        let done = patch_u16_value_at(c, offset, arg, functions, main, other);
-        let n = tell_emitted(done, vm, answer);
-        return n;
-    }
-    let good = patch_order(c, functions, main, other);
-    let n = crossed_order(why, good);
+    let n = embed_code::patch_u16_value_at(vm, offset, arg, functions, main, other, answer);
     n
 }
 
@@ -244,16 +180,7 @@ pub extern "C" fn chaffwheel_add_scalar(
         (λ (rest : Stores). constantsLent rest (now (constants .entry)) (now (text .entry)))
         r (now (vm .exit)) (now (answer .exit)) (λ (rest : Stores). constantsLent rest (now (constants .exit)) (now (text .exit))) ⌝ }
 {
-    let why = slices_refusal(vm, 1, answer);
-    let m = vm_of(vm);
-    let c = m.program;
-    if why == 0 {
-        let done = add_constant(c, Constant::Scalar(bits), b"", constants, text);
-        let n = tell_emitted(done, vm, answer);
-        return n;
-    }
-    let good = constant_order(c, constants, text);
-    let n = crossed_order(why, good);
+    let n = embed_tables::add_scalar(vm, bits, constants, text, answer);
     n
 }
 
@@ -270,16 +197,7 @@ pub extern "C" fn chaffwheel_add_boolean(
         (λ (rest : Stores). constantsLent rest (now (constants .entry)) (now (text .entry)))
         r (now (vm .exit)) (now (answer .exit)) (λ (rest : Stores). constantsLent rest (now (constants .exit)) (now (text .exit))) ⌝ }
 {
-    let why = slices_refusal(vm, 1, answer);
-    let m = vm_of(vm);
-    let c = m.program;
-    if why == 0 {
-        let done = add_constant(c, Constant::Boolean(value), b"", constants, text);
-        let n = tell_emitted(done, vm, answer);
-        return n;
-    }
-    let good = constant_order(c, constants, text);
-    let n = crossed_order(why, good);
+    let n = embed_tables::add_boolean(vm, value, constants, text, answer);
     n
 }
 
@@ -296,16 +214,7 @@ pub extern "C" fn chaffwheel_add_string(
         (λ (rest : Stores). constantsLent rest (now (constants .entry)) (now (text .entry)))
         r (now (vm .exit)) (now (answer .exit)) (λ (rest : Stores). constantsLent rest (now (constants .exit)) (now (text .exit))) ⌝ }
 {
-    let why = slices_refusal(vm, 1, answer);
-    let m = vm_of(vm);
-    let c = m.program;
-    if why == 0 {
-        let done = add_constant(c, Constant::String, lent, constants, text);
-        let n = tell_emitted(done, vm, answer);
-        return n;
-    }
-    let good = constant_order(c, constants, text);
-    let n = crossed_order(why, good);
+    let n = embed_tables::add_string(vm, lent, constants, text, answer);
     n
 }
 
@@ -322,16 +231,7 @@ pub extern "C" fn chaffwheel_add_reference(
         (λ (rest : Stores). constantsLent rest (now (constants .entry)) (now (text .entry)))
         r (now (vm .exit)) (now (answer .exit)) (λ (rest : Stores). constantsLent rest (now (constants .exit)) (now (text .exit))) ⌝ }
 {
-    let why = slices_refusal(vm, 1, answer);
-    let m = vm_of(vm);
-    let c = m.program;
-    if why == 0 {
-        let done = add_constant(c, Constant::FunctionReference, lent, constants, text);
-        let n = tell_emitted(done, vm, answer);
-        return n;
-    }
-    let good = constant_order(c, constants, text);
-    let n = crossed_order(why, good);
+    let n = embed_tables::add_reference(vm, lent, constants, text, answer);
     n
 }
 
@@ -348,16 +248,7 @@ pub extern "C" fn chaffwheel_add_struct_info(
         (λ (rest : Stores). structsLent rest (now (structs .entry)) (now (text .entry)))
         r (now (vm .exit)) (now (answer .exit)) (λ (rest : Stores). structsLent rest (now (structs .exit)) (now (text .exit))) ⌝ }
 {
-    let why = slices_refusal(vm, 1, answer);
-    let m = vm_of(vm);
-    let c = m.program;
-    if why == 0 {
-        let done = add_struct_info(c, name, structs, text);
-        let n = tell_emitted(done, vm, answer);
-        return n;
-    }
-    let good = struct_order(c, structs, text);
-    let n = crossed_order(why, good);
+    let n = embed_tables::add_struct_info(vm, name, structs, text, answer);
     n
 }
 
@@ -374,16 +265,7 @@ pub extern "C" fn chaffwheel_begin_function(
         (λ (rest : Stores). namesLent rest (now (functions .entry)) (now (text .entry)))
         r (now (vm .exit)) (now (answer .exit)) (λ (rest : Stores). namesLent rest (now (functions .exit)) (now (text .exit))) ⌝ }
 {
-    let why = slices_refusal(vm, 1, answer);
-    let m = vm_of(vm);
-    let c = m.program;
-    if why == 0 {
-        let done = begin_function(c, name, functions, text);
-        let n = tell_emitted(done, vm, answer);
-        return n;
-    }
-    let good = function_order(c, functions, text);
-    let n = crossed_order(why, good);
+    let n = embed_tables::begin_function(vm, name, functions, text, answer);
     n
 }
 
@@ -394,16 +276,7 @@ pub extern "C" fn chaffwheel_end_function(vm: &mut [u64], answer: &mut [u64]) ->
         ≡ through atEntry (slicesRefusal (now (vm .entry)) 1 (now (answer .entry))) (now (vm .entry)) (now (answer .entry))
         (emittedCoded (endFunctionOf (vmIn (now (vm .entry)) .program)) (now (vm .entry)) (now (answer .entry))) ⌝ }
 {
-    let why = slices_refusal(vm, 1, answer);
-    let m = vm_of(vm);
-    let c = m.program;
-    if why == 0 {
-        let done = end_function(c);
-        let n = tell_emitted(done, vm, answer);
-        return n;
-    }
-    let good = counts_ok(c);
-    let n = crossed_order(why, good);
+    let n = embed_tables::end_function(vm, answer);
     n
 }
 
@@ -418,11 +291,7 @@ pub extern "C" fn chaffwheel_current_offset(
         ≡ through atEntry (slicesRefusal (now (vm .entry)) 1 (now (answer .entry))) (now (vm .entry)) (now (answer .entry))
         (toldCoded (currentOffsetOf (vmIn (now (vm .entry)) .program) (now (functions .entry))) (now (vm .entry)) (now (answer .entry))) ⌝ }
 {
-    let why = slices_refusal(vm, 1, answer);
-    let m = vm_of(vm);
-    let c = m.program;
-    let told = current_offset(c, functions);
-    let n = answer_told(why, told, answer);
+    let n = embed_code::current_offset(vm, functions, answer);
     n
 }
 
@@ -440,10 +309,6 @@ pub extern "C" fn chaffwheel_get_function_idx(
         (toldCoded (functionIdxOf (vmIn (now (vm .entry)) .program) (now (name .entry)) (namesLent rest (now (functions .entry)) (now (text .entry))))
         (now (vm .entry)) (now (answer .entry)))) ⌝ }
 {
-    let why = slices_refusal(vm, 1, answer);
-    let m = vm_of(vm);
-    let c = m.program;
-    let told = get_function_idx(c, name, functions, text);
-    let n = answer_told(why, told, answer);
+    let n = embed_tables::get_function_idx(vm, name, functions, text, answer);
     n
 }

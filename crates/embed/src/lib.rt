@@ -2,20 +2,15 @@
 pub mod emission; // emission.rt: a program is written
 pub mod reading; // reading.rt: a machine is read
 
-use embed_words::answer_listed;
-use embed_words::answer_told;
-use embed_words::crossed;
-use embed_words::crossed_order;
-use embed_words::lent_room;
-use embed_words::out_refusal;
-use embed_words::slices_refusal;
-use embed_words::tell;
-use embed_words::tell_run;
-use embed_words::tell_started;
-use embed_words::tell_unmade;
+use embed_answers::tell;
+use embed_answers::tell_run;
+use embed_answers::tell_started;
+use embed_answers::tell_unmade;
+use embed_refusals::crossed;
+use embed_refusals::crossed_order;
+use embed_refusals::out_refusal;
+use embed_refusals::slices_refusal;
 use embed_words::vm_of;
-use image_save::save;
-use listing::disassemble;
 use machine::backtrace;
 use machine::load;
 use machine::new;
@@ -265,12 +260,8 @@ pub extern "C" fn chaffwheel_save(
         (λ (m : Vm). saveOf (m .program) (lent (now (constants .entry)) (now (structs .entry)) (now (functions .entry)) (now (text .entry))
         (now (main .entry)) (now («main_places» .entry)) (now (other .entry)) (now («other_places» .entry))) (now (out .entry))) ⌝ }
 {
-    let why = slices_refusal(vm, 1, answer);
-    let m = vm_of(vm);
-    let c = m.program;
-    let room = lent_room(why, out.len());
-    let told = save(
-        c,
+    let n = embed_images::save(
+        vm,
         constants,
         structs,
         functions,
@@ -279,9 +270,9 @@ pub extern "C" fn chaffwheel_save(
         main_places,
         other,
         other_places,
-        &mut out[..room],
+        out,
+        answer,
     );
-    let n = answer_told(why, told, answer);
     n
 }
 
@@ -300,11 +291,6 @@ pub extern "C" fn chaffwheel_disassemble<'a>(
         ≡ outThrough atListing (slicesRefusal (now (vm .entry)) 1 (now (answer .entry))) (now (vm .entry)) (now (answer .entry)) (now (out .entry))
         (λ (m : Vm). listOf (m .program) (listed rest (now (functions .entry)) (now (text .entry)) (now (main .entry)) (now (other .entry))) (now (out .entry)))) ⌝ }
 {
-    let why = slices_refusal(vm, 1, answer);
-    let m = vm_of(vm);
-    let c = m.program;
-    let room = lent_room(why, out.len());
-    let told = disassemble(c, functions, text, main, other, &mut out[..room]);
-    let n = answer_listed(why, told, answer);
+    let n = embed_images::disassemble(vm, functions, text, main, other, out, answer);
     n
 }

@@ -1,17 +1,4 @@
 // What a host in C reads of a machine. A value that is shown stands in answer[0] and answer[1], its kind and its payload; a value that the host hands in is two such words.
-use embed_words::answer_header;
-use embed_words::answer_shown;
-use embed_words::answer_told;
-use embed_words::lent_room;
-use embed_words::slices_refusal;
-use embed_words::value_refusal;
-use embed_words::vm_of;
-use readers::block_header;
-use readers::element;
-use readers::last_result;
-use readers::stack_value;
-use readers::text_bytes;
-use value::words::value_of;
 ghost use mathlib.Core.Path.{_≡_};
 ghost use Rattle.model.specs.declared.Vm.{Vm};
 ghost use Rattle.model.specs.Values.{valueOf};
@@ -25,10 +12,7 @@ pub extern "C" fn chaffwheel_last_result(vm: &[u64], answer: &mut [u64]) -> u32
         ≡ through atEntry (slicesRefusal (now (vm .entry)) 2 (now (answer .entry))) (now (vm .entry)) (now (answer .entry))
         (shownCoded (lastResultOf (vmIn (now (vm .entry)))) (now (vm .entry)) (now (answer .entry))) ⌝ }
 {
-    let why = slices_refusal(vm, 2, answer);
-    let m = vm_of(vm);
-    let shown = last_result(m);
-    let n = answer_shown(why, shown, answer);
+    let n = embed_reading::last_result(vm, answer);
     n
 }
 
@@ -44,10 +28,7 @@ pub extern "C" fn chaffwheel_stack_value(
         ≡ through atEntry (slicesRefusal (now (vm .entry)) 2 (now (answer .entry))) (now (vm .entry)) (now (answer .entry))
         (shownCoded (stackValueOf (vmIn (now (vm .entry))) i (now (stack .entry))) (now (vm .entry)) (now (answer .entry))) ⌝ }
 {
-    let why = slices_refusal(vm, 2, answer);
-    let m = vm_of(vm);
-    let shown = stack_value(m, i, stack);
-    let n = answer_shown(why, shown, answer);
+    let n = embed_reading::stack_value(vm, i, stack, answer);
     n
 }
 
@@ -64,11 +45,7 @@ pub extern "C" fn chaffwheel_block_header(
         ≡ through atEntry (valueRefusal (now (vm .entry)) kind payload 3 (now (answer .entry))) (now (vm .entry)) (now (answer .entry))
         (headedCoded (blockHeaderOf (vmIn (now (vm .entry))) (valueOf kind payload) (now (cells .entry))) (now (vm .entry)) (now (answer .entry))) ⌝ }
 {
-    let why = value_refusal(vm, kind, payload, 3, answer);
-    let m = vm_of(vm);
-    let v = value_of(kind, payload);
-    let headed = block_header(m, v, cells);
-    let n = answer_header(why, headed, answer);
+    let n = embed_reading::block_header(vm, kind, payload, cells, answer);
     n
 }
 
@@ -86,11 +63,7 @@ pub extern "C" fn chaffwheel_element(
         ≡ through atEntry (valueRefusal (now (vm .entry)) kind payload 2 (now (answer .entry))) (now (vm .entry)) (now (answer .entry))
         (shownCoded (elementOf (vmIn (now (vm .entry))) (valueOf kind payload) i (now (cells .entry))) (now (vm .entry)) (now (answer .entry))) ⌝ }
 {
-    let why = value_refusal(vm, kind, payload, 2, answer);
-    let m = vm_of(vm);
-    let v = value_of(kind, payload);
-    let shown = element(m, v, i, cells);
-    let n = answer_shown(why, shown, answer);
+    let n = embed_reading::element(vm, kind, payload, i, cells, answer);
     n
 }
 
@@ -108,11 +81,6 @@ pub extern "C" fn chaffwheel_text(
         ≡ outThrough atEntry (valueRefusal (now (vm .entry)) kind payload 1 (now (answer .entry))) (now (vm .entry)) (now (answer .entry)) (now (out .entry))
         (λ (m : Vm). textBytesOf m (valueOf kind payload) (now (text .entry)) (now (out .entry))) ⌝ }
 {
-    let why = value_refusal(vm, kind, payload, 1, answer);
-    let m = vm_of(vm);
-    let v = value_of(kind, payload);
-    let room = lent_room(why, out.len());
-    let told = text_bytes(m, v, text, &mut out[..room]);
-    let n = answer_told(why, told, answer);
+    let n = embed_reading::text(vm, kind, payload, text, out, answer);
     n
 }

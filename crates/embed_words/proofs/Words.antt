@@ -1,19 +1,15 @@
 -- Words of a lent slice, and a machine's record in them.
 use mathlib.Core.Path.{_≡_, sym}
-use mathlib.Core.Bool.{Bool, _&&_}
 use mathlib.Core.List.{List, [], _∷_}
 use Prim.Native.Nat.{ℕ, _≤_}
-use borrow.Author.Tests.{eq-eqb, ne-eqb}
-use lib.Dec.{eqb, leb}
 use lib.ListN.{length, getD, set, List·getD-eq-default}
 use lib.Seq.{set-out, length-sets}
 use Rattle.model.specs.declared.Last.{Last}
 use Rattle.model.specs.declared.Counts.{Counts}
 use Rattle.model.specs.declared.Vm.{Vm}
 use Rattle.model.specs.Basics.{written}
-use Rattle.model.specs.Values.{exactValue}
 use Rattle.value.specs.Links.{lastIn, lastKind, lastPayload}
-use Rattle.embed_words.specs.Coding.{vmIn, countWords, vmWords, lastExact, recordOk}
+use Rattle.embed_words.specs.Coding.{vmIn, countWords, vmWords}
 
 -- ---- words
 
@@ -28,43 +24,32 @@ pub five-put : (s : List ℕ) (a b c d e : ℕ) {s1 s2 s3 s4 s5 : List ℕ} → 
 unfolding written
 five-put s a b c d e e1 e2 e3 e4 e5 = rw (e5, e4, e3, e2, e1)
 
--- ---- the last result
-
-module _ (k a : ℕ) where
-  pub exact-none : k ≡ 7 → eqb a 0 ≡ lastExact k a
-  unfolding lastExact
-  exact-none e = rw (eq-eqb _ _ e)
-
-  pub exact-some : (k ≡ 7 → ⊥) → {b : Bool} → b ≡ exactValue k a → b ≡ lastExact k a
-  unfolding lastExact
-  exact-some h e = rw (ne-eqb _ _ h, e)
-
 -- ---- the record
 
-pub record-is : (w : List ℕ) {k a : ℕ} {b : Bool} → k ≡ getD w 8 0 → a ≡ getD w 9 0 → b ≡ lastExact k a → leb 10 (length w) && b ≡ recordOk w
-unfolding recordOk
-record-is w e f g = rw (g, e, f)
-
-pub vm-is : (w : List ℕ) {a0 a1 a2 a3 a4 a5 a6 a7 a8 a9 : ℕ} {last : Last} → a0 ≡ getD w 0 0 → a1 ≡ getD w 1 0 → a2 ≡ getD w 2 0 → a3 ≡ getD w 3 0
-    → a4 ≡ getD w 4 0 → a8 ≡ getD w 8 0 → a9 ≡ getD w 9 0 → last ≡ lastIn a8 a9 → a5 ≡ getD w 5 0 → a6 ≡ getD w 6 0 → a7 ≡ getD w 7 0
-    → record { program = record { constants = a0; structs = a1; functions = a2; text = a3; current = a4 }; stack = a5; frames = a6; cells = a7; last = last } ≡ vmIn w
+pub counts-are : (w : List ℕ) {a0 a1 a2 a3 a4 : ℕ} → a0 ≡ getD w 0 0 → a1 ≡ getD w 1 0 → a2 ≡ getD w 2 0 → a3 ≡ getD w 3 0 → a4 ≡ getD w 4 0
+    → record { constants = a0; structs = a1; functions = a2; text = a3; current = a4 } ≡ vmIn w .program
 unfolding vmIn
-vm-is w e0 e1 e2 e3 e4 e8 e9 e e5 e6 e7 = rw (e, e0, e1, e2, e3, e4, e5, e6, e7, e8, e9)
+counts-are w e0 e1 e2 e3 e4 = rw (e0, e1, e2, e3, e4)
 
-module _ (m : Vm) (s : List ℕ) {k a : ℕ} {s1 s2 s3 s4 s5 s6 s7 s8 s9 s10 : List ℕ} (is-kind : k ≡ lastKind (m .last)) (is-payload : a ≡ lastPayload (m .last))
-    (e1 : s1 ≡ set s 0 (m .program .constants)) (e2 : s2 ≡ set s1 1 (m .program .structs)) (e3 : s3 ≡ set s2 2 (m .program .functions))
-    (e4 : s4 ≡ set s3 3 (m .program .text)) (e5 : s5 ≡ set s4 4 (m .program .current))
-    (e6 : s6 ≡ set s5 5 (m .stack)) (e7 : s7 ≡ set s6 6 (m .frames)) (e8 : s8 ≡ set s7 7 (m .cells)) (e9 : s9 ≡ set s8 8 k) (e10 : s10 ≡ set s9 9 a) where
-  pub vm-put : s10 ≡ written s 0 (vmWords m)
-  unfolding written vmWords
-  vm-put = rw (e10, e9, e8, e7, e6, e5, e4, e3, e2, e1, is-kind, is-payload)
-
-  pub vm-put-length : length s10 ≡ length s
-  unfolding written
-  vm-put-length = rw vm-put (length-sets s 0 (vmWords m))
+pub vm-is : (w : List ℕ) {c : Counts} {a5 a6 a7 a8 a9 : ℕ} {last : Last} → c ≡ vmIn w .program → a8 ≡ getD w 8 0 → a9 ≡ getD w 9 0 → last ≡ lastIn a8 a9
+    → a5 ≡ getD w 5 0 → a6 ≡ getD w 6 0 → a7 ≡ getD w 7 0
+    → record { program = c; stack = a5; frames = a6; cells = a7; last = last } ≡ vmIn w
+unfolding vmIn
+vm-is w ec e8 e9 e e5 e6 e7 = rw (ec, e, e5, e6, e7, e8, e9)
 
 module _ (c : Counts) (s : List ℕ) {s1 s2 s3 s4 s5 : List ℕ} (e1 : s1 ≡ set s 0 (c .constants)) (e2 : s2 ≡ set s1 1 (c .structs))
     (e3 : s3 ≡ set s2 2 (c .functions)) (e4 : s4 ≡ set s3 3 (c .text)) (e5 : s5 ≡ set s4 4 (c .current)) where
   pub counts-put : s5 ≡ written s 0 (countWords c)
   unfolding written countWords
   counts-put = rw (e5, e4, e3, e2, e1)
+
+module _ (m : Vm) (s : List ℕ) {k a : ℕ} {s5 s6 s7 s8 s9 s10 : List ℕ} (is-kind : k ≡ lastKind (m .last)) (is-payload : a ≡ lastPayload (m .last))
+    (e5 : s5 ≡ written s 0 (countWords (m .program))) (e6 : s6 ≡ set s5 5 (m .stack)) (e7 : s7 ≡ set s6 6 (m .frames)) (e8 : s8 ≡ set s7 7 (m .cells))
+    (e9 : s9 ≡ set s8 8 k) (e10 : s10 ≡ set s9 9 a) where
+  pub vm-put : s10 ≡ written s 0 (vmWords m)
+  unfolding written vmWords countWords
+  vm-put = rw (e10, e9, e8, e7, e6, e5, is-kind, is-payload)
+
+  pub vm-put-length : length s10 ≡ length s
+  unfolding written
+  vm-put-length = rw vm-put (length-sets s 0 (vmWords m))

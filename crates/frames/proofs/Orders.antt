@@ -77,9 +77,9 @@ module _ (words : List ℕ) (count slots n i : ℕ) (r : Frame) where
   unfolding placeGood
   all-good b e f g = rw (← e, ← f, g)
 
-pub code-length : (words : List ℕ) (i : ℕ) → getD words (2 * i + 1) 0 / 0x1_0000_0000 ≡ size (codeWord words i)
-unfolding size codeWord payloadAt
-code-length words i = refl
+pub code-length : (words : List ℕ) (i : ℕ) {w n : ℕ} → w ≡ payloadAt words i → n ≡ size w → n ≡ size (codeWord words i)
+unfolding codeWord
+code-length words i e f = rw e at f
 
 -- ---- the search
 

@@ -18,9 +18,9 @@ use Rattle.frames.specs.declared.backtrace.Left.{Left}
 use Rattle.frames.specs.Links.{noFrame, scan, callersOf, placesOf, placeAt, placeOf, traceWords, written, insideGood, traceGood, Readable, leftOf, insideOf, Put}
 use Rattle.frames.proofs.Orders.{is-true, is-false}
 
-pub code-start : (words : List ℕ) (i : ℕ) → getD words (2 * i + 1) 0 % 0x1_0000_0000 ≡ start (codeWord words i)
-unfolding start codeWord payloadAt
-code-start words i = refl
+pub code-start : (words : List ℕ) (i : ℕ) {w n : ℕ} → w ≡ payloadAt words i → n ≡ start w → n ≡ start (codeWord words i)
+unfolding codeWord
+code-start words i e f = rw e at f
 
 -- ---- a place is read from main's places, or the others'
 

@@ -2,8 +2,9 @@
 use crate::order::Scan;
 use crate::order::code_length;
 use crate::read_frame;
+use layout::reads::second;
+use layout::reads::start_of;
 use model::Frame;
-use model::HALF;
 ghost use mathlib.Core.Path.{_≡_};
 ghost use mathlib.Core.List.{_∷_};
 ghost use Prim.Native.Nat.{_+_, _-_, _*_, _<_, _≤_};
@@ -29,12 +30,9 @@ fn byte_before(position: usize) -> usize
 
 // Where the code of function i starts.
 fn code_start(functions: &[u64], i: usize) -> usize
-    requires { ⌜ 2 * i + 1 < length (now functions) ⌝ }
     ensures { λ r. ⌜ r ≡ start (codeWord (now (functions .entry)) i) ⌝ }
 {
-    let at = 2 * i + 1;
-    let word = functions[at];
-    (word % HALF) as usize
+    start_of(second(functions, i))
 }
 
 fn number_at(places: &[u32], begin: usize, byte: usize) -> u32

@@ -1,7 +1,8 @@
 // Good order of the frames that the host lends.
 use crate::read_frame;
+use layout::reads::second;
+use layout::reads::size_of;
 use model::Frame;
-use model::HALF;
 use model::MOST_PLACES;
 use model::POSITION_LIMIT;
 ghost use mathlib.Core.Path.{_≡_};
@@ -19,12 +20,9 @@ pub struct Scan {
 
 // How long the code of function i is.
 pub fn code_length(functions: &[u64], i: usize) -> usize
-    requires { ⌜ 2 * i + 1 < length (now functions) ⌝ }
     ensures { λ r. ⌜ r ≡ size (codeWord (now (functions .entry)) i) ⌝ }
 {
-    let at = 2 * i + 1;
-    let word = functions[at];
-    (word / HALF) as usize
+    size_of(second(functions, i))
 }
 
 fn frame_ok(count: usize, slots: usize, f: Frame) -> bool

@@ -2,7 +2,7 @@
 use model::Counts;
 use model::Decoded;
 use model::Told;
-use notes::lines::write_noted_line;
+use notes_lines::write_noted_line;
 use opcode::decode;
 use opcode::operands;
 ghost use Prim.Native.Nat.{_+_, _*_, _<_, _^_};

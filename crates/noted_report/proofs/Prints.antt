@@ -23,7 +23,8 @@ use Rattle.image.proofs.Trip.{loaded-as}
 use Rattle.notes.specs.Notes.{Known, knownOf, notedLine, notedCode, notedFrom, notedListing, notesOf, loadedNotes, noterText}
 use Rattle.notes.specs.Links.{programLent}
 use Rattle.report.specs.Links.{printed}
-use Rattle.report.proofs.Lists.{Small, small-front, small-and, small-lines, was-put, was-too-long, was-refused, bytes-of}
+use Rattle.report.proofs.Lists.{bytes-of}
+use Rattle.report_listed.proofs.Listed.{Small, small-front, small-and, small-lines, was-put, was-too-long, was-refused}
 use Rattle.noted_report.specs.Links.{Notable}
 
 -- ---- the listing with notes is refused 1 or 3, and never 17

@@ -4,7 +4,7 @@ use model::Counts;
 use model::Loaded;
 use model::Told;
 use noted_listing::list_with_notes;
-use report::print_refused;
+use report_lines::print_refused;
 ghost use mathlib.Core.Path.{_≡_};
 ghost use mathlib.Core.Bool.{true};
 ghost use Rattle.model.specs.Stores.{programIn};

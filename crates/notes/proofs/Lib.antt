@@ -1,3 +1,1 @@
 pub mod Shown
-pub mod Named
-pub mod Whole

@@ -8,8 +8,8 @@ use Rattle.model.specs.Values.{places}
 use Rattle.model.specs.Emission.{written}
 use Rattle.model.specs.Reports.{runnerText, listerText}
 use Rattle.model.specs.Examples.{Shown, bytes, p1-image, p1-listing, examples, examples-hold}
-use Rattle.report.specs.Links.{Printed, printed}
-use Rattle.report.proofs.Prints.{fits}
+use Rattle.report_lines.specs.Links.{Printed, printed}
+use Rattle.report_lines.proofs.Prints.{fits}
 
 bytes-same : {a b : List ℕ} → bytes a ≡ bytes b → a ≡ b
 bytes-same e = cc

@@ -23,7 +23,8 @@ use Rattle.model.specs.Reports.{refusedLine, reportOf, emptyStores, emptyLent, 
 use Rattle.model.specs.Stores.{storesOf}
 use Rattle.run_ends.specs.Links.{programLent}
 use Rattle.machine.specs.Links.{runLent}
-use Rattle.report.specs.Links.{Shows, printed, imageText, PlayPost}
+use Rattle.report_lines.specs.Links.{Shows, printed}
+use Rattle.report.specs.Links.{imageText, PlayPost}
 use Rattle.report.proofs.Lists.{image-too-long}
 use Rattle.report.proofs.Shown.{run-shows}
 

@@ -31,7 +31,7 @@ use Rattle.laws_runs.proofs.Runs.{path-sane}
 use Rattle.laws_runs.proofs.Ordered.{order-of, order-world, order-sane}
 use Rattle.laws_runs.proofs.Demands.{run-recovered, recovered-faults}
 use Rattle.machine.proofs.Traced.{length-trace}
-use Rattle.report.specs.Links.{Inside, Shows}
+use Rattle.report_lines.specs.Links.{Inside, Shows}
 
 -- ---- a fault's backtrace has an entry for each frame, and there is room for that many
 

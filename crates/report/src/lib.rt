@@ -1,102 +1,23 @@
 // What the runner and the lister print, as bytes in a lent store.
-mod values; // values.rt: a value's line
-mod runs; // runs.rt: a run's lines
 mod playing; // playing.rt: a run on call frames of its own
 
 use crate::playing::play;
-use crate::runs::put_refused;
-use crate::runs::put_report;
 use image_load::load;
-use layout::reads::room;
-use listing::disassemble;
 use model::Counts;
 use model::Loaded;
-use model::RunResult;
-use model::Told;
+use report_lines::print_refused;
+use report_lines::print_report;
+use report_listed::list_loaded;
 use run_ends::fresh_vm;
 ghost use mathlib.Core.Path.{_≡_};
 ghost use mathlib.Core.Bool.{true};
-ghost use mathlib.Core.List.{List};
-ghost use Prim.Native.Nat.{ℕ};
 ghost use lib.ListN.{replicate};
-ghost use Rattle.model.specs.declared.Frame.{Frame};
-ghost use Rattle.model.specs.Listings.{listingOf};
 ghost use Rattle.model.specs.Runs.{root};
-ghost use Rattle.model.specs.Stores.{Stores, programIn};
-ghost use Rattle.model.specs.Loading.{listOrder};
-ghost use Rattle.model.specs.Machines.{runAnswer, answerIn, fresh, startWith};
-ghost use Rattle.model.specs.Reports.{refusedLine, reportOf, emptyStores, emptyLent, listedText, loadedText, listerText, started, runnerText};
-ghost use Rattle.listing.specs.Links.{lent};
+ghost use Rattle.model.specs.Machines.{runAnswer, fresh, startWith};
+ghost use Rattle.model.specs.Reports.{reportOf, emptyStores, emptyLent, listerText, started, runnerText};
 ghost use Rattle.run_ends.specs.Links.{programLent};
-ghost use Rattle.report.specs.Links.{Shows, printed, Listable, imageText};
-
-// A refusal. It is measured first, with no room to write into.
-pub fn print_refused(n: u8, out: &mut [u8]) -> usize
-    ensures { λ r. ⌜ record { count = r; out = now (out .exit) } ≡ printed (refusedLine n) (now (out .entry)) ⌝ }
-{
-    let none = 0;
-    let len = put_refused(n, &mut out[..none]);
-    if room(out.len(), 1) < len {
-        return 0;
-    }
-    put_refused(n, out)
-}
-
-// What a run answered, with the stores as it left them. Likewise measured first.
-fn print_report(r: RunResult, cells: &[u64], backtrace: &[u32], out: &mut [u8]) -> usize
-    requires { ⌜ Shows r (now cells) (now backtrace) ⌝ }
-    ensures { λ n. ⌜ ((stack : List ℕ) (frames : List Frame) (copy : List ℕ) → record { count = n; out = now (out .exit) } ≡ printed (reportOf (answerIn (record { stack = stack; cells = now (cells .entry); frames = frames; copy = copy; backtrace = now (backtrace .entry) }) r)) (now (out .entry))) ⌝ }
-{
-    let none = 0;
-    let len = put_report(r, cells, backtrace, &mut out[..none]);
-    if room(out.len(), 1) < len {
-        return 0;
-    }
-    put_report(r, cells, backtrace, out)
-}
-
-// The listing of a program in good order, or its refusal.
-fn list_program<'a>(
-    c: Counts,
-    functions: &[u64],
-    text: &[u8],
-    main: &'a [u8],
-    other: &'a [u8],
-    out: &mut [u8],
-) -> usize
-    requires { ⌜ ((rest : Stores) → listOrder c (lent rest (now functions) (now text) (now main) (now other)) ≡ true) ⌝ }
-    ensures { λ r. ⌜ ((rest : Stores) → record { count = r; out = now (out .exit) } ≡ printed (listedText (listingOf (programIn c (lent rest (now (functions .entry)) (now (text .entry)) (now (main .entry)) (now (other .entry)))))) (now (out .entry))) ⌝ }
-{
-    let told = disassemble(c, functions, text, main, other, out);
-    match told {
-        Told::Number(n) => n,
-        Told::Refused(n) => {
-            if n == 17 {
-                return 0;
-            }
-            print_refused(n, out)
-        }
-    }
-}
-
-// The listing of what was loaded, or why nothing was.
-fn list_loaded<'a>(
-    loaded: Loaded,
-    functions: &[u64],
-    text: &[u8],
-    main: &'a [u8],
-    other: &'a [u8],
-    out: &mut [u8],
-) -> usize
-    requires { ⌜ ((rest : Stores) → Listable loaded (lent rest (now functions) (now text) (now main) (now other))) ⌝ }
-    ensures { λ r. ⌜ ((rest : Stores) → record { count = r; out = now (out .exit) } ≡ printed (loadedText loaded (lent rest (now (functions .entry)) (now (text .entry)) (now (main .entry)) (now (other .entry)))) (now (out .entry))) ⌝ }
-{
-    match loaded {
-        Loaded::Done(c) => list_program(c, functions, text, main, other, out),
-        Loaded::Broken(_) => print_refused(20, out),
-        Loaded::Refused(n) => print_refused(n, out),
-    }
-}
+ghost use Rattle.report_lines.specs.Links.{printed};
+ghost use Rattle.report.specs.Links.{imageText};
 
 // The report of a program's run, in stores of its own.
 fn run_program(

@@ -3,6 +3,7 @@ use crate::Answer;
 use crate::Completed;
 use crate::Fixed;
 use crate::Going;
+use layout::reads::lesser;
 use layout::reads::pack;
 use layout::reads::part;
 use model::Fault;
@@ -75,13 +76,6 @@ pub fn call_callable(
     enters(k, g, i, n, below, stack)
 }
 
-// The smaller of two numbers.
-fn smaller(a: usize, b: usize) -> usize
-    ensures { λ r. ⌜ r ≡ min a b ⌝ }
-{
-    if a < b { a } else { b }
-}
-
 // Return: with one frame the value is the run's to take; otherwise it stands where the callee's frame began, or lower if the stack is shorter.
 pub fn go_back(k: Fixed, g: Going, stack: &mut [u64]) -> Answer
     requires { ⌜ Within k g (now stack) ⌝ }
@@ -96,7 +90,7 @@ pub fn go_back(k: Fixed, g: Going, stack: &mut [u64]) -> Answer
         let going = Going { sp: below, ..g };
         return Answer::Returned(Completed { going, value: v });
     }
-    let at = smaller(g.base, below);
+    let at = lesser(g.base, below);
     let count = at + 1;
     words::write_value(stack, at, v);
     Answer::Back(Going { sp: count, ..g })

@@ -1,4 +1,5 @@
 // A value, a header and the last result as two words, the kind and the payload; and the stores that hold two words to a place.
+use layout::writes::put_words;
 use model::HALF;
 use model::Header;
 use model::Last;
@@ -112,21 +113,12 @@ pub fn read_header(s: &[u64], i: usize) -> Header
     }
 }
 
-// Puts two words at place i.
-fn write_words(s: &mut [u64], i: usize, kind: u64, payload: u64)
-    requires { ⌜ 2 * i + 2 ≤ length (now s) ⌝ }
-    ensures { λ _. ⌜ now (s .exit) ≡ putWords (now (s .entry)) i kind payload ⌝ }
-{
-    s[2 * i] = kind;
-    s[2 * i + 1] = payload;
-}
-
 // Puts v at place i.
 pub fn write_value(s: &mut [u64], i: usize, v: Value)
     requires { ⌜ 2 * i + 2 ≤ length (now s) ⌝ }
     ensures { λ _. ⌜ Written (now (s .entry)) i (item v) (now (s .exit)) ⌝ }
 {
-    write_words(s, i, kind_of(v), payload_of(v));
+    put_words(s, i, kind_of(v), payload_of(v));
 }
 
 // Puts the header h at place i.
@@ -135,7 +127,7 @@ pub fn write_header(s: &mut [u64], i: usize, h: Header)
     ensures { λ _. ⌜ Written (now (s .entry)) i (head h) (now (s .exit)) ⌝ }
 {
     let payload = h.count as u64 + 0x1_0000 * (h.number as u64) + HALF * (h.depth as u64);
-    write_words(s, i, 6, payload);
+    put_words(s, i, 6, payload);
 }
 
 // Whether a kind and a payload are exactly the words of a value.

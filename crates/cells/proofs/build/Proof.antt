@@ -1,4 +1,5 @@
 -- `cells::build` meets its contract.
+use mathlib.Core.Path.{refl}
 use borrow.Author.Needs.{needs}
 use Rattle.cells.proofs.build.Statement.{statement}
 use Rattle.cells.proofs.build.Tie as tie
@@ -14,8 +15,8 @@ same-length c = search
 returns : tie.Need-returns
 returns c = search too-deep
 
-room-of-requires : tie.Need-room-of-requires
-room-of-requires c κs = search
+room-requires : tie.Need-room-requires
+room-requires c κs = omega arith
 
 add-end : tie.Need-add-end
 add-end c = search needs
@@ -27,19 +28,24 @@ same-length-2 : tie.Need-same-length-2
 same-length-2 c = search
 
 returns-2 : tie.Need-returns-2
-returns-2 c = search cells-full
+returns-2 c =
+    let at-room = c .before in
+    let at-start = at-room .before .before .before .before .before .before in
+    let room-is = at-room .room .ensures (at-start .args .cells .now) refl in
+    search cells-full
 
 add-copy : tie.Need-add-copy
 add-copy c = search needs
 
 write-header-requires : tie.Need-write-header-requires
 write-header-requires c κs =
-    let at-if1 = c .before .before .before .before in
-    let at-start = at-if1 .before .before .before .before .before in (
+    let at-room = c .before .before in
+    let at-start = at-room .before .before .before .before .before .before in
+    let room-is = at-room .room .ensures (at-start .args .cells .now) refl in (
       search room-head,
       at-start .pre .0 .count,
       at-start .pre .1,
-      let l = at-if1 .if1 .left in
+      let l = at-room .before .if1 .left in
           omega arith,
     )
 
@@ -50,21 +56,26 @@ copy-requires : tie.Need-copy-requires
 copy-requires c κs =
     let at-write-header = c .before .before .before in
     let at-if2 = at-write-header .before .before in
-    let at-room-of = at-if2 .before in
-    let at-if1 = at-room-of .before .before in
+    let at-room = at-if2 .before in
+    let at-if1 = at-room .before in
     let at-deepest-of = at-if1 .before in
     let at-start = at-deepest-of .before .before .before .before in (
       at-start .pre .0 .enough,
       at-start .pre .0 .stack,
       room-copy _ _ _ _ _ _ _ (at-start .pre .0) _ (at-deepest-of .deepest-of .ensures) (at-if1 .if1 .left) _
-          (at-room-of .room-of .ensures) (at-if2 .if2 .left) _ (at-write-header .write-header .ensures),
+          (at-room .room .ensures (at-start .args .cells .now) refl) (at-if2 .if2 .left) _
+          (at-write-header .write-header .ensures),
     )
 
 same-length-3 : tie.Need-same-length-3
 same-length-3 c = search needs
 
 returns-3 : tie.Need-returns-3
-returns-3 c = search built-is
+returns-3 c =
+    let at-room = c .before .before .before .before .before .before .before .before .before in
+    let at-start = at-room .before .before .before .before .before .before in
+    let room-is = at-room .room .ensures (at-start .args .cells .now) refl in
+    search built-is
 
 pub build-spec : {M : Type 1} → statement M
 build-spec =
@@ -73,7 +84,7 @@ build-spec =
     deepest-of-requires
     same-length
     returns
-    room-of-requires
+    room-requires
     add-end
     add-end-2
     same-length-2

@@ -1,63 +1,50 @@
 -- `cells::same_text` meets its contract.
+use borrow.Author.Needs.{needs}
+use Rattle.cells.proofs.Texts.{texts-same}
 use Rattle.cells.proofs.same_text.Statement.{statement}
 use Rattle.cells.proofs.same_text.Tie as tie
-use borrow.Author.Needs.{needs}
-use Prim.Native.Nat.{_-_}
-use Rattle.cells.proofs.Texts.{Run, lengths-differ, run-start, run-end, run-more, bytes-differ}
 
-abbrev Inv-loop : tie.InvT-loop
-Inv-loop text o n p m a b count i₀ i = Run text o n p m i
+add-to : tie.Need-add-to
+add-to c = search needs
 
-abbrev μ-loop : tie.MeasureT-loop
-μ-loop text o n p m a b count i₀ i = n - i
+add-end : tie.Need-add-end
+add-end c = search needs
 
-returns : tie.Need-returns Inv-loop μ-loop
-returns c = search lengths-differ
+sub-same-bytes : tie.Need-sub-same-bytes
+sub-same-bytes c = search needs
 
-loop-holds : tie.Need-loop-holds Inv-loop μ-loop
-loop-holds c = search run-start
+part-same-bytes-start : tie.Need-part-same-bytes-start
+part-same-bytes-start c = search needs
 
-add-if2 : tie.Need-add-if2 Inv-loop μ-loop
-add-if2 c = search needs
+part-same-bytes-end : tie.Need-part-same-bytes-end
+part-same-bytes-end c = search needs
 
-shared-slice-read-if2 : tie.Need-shared-slice-read-if2 Inv-loop μ-loop
-shared-slice-read-if2 c = search needs
+sub-same-bytes-2 : tie.Need-sub-same-bytes-2
+sub-same-bytes-2 c = search needs
 
-add-if2-2 : tie.Need-add-if2-2 Inv-loop μ-loop
-add-if2-2 c = search needs
+part-same-bytes-start-2 : tie.Need-part-same-bytes-start-2
+part-same-bytes-start-2 c = search needs
 
-shared-slice-read-if2-2 : tie.Need-shared-slice-read-if2-2 Inv-loop μ-loop
-shared-slice-read-if2-2 c = search needs
+part-same-bytes-end-2 : tie.Need-part-same-bytes-end-2
+part-same-bytes-end-2 c = search needs
 
-returns-2 : tie.Need-returns-2 Inv-loop μ-loop
-returns-2 c = search bytes-differ
+same-bytes-requires : tie.Need-same-bytes-requires
+same-bytes-requires c κs = search
 
-add-i : tie.Need-add-i Inv-loop μ-loop
-add-i c = search needs
-
-loop-less : tie.Need-loop-less Inv-loop μ-loop
-loop-less c = search needs
-
-loop-again : tie.Need-loop-again Inv-loop μ-loop
-loop-again c = search run-more
-
-returns-3 : tie.Need-returns-3 Inv-loop μ-loop
-returns-3 c = search run-end
+returns : tie.Need-returns
+returns c = texts-same _ _ _ _ _ (c .same-bytes .ensures)
 
 pub same-text-spec : {M : Type 1} → statement M
 same-text-spec =
     tie.close
     (tie.spec
-    Inv-loop
-    μ-loop
-    returns
-    loop-holds
-    add-if2
-    shared-slice-read-if2
-    add-if2-2
-    shared-slice-read-if2-2
-    returns-2
-    add-i
-    loop-less
-    loop-again
-    returns-3)
+    add-to
+    add-end
+    sub-same-bytes
+    part-same-bytes-start
+    part-same-bytes-end
+    sub-same-bytes-2
+    part-same-bytes-start-2
+    part-same-bytes-end-2
+    same-bytes-requires
+    returns)

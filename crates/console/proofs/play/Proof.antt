@@ -1,9 +1,9 @@
 -- `play`: a line a turn, each one of those that are left.
 use borrow.Author.Needs.{needs}
-use Rattle.console.specs.Lines.{weight}
-use Rattle.console.specs.Calls.{Held, held}
+use Rattle.console_script.specs.Lines.{weight}
+use Rattle.console_frames.specs.Calls.{Held, held}
 use Rattle.console.specs.Turns.{Played}
-use Rattle.console.proofs.Weights.{falls-on}
+use Rattle.console_script.proofs.Weights.{falls-on}
 use Rattle.console.proofs.Turning.{one-line, all-lines}
 use Rattle.console.proofs.play.Statement.{statement}
 use Rattle.console.proofs.play.Tie as tie

@@ -1,5 +1,5 @@
 use borrow.Author.Needs.{needs}
-use Rattle.console.specs.Words.{blank}
+use Rattle.console_script.specs.Words.{blank}
 use Rattle.console.proofs.Turning.{turned-line, frames-asked, other-asked}
 use Rattle.console.proofs.turn.Statement.{statement}
 use Rattle.console.proofs.turn.Tie as tie

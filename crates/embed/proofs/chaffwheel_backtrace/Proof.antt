@@ -17,11 +17,11 @@ use Rattle.run_ends.specs.Links.{programLent}
 use Rattle.machine.proofs.Tests.{is-zero, not-zero}
 use Rattle.embed_words.specs.Coding.{vmIn, slicesRefusal, atEntry, crossed, toldCoded, outThrough}
 use Rattle.embed.proofs.Own.{trace-says}
-use Rattle.embed.proofs.Through.{out-through, out-refused}
-use Rattle.embed_words.proofs.slices_refusal as why
-use Rattle.embed_words.proofs.slices_refusal.Symbol as why-def
-use Rattle.embed_words.proofs.slices_refusal.Symbol.{name as #why}
-use Rattle.embed_words.proofs.slices_refusal.Met as why-thm
+use Rattle.laws_embed.proofs.Through.{out-through, out-refused}
+use Rattle.embed_refusals.proofs.slices_refusal as why
+use Rattle.embed_refusals.proofs.slices_refusal.Symbol as why-def
+use Rattle.embed_refusals.proofs.slices_refusal.Symbol.{name as #why}
+use Rattle.embed_refusals.proofs.slices_refusal.Met as why-thm
 use Rattle.embed_words.proofs.vm_of as rec
 use Rattle.embed_words.proofs.vm_of.Symbol as rec-def
 use Rattle.embed_words.proofs.vm_of.Symbol.{name as #rec}
@@ -34,14 +34,14 @@ use Rattle.machine.proofs.tracing.trace_order as judge
 use Rattle.machine.proofs.tracing.trace_order.Symbol as judge-def
 use Rattle.machine.proofs.tracing.trace_order.Symbol.{name as #judge}
 use Rattle.machine.proofs.tracing.trace_order.Met as judge-thm
-use Rattle.embed_words.proofs.crossed_order as not
-use Rattle.embed_words.proofs.crossed_order.Symbol as not-def
-use Rattle.embed_words.proofs.crossed_order.Symbol.{name as #not}
-use Rattle.embed_words.proofs.crossed_order.Met as not-thm
-use Rattle.embed_words.proofs.tell as tells
-use Rattle.embed_words.proofs.tell.Symbol as tells-def
-use Rattle.embed_words.proofs.tell.Symbol.{name as #tells}
-use Rattle.embed_words.proofs.tell.Met as tells-thm
+use Rattle.embed_refusals.proofs.crossed_order as not
+use Rattle.embed_refusals.proofs.crossed_order.Symbol as not-def
+use Rattle.embed_refusals.proofs.crossed_order.Symbol.{name as #not}
+use Rattle.embed_refusals.proofs.crossed_order.Met as not-thm
+use Rattle.embed_answers.proofs.tell as tells
+use Rattle.embed_answers.proofs.tell.Symbol as tells-def
+use Rattle.embed_answers.proofs.tell.Symbol.{name as #tells}
+use Rattle.embed_answers.proofs.tell.Met as tells-thm
 use Rattle.embed.proofs.chaffwheel_backtrace.Key.{name as #me}
 use Rattle.embed.proofs.chaffwheel_backtrace as me
 use Rattle.embed.proofs.chaffwheel_backtrace.Statement as stated
@@ -362,15 +362,15 @@ chaffwheel-backtrace-spec 𝓤 H 𝓜 𝓖 𝓡 =
     closed kinds u32 𝓤 H 𝓜 𝓖 𝓡 code.env #me code.function (code.unfolded 𝓤 H 𝓜 𝓡) (me.clauses 𝓤 H (𝓖 .A) (𝓜 .mem) (𝓡 .run))
     (λ κs qs a g is. unneeded 𝓤 _
     (walk 𝓤 H (𝓖 .A) W (𝓜 .mem) (𝓡 .run) (tablesOf 𝓤 H 𝓜 (tables 𝓤 H 𝓜 𝓡 code.env))
-    (cited 𝓤 H (Why 𝓤 H (𝓖 .A) W (𝓜 .mem) (𝓡 .run)) 𝓜 𝓡 code.env #why why-def.routine code.calls-embed-words·slices-refusal
+    (cited 𝓤 H (Why 𝓤 H (𝓖 .A) W (𝓜 .mem) (𝓡 .run)) 𝓜 𝓡 code.env #why why-def.routine code.calls-embed-refusals·slices-refusal
     (why-thm.met 𝓤 H 𝓜 𝓖 𝓡))
     (cited 𝓤 H (Rec 𝓤 H (𝓖 .A) W (𝓜 .mem) (𝓡 .run)) 𝓜 𝓡 code.env #rec rec-def.routine code.calls-embed-words·vm-of
     (rec-thm.met 𝓤 H 𝓜 𝓖 𝓡))
     (cited 𝓤 H (Entry 𝓤 H (𝓖 .A) W (𝓜 .mem) (𝓡 .run)) 𝓜 𝓡 code.env #entry entry-def.routine code.calls-machine·backtrace
     (entry-thm.met 𝓤 H 𝓜 𝓖 𝓡))
-    (cited 𝓤 H (Tells 𝓤 H (𝓖 .A) W (𝓜 .mem) (𝓡 .run)) 𝓜 𝓡 code.env #tells tells-def.routine code.calls-embed-words·tell
+    (cited 𝓤 H (Tells 𝓤 H (𝓖 .A) W (𝓜 .mem) (𝓡 .run)) 𝓜 𝓡 code.env #tells tells-def.routine code.calls-embed-answers·tell
     (tells-thm.met 𝓤 H 𝓜 𝓖 𝓡))
     (cited 𝓤 H (Judge 𝓤 H (𝓖 .A) W (𝓜 .mem) (𝓡 .run)) 𝓜 𝓡 code.env #judge judge-def.routine code.calls-machine·tracing·trace-order
     (judge-thm.met 𝓤 H 𝓜 𝓖 𝓡))
-    (cited 𝓤 H (Not 𝓤 H (𝓖 .A) W (𝓜 .mem) (𝓡 .run)) 𝓜 𝓡 code.env #not not-def.routine code.calls-embed-words·crossed-order
+    (cited 𝓤 H (Not 𝓤 H (𝓖 .A) W (𝓜 .mem) (𝓡 .run)) 𝓜 𝓡 code.env #not not-def.routine code.calls-embed-refusals·crossed-order
     (not-thm.met 𝓤 H 𝓜 𝓖 𝓡)) κs qs a is))

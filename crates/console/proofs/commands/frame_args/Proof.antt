@@ -1,5 +1,5 @@
 use borrow.Author.Needs.{needs}
-use Rattle.console.specs.Damage.{frameArgs}
+use Rattle.console_damage.specs.Damage.{frameArgs}
 use Rattle.console.proofs.commands.frame_args.Statement.{statement}
 use Rattle.console.proofs.commands.frame_args.Tie as tie
 

@@ -1,5 +1,5 @@
 use borrow.Author.Needs.{needs}
-use Rattle.console.specs.Sums.{sumOf}
+use Rattle.console_damage.specs.Sums.{sumOf}
 use Rattle.console.proofs.commands.sum.Statement.{statement}
 use Rattle.console.proofs.commands.sum.Tie as tie
 

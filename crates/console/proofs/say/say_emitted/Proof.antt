@@ -1,5 +1,6 @@
 use borrow.Author.Needs.{needs}
-use Rattle.console.specs.Said.{withProgram, afterEmitted}
+use Rattle.console.specs.Said.{afterEmitted}
+use Rattle.console_damage.specs.Damage.{withProgram}
 use Rattle.console.proofs.say.say_emitted.Statement.{statement}
 use Rattle.console.proofs.say.say_emitted.Tie as tie
 

@@ -32,8 +32,8 @@ same-length-2 c = search
 returns-2 : tie.Need-returns-2
 returns-2 c = search returns-last
 
-smaller-requires : tie.Need-smaller-requires
-smaller-requires c κs = search
+lesser-requires : tie.Need-lesser-requires
+lesser-requires c κs = search
 
 add-count : tie.Need-add-count
 add-count c = search needs
@@ -45,7 +45,7 @@ write-value-requires c κs =
       let at-v = c .before .before .before .before .before in
           let at-pop = at-v .before .before in
           got-some _ _ (at-pop .pop .ensures) (at-v .v .given .1),
-      c .before .smaller .ensures,
+      c .before .lesser .ensures,
     )
 
 same-length-3 : tie.Need-same-length-3
@@ -66,7 +66,7 @@ go-back-spec =
     sub-below
     same-length-2
     returns-2
-    smaller-requires
+    lesser-requires
     add-count
     write-value-requires
     same-length-3

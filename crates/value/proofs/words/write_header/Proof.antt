@@ -16,8 +16,8 @@ mul-payload-2 c = search needs
 add-payload-2 : tie.Need-add-payload-2
 add-payload-2 c = search needs
 
-write-words-requires : tie.Need-write-words-requires
-write-words-requires c κs = search
+put-words-requires : tie.Need-put-words-requires
+put-words-requires c κs = search
 
 same-length : tie.Need-same-length
 same-length c = search
@@ -26,7 +26,7 @@ returns : tie.Need-returns
 unfolding putCell
 returns c =
     let at-start = c .before .before .before .before .before in
-    record { stored = c .before .before .write-words .ensures; fine = (at-start .pre .1, at-start .pre .2, at-start .pre .3) }
+    record { stored = c .before .before .put-words .ensures; fine = (at-start .pre .1, at-start .pre .2, at-start .pre .3) }
 
 pub write-header-spec : {M : Type 1} → statement M
 write-header-spec =
@@ -36,6 +36,6 @@ write-header-spec =
     add-payload
     mul-payload-2
     add-payload-2
-    write-words-requires
+    put-words-requires
     same-length
     returns)

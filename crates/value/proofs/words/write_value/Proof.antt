@@ -10,8 +10,8 @@ kind-of-requires c κs = search
 payload-of-requires : tie.Need-payload-of-requires
 payload-of-requires c κs = search
 
-write-words-requires : tie.Need-write-words-requires
-write-words-requires c κs = search
+put-words-requires : tie.Need-put-words-requires
+put-words-requires c κs = search
 
 same-length : tie.Need-same-length
 same-length c = search
@@ -22,4 +22,4 @@ returns c = search wrote
 pub write-value-spec : {M : Type 1} → statement M
 write-value-spec =
     tie.close
-    (tie.spec kind-of-requires payload-of-requires write-words-requires same-length returns)
+    (tie.spec kind-of-requires payload-of-requires put-words-requires same-length returns)

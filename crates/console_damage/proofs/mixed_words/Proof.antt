@@ -1,0 +1,47 @@
+use borrow.Author.Needs.{needs}
+use mathlib.Core.Path.{_≡_, refl}
+use native.Mathlib.Omega.{arith}
+use Prim.Native.Nat.{_-_}
+use lib.ListN.{length, drop}
+use Rattle.console_damage.specs.Sums.{mixedAll}
+use Rattle.console_script.proofs.Alongs.{along-on, along-end}
+use Rattle.console_damage.proofs.mixed_words.Statement.{statement}
+use Rattle.console_damage.proofs.mixed_words.Tie as tie
+
+abbrev Inv-loop : tie.InvT-loop
+Inv-loop h s sum₀ i₀ sum i = mixedAll h s ≡ mixedAll sum (drop i s)
+
+abbrev μ-loop : tie.MeasureT-loop
+μ-loop h s sum₀ i₀ sum i = length s - i
+
+loop-holds : tie.Need-loop-holds Inv-loop μ-loop
+unfolding mixedAll
+loop-holds c = refl
+
+mul-mixed : tie.Need-mul-mixed Inv-loop μ-loop
+mul-mixed c = search needs
+
+shared-slice-read-mixed : tie.Need-shared-slice-read-mixed Inv-loop μ-loop
+shared-slice-read-mixed c = search needs
+
+mixed-requires : tie.Need-mixed-requires Inv-loop μ-loop
+mixed-requires c κs = search needs
+
+add-i : tie.Need-add-i Inv-loop μ-loop
+add-i c = omega arith
+
+loop-less : tie.Need-loop-less Inv-loop μ-loop
+loop-less c = omega arith
+
+loop-again : tie.Need-loop-again Inv-loop μ-loop
+unfolding mixedAll
+loop-again c = along-on _ _ _ (c .before .before .before .loop .inv) (c .before .before .loop-test .taken) (c .mixed .ensures)
+
+returns : tie.Need-returns Inv-loop μ-loop
+unfolding mixedAll
+returns c = along-end _ _ _ (c .before .loop .inv) (c .loop-test .left)
+
+pub mixed-words-spec : {M : Type 1} → statement M
+mixed-words-spec =
+    tie.close
+    (tie.spec Inv-loop μ-loop loop-holds mul-mixed shared-slice-read-mixed mixed-requires add-i loop-less loop-again returns)

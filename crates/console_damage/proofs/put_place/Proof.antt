@@ -1,0 +1,28 @@
+use borrow.Author.Needs.{needs}
+use borrow.Author.Tests.{lt-ltb, le-ltb}
+use Rattle.console_damage.specs.Damage.{putAt}
+use Rattle.console_damage.proofs.put_place.Statement.{statement}
+use Rattle.console_damage.proofs.put_place.Tie as tie
+
+cast-s : tie.Need-cast-s
+cast-s c = search needs
+
+mul-s : tie.Need-mul-s
+mul-s c = search needs
+
+slice-write-s : tie.Need-slice-write-s
+slice-write-s c = search needs
+
+same-length : tie.Need-same-length
+same-length c = search needs
+
+returns : tie.Need-returns
+unfolding putAt
+returns c = (rw (lt-ltb _ _ (c .if1 .taken)), rw (lt-ltb _ _ (c .if1 .taken)))
+
+returns-2 : tie.Need-returns-2
+unfolding putAt
+returns-2 c = (rw (le-ltb _ _ (c .if1 .left)), rw (le-ltb _ _ (c .if1 .left)))
+
+pub put-place-spec : {M : Type 1} → statement M
+put-place-spec = tie.close (tie.spec cast-s mul-s slice-write-s same-length returns returns-2)

@@ -1,0 +1,67 @@
+-- What a call over frames leaves, from what the machine's entry says of it.
+use mathlib.Core.Path.{_≡_, refl, ap, sym, _∙_}
+use mathlib.Core.List.{List}
+use Prim.Native.Nat.{ℕ}
+use Rattle.model.specs.declared.Vm.{Vm}
+use Rattle.model.specs.declared.Frame.{Frame}
+use Rattle.model.specs.declared.Started.{Started}
+use Rattle.model.specs.declared.RunResult.{RunResult}
+use Rattle.model.specs.declared.Told.{Told}
+use Rattle.model.specs.Stores.{Stores}
+use Rattle.model.specs.Loading.{OutRes}
+use Rattle.model.specs.Machines.{StartRes, RunPost, newMachineOf, loadMachineOf, backtraceIn}
+use Rattle.layout.specs.Links.{namesLent}
+use Rattle.model.specs.Stores.{storesOf}
+use Rattle.run_ends.specs.Links.{programLent}
+use Rattle.machine.specs.Links.{runLent}
+use Rattle.console_frames.specs.declared.Call.the-variants.{New, Load, Run, Trace}
+use Rattle.console_frames.specs.declared.Answer.{Answer}
+use Rattle.console_frames.specs.declared.Answer.the-variants.{Made, Ran, Traced}
+use Rattle.console_frames.specs.Resting.{allKept}
+use Rattle.console_frames.specs.Calls.{Held, held, madeIn, Making, lentIn, Running, tracedIn, Tracing, Called}
+
+making : (w : StartRes) (s : Held) {x : Started} {p : Stores} {fs′ : List Frame} → record { answer = x; stores = p; frames = fs′ } ≡ w → {r : Answer} → r ≡ Made x
+    → {words′ : List ℕ} → words′ ≡ allKept fs′ (s .frames)
+    → Making w s r fs′ (record { program = p; stack = s .stack; cells = s .cells; copy = s .copy; trace = s .trace; frames = words′ })
+unfolding madeIn
+making w s e er ek = rw (← e) (record { answer = er; frames = refl; stores = rw ek })
+
+tracing : (w : OutRes) (fs : List Frame) (s : Held) {x : Told} {out : List ℕ} → record { answer = x; out = out } ≡ w → {r : Answer} → r ≡ Traced x
+    → Tracing w fs s r fs (record { program = s .program; stack = s .stack; cells = s .cells; copy = s .copy; trace = out; frames = s .frames })
+unfolding tracedIn
+tracing w fs s e er = rw (← e) (record { answer = er; same = refl; stores = refl })
+
+module _ (m : Vm) (image constants structs functions text main mainPlaces other otherPlaces stack cells copy trace words : List ℕ) (fs : List Frame) where
+  abbrev before : Held
+  before = held constants structs functions text main mainPlaces other otherPlaces stack cells copy trace words
+
+  pub new-called : (functions′ text′ : List ℕ) {x : Started} {fs′ : List Frame}
+      → ((rest : Stores) → record { answer = x; stores = namesLent rest functions′ text′; frames = fs′ } ≡ newMachineOf (namesLent rest functions text) fs)
+      → {words′ : List ℕ} → words′ ≡ allKept fs′ words → {r : Answer} → r ≡ Made x
+      → Called m New image fs before r fs′ (held constants structs functions′ text′ main mainPlaces other otherPlaces stack cells copy trace words′)
+  unfolding Called namesLent
+  new-called functions′ text′ e ek er = making (newMachineOf (before .program) fs) before (e (before .program)) er ek
+
+  pub load-called : {constants′ structs′ functions′ text′ main′ mainPlaces′ other′ otherPlaces′ : List ℕ} {x : Started} {fs′ : List Frame}
+      → record { answer = x; stores = storesOf constants′ structs′ functions′ text′ main′ mainPlaces′ other′ otherPlaces′; frames = fs′ }
+      ≡ loadMachineOf image (storesOf constants structs functions text main mainPlaces other otherPlaces) fs
+      → {words′ : List ℕ} → words′ ≡ allKept fs′ words → {r : Answer} → r ≡ Made x
+      → Called m Load image fs before r fs′ (held constants′ structs′ functions′ text′ main′ mainPlaces′ other′ otherPlaces′ stack cells copy trace words′)
+  unfolding Called
+  load-called e ek er = making (loadMachineOf image (before .program) fs) before e er ek
+
+  pub run-called : (units : ℕ) (stack′ cells′ : List ℕ) (fs′ : List Frame) (copy′ trace′ : List ℕ) {x : RunResult}
+      → RunPost m (programLent structs constants functions text main mainPlaces other otherPlaces) (runLent stack cells fs copy trace) units x
+      (runLent stack′ cells′ fs′ copy′ trace′)
+      → {words′ : List ℕ} → words′ ≡ allKept fs′ words → {r : Answer} → r ≡ Ran x
+      → Called m (Run units) image fs before r fs′ (held constants structs functions text main mainPlaces other otherPlaces stack′ cells′ copy′ trace′ words′)
+  unfolding Called programLent runLent lentIn
+  run-called units stack′ cells′ fs′ copy′ trace′ {x} p ek er = record { result = x; answer = er; post = p; program = refl; words = ek }
+
+  pub trace-called : {trace′ : List ℕ} {x : Told}
+      → ((structs′ constants′ : List ℕ) → record { answer = x; out = trace′ } ≡ backtraceIn m
+      (programLent structs′ constants′ functions text main mainPlaces other otherPlaces) stack fs trace)
+      → {r : Answer} → r ≡ Traced x
+      → Called m Trace image fs before r fs (held constants structs functions text main mainPlaces other otherPlaces stack cells copy trace′ words)
+  unfolding Called programLent
+  trace-called e er = tracing (backtraceIn m (before .program) stack fs trace) fs before (e structs constants) er

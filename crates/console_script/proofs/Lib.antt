@@ -1,0 +1,4 @@
+pub mod Weights
+pub mod Alongs
+pub mod Nexts
+pub mod Numbers

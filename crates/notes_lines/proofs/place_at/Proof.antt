@@ -1,0 +1,20 @@
+-- `place_at`: past the end there is 0.
+use Rattle.layout.proofs.Parts.{past}
+use borrow.Author.Needs.{needs}
+use Rattle.notes_lines.proofs.place_at.Statement.{statement}
+use Rattle.notes_lines.proofs.place_at.Tie as tie
+
+mul-result : tie.Need-mul-result
+mul-result c = search needs
+
+shared-slice-read-result : tie.Need-shared-slice-read-result
+shared-slice-read-result c = search needs
+
+returns : tie.Need-returns
+returns c = search needs
+
+returns-2 : tie.Need-returns-2
+returns-2 c = search past
+
+pub place-at-spec : {M : Type 1} → statement M
+place-at-spec = tie.close (tie.spec mul-result shared-slice-read-result returns returns-2)
