@@ -11,7 +11,7 @@ use Rattle.model.specs.declared.Fault.{Fault}
 use Rattle.model.specs.Values.{faultNumber}
 use Rattle.model.specs.Heap.{Cell, placedBelow}
 use Rattle.model.specs.Trees.{meaning}
-use Rattle.model.specs.Steps.{World, State, Outcome, went, returned, faulted}
+use Rattle.model.specs.Steps.{World, State, Outcome, went, returned, faulted, short}
 use Rattle.model.specs.Runs.{Machine, machineOf}
 
 -- ---- values, each over its text and in its heap
@@ -73,3 +73,4 @@ pub data AlikeOutcome (w : World) (o : Layout) : Outcome → Outcome → Type 0 
   goes : {s s' : State} → AlikeState w o s s' → AlikeOutcome w o (went s) (went s')
   returns : {x x' : Value} {s s' : State} → AlikeValue (w .text) (o .text) (s .heap) (s' .heap) x x' → AlikeState w o s s' → AlikeOutcome w o (returned x s) (returned x' s')
   faults : {i i' : Fault} {s s' : State} → faultNumber i ≡ faultNumber i' → AlikeState w o s s' → AlikeOutcome w o (faulted i s) (faulted i' s')
+  runs-short : AlikeOutcome w o short short

@@ -8,13 +8,13 @@ use lib.ListN.{length}
 use Rattle.model.specs.declared.Value.{Value}
 use Rattle.model.specs.declared.Fault.{Fault}
 use Rattle.model.specs.Steps.{World, State, went, returned, stepOf}
-use Rattle.model.specs.Runs.{Machine, begin, Progress, atStart, counted, Ended, ended, stopped, over, endOf, traceable, recovered, settle, runOf}
+use Rattle.model.specs.Runs.{Machine, begin, Progress, atStart, counted, Ended, ended, stopped, paused, over, endOf, traceable, cutAt, recovered, abandoned, settle, runOf}
 use Rattle.laws_runs.specs.Sane.{SaneWorld, CallersFit, Rooted, Sane, SaneMark, Returns, Faults, Kept}
-use Rattle.laws_runs.specs.Paths.{Grows, endFrom, Steps, none, on, ret, EndedBy, StoppedBy}
+use Rattle.laws_runs.specs.Paths.{Grows, endFrom, Steps, none, on, ret, EndedBy, StoppedBy, PausedBy}
 use Rattle.laws_runs.proofs.Ends.{end-of}
 use Rattle.laws_runs.proofs.Paths.{run-path, marked, mark-grows}
 use Rattle.laws_runs.proofs.Placed.{all-grows}
-use Rattle.laws_runs.proofs.Keeps.{code-fits, step-keeps}
+use Rattle.laws_runs.proofs.Keeps.{code-fits, cut-faults, step-keeps}
 
 -- good order does not ask for the units
 pub other-units : {w : World} {m : Machine} {u : ℕ} (n : ℕ) → Sane w (begin m u) → Sane w (begin m n)
@@ -68,6 +68,10 @@ module _ (w : World) (good : SaneWorld w) where
       let f : Faults w (r .at) t = subst (Kept w (r .at)) (r .stops) (step-keeps w (r .at) good (path-sane h (r .path)) (r .goes-on)) in
       f .traced
 
+  -- so does that of a run that is given up
+  pub run-cut : (m : Progress) (s : State) {k : Progress} {t : State} → Sane w s → endFrom w m s ≡ paused k t → Faults w t (cutAt t)
+  run-cut m s {k} {t} h q = let r : PausedBy w m s k t = run-path w m s q in cut-faults w t (path-sane h (r .path)) (r .goes-on)
+
   -- the starting stack over a good mark that has the starting cells at its front
   pub recover-sane : (m : Machine) (u n : ℕ) (k : Progress) → Sane w (begin m u) → SaneMark w k → Grows (m .heap) (k .heap) → Sane w (begin (recovered w m k) n)
   unfolding recovered CallersFit Rooted
@@ -95,10 +99,17 @@ module _ (w : World) (good : SaneWorld w) where
         let r : StoppedBy w (atStart s) s n t k = run-path w (atStart s) s (sym (end-of w s) ∙ q) in
         recover-sane m u i k h (path-mark h (mark-sane h) (r .path)) (mark-grows w (marked s) (r .path))
 
+    abandoned-sane : {t : State} {k : Progress} → endOf w (begin m u) ≡ paused k t → (i : ℕ) → Sane w (begin (recovered w m k) i)
+    abandoned-sane {t} {k} q i =
+        let s = begin m u in
+        let r : PausedBy w (atStart s) s k t = run-path w (atStart s) s (sym (end-of w s) ∙ q) in
+        recover-sane m u i k h (path-mark h (mark-sane h) (r .path)) (mark-grows w (marked s) (r .path))
+
     settled-sane : (e : Ended) → endOf w (begin m u) ≡ e → (i : ℕ) → Sane w (begin (settle w m u e .machine) i)
-    unfolding settle
+    unfolding settle abandoned
     settled-sane (ended k t) q i = other-units i (run-sane (atStart (begin m u)) (begin m u) h (sym (end-of w (begin m u)) ∙ q))
     settled-sane (stopped n t k) q i = recovered-sane q i
+    settled-sane (paused k t) q i = abandoned-sane q i
 
     -- so is what any run leaves
     pub ran-sane : (i : ℕ) → Sane w (begin (runOf w m u .machine) i)

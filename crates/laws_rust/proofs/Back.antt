@@ -12,7 +12,7 @@ use Rattle.model.specs.declared.Fault.the-variants as f
 use Rattle.model.specs.Values.{faultNumber}
 use Rattle.model.specs.Trees.{Tree}
 use Rattle.model.specs.Steps.{World, State}
-use Rattle.model.specs.Runs.{Machine, begin, Ended, ended, stopped, endOf, machineOf, answered, settle, runOf}
+use Rattle.model.specs.Runs.{Machine, begin, Ended, ended, stopped, paused, endOf, machineOf, answered, settle, runOf}
 use Rattle.laws_runs.specs.Sane.{SaneWorld, Sane}
 use Rattle.laws_rust.specs.Vm as rust
 use Rattle.laws_rust.specs.Vm.{Vm, Did, Result, run-without-cleanup}
@@ -93,8 +93,8 @@ module _ (w : World) (m : Machine) (u : ℕ) where
   answers-so (stopped f.FramesFull s k) l x h = absurd (true≢false l)
   answers-so (stopped f.CellsFull s k) l x h = absurd (true≢false l)
   answers-so (stopped f.TooDeep s k) l x h = absurd (true≢false l)
-  answers-so (stopped f.UnitsSpent s k) l x h = absurd (true≢false l)
   answers-so (stopped f.NoFunction s k) l x h = answers-as (stopped f.NoFunction s k) h refl
+  answers-so (paused k s) l x h = absurd l
 
 -- THE THEOREM, THE OTHER WAY: whatever the Rust comes to, in however many turns, the rules answer, and leave the machine that it leaves
 pub rust-same : (w : World) → SaneWorld w → length (w .functions) ≤ 65536 → (m : Machine) (u : ℕ) → Sane w (begin m u)

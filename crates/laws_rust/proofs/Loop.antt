@@ -11,8 +11,8 @@ use Rattle.model.specs.declared.Fault.{Fault}
 use Rattle.model.specs.declared.Fault.the-variants as f
 use Rattle.model.specs.Trees.{Tree}
 use Rattle.model.specs.Programs.{Function, functionAt}
-use Rattle.model.specs.Steps.{World, State, Outcome, went, returned, faulted, stepOf}
-use Rattle.model.specs.Runs.{Machine, begin, Progress, atStart, counted, Ended, ended, stopped, over, endOf, recovered, settle, runOf}
+use Rattle.model.specs.Steps.{World, State, Outcome, went, returned, faulted, short, stepOf}
+use Rattle.model.specs.Runs.{Machine, begin, Progress, atStart, counted, Ended, ended, stopped, paused, over, endOf, recovered, settle, runOf}
 use Rattle.laws_runs.specs.Sane.{LastPlaced, SaneWorld, Sane, SaneMark}
 use Rattle.laws_runs.specs.Paths.{Grows, Adds, Steps, EndedBy, StoppedBy, Marked}
 use Rattle.laws_runs.specs.Paths as paths
@@ -127,7 +127,6 @@ module _ (w : World) (m : Machine) (u : ℕ) (sane : Sane w (begin m u)) (k : Pr
     stops-so f.FramesFull h = tt
     stops-so f.CellsFull h = tt
     stops-so f.TooDeep h = tt
-    stops-so f.UnitsSpent h = tt
     stops-so f.NoFunction h = comes-to-panic h
 
 -- ---- a run
@@ -177,14 +176,14 @@ module _ (w : World) (good : SaneWorld w) (few : length (w .functions) ≤ 65536
       where
         on : (x : ℕ) → by .at .units ≡ x → RunAs w (recovered w m k) (stopped n t k) (rust.run (suc u + turns) (rustOf w m))
         on zero e =
-            let z : faulted f.UnitsSpent (by .at) ≡ faulted n t = sym (no-units w (by .at) e) ∙ by .stops in
-            let y : f.UnitsSpent ≡ n = cc in
-            subst (λ (i : Fault). RunAs w (recovered w m k) (stopped i t k) (rust.run (suc u + turns) (rustOf w m))) y tt
+            let z : short ≡ faulted n t = sym (no-units w (by .at) e) ∙ by .stops in
+            absurd (let y : _≡_ {A = ℕ} 0 1 = cc in let no : ⊥ = omega arith in no)
         on (suc x) e = stopped-paid turns (omega arith)
 
   settled-same : (e : Ended) → endOf w (begin m u) ≡ e → (turns : ℕ) → RunAs w (settle w m u e .machine) e (rust.run (suc u + turns) (rustOf w m))
   settled-same (ended k t) q turns = ended-same (run-path w (atStart (begin m u)) (begin m u) (sym (end-of w (begin m u)) ∙ q)) turns
   settled-same (stopped n t k) q turns = stopped-same (run-path w (atStart (begin m u)) (begin m u) (sym (end-of w (begin m u)) ∙ q)) turns
+  settled-same (paused k t) q turns = unfold RunAs in tt
 
 -- THE THEOREM: in one turn more than there are units, and in any more than that, the Rust comes to what the rules' run comes to, and leaves its machine
 pub run-same : (w : World) → SaneWorld w → length (w .functions) ≤ 65536 → (m : Machine) (u : ℕ) → Sane w (begin m u) → (turns : ℕ)

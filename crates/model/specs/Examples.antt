@@ -198,6 +198,10 @@ examples =
     ∷ (shown (run p4 1000000) shows ran (fault 8 (did 5 1) (entry 0 10 ∷ [])) [] (frame 0 12 0 ∷ []) (Is (scalarOf n1)))
     -- P5
     ∷ (shown (run p5 1000000) shows ran (value (v.Boolean true) (did 10 1)) [] (frame 0 20 0 ∷ []) (Is (v.Boolean true)))
+    -- given up: with 6 units before Equal, which was not fetched; with 7 and 8 in Equal, whose two pairs they do not pay for
+    ∷ (shown (run p5 6) shows ran (fault 13 (did 6 0) (entry 0 17 ∷ [])) [] (frame 0 20 0 ∷ []) Nothing)
+    ∷ (shown (run p5 7) shows ran (fault 13 (did 7 0) (entry 0 18 ∷ [])) [] (frame 0 20 0 ∷ []) Nothing)
+    ∷ (shown (run p5 8) shows ran (fault 13 (did 8 0) (entry 0 18 ∷ [])) [] (frame 0 20 0 ∷ []) Nothing)
     -- P6: both runs
     ∷ (shown (run p6 1000000) shows ran (continue (did 1 0)) [] (frame 1 0 0 ∷ frame 0 5 0 ∷ []) Nothing)
     ∷ (shown (again p6 1000000) shows ran (continue (did 0 0)) [] (frame 1 0 0 ∷ frame 0 5 0 ∷ []) Nothing)

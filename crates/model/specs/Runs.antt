@@ -2,20 +2,19 @@
 use mathlib.Core.Bool.{Bool, true, false, _&&_}
 use mathlib.Core.List.{List, [], _∷_}
 use Prim.Native.Nat.{ℕ, zero, suc, _-_}
-use lib.Dec.{ltb, leb}
+use lib.Dec.{ltb, leb, eqb}
 use lib.ListN.{length, getD}
 use Rattle.model.specs.declared.Value.{Value}
 use Rattle.model.specs.declared.Last.{Last}
 use Rattle.model.specs.declared.Last.the-variants.{Nothing, Is}
 use Rattle.model.specs.declared.Fault.{Fault}
-use Rattle.model.specs.declared.Fault.the-variants as f
 use Rattle.model.specs.declared.Frame.{Frame}
 use Rattle.model.specs.declared.Tally.{Tally}
 use Rattle.model.specs.Basics.{if_then_else_}
 use Rattle.model.specs.Values.{faultNumber}
 use Rattle.model.specs.Heap.{Cell}
 use Rattle.model.specs.Programs.{Function, functionAt}
-use Rattle.model.specs.Steps.{World, State, Outcome, went, returned, faulted, codeOf, position, stepOf}
+use Rattle.model.specs.Steps.{World, State, Outcome, went, returned, faulted, short, at, codeOf, position, stepOf}
 
 -- a machine between runs. Slots past its counts are no part of it.
 pub record Machine : Type 0 where
@@ -51,25 +50,28 @@ atStart s = record { answer = Nothing; returns = 0; heap = s .heap; last = s .la
 abbrev pub counted : Value → Progress → State → Progress
 counted v p s = record { answer = Is v; returns = suc (p .returns); heap = s .heap; last = s .last }
 
--- a run has ended, or a fault has stopped it
+-- a run has ended, or a fault has stopped it; or it is paused before an instruction that its units do not pay for, as it then stands
 pub data Ended : Type 0 where
   ended : Progress → State → Ended
   stopped : Fault → State → Progress → Ended
+  paused : Progress → State → Ended
 
--- after a step: the run goes on; so it does after a root Return, which has counted; a fault stops it
-unfoldable pub next : (goOn : Progress → State → Ended) → Progress → Outcome → Ended
-next goOn p (went s) = goOn p s
-next goOn p (returned v s) = goOn (counted v p s) s
-next goOn p (faulted n s) = stopped n s p
+-- after a step from `before`: the run goes on; so it does after a root Return, which has counted; a fault stops it; a step that cannot be paid for
+-- has changed nothing
+unfoldable pub next : (goOn : Progress → State → Ended) → Progress → (before : State) → Outcome → Ended
+next goOn p before (went s) = goOn p s
+next goOn p before (returned v s) = goOn (counted v p s) s
+next goOn p before (faulted n s) = stopped n s p
+next goOn p before short = paused p before
 
 -- [run.end] is looked at before each step
 unfoldable pub turn : World → (goOn : Progress → State → Ended) → (isOver : Bool) → Progress → State → Ended
 turn w goOn true p s = ended p s
-turn w goOn false p s = next goOn p (stepOf w s)
+turn w goOn false p s = next goOn p s (stepOf w s)
 
--- steps, until the run ends or a fault stops it; so many turns at most
+-- steps, until the run ends, or a fault stops it, or its units are short; so many turns at most
 unfoldable pub runFor : World → (turns : ℕ) → Progress → State → Ended
-runFor w zero p s = stopped f.UnitsSpent s p
+runFor w zero p s = paused p s
 runFor w (suc turns) p s = turn w (runFor w turns) (over w s) p s
 
 -- a whole run. Each step spends a unit, so there are never more turns than these.
@@ -129,16 +131,26 @@ unfoldable pub answered : Last → Tally → Reply
 answered Nothing t = continue t
 answered (Is v) t = value v t
 
+-- [abandon] where a run that is given up was cut: before an instruction that was not fetched; if units are left, they were too few for the pairs of a
+-- comparison, which had been fetched
+unfoldable pub cutAt : State → State
+cutAt s = at (if eqb (s .units) 0 then position s else suc (position s)) s
+
+-- [abandon] a run of m that is paused is given up: fault 13, and all u units that it was given count as spent
+unfoldable pub abandoned : World → Machine → ℕ → Progress → State → Ran
+abandoned w m u p s = record { reply = fault 13 (tally u p) (traceOf (w .functions) (cutAt s .frame ∷ cutAt s .callers)); machine = recovered w m p }
+
 -- u is how many units the run was given
 unfoldable pub settle : World → Machine → ℕ → Ended → Ran
 settle w m u (ended p s) = record { reply = answered (p .answer) (tally (u - s .units) p); machine = machineOf s }
 settle w m u (stopped n s p) = record { reply = fault (faultNumber n) (tally (u - s .units) p) (traceOf (w .functions) (s .frame ∷ s .callers)); machine = recovered w m p }
+settle w m u (paused p s) = abandoned w m u p s
 
--- a run of m with u units
+-- a run of m with u units; where it is paused it is given up
 unfoldable pub runOf : World → Machine → ℕ → Ran
 runOf w m u = settle w m u (endOf w (begin m u))
 
 -- all that an example computes with here
 unfoldable pub computes : Type 1
-unfolding over next turn runFor endOf traceOf traceable backtraceOf recovered answered settle runOf
+unfolding over next turn runFor endOf traceOf traceable backtraceOf recovered answered cutAt abandoned settle runOf
 computes = Type 0
