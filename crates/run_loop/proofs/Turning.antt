@@ -14,7 +14,7 @@ use Rattle.model.specs.declared.Frame.{Frame}
 use Rattle.model.specs.Values.{payloadAt}
 use Rattle.model.specs.Heap.{heapOf}
 use Rattle.model.specs.Steps.{World, State, withFrames}
-use Rattle.model.specs.Runs.{Ended, ended, stopped, traceable}
+use Rattle.model.specs.Runs.{Ended, ended, stopped, paused, over, traceable}
 use Rattle.model.specs.Stores.{part, codeWord}
 use Rattle.laws_runs.specs.Sane.{Sane}
 use Rattle.laws_runs.specs.Paths.{endFrom}
@@ -25,11 +25,11 @@ use Rattle.run_arms.specs.declared.Fixed.{Fixed}
 use Rattle.run_arms.specs.declared.Going.{Going}
 use Rattle.run_arms.specs.Links.{stateOf, frameIn, entered}
 use Rattle.run_steps.specs.declared.Event.{Event}
-use Rattle.run_steps.specs.declared.Event.the-variants.{Over, Call, Back, Stopped}
+use Rattle.run_steps.specs.declared.Event.the-variants.{Over, Call, Back, Stopped, Paused}
 use Rattle.run_steps.specs.Links.{Ready, answerIn, progressIn, backIn, afterEvent, SaneBack, goingAt, ExecPost}
 use Rattle.run_steps.proofs.Following.{lent-on}
 use Rattle.run_loop.specs.declared.Course.{Course}
-use Rattle.run_loop.specs.Links.{codeIn, Under, Ends, TurnsPost, goesOn, isOver, isStopped, inFrame}
+use Rattle.run_loop.specs.Links.{codeIn, Under, Ends, TurnsPost, goesOn, isOver, isStopped, isPaused, inFrame}
 use Rattle.run_loop.specs.Links as ends
 
 -- ---- what the steps inside a function are lent
@@ -85,6 +85,9 @@ over-less c is on = let a = ap weight is in let b = weight-on c on in omega arit
 
 pub stopped-less : (c : Course) {r : Course} {m : Going} (f : Fault) → r ≡ isStopped m f → T (c .on) → weight r < weight c
 stopped-less c f is on = let a = ap weight is in let b = weight-on c on in omega arith
+
+pub paused-less : (c : Course) {r : Course} {m : Going} → r ≡ isPaused m → T (c .on) → weight r < weight c
+paused-less c is on = let a = ap weight is in let b = weight-on c on in omega arith
 
 module _ (k : Fixed) (n : ℕ) (constants functions text main other : List ℕ) where
   -- the run goes on in h, s', x', frames' as it did in g, s, x, frames
@@ -199,6 +202,18 @@ module _ (k : Fixed) (n : ℕ) (constants functions text main other : List ℕ) 
         before = p .before;
       }
 
+      ends-paused : {m : Going} → ExecPost w (callersOf (g .callers) frames) k g s x (Paused m) s' x' → TurnsPost w k g s x frames (isPaused m) s' x' frames
+      unfolding afterEvent
+      ends-paused {m} p = record {
+        ends = ends.pause refl (p .means ∙ ap (λ (i : ℕ). paused (progressIn m x') (stateOf m s' x' (callersOf i frames))) (sym (p .callers)))
+            (subst (λ (i : ℕ). Sane w (stateOf m s' x' (callersOf i frames))) (sym (p .callers)) (p .sane .0))
+            (subst (λ (i : ℕ). over w (stateOf m s' x' (callersOf i frames)) ≡ false) (sym (p .callers)) (p .sane .1));
+        fits = p .fits;
+        units = p .units;
+        mark = p .mark;
+        before = p .before;
+      }
+
   module _ {w : World} {g : Going} {s x : List ℕ} {frames : List Frame} {h : Going} {s' x' : List ℕ} {frames' : List Frame} (z : Gone w g s x frames h s' x' frames') where
     gone-on : {i : Going} {t y : List ℕ} {rows : List Frame} → Gone w h s' x' frames' i t y rows → Gone w g s x frames i t y rows
     gone-on q = record {
@@ -245,6 +260,10 @@ module _ (k : Fixed) (n : ℕ) (constants functions text main other : List ℕ) 
         pub stopped-on : {m : Going} {f : Fault} → Said (c .going) s x (Stopped m f) s' x' → r ≡ isStopped m f → Ways (r .on) g₀ s₀ x₀ frames₀ r s' x' frames
         stopped-on {m} {f} said is = subst (λ (r : Course). Ways (r .on) g₀ s₀ x₀ frames₀ r s' x' frames) (sym is)
             (λ w at. let z = ways w at in ended-on z (ends-stopped (z .under) e (said w _ (ready (z .under)))))
+
+        pub paused-on : {m : Going} → Said (c .going) s x (Paused m) s' x' → r ≡ isPaused m → Ways (r .on) g₀ s₀ x₀ frames₀ r s' x' frames
+        paused-on {m} said is = subst (λ (r : Course). Ways (r .on) g₀ s₀ x₀ frames₀ r s' x' frames) (sym is)
+            (λ w at. let z = ways w at in ended-on z (ends-paused (z .under) e (said w _ (ready (z .under)))))
 
         pub call-on : {m : Going} {i b : ℕ} {f : Frame} {rows : List Frame} → Said (c .going) s x (Call m i b) s' x' → f ≡ frameIn m
             → rows ≡ set frames (m .callers) f → r ≡ goesOn (inFrame m (m .callers + 1) (entered i b))

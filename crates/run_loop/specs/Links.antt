@@ -12,7 +12,7 @@ use Rattle.model.specs.Values.{faultNumber}
 use Rattle.model.specs.Heap.{heapOf}
 use Rattle.model.specs.Programs.{functionAt}
 use Rattle.model.specs.Steps.{World}
-use Rattle.model.specs.Runs.{Ended, ended, stopped, traceable}
+use Rattle.model.specs.Runs.{Ended, ended, stopped, paused, over as isEnd, traceable}
 use Rattle.model.specs.Stores.{part, codeWord}
 use Rattle.laws_runs.specs.Sane.{Sane}
 use Rattle.laws_runs.specs.Paths.{endFrom}
@@ -42,6 +42,11 @@ pub data Ends (w : World) (e : Ended) (c : Course) (s x : List ℕ) (frames : Li
       → e ≡ ended (progressIn (c .going) x) (stateOf (c .going) s x (callersOf (c .going .callers) frames))
       → Sane w (stateOf (c .going) s x (callersOf (c .going .callers) frames))
       → Ends w e c s x frames
+  pause : c .fault ≡ 13
+      → e ≡ paused (progressIn (c .going) x) (stateOf (c .going) s x (callersOf (c .going .callers) frames))
+      → Sane w (stateOf (c .going) s x (callersOf (c .going .callers) frames))
+      → isEnd w (stateOf (c .going) s x (callersOf (c .going .callers) frames)) ≡ false
+      → Ends w e c s x frames
   stop : (f : Fault) → c .fault ≡ faultNumber f
       → e ≡ stopped f (stateOf (c .going) s x (callersOf (c .going .callers) frames)) (progressIn (c .going) x)
       → traceable (w .functions) (frameIn (c .going) ∷ callersOf (c .going .callers) frames) ≡ true
@@ -64,6 +69,9 @@ isOver g = record { going = g; on = false; fault = 0 }
 
 abbrev pub isStopped : Going → Fault → Course
 isStopped g f = record { going = g; on = false; fault = faultNumber f }
+
+abbrev pub isPaused : Going → Course
+isPaused g = record { going = g; on = false; fault = 13 }
 
 -- the machine in the frame f, with n callers
 abbrev pub inFrame : Going → ℕ → Frame → Going

@@ -16,9 +16,10 @@ ghost use Rattle.model.specs.Values.{faultNumber};
 ghost use Rattle.model.specs.Steps.{World};
 ghost use Rattle.run_arms.specs.Links.{frameIn, entered};
 ghost use Rattle.run_steps.specs.Links.{Ready, ExecPost};
-ghost use Rattle.run_loop.specs.Links.{codeIn, goesOn, isOver, isStopped, inFrame, Under, TurnsPost};
+ghost use Rattle.run_loop.specs.Links.{codeIn, goesOn, isOver, isStopped, isPaused, inFrame, Under, TurnsPost};
 
-// How far a run has come: the machine, whether it goes on, and the number of the fault that has stopped it (0: none).
+// How far a run has come: the machine, whether it goes on, and the number of the fault that has stopped it (0: none). 13 is none of a step: the run
+// is paused before an instruction that its units do not pay for.
 pub struct Course {
     pub going: Going,
     pub on: bool,
@@ -42,7 +43,6 @@ fn fault_number(f: Fault) -> u8
         Fault::FramesFull => 10,
         Fault::CellsFull => 11,
         Fault::TooDeep => 12,
-        Fault::UnitsSpent => 13,
         Fault::NoFunction => 14,
     }
 }
@@ -153,7 +153,18 @@ fn stopped(g: Going, f: Fault) -> Course
     }
 }
 
-// The run from start on, up to its end or a fault.
+// A run that is paused.
+fn paused(g: Going) -> Course
+    ensures { λ r. ⌜ r ≡ isPaused g ⌝ }
+{
+    Course {
+        going: g,
+        on: false,
+        fault: 13,
+    }
+}
+
+// The run from start on, up to its end or a fault, or as far as its units reach.
 pub fn turns(
     k: Fixed,
     start: Going,
@@ -202,6 +213,10 @@ pub fn turns(
             }
             Event::Stopped(g, fault) => {
                 let next = stopped(g, fault);
+                c = next;
+            }
+            Event::Paused(g) => {
+                let next = paused(g);
                 c = next;
             }
         }
