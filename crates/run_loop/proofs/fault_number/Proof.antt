@@ -95,10 +95,6 @@ returns-13 : tie.Need-returns-13
 unfolding faultNumber
 returns-13 c = search
 
-returns-14 : tie.Need-returns-14
-unfolding faultNumber
-returns-14 c = search
-
 pub fault-number-spec : {M : Type 1} → statement M
 fault-number-spec =
     tie.close
