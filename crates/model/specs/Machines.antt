@@ -101,7 +101,7 @@ underOrder m s l =
     && stackOk (m .program .text) (heapOf (m .run .mark) (l .cells)) (m .run .saved) (l .copy)
     && lastOk (m .program .text) (heapOf (m .run .mark) (l .cells)) (m .last)
     && ltb (innermost (m .frames) (l .frames) .position)
-        (length (functionAt (functionsFrom (m .program .functions) 0 s) (innermost (m .frames) (l .frames) .function) .code))
+    (length (functionAt (functionsFrom (m .program .functions) 0 s) (innermost (m .frames) (l .frames) .function) .code))
 
 -- a machine with no run under way has one form of it
 unfoldable pub idle : Run → Bool
