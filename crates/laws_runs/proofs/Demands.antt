@@ -9,7 +9,7 @@ use Rattle.model.specs.declared.Last.{Last}
 use Rattle.model.specs.declared.Last.the-variants.{Nothing, Is}
 use Rattle.model.specs.declared.Tally.{Tally}
 use Rattle.model.specs.Steps.{World, State, went, returned, stepOf}
-use Rattle.model.specs.Runs.{Machine, begin, Progress, atStart, counted, Ended, ended, stopped, paused, over, endOf, Entry, traceOf, fault, tally, answered, recovered, abandoned, settle, runOf}
+use Rattle.model.specs.Runs.{Machine, begin, Progress, atStart, counted, Ended, ended, stopped, paused, over, endOf, Entry, traceOf, fault, tally, answered, recovered, partOf, abandonOf, givenUp, runOf}
 use Rattle.laws_runs.specs.Paths.{Steps, none, on, ret, StoppedBy, PausedBy}
 use Rattle.laws_runs.specs.Demand.{stay, go, Since, start, return, repliesOf, Cut, faulting, unpaid, Recovered}
 use Rattle.laws_runs.specs.Sane.{SaneWorld, Sane, Faults, Kept}
@@ -44,7 +44,7 @@ module _ (w : World) where
   module _ (m : Machine) (u n : ℕ) (did : Tally) (trace : List Entry) where
     -- cut at s, where the run had come as far as k
     cut-recovered : {c i spent : ℕ} {k : Progress} {s t : State} → Steps w c (atStart (begin m u)) (begin m u) k s → over w s ≡ false → Cut w u s t i spent
-        → runOf w m u .machine ≡ recovered w m k → fault i (tally spent k) (traceOf (w .functions) (t .frame ∷ t .callers)) ≡ fault n did trace
+        → runOf w m u .machine ≡ recovered w (m .stack) k → fault i (tally spent k) (traceOf (w .functions) (t .frame ∷ t .callers)) ≡ fault n did trace
         → Recovered w m u n did trace
     cut-recovered {i = i} {spent = spent} {k = k} {s = s} {t = t} p o cut left e =
         let same : did ≡ tally spent k = cc in
@@ -65,8 +65,8 @@ module _ (w : World) where
           later = (λ calls. ap (repliesOf calls) left);
         }
 
-    settled-recovered : (x : Ended) → endOf w (begin m u) ≡ x → settle w m u x .reply ≡ fault n did trace → Recovered w m u n did trace
-    unfolding settle abandoned
+    settled-recovered : (x : Ended) → endOf w (begin m u) ≡ x → givenUp w (partOf w (m .stack) u x) .reply ≡ fault n did trace → Recovered w m u n did trace
+    unfolding partOf abandonOf givenUp
     settled-recovered (ended k t) q e = absurd (no-fault (k .answer) (tally (u - t .units) k) n did trace e)
     settled-recovered (stopped i t k) q e =
         let s = begin m u in

@@ -4,8 +4,8 @@ use mathlib.Core.Bool.{Bool, true, false}
 use Prim.Native.Nat.{ℕ, zero, suc, _<_}
 use native.Mathlib.Omega.{arith}
 use Rattle.model.specs.Steps.{World, State, Outcome, went, returned, faulted, short, stepOf}
-use Rattle.model.specs.Runs.{Progress, atStart, counted, Ended, ended, over, next, turn, runFor, endOf}
-use Rattle.laws_runs.specs.Paths.{Spends, endFrom}
+use Rattle.model.specs.Runs.{Progress, atStart, counted, Ended, ended, over, endFrom, next, turn, runFor, endOf}
+use Rattle.laws_runs.specs.Paths.{Spends}
 use Rattle.laws_runs.proofs.Spends.{step-spends}
 
 -- two ways to go on that agree wherever fewer units are left
@@ -43,5 +43,5 @@ module _ (w : World) where
   end-step m s e = rw e (next-same s (runFor w (s .units)) (endFrom w) (λ l t h. run-end (s .units) l t h) m (stepOf w s) (step-spends w s))
 
   pub end-of : (s : State) → endOf w s ≡ endFrom w (atStart s) s
-  unfolding endOf endFrom
+  unfolding endOf
   end-of s = refl

@@ -6,8 +6,8 @@ use Prim.Native.Nat.{ℕ, _+_, _-_}
 use native.Mathlib.Omega.{arith}
 use Rattle.model.specs.declared.Tally.{Tally}
 use Rattle.model.specs.Steps.{World, State, Outcome, went, returned, faulted, short, codeOf, stepOf}
-use Rattle.model.specs.Runs.{Machine, begin, Progress, atStart, Ended, ended, stopped, paused, over, endOf, Entry, fault as faulting, abandoned, settle, runOf}
-use Rattle.laws_runs.specs.Paths.{endFrom, Steps, none, on, ret, By, more, resumed}
+use Rattle.model.specs.Runs.{Machine, begin, Progress, atStart, Ended, ended, stopped, paused, over, endFrom, endOf, Entry, fault as faulting, partOf, abandonOf, givenUp, runOf}
+use Rattle.laws_runs.specs.Paths.{Steps, none, on, ret, By, more, resumed}
 use Rattle.laws_runs.proofs.Does.{Does, fault, spent, full, push, answer, compare, fall, leap, call, build, field, back, home, Stepped, unpaid, unread, ran, step-does}
 use Rattle.laws_runs.proofs.Ends.{end-of}
 use Rattle.laws_runs.proofs.Paths.{run-by, path-end, path-run}
@@ -73,8 +73,9 @@ module _ (w : World) (d : ℕ) where
   -- ---- a whole run
 
   module _ (m : Machine) (u : ℕ) where
-    settle-more : (e : Ended) → ((i : Tally) (bt : List Entry) → settle w m u e .reply ≡ faulting 13 i bt → ⊥) → settle w m (u + d) (resumed w d e) ≡ settle w m u e
-    unfolding settle abandoned
+    settle-more : (e : Ended) → ((i : Tally) (bt : List Entry) → givenUp w (partOf w (m .stack) u e) .reply ≡ faulting 13 i bt → ⊥)
+        → givenUp w (partOf w (m .stack) (u + d) (resumed w d e)) ≡ givenUp w (partOf w (m .stack) u e)
+    unfolding partOf givenUp abandonOf
     settle-more (ended k t) h = let z : u + d - (t .units + d) ≡ u - t .units = omega arith in rw z
     settle-more (stopped n t k) h = let z : u + d - (t .units + d) ≡ u - t .units = omega arith in rw z
     settle-more (paused k t) h = absurd (h _ _ refl)
@@ -84,4 +85,5 @@ module _ (w : World) (d : ℕ) where
     unfolding runOf
     more-units h =
         let s = begin m u in
-        ap (settle w m (u + d)) (end-of w (more d s) ∙ dealt (atStart s) s ∙ ap (resumed w d) (sym (end-of w s))) ∙ settle-more (endOf w s) h
+        ap (λ (e : Ended). givenUp w (partOf w (m .stack) (u + d) e)) (end-of w (more d s) ∙ dealt (atStart s) s ∙ ap (resumed w d) (sym (end-of w s)))
+        ∙ settle-more (endOf w s) h

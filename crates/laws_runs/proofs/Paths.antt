@@ -5,8 +5,8 @@ use Prim.Native.Nat.{ℕ, zero, suc, _+_, _≤_, _<_}
 use native.Mathlib.Omega.{arith}
 use Rattle.model.specs.declared.Value.{Value}
 use Rattle.model.specs.Steps.{World, State, Outcome, went, returned, faulted, short, stepOf}
-use Rattle.model.specs.Runs.{Progress, atStart, counted, Ended, ended, stopped, paused, over, next, turn, runFor}
-use Rattle.laws_runs.specs.Paths.{Grows, Adds, endFrom, Steps, none, on, ret, rootReturns, By, Marked}
+use Rattle.model.specs.Runs.{Progress, atStart, counted, Ended, ended, stopped, paused, over, endFrom, next, turn, runFor}
+use Rattle.laws_runs.specs.Paths.{Grows, Adds, Steps, none, on, ret, rootReturns, By, Marked}
 use Rattle.laws_runs.proofs.Spends.{went-spends, returned-spends}
 use Rattle.laws_runs.proofs.Adds.{grows-none, grows-on, step-adds}
 use Rattle.laws_runs.proofs.Ends.{end-over, end-step}

@@ -54,6 +54,6 @@ pub record Recovered (w : World) (m : Machine) (u n : ℕ) (did : Tally) (trace 
   pub returns : did .returns ≡ rootReturns path
   pub traced : trace ≡ traceOf (w .functions) (after .frame ∷ after .callers)
   -- what is left: the starting stack, one frame at the end of main, the cells and the last result that were kept
-  pub leaves : runOf w m u .machine ≡ recovered w m kept
+  pub leaves : runOf w m u .machine ≡ recovered w (m .stack) kept
   -- and whatever runs come then, they answer as on a machine set up so by hand
-  pub later : (calls : List Call) → repliesOf calls (runOf w m u .machine) ≡ repliesOf calls (recovered w m kept)
+  pub later : (calls : List Call) → repliesOf calls (runOf w m u .machine) ≡ repliesOf calls (recovered w (m .stack) kept)

@@ -9,7 +9,7 @@ use Rattle.model.specs.declared.Last.the-variants.{Is}
 use Rattle.model.specs.declared.Fault.{Fault}
 use Rattle.model.specs.Heap.{Cell}
 use Rattle.model.specs.Steps.{World, State, Outcome, went, returned, faulted, short, withUnits, stepOf}
-use Rattle.model.specs.Runs.{Progress, counted, Ended, ended, stopped, paused, over, runFor}
+use Rattle.model.specs.Runs.{Progress, counted, Ended, ended, stopped, paused, over, endFrom}
 
 -- ---- what a step from s does to the units, the heap and the last result
 
@@ -33,10 +33,6 @@ Adds H l (faulted n s) = Grows H (s .heap) × (s .last ≡ l)
 Adds H l short = Unit
 
 -- ---- a run
-
--- the end of a run that has come as far as m; turns never run short, since each step spends a unit
-unfoldable pub endFrom : World → Progress → State → Ended
-endFrom w m s = runFor w (suc (s .units)) m s
 
 -- n written steps from s to t; m is how far the run had come before them, k after them
 pub data Steps (w : World) : ℕ → Progress → State → Progress → State → Type 0 where

@@ -97,6 +97,7 @@ underOrder m s l =
     leb (m .run .spent) (m .run .given)
     && leb (m .run .returns) (m .run .spent)
     && leb (m .run .mark) (m .cells)
+    && leb (m .run .saved) (places 2 (l .stack))
     && cellsOk (m .program .text) (m .run .mark) (l .cells)
     && stackOk (m .program .text) (heapOf (m .run .mark) (l .cells)) (m .run .saved) (l .copy)
     && lastOk (m .program .text) (heapOf (m .run .mark) (l .cells)) (m .last)
@@ -107,8 +108,11 @@ underOrder m s l =
 unfoldable pub idle : Run → Bool
 idle r = eqb (r .given) 0 && eqb (r .spent) 0 && eqb (r .returns) 0 && eqb (r .mark) 0 && eqb (r .saved) 0
 
+unfoldable pub partOrder : Vm → Stores → Lent → Bool
+partOrder m s l = if m .run .on then underOrder m s l else idle (m .run)
+
 unfoldable pub runOrder : Vm → Stores → Lent → Bool
-runOrder m s l = machineOrder m s l && (if m .run .on then underOrder m s l else idle (m .run))
+runOrder m s l = machineOrder m s l && partOrder m s l
 
 -- 17: the copy store is shorter than the stack store; the backtrace store is shorter than the frame store
 unfoldable pub copyShort : Lent → Bool
@@ -289,7 +293,7 @@ newMachineOf running s rs = unlessRunning running s rs (startWith (asLoaded (new
 
 -- all that an example computes with here
 unfoldable pub computes : Type 1
-unfolding frameRoom innermost callersIn machineIn worldOf progressIn underIn machineOrder underOrder idle runOrder copyShort traceShort beginAnswer continueAnswer
+unfolding frameRoom innermost callersIn machineIn worldOf progressIn underIn machineOrder underOrder idle partOrder runOrder copyShort traceShort beginAnswer continueAnswer
     abandonAnswer runRefusal copyAfter entryWords traceOfReply traceOfPart traceAfter entriesIn answerIn traceOrder putTrace backtraceIn fresh startWith unlessRunning
     loadMachineOf asLoaded newMachineOf
 computes = Type 0

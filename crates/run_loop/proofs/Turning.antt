@@ -14,10 +14,9 @@ use Rattle.model.specs.declared.Frame.{Frame}
 use Rattle.model.specs.Values.{payloadAt}
 use Rattle.model.specs.Heap.{heapOf}
 use Rattle.model.specs.Steps.{World, State, withFrames}
-use Rattle.model.specs.Runs.{Ended, ended, stopped, paused, over, traceable}
+use Rattle.model.specs.Runs.{Ended, ended, stopped, paused, over, endFrom, traceable}
 use Rattle.model.specs.Stores.{part, codeWord}
 use Rattle.laws_runs.specs.Sane.{Sane}
-use Rattle.laws_runs.specs.Paths.{endFrom}
 use Rattle.frames.specs.Links.{noFrame, callersOf}
 use Rattle.frames.proofs.Orders.{is-true, is-false}
 use Rattle.frames.proofs.Callers.{length-callers, callers-more, callers-first}

@@ -12,10 +12,9 @@ use Rattle.model.specs.Values.{faultNumber}
 use Rattle.model.specs.Heap.{heapOf}
 use Rattle.model.specs.Programs.{functionAt}
 use Rattle.model.specs.Steps.{World}
-use Rattle.model.specs.Runs.{Ended, ended, stopped, paused, over as isEnd, traceable}
+use Rattle.model.specs.Runs.{Ended, ended, stopped, paused, over as isEnd, traceable, endFrom}
 use Rattle.model.specs.Stores.{part, codeWord}
 use Rattle.laws_runs.specs.Sane.{Sane}
-use Rattle.laws_runs.specs.Paths.{endFrom}
 use Rattle.frames.specs.Links.{callersOf}
 use Rattle.run_arms.specs.declared.Fixed.{Fixed}
 use Rattle.run_arms.specs.declared.Going.{Going}

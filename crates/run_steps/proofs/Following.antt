@@ -13,11 +13,11 @@ use Rattle.model.specs.declared.Frame.{Frame}
 use Rattle.model.specs.Values.{kind, payload}
 use Rattle.model.specs.Heap.{Cell, heapOf}
 use Rattle.model.specs.Steps.{World, State, Outcome, went, returned, faulted, short, withLast, codeOf, stepOf}
-use Rattle.model.specs.Runs.{Progress, stopped, paused, over, next}
+use Rattle.model.specs.Runs.{Progress, stopped, paused, over, endFrom, next}
 use Rattle.cells.proofs.Stands.{length-heap}
 use Rattle.layout.proofs.Parts.{places-same}
 use Rattle.laws_runs.specs.Sane as sane
-use Rattle.laws_runs.specs.Paths.{Spends, Grows, Adds, endFrom}
+use Rattle.laws_runs.specs.Paths.{Spends, Grows, Adds}
 use Rattle.laws_runs.proofs.Does.{Does, Stepped, step-one}
 use Rattle.laws_runs.proofs.Does as does
 use Rattle.laws_runs.proofs.Spends.{step-spends}

@@ -13,11 +13,10 @@ use Rattle.model.specs.Values.{places, kind, payload, valuesFrom}
 use Rattle.model.specs.Heap.{heapOf}
 use Rattle.model.specs.Programs.{functionAt}
 use Rattle.model.specs.Steps.{World, State, withFrames}
-use Rattle.model.specs.Runs.{Progress, Ended, ended, stopped, paused, over, traceable}
+use Rattle.model.specs.Runs.{Progress, Ended, ended, stopped, paused, over, endFrom, traceable}
 use Rattle.model.specs.Stores.{Stores}
 use Rattle.layout.specs.Links.{namesLent}
 use Rattle.laws_runs.specs.Sane.{Sane, SaneWorld}
-use Rattle.laws_runs.specs.Paths.{endFrom}
 use Rattle.run_arms.specs.declared.Fixed.{Fixed}
 use Rattle.run_arms.specs.declared.Going.{Going}
 use Rattle.run_arms.specs.declared.Completed.{Completed}
