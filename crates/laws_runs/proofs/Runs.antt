@@ -18,8 +18,8 @@ use Rattle.laws_runs.proofs.Placed.{all-grows}
 use Rattle.laws_runs.proofs.Keeps.{code-fits, cut-faults, step-keeps}
 
 -- good order does not ask for the units
-pub other-units : {w : World} {m : Machine} {u : ℕ} (n : ℕ) → Sane w (begin m u) → Sane w (begin m n)
-other-units n s = record {
+pub any-units : {w : World} (q : State) {n : ℕ} → Sane w q → Sane w (withUnits n q)
+any-units q s = record {
   stack = s .stack;
   frames = s .frames;
   cells = s .cells;
@@ -99,7 +99,7 @@ module _ (w : World) (good : SaneWorld w) where
       (p : AllPlaced (length (w .text)) (m .heap) start) (u : s .units ≤ g) where
     by-sane : (e : Ended) → By w m s e → SanePart w (partOf w start g e)
     unfolding partOf
-    by-sane (ended j t) r = λ i. other-units i (path-sane h (r .path))
+    by-sane (ended j t) r = λ i. any-units t (path-sane h (r .path))
     by-sane (stopped n t j) r = recover-sane start h l (all-grows (length (w .text)) (mark-grows w f (r .path)) start p) (path-mark h k (r .path))
     by-sane (paused j t) r = record {
       state = path-sane h (r .path);
@@ -121,20 +121,7 @@ module _ (w : World) (good : SaneWorld w) where
 
   pub continued-sane : (r : Under) → SaneUnder w r → (u : ℕ) → SanePart w (continueOf w r u)
   unfolding continueOf
-  continued-sane r h u = part-sane (r .start) (units-sane h) (h .mark) (record { last = h .marked .last; heap = h .marked .heap }) (h .start) (h .placed) (let z = h .units in omega arith)
-    where
-      units-sane : SaneUnder w r → Sane w (withUnits (r .state .units + u) (r .state))
-      units-sane h = let q = h .state in record {
-        stack = q .stack;
-        frames = q .frames;
-        cells = q .cells;
-        heap = q .heap;
-        placed = q .placed;
-        last = q .last;
-        frame = q .frame;
-        callers = q .callers;
-        root = q .root;
-      }
+  continued-sane r h u = part-sane (r .start) (any-units (r .state) (h .state)) (h .mark) (record { last = h .marked .last; heap = h .marked .heap }) (h .start) (h .placed) (let z = h .units in omega arith)
 
   pub abandoned-sane : (r : Under) → SaneUnder w r → (i : ℕ) → Sane w (begin (abandonOf w r .machine) i)
   unfolding abandonOf
