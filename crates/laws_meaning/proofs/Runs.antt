@@ -146,8 +146,8 @@ module _ (w : World) (lay : Layout) (good : SaneWorld w) (beside-good : SaneWorl
     part-alike g =
         came-alike g
         (subst (λ (j : ℕ). AlikeEnded w lay (endFrom w m s) (runFor (laidOut lay w) (suc j) m' s')) (sym (r .alike .units)) (turns-alike (suc (s .units)) m m' s s' r))
-        (marks-grow w m s front _ (run-by w m s))
-        (marks-grow (laidOut lay w) m' s' front' _ (run-by (laidOut lay w) m' s'))
+        (marks-grow w m s front (endFrom w m s) (run-by w m s))
+        (marks-grow (laidOut lay w) m' s' front' (endFrom (laidOut lay w) m' s') (run-by (laidOut lay w) m' s'))
 
   -- ---- a beginning, a continuing, an abandoning
 
