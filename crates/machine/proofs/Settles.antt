@@ -224,7 +224,7 @@ module _ (m : Vm) (s : Stores) (l : Lent) (u : ℕ) (k : Fixed) (g : Going) (c :
     is-stopped : Ends (worldOf m s l) ranEnd c stack cells frames → Stop
     unfolding worldOf worldIn partOf givenUp abandonOf cutAt answerIn
     is-stopped (over n e z) = absurd (some n)
-    is-stopped (pause g n e t) = record { settles = rw (e, n); traced = rw n t }
+    is-stopped (pause g n e t) = let z : u - 0 ≡ u = omega arith in record { settles = rw (e, n, z); traced = rw n t }
     is-stopped (stop x n e t) = record { settles = rw (e, n); traced = t }
 
     stops : Stop
