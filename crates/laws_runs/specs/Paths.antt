@@ -89,9 +89,3 @@ abbrev pub resumed : World → ℕ → Ended → Ended
 resumed w d (ended k t) = ended k (more d t)
 resumed w d (stopped n t k) = stopped n (more d t) k
 resumed w d (paused k t) = endFrom w k (more d t)
-
--- an end for which the units were enough
-abbrev pub Paid : Ended → Type 0
-Paid (ended k t) = Unit
-Paid (stopped n t k) = Unit
-Paid (paused k t) = ⊥

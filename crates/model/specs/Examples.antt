@@ -200,6 +200,8 @@ examples =
     ∷ (shown (run p3 1000000) shows ran (fault 8 (did 3 0) (entry 0 6 ∷ [])) [] (frame 0 8 0 ∷ []) Nothing)
     -- P4: the last result stays
     ∷ (shown (run p4 1000000) shows ran (fault 8 (did 5 1) (entry 0 10 ∷ [])) [] (frame 0 12 0 ∷ []) (Is (scalarOf n1)))
+    -- P4 with its units dealt out: the root Return of the first part counts
+    ∷ (shown (inParts p4 loaded (2 ∷ 3 ∷ [])) shows ran (fault 8 (did 5 1) (entry 0 10 ∷ [])) [] (frame 0 12 0 ∷ []) (Is (scalarOf n1)))
     -- P5
     ∷ (shown (run p5 1000000) shows ran (value (v.Boolean true) (did 10 1)) [] (frame 0 20 0 ∷ []) (Is (v.Boolean true)))
     -- given up: with 6 units before Equal, which was not fetched; with 7 and 8 in Equal, whose two pairs they do not pay for
@@ -213,6 +215,8 @@ examples =
     -- P6: both runs
     ∷ (shown (run p6 1000000) shows ran (continue (did 1 0)) [] (frame 1 0 0 ∷ frame 0 5 0 ∷ []) Nothing)
     ∷ (shown (again p6 1000000) shows ran (continue (did 0 0)) [] (frame 1 0 0 ∷ frame 0 5 0 ∷ []) Nothing)
+    -- begun at the end of its code it is over at once
+    ∷ (shown (inParts p6 (run p6 1000000 .machine) []) shows ran (continue (did 0 0)) [] (frame 1 0 0 ∷ frame 0 5 0 ∷ []) Nothing)
     -- P7: position 8, and the backtrace
     ∷ (shown (run p7 1000000) shows ran (continue (did 1 0)) [] (frame 0 8 0 ∷ []) Nothing)
     ∷ (traced (backtraceOf (p7 .functions) (run p7 1000000 .machine .frame ∷ [])) shows traced (untraced 16))
