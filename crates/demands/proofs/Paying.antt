@@ -3,9 +3,9 @@ use mathlib.Core.Path.{_≡_, refl, sym, subst}
 use mathlib.Core.Bool.{Bool, true, false, not}
 use mathlib.Core.List.{List, [], _∷_, _++_}
 use mathlib.Core.Option.{Option, none as no, some}
-use Prim.Native.Nat.{ℕ, suc, _+_, _-_, _*_, _≤_}
+use Prim.Native.Nat.{ℕ, suc, _+_, _-_, _*_, _≤_, _<_}
 use native.Mathlib.Omega.{arith}
-use borrow.Author.Tests.{leb-true, eqb-true, eqb-false}
+use borrow.Author.Tests.{leb-true, leb-false, eqb-true, eqb-false}
 use lib.Dec.{eqb, leb, ltb}
 use lib.ListN.{length, drop}
 use lib.Ieee.{Float}
@@ -27,70 +27,40 @@ use Rattle.model.specs.Values.{popping, poppingScalar, poppingBoolean, faultNum
 use Rattle.model.specs.Scalars.{zeroDivisor}
 use Rattle.model.specs.Heap.{Cell, headIn, deepest, blockOf, built, unbuilt, buildOf, fieldOf}
 use Rattle.model.specs.Equality.{Same, same, sameOf}
-use Rattle.model.specs.Steps.{World, State, Outcome, went, returned, faulted, withStack, withHeap, withUnits, at, position, codeOf, pushing, onFound, constantOf, slotOf, lastOf, loadStep, slotStep, lastStep, negateStep, arithmeticStep, orderingStep, onSame, equalStep, logicStep, notStep, jumpStep, jumpIfFalseStep, enter, callStep, enterNamed, callCallableStep, onBuilt, buildStep, structStep, fieldStep, returnTo, returnStep, execOf, operandsThen, decodedThen, fetched, stepOf}
+use Rattle.model.specs.Steps.{World, State, Outcome, went, returned, faulted, short, withStack, withHeap, withUnits, at, position, codeOf, pushing, onFound, constantOf, slotOf, lastOf, loadStep, slotStep, lastStep, negateStep, arithmeticStep, orderingStep, onSame, equalStep, logicStep, notStep, jumpStep, jumpIfFalseStep, enter, callStep, enterNamed, callCallableStep, onBuilt, buildStep, structStep, fieldStep, returnTo, returnStep, execOf, operandsThen, decodedThen, fetched, stepOf}
 use Rattle.laws_runs.proofs.Combinators.{if-each, ifScalar-each, ifBoolean-each, ifReference-each, ifStruct-each}
-use Rattle.model.specs.Runs.{Machine, begin, machineOf, Progress, atStart, Ended, ended, stopped, endOf, traceOf, fault, tally, answered, recovered, settle, runOf}
-use Rattle.laws_runs.specs.Paths.{Steps, none, on, ret, rootReturns, By, EndedBy, StoppedBy}
-use Rattle.laws_runs.proofs.Does.{Does, fault as failed, spent, full, push, answer, compare, fall, leap, call, build, field, back, home, Stepped, unpaid, unread, ran, step-one}
+use Rattle.model.specs.Runs.{Machine, begin, machineOf, Progress, atStart, Ended, ended, stopped, paused, endOf, traceOf, fault, tally, answered, cutAt, recovered, partOf, abandonOf, givenUp, runOf}
+use Rattle.laws_runs.specs.Paths.{Steps, none, on, ret, rootReturns, By, EndedBy, StoppedBy, PausedBy}
 use Rattle.laws_runs.proofs.Ends.{end-of}
 use Rattle.laws_runs.proofs.Paths.{run-path, returns-counted}
-use Rattle.laws_runs.proofs.Spends.{faulted-spends}
-use Rattle.demands.specs.Units.{pairs, topPairs, pairsOf, pairsBy, pairsAt, Costs, Fee, one, all, spentOn, didUntil, RunIs, ends, faults}
+use Rattle.demands.specs.Units.{pairs, topPairs, pairsOf, pairsBy, pairsAt, Spent, Costs, spentOn, RunIs, ends, faults, gives-up}
 
 -- ---- an instruction whose opcode has been fetched
 
--- k units are spent; the law of each combinator is about two outcomes, and the second is not looked at
+-- k units are spent, and none by a fault; the law of each combinator is about two outcomes, and the second is not looked at
 record Pays (s : State) (k : ℕ) (x y : Outcome) : Type 0 where
-  costs : Costs k s x
+  costs : Spent k 0 s x
 
-fails : {s : State} {k : ℕ} {n : Fault} {t : State} {y : Outcome} → (faultNumber n ≡ 13 → ⊥) → Pays s k (faulted n t) y
-fails h = record { costs = λ e. absurd (h e) }
+fails : {s : State} {k : ℕ} {n : Fault} {t : State} {y : Outcome} → t .units ≡ s .units → Pays s k (faulted n t) y
+fails e = record { costs = omega arith }
 
 goes : {s t : State} {y : Outcome} → t .units ≡ s .units → Pays s 0 (went t) y
 goes e = record { costs = omega arith }
-
--- a value that was found, or a fault that is not 13
-abbrev Not13 : Found → Type 0
-Not13 (g.Got x) = Unit
-Not13 (g.Bad n) = faultNumber n ≡ 13 → ⊥
-
-in-range : (b : Bool) (x : Value) → Not13 (if b then g.Got x else g.Bad f.OutOfRange)
-unfolding faultNumber
-in-range true x = tt
-in-range false x = λ e. omega arith
-
-constant-not : (cs : List Value) (i : ℕ) → Not13 (constantOf cs i)
-unfolding constantOf
-constant-not cs i = in-range (ltb i (length cs)) _
-
-slot-not : (vs : List Value) (i : ℕ) → Not13 (slotOf vs i)
-unfolding slotOf
-slot-not vs i = in-range (ltb i (length vs)) _
-
-field-not : (H : List Cell) (p i : ℕ) → Not13 (fieldOf H p i)
-unfolding fieldOf
-field-not H p i = in-range (ltb i (headIn H p .count)) _
-
-last-not : (x : Last) → Not13 (lastOf x)
-unfolding lastOf faultNumber
-last-not Nothing = λ e. omega arith
-last-not (Is x) = tt
 
 module _ (w : World) (s : State) where
   abbrev Free : Outcome → Outcome → Type 0
   Free x y = Pays s 0 x y
 
-  -- ---- none of these faults is 13
+  -- ---- these spend no unit more
 
   pop-free : (vs : List Value) {j j' : Value → List Value → Outcome} → ((x : Value) (r : List Value) → Free (j x r) (j' x r))
       → Free (popping vs (λ n. faulted n s) j) (popping vs (λ n. faulted n s) j')
-  unfolding popping faultNumber
-  pop-free [] h = fails (λ e. omega arith)
+  unfolding popping
+  pop-free [] h = fails refl
   pop-free (x ∷ r) h = h x r
 
   wrong-kind : (x : Value) {y : Outcome} → Free (faulted (f.WrongKind x) s) y
-  unfolding faultNumber
-  wrong-kind x = fails (λ e. omega arith)
+  wrong-kind x = fails refl
 
   scalar-free : (vs : List Value) {j j' : Float → List Value → Outcome} → ((x : Float) (r : List Value) → Free (j x r) (j' x r))
       → Free (poppingScalar vs (λ n. faulted n s) j) (poppingScalar vs (λ n. faulted n s) j')
@@ -103,36 +73,36 @@ module _ (w : World) (s : State) where
   boolean-free vs h = pop-free vs (λ x r. ifBoolean-each Free x (λ y e. h y r) (wrong-kind x))
 
   push-free : (t : State) (x : Value) → t .units ≡ s .units → Free (pushing w x t) (pushing w x t)
-  unfolding pushing faultNumber
-  push-free t x e = if-each Free (ltb (length (t .stack)) (w .stackRoom)) (λ l. goes e) (λ l. fails (λ q. omega arith))
+  unfolding pushing
+  push-free t x e = if-each Free (ltb (length (t .stack)) (w .stackRoom)) (λ l. goes e) (λ l. fails e)
 
-  found-free : (x : Found) {j : Value → Outcome} → Not13 x → ((y : Value) → Free (j y) (j y)) → Free (onFound x s j) (onFound x s j)
+  found-free : (x : Found) {j : Value → Outcome} → ((y : Value) → Free (j y) (j y)) → Free (onFound x s j) (onFound x s j)
   unfolding onFound
-  found-free (g.Got x) e h = h x
-  found-free (g.Bad n) e h = fails e
+  found-free (g.Got x) h = h x
+  found-free (g.Bad n) h = fails refl
 
   enter-free : (i n : ℕ) (r : List Value) → Free (enter w i n r s) (enter w i n r s)
-  unfolding enter faultNumber
-  enter-free i n r = if-each Free (ltb (length r) n) (λ l. fails (λ e. omega arith))
-      (λ l. if-each Free (leb (w .frameRoom) (suc (length (s .callers)))) (λ q. fails (λ e. omega arith)) (λ q. goes refl))
+  unfolding enter
+  enter-free i n r = if-each Free (ltb (length r) n) (λ l. fails refl)
+      (λ l. if-each Free (leb (w .frameRoom) (suc (length (s .callers)))) (λ q. fails refl) (λ q. goes refl))
 
   named-free : (n : ℕ) (r : List Value) (x : Option ℕ) → Free (enterNamed w n r s x) (enterNamed w n r s x)
-  unfolding enterNamed faultNumber
-  named-free n r no = fails (λ e. omega arith)
+  unfolding enterNamed
+  named-free n r no = fails refl
   named-free n r (some i) = enter-free i n r
 
   built-free : (t : ℕ → Value) (r : List Value) (H : List Cell) (a b : Bool)
       → let x = (if a then unbuilt f.TooDeep else (if b then unbuilt f.CellsFull else built H)) in Free (onBuilt w t r s x) (onBuilt w t r s x)
-  unfolding onBuilt faultNumber
-  built-free t r H true b = fails (λ e. omega arith)
-  built-free t r H false true = fails (λ e. omega arith)
+  unfolding onBuilt
+  built-free t r H true b = fails refl
+  built-free t r H false true = fails refl
   built-free t r H false false = push-free (withStack r (withHeap H s)) (t (length (s .heap))) refl
 
   build-free : (t : ℕ → Value) (elements : ℕ → List Value → List Value) (k n : ℕ) → Free (buildStep w t elements k n s) (buildStep w t elements k n s)
-  unfolding buildStep buildOf faultNumber
+  unfolding buildStep buildOf
   build-free t elements k n =
       let us = elements n (s .stack) in
-      if-each Free (ltb (length (s .stack)) n) (λ l. fails (λ e. omega arith))
+      if-each Free (ltb (length (s .stack)) n) (λ l. fails refl)
       (λ l. built-free t (drop n (s .stack)) (s .heap ++ blockOf (s .heap) k us) (ltb 64 (suc (deepest (s .heap) us))) (ltb (w .cellRoom) (length (s .heap) + suc (length us))))
 
   return-free : (cs : List Frame) (x : Value) (r : List Value) → Free (returnTo cs x r s) (returnTo cs x r s)
@@ -146,30 +116,30 @@ module _ (w : World) (s : State) where
 
   -- ---- the comparisons
 
-  same-by : (b : Bool) (k : ℕ) (t : State) → (b ≡ true → s .units ≡ t .units + k) → Costs k s (if b then went t else faulted f.UnitsSpent (withUnits 0 s))
-  same-by true k t h = h refl
-  same-by false k t h = λ e. refl
+  same-by : (b : Bool) (k : ℕ) (t : State) → (b ≡ true → s .units ≡ t .units + k) → (b ≡ false → s .units < k) → Spent k 0 s (if b then went t else short)
+  same-by true k t h l = h refl
+  same-by false k t h l = l refl
 
-  same-costs : (t : Bool → Bool) (r : List Value) (x : Same) → Costs (pairs x) s (onSame t r s x)
+  same-costs : (t : Bool → Bool) (r : List Value) (x : Same) → Spent (pairs x) 0 s (onSame t r s x)
   unfolding onSame pairs
-  same-costs t r (same b k) = same-by (leb k (s .units)) k _ (λ e. let z : k ≤ s .units = leb-true _ _ e in omega arith)
+  same-costs t r (same b k) = same-by (leb k (s .units)) k _ (λ e. let z : k ≤ s .units = leb-true _ _ e in omega arith) (λ e. leb-false _ _ e)
 
   equal-costs : (t : Bool → Bool) (vs : List Value)
-      → Costs (topPairs w (s .heap) vs) s (popping vs (λ n. faulted n s) (λ y r. popping r (λ n. faulted n s) (λ x q. onSame t q s (sameOf (w .text) (s .heap) x y))))
-  unfolding popping topPairs faultNumber
-  equal-costs t [] = λ e. absurd (let z : ⊥ = omega arith in z)
-  equal-costs t (y ∷ []) = λ e. absurd (let z : ⊥ = omega arith in z)
+      → Spent (topPairs w (s .heap) vs) 0 s (popping vs (λ n. faulted n s) (λ y r. popping r (λ n. faulted n s) (λ x q. onSame t q s (sameOf (w .text) (s .heap) x y))))
+  unfolding popping topPairs
+  equal-costs t [] = omega arith
+  equal-costs t (y ∷ []) = omega arith
   equal-costs t (y ∷ x ∷ r) = same-costs t r (sameOf (w .text) (s .heap) x y)
 
   -- a line for each opcode
   exec-costs : (p : Op) (a b : ℕ) → Pays s (pairsOf w p (s .heap) (s .stack)) (execOf w p a b s) (execOf w p a b s)
-  unfolding execOf pairsOf faultNumber loadStep slotStep lastStep negateStep arithmeticStep orderingStep equalStep logicStep notStep jumpStep jumpIfFalseStep callStep callCallableStep structStep fieldStep returnStep
-  exec-costs o.LoadConstant a b = found-free (constantOf (w .constants) a) (constant-not (w .constants) a) (λ y. push-free s y refl)
-  exec-costs o.GetLocal a b = found-free (slotOf (s .stack) (s .frame .base + a)) (slot-not (s .stack) (s .frame .base + a)) (λ y. push-free s y refl)
-  exec-costs o.GetUpvalue a b = found-free (slotOf (s .stack) a) (slot-not (s .stack) a) (λ y. push-free s y refl)
-  exec-costs o.GetLastResult a b = found-free (lastOf (s .last)) (last-not (s .last)) (λ y. push-free s y refl)
+  unfolding execOf pairsOf loadStep slotStep lastStep negateStep arithmeticStep orderingStep equalStep logicStep notStep jumpStep jumpIfFalseStep callStep callCallableStep structStep fieldStep returnStep
+  exec-costs o.LoadConstant a b = found-free (constantOf (w .constants) a) (λ y. push-free s y refl)
+  exec-costs o.GetLocal a b = found-free (slotOf (s .stack) (s .frame .base + a)) (λ y. push-free s y refl)
+  exec-costs o.GetUpvalue a b = found-free (slotOf (s .stack) a) (λ y. push-free s y refl)
+  exec-costs o.GetLastResult a b = found-free (lastOf (s .last)) (λ y. push-free s y refl)
   exec-costs o.Negate a b = scalar-free (s .stack) (λ x r. goes refl)
-  exec-costs (o.Arithmetic y) a b = scalar-free (s .stack) (λ j r. scalar-free r (λ i q. if-each Free (zeroDivisor y j) (λ z. fails (λ e. omega arith)) (λ z. goes refl)))
+  exec-costs (o.Arithmetic y) a b = scalar-free (s .stack) (λ j r. scalar-free r (λ i q. if-each Free (zeroDivisor y j) (λ z. fails refl) (λ z. goes refl)))
   exec-costs (o.Ordering y) a b = scalar-free (s .stack) (λ j r. scalar-free r (λ i q. goes refl))
   exec-costs o.Equal a b = record { costs = equal-costs (λ x. x) (s .stack) }
   exec-costs o.NotEqual a b = record { costs = equal-costs not (s .stack) }
@@ -178,42 +148,45 @@ module _ (w : World) (s : State) where
   exec-costs o.LogicalNeg a b = boolean-free (s .stack) (λ x r. goes refl)
   exec-costs o.JumpIfFalse a b = boolean-free (s .stack) (λ x r. goes (leap-free x (position s + a)))
   exec-costs o.Jump a b = goes refl
-  exec-costs o.Call a b = if-each Free (ltb a (length (w .functions))) (λ l. enter-free a b (s .stack)) (λ l. fails (λ e. omega arith))
+  exec-costs o.Call a b = if-each Free (ltb a (length (w .functions))) (λ l. enter-free a b (s .stack)) (λ l. fails refl)
   exec-costs o.CallCallable a b = pop-free (s .stack) (λ x r. ifReference-each Free x (λ i k q. named-free a r _) (wrong-kind x))
-  exec-costs o.BuildStructInstance a b = if-each Free (ltb a (w .structs)) (λ l. build-free _ _ a b) (λ l. fails (λ e. omega arith))
-  exec-costs o.AccessStructField a b = pop-free (s .stack) (λ x r. ifStruct-each Free x (λ p q. found-free (fieldOf (s .heap) p a) (field-not (s .heap) p a) (λ y. goes refl)) (wrong-kind x))
+  exec-costs o.BuildStructInstance a b = if-each Free (ltb a (w .structs)) (λ l. build-free _ _ a b) (λ l. fails refl)
+  exec-costs o.AccessStructField a b = pop-free (s .stack) (λ x r. ifStruct-each Free x (λ p q. found-free (fieldOf (s .heap) p a) (λ y. goes refl)) (wrong-kind x))
   exec-costs o.BuildList a b = build-free _ _ 0 a
   exec-costs o.Return a b = pop-free (s .stack) (λ x r. return-free (s .callers) x r)
 
 -- ---- a step
 
 -- the unit of the opcode
-and-one : (k : ℕ) (s t : State) (x y : Outcome) → s .units ≡ t .units + 1 → Pays t k x y → Pays s (suc k) x y
-and-one k s t (went q) y e c = record { costs = omega (arith, c .costs) }
-and-one k s t (returned v q) y e c = record { costs = omega (arith, c .costs) }
-and-one k s t (faulted n q) y e c = record { costs = c .costs }
+and-one : (k : ℕ) (s t : State) (x y : Outcome) → s .units ≡ t .units + 1 → Pays t k x y → Costs (suc k) s x
+and-one k s t (went q) y e c = omega (arith, c .costs)
+and-one k s t (returned v q) y e c = omega (arith, c .costs)
+and-one k s t (faulted n q) y e c = omega (arith, c .costs)
+and-one k s t short y e c = omega (arith, c .costs)
 
 module _ (w : World) (s : State) where
-  decoded-cost : 1 ≤ s .units → (x : Decoded) (n : ℕ)
-      → let t = at (suc (position s)) (withUnits (s .units - 1) s) in Pays s (suc (pairsBy w x s)) (decodedThen w x n t) (decodedThen w x n t)
-  unfolding decodedThen operandsThen pairsBy codeOf faultNumber
+  abbrev C : ℕ → Outcome → Outcome → Type 0
+  C k x y = Costs k s x
+
+  decoded-cost : 1 ≤ s .units → (x : Decoded) (n : ℕ) → Costs (suc (pairsBy w x s)) s (decodedThen w x n (at (suc (position s)) (withUnits (s .units - 1) s)))
+  unfolding decodedThen operandsThen pairsBy codeOf
   decoded-cost h (d.Carried p) n =
       let t = at (suc (position s) + 2 * n) (withUnits (s .units - 1) s) in
       let k = pairsOf w p (s .heap) (s .stack) in
-      if-each (Pays s (suc k)) (leb (suc (position s) + 2 * n) (length (codeOf w s))) (λ e. and-one k s t _ _ (omega arith) (exec-costs w t p _ _)) (λ e. fails (λ q. omega arith))
-  decoded-cost h d.NotCarried n = fails (λ q. omega arith)
-  decoded-cost h d.Unknown n = fails (λ q. omega arith)
+      if-each {B = Outcome} (C (suc k)) (leb (suc (position s) + 2 * n) (length (codeOf w s))) {x' = short} {y' = short}
+      (λ e. and-one k s t _ _ (omega arith) (exec-costs w t p _ _)) (λ e. omega arith)
+  decoded-cost h d.NotCarried n = omega arith
+  decoded-cost h d.Unknown n = omega arith
 
   positive : (n : ℕ) → (n ≡ 0 → ⊥) → 1 ≤ n
   positive n h = omega arith
 
-  paid : Pays s (suc (pairsAt w s)) (stepOf w s) (stepOf w s)
-  unfolding stepOf fetched pairsAt
-  paid = if-each (Pays s _) (eqb (s .units) 0) (λ e. record { costs = λ q. eqb-true (s .units) 0 e }) (λ e. decoded-cost (positive (s .units) (eqb-false (s .units) 0 e)) _ _)
-
-  -- a step that completes spends one unit, and one for each pair that it visits
+  -- a step that completes spends one unit, and one for each pair that it visits; a step that faults spends one; a step is short only if fewer are left
   pub step-cost : Costs (suc (pairsAt w s)) s (stepOf w s)
-  step-cost = paid .costs
+  unfolding stepOf fetched pairsAt
+  step-cost =
+      if-each {B = Outcome} (C _) (eqb (s .units) 0) {x' = short} {y' = short} (λ e. let z = eqb-true (s .units) 0 e in omega arith)
+      (λ e. decoded-cost (positive (s .units) (eqb-false (s .units) 0 e)) _ _)
 
   pub went-cost : {t : State} → stepOf w s ≡ went t → s .units ≡ t .units + suc (pairsAt w s)
   went-cost e = subst (Costs (suc (pairsAt w s)) s) e step-cost
@@ -221,40 +194,8 @@ module _ (w : World) (s : State) where
   pub returned-cost : {t : State} {x : Value} → stepOf w s ≡ returned x t → s .units ≡ t .units + suc (pairsAt w s)
   returned-cost e = subst (Costs (suc (pairsAt w s)) s) e step-cost
 
-  -- a step that faults has paid for its opcode, unless its units were too few
-  abbrev Fetched : Outcome → Type 0
-  Fetched (went t) = Unit
-  Fetched (returned x t) = Unit
-  Fetched (faulted n t) = (faultNumber n ≡ 13 → ⊥) → s .units ≡ t .units + 1
-
-  does-fetched : {a : ℕ} {q t : State} {x y : Outcome} → s .units ≡ q .units + 1 → Does w a q t x y → Fetched x
-  unfolding faultNumber
-  does-fetched e (failed n) = λ h. e
-  does-fetched e (spent x) = λ h. absurd (h refl)
-  does-fetched e (full b) = λ h. e
-  does-fetched e (push h l) = tt
-  does-fetched e (answer b p) = tt
-  does-fetched e (compare b k l h) = tt
-  does-fetched e (fall b) = tt
-  does-fetched e (leap b) = tt
-  does-fetched e (call i n b l h g) = tt
-  does-fetched e (build b l) = tt
-  does-fetched e (field p i b h) = tt
-  does-fetched e (back b h) = tt
-  does-fetched e (home b h) = tt
-
-  stepped-fetched : {t : State} {x y : Outcome} → Stepped w s t x y → Fetched x
-  unfolding faultNumber
-  stepped-fetched (unpaid e x) = λ h. absurd (h refl)
-  stepped-fetched (unread l n) = λ h. omega arith
-  stepped-fetched (ran i a h l k e z) = does-fetched (omega arith) z
-
-  fee-by : {n : Fault} {t : State} (b : Bool) → eqb (faultNumber n) 13 ≡ b → (faultNumber n ≡ 13 → t .units ≡ 0) → ((faultNumber n ≡ 13 → ⊥) → s .units ≡ t .units + 1) → Fee s n t
-  fee-by {n} true q h g = let e = eqb-true (faultNumber n) 13 q in all e (h e)
-  fee-by {n} false q h g = let e = eqb-false (faultNumber n) 13 q in one e (g e)
-
-  pub fault-fee : {n : Fault} {t : State} → stepOf w s ≡ faulted n t → Fee s n t
-  fault-fee {n} e = fee-by (eqb (faultNumber n) 13) refl (subst (Costs (suc (pairsAt w s)) s) e step-cost) (subst Fetched e (stepped-fetched (step-one w s)))
+  pub fault-cost : {n : Fault} {t : State} → stepOf w s ≡ faulted n t → s .units ≡ t .units + 1
+  fault-cost e = subst (Costs (suc (pairsAt w s)) s) e step-cost
 
 -- ---- a path
 
@@ -270,24 +211,29 @@ module _ (w : World) (m : Machine) (u : ℕ) where
   did-is : {n x y : ℕ} {k : Progress} {t : State} (p : Steps w n (atStart (begin m u)) (begin m u) k t) → x ≡ y → _≡_ {A = Tally} (record { spent = x; returns = rootReturns p }) (tally y k)
   did-is {k = k} p e = let z : rootReturns p ≡ k .returns = omega (arith, returns-counted w p) in rw (e, z)
 
-  run-ends : {k : Progress} {t : State} → EndedBy w (atStart (begin m u)) (begin m u) k t → RunIs w m u (settle w m u (ended k t))
-  unfolding settle
+  run-ends : {k : Progress} {t : State} → EndedBy w (atStart (begin m u)) (begin m u) k t → RunIs w m u (givenUp w (partOf w (m .stack) u (ended k t)))
+  unfolding partOf givenUp
   run-ends {k} {t} r =
       let z : spentOn (r .path) ≡ u - t .units = omega (arith, path-units (r .path)) in
       subst (λ (x : Tally). RunIs w m u (record { reply = answered (k .answer) x; machine = machineOf t })) (did-is (r .path) z) (ends (r .path) (r .over))
 
-  run-faults : {i : Fault} {t : State} {k : Progress} → StoppedBy w (atStart (begin m u)) (begin m u) i t k → RunIs w m u (settle w m u (stopped i t k))
-  unfolding settle
+  run-faults : {i : Fault} {t : State} {k : Progress} → StoppedBy w (atStart (begin m u)) (begin m u) i t k → RunIs w m u (givenUp w (partOf w (m .stack) u (stopped i t k)))
+  unfolding partOf givenUp
   run-faults {i} {t} {k} r =
-      let s = r .at in
-      let z : spentOn (r .path) + (s .units - t .units) ≡ u - t .units = omega (arith, path-units (r .path), faulted-spends w s (r .stops)) in
-      let y : didUntil (r .path) t ≡ tally (u - t .units) k = did-is (r .path) z in
-      subst (λ (x : Tally). RunIs w m u (record { reply = fault (faultNumber i) x (traceOf (w .functions) (t .frame ∷ t .callers)); machine = recovered w m k })) y
-      (faults (r .path) (r .goes-on) (r .stops) (fault-fee w s (r .stops)))
+      let z : spentOn (r .path) + 1 ≡ u - t .units = omega (arith, path-units (r .path), fault-cost w (r .at) (r .stops)) in
+      subst (λ (x : Tally). RunIs w m u (record { reply = fault (faultNumber i) x (traceOf (w .functions) (t .frame ∷ t .callers)); machine = recovered w (m .stack) k })) (did-is (r .path) z)
+      (faults (r .path) (r .goes-on) (r .stops))
 
-  run-by-steps : (e : Ended) → By w (atStart (begin m u)) (begin m u) e → RunIs w m u (settle w m u e)
+  run-gives-up : {t : State} {k : Progress} → PausedBy w (atStart (begin m u)) (begin m u) k t → RunIs w m u (givenUp w (partOf w (m .stack) u (paused k t)))
+  unfolding partOf givenUp abandonOf
+  run-gives-up {t} {k} r =
+      subst (λ (x : Tally). RunIs w m u (record { reply = fault 13 x (traceOf (w .functions) (cutAt t .frame ∷ cutAt t .callers)); machine = recovered w (m .stack) k })) (did-is (r .path) refl)
+      (gives-up (r .path) (r .goes-on) (r .unpaid))
+
+  run-by-steps : (e : Ended) → By w (atStart (begin m u)) (begin m u) e → RunIs w m u (givenUp w (partOf w (m .stack) u e))
   run-by-steps (ended k t) r = run-ends r
   run-by-steps (stopped i t k) r = run-faults r
+  run-by-steps (paused k t) r = run-gives-up r
 
   -- a run is a path of written steps: each unit is tied to one of them, and so is each root Return that it tells
   pub run-is-steps : RunIs w m u (runOf w m u)

@@ -47,7 +47,7 @@ module _ (m : Vm) (s : Stores) (l : Lent) (u : ℕ) {m' : Vm} {n : ℕ} {did : T
   by-rules : Recovered (worldOf m s l) (machineIn m l) u n did trace
   by-rules = run-recovered (worldOf m s l) (machineIn m l) u n did trace (sym (ap (λ (x : Ran). x .reply) (ran-so .run)))
 
-  left-machine : machineIn m' l' ≡ recovered (worldOf m s l) (machineIn m l) (by-rules .kept)
+  left-machine : machineIn m' l' ≡ recovered (worldOf m s l) (machineIn m l .stack) (by-rules .kept)
   left-machine = ap (λ (x : Ran). x .machine) (ran-so .run) ∙ by-rules .leaves
 
   before : Standing m l
@@ -111,6 +111,6 @@ pub fault-recovers : {h h' : Held} (u : ℕ) {n : ℕ} {did : Tally} {j : ℕ} �
     → Demand3 u h n did (entriesIn j 0 (h' .lent .backtrace)) h'
 fault-recovers {h} {h'} u {n} {did} {j} p q =
     let x : Recovers (h .vm) (h .stores) (h .lent) u (h' .vm) n did (entriesIn j 0 (h' .lent .backtrace)) (h' .lent) = fault-leaves (h .vm) (h .stores) (h .lent) u p in
-    let so : SetUp (recovered (worldOf (h .vm) (h .stores) (h .lent)) (machineIn (h .vm) (h .lent)) (x .rules .kept)) h h' =
+    let so : SetUp (recovered (worldOf (h .vm) (h .stores) (h .lent)) (machineIn (h .vm) (h .lent) .stack) (x .rules .kept)) h h' =
     record { program = x .program; stores = q; rooms = ran-rooms (h .vm) (h .stores) u p; machine = x .leaves; order = rw q (x .order) } in
     record { leaves = x; later = λ a t p k. chain-alike a (λ e. e) t p k .says; exact = λ d b cs xs ys e f c k. chains-agree (set-up-agrees so b) c k .answers }

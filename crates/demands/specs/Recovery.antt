@@ -46,7 +46,7 @@ pub record Recovers (m : Vm) (s : Stores) (l : Lent) (u : ℕ) (m' : Vm) (n : �
   -- the last result is that of the last root Return completed before the cut, or the former one; so are the cells
   pub kept : Kept (worldOf m s l) (begin (machineIn m l) u) (rules .at) (m' .last) (heapOf (m' .cells) (l' .cells))
   -- all at once: the machine that is left, by the rules; and it is in good order
-  pub leaves : machineIn m' l' ≡ recovered (worldOf m s l) (machineIn m l) (rules .kept)
+  pub leaves : machineIn m' l' ≡ recovered (worldOf m s l) (machineIn m l .stack) (rules .kept)
   pub order : runOrder m' s l' ≡ true
   -- the step that faulted has dropped and added no frame, and its backtrace stands
   pub traced : CodeBytes s → Faults (worldOf m s l) (rules .at) (rules .after)
@@ -65,5 +65,5 @@ pub record Demand3 (u : ℕ) (h : Held) (n : ℕ) (did : Tally) (trace : List En
   -- whatever calls come then, new code included and the same for both: they say what they say of any machine d that was set up in that state with the same free cells
   pub later : {d : Held} {calls : List Call} → AlikeHeld (anew calls) h' d → AllTyped calls → {xs ys : List Answer} {e f : Held} (p : Chain calls h' xs e) (q : Chain calls d ys f) → said p ≡ said q
   -- and where it was set up in the same words, the answers are the same words
-  pub exact : (d : Held) → SetUp (recovered (worldOf (h .vm) (h .stores) (h .lent)) (machineIn (h .vm) (h .lent)) (leaves .rules .kept)) h d
+  pub exact : (d : Held) → SetUp (recovered (worldOf (h .vm) (h .stores) (h .lent)) (machineIn (h .vm) (h .lent) .stack) (leaves .rules .kept)) h d
       → (calls : List Call) (xs ys : List Answer) (e f : Held) → Chain calls h' xs e → Chain calls d ys f → xs ≡ ys

@@ -2,7 +2,7 @@
 use mathlib.Core.Path.{_≡_}
 use mathlib.Core.Bool.{true, false}
 use mathlib.Core.List.{List, [], _∷_}
-use Prim.Native.Nat.{ℕ, suc, _+_, _-_, _≤_}
+use Prim.Native.Nat.{ℕ, suc, _+_, _≤_, _<_}
 use lib.ListN.{getD}
 use Rattle.model.specs.declared.Op.{Op}
 use Rattle.model.specs.declared.Op.the-variants as o
@@ -17,8 +17,8 @@ use Rattle.model.specs.Values.{faultNumber}
 use Rattle.model.specs.Heap.{Cell}
 use Rattle.model.specs.Programs.{opcodeIn}
 use Rattle.model.specs.Equality.{Same, same, sameOf}
-use Rattle.model.specs.Steps.{World, State, Outcome, went, returned, faulted, position, codeOf, stepOf}
-use Rattle.model.specs.Runs.{Machine, begin, machineOf, Progress, atStart, over, Entry, traceOf, Reply, value, continue, fault, Ran, answered, recovered}
+use Rattle.model.specs.Steps.{World, State, Outcome, went, returned, faulted, short, position, codeOf, stepOf}
+use Rattle.model.specs.Runs.{Machine, begin, machineOf, Progress, atStart, over, Entry, traceOf, Reply, value, continue, fault, Ran, answered, cutAt, recovered}
 use Rattle.model.specs.Stores.{Stores}
 use Rattle.model.specs.Machines.{Lent, machineIn, worldOf}
 use Rattle.laws_runs.specs.Ordered.{CodeBytes}
@@ -68,16 +68,16 @@ pairsBy w d.Unknown s = 0
 unfoldable pub pairsAt : World → State → ℕ
 pairsAt w s = pairsBy w (opcodeIn (codeOf w s) (position s) .what) s
 
--- k units are spent by a step that completes; a step for which they are too few is fault 13, and spends all that are left
-abbrev pub Costs : ℕ → State → Outcome → Type 0
-Costs k s (went t) = s .units ≡ t .units + k
-Costs k s (returned x t) = s .units ≡ t .units + k
-Costs k s (faulted n t) = faultNumber n ≡ 13 → t .units ≡ 0
+-- k units are spent by a step that completes, i by one that faults; a step is short only if fewer than k are left
+abbrev pub Spent : (k i : ℕ) → State → Outcome → Type 0
+Spent k i s (went t) = s .units ≡ t .units + k
+Spent k i s (returned x t) = s .units ≡ t .units + k
+Spent k i s (faulted n t) = s .units ≡ t .units + i
+Spent k i s short = s .units < k
 
--- a step that faults spends one unit; where the units are too few it is fault 13, and spends all that are left
-pub data Fee (s : State) (n : Fault) (t : State) : Type 0 where
-  one : (faultNumber n ≡ 13 → ⊥) → s .units ≡ t .units + 1 → Fee s n t
-  all : faultNumber n ≡ 13 → t .units ≡ 0 → Fee s n t
+-- a step costs k units: one that completes has spent them, and one that faults its opcode's
+abbrev pub Costs : ℕ → State → Outcome → Type 0
+Costs k s x = Spent k 1 s x
 
 -- ---- a path
 
@@ -93,16 +93,22 @@ spentOn {w} (ret {s = s} o q p) = suc (pairsAt w s) + spentOn p
 abbrev pub didOn : {w : World} {n : ℕ} {m k : Progress} {s t : State} → Steps w n m s k t → Tally
 didOn p = record { spent = spentOn p; returns = rootReturns p }
 
--- the same with a step behind it that faults, from s to t
-abbrev pub didUntil : {w : World} {n : ℕ} {m k : Progress} {s₀ s : State} → Steps w n m s₀ k s → State → Tally
-didUntil {s = s} p t = record { spent = spentOn p + (s .units - t .units); returns = rootReturns p }
+-- the same with a step behind it that faults
+abbrev pub didUntil : {w : World} {n : ℕ} {m k : Progress} {s t : State} → Steps w n m s k t → Tally
+didUntil p = record { spent = spentOn p + 1; returns = rootReturns p }
 
--- the run is n written steps to a state where it is over, or up to the step that faults: its reply and what it leaves are theirs
+-- the same where the run is given up behind it: all u units that it was given count
+abbrev pub didGiven : {w : World} {n : ℕ} {m k : Progress} {s t : State} → ℕ → Steps w n m s k t → Tally
+didGiven u p = record { spent = u; returns = rootReturns p }
+
+-- the run is n written steps to a state where it is over, or up to a step that faults or cannot be paid for: its reply and what it leaves are theirs
 pub data RunIs (w : World) (m : Machine) (u : ℕ) : Ran → Type 0 where
   ends : {n : ℕ} {k : Progress} {t : State} (p : Steps w n (atStart (begin m u)) (begin m u) k t) → over w t ≡ true
       → RunIs w m u (record { reply = answered (k .answer) (didOn p); machine = machineOf t })
-  faults : {n : ℕ} {k : Progress} {s t : State} {i : Fault} (p : Steps w n (atStart (begin m u)) (begin m u) k s) → over w s ≡ false → stepOf w s ≡ faulted i t → Fee s i t
-      → RunIs w m u (record { reply = fault (faultNumber i) (didUntil p t) (traceOf (w .functions) (t .frame ∷ t .callers)); machine = recovered w m k })
+  faults : {n : ℕ} {k : Progress} {s t : State} {i : Fault} (p : Steps w n (atStart (begin m u)) (begin m u) k s) → over w s ≡ false → stepOf w s ≡ faulted i t
+      → RunIs w m u (record { reply = fault (faultNumber i) (didUntil p) (traceOf (w .functions) (t .frame ∷ t .callers)); machine = recovered w (m .stack) k })
+  gives-up : {n : ℕ} {k : Progress} {s : State} (p : Steps w n (atStart (begin m u)) (begin m u) k s) → over w s ≡ false → stepOf w s ≡ short
+      → RunIs w m u (record { reply = fault 13 (didGiven u p) (traceOf (w .functions) (cutAt s .frame ∷ cutAt s .callers)); machine = recovered w (m .stack) k })
 
 -- the units spent are at most those given, and a fault is one of the 14 faults of a run; "continue" is answered where no root Return was completed
 abbrev pub Within : ℕ → Reply → Type 0

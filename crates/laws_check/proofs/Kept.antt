@@ -24,7 +24,7 @@ use Rattle.laws_code.specs.Walk.{walked}
 use Rattle.laws_code.proofs.Walks.{step-takes-the-walk}
 use Rattle.check_rules.specs.Rules.{getLocal, jump, call, callCallable, return, isAt, firstAt, secondAt, isCarried, wholeAt, inRange, numbersAt, callAt, suffices, heightAfter, leadsOn, starts, goes as path-goes, leaps as path-leaps, Passed, codeOf, isMain}
 use Rattle.value.proofs.Coding.{and-left, and-right}
-use Rattle.laws_check.specs.Row.{Unsure, Missing, constant, function, struct, slot, unsure, Why, Onward, Inward, Outward, Tied, goes, leaps, calls, calls-named, comes-back, ends, faults}
+use Rattle.laws_check.specs.Row.{Unsure, Missing, constant, function, struct, slot, unsure, Why, Onward, Inward, Outward, Tied, goes, leaps, calls, calls-named, comes-back, ends, faults, pauses}
 use Rattle.laws_check.specs.Good.{Serves, Stands, Calls, Waiting, Good, Allowed, Safe}
 use Rattle.laws_check.proofs.Rows.{a-step-keeps-its-row}
 use Rattle.laws_check.proofs.Walked.{or-left, or-right, whole-here, numbers-here, call-here, suffices-here, count-here}
@@ -131,7 +131,6 @@ module _ (p : Program) (ok : Passed p) (w : World) (of : Serves p w) (s : State)
   why-allowed f.FramesFull h = tt
   why-allowed f.CellsFull h = tt
   why-allowed f.TooDeep h = tt
-  why-allowed f.UnitsSpent h = tt
   why-allowed f.NoFunction h = no-named-call h
 
   -- ---- where the instruction leads
@@ -186,6 +185,7 @@ module _ (p : Program) (ok : Passed p) (w : World) (of : Serves p w) (s : State)
   tied-safe (comes-back {t = t} c cs e out) = outward-good t c cs out
   tied-safe (ends {t = t} e none on) = root-good t e none on
   tied-safe (faults {n = m} h) = why-allowed m h
+  tied-safe pauses = tt
 
   -- ---- the step
 

@@ -35,7 +35,7 @@ use Rattle.model.specs.Steps.{World, State, Outcome, went, faulted, withStack, 
 use Rattle.value.proofs.Coding.{and-left, and-right}
 use Rattle.laws_runs.proofs.Combinators.{ifScalar-each, ifBoolean-each, ifReference-each, ifStruct-each}
 use Rattle.check_rules.specs.Rules.{jumpIfFalse, jump, call, callCallable, return}
-use Rattle.laws_check.specs.Row.{Unsure, upvalue, field, Missing, constant, function, struct, slot, unsure, Inward, Tied, goes, leaps, calls, calls-named, comes-back, ends, faults, callsOrReturns, Counted}
+use Rattle.laws_check.specs.Row.{Unsure, upvalue, field, Missing, constant, function, struct, slot, unsure, Inward, Tied, goes, leaps, calls, calls-named, comes-back, ends, faults, pauses, callsOrReturns, Counted}
 
 -- opcode k is no jump and no Return; its row pops i values and pushes j
 record Plain (k a b i j : ℕ) : Type 0 where
@@ -169,7 +169,7 @@ module _ (k a b : ℕ) (w : World) (s : State) where
 
     same-tied : (t : Bool → Bool) (q : List Value) (x : Same) → length q + 2 ≡ length (s .stack) → T (onSame t q s x)
     unfolding onSame
-    same-tied t q (same c pairs) z = if-tied (leb pairs (s .units)) (λ e. went-tied row _ (omega arith) (omega arith) refl refl) (λ e. faults tt)
+    same-tied t q (same c pairs) z = if-tied (leb pairs (s .units)) (λ e. went-tied row _ (omega arith) (omega arith) refl refl) (λ e. pauses)
 
     equal-tied : (t : Bool → Bool) → T (equalStep t w s)
     unfolding equalStep

@@ -17,11 +17,12 @@ use Rattle.model.specs.Steps.{World, State, faulted, position, stepOf}
 use Rattle.model.specs.Steps as steps
 use Rattle.model.specs.Runs.{Machine, Progress, Entry, fault, begin, over}
 use Rattle.laws_runs.specs.Paths.{Steps, none, on, ret}
-use Rattle.laws_runs.specs.Demand.{Recovered}
+use Rattle.laws_runs.specs.Demand.{Cut, faulting, unpaid, Recovered}
 use Rattle.laws_runs.proofs.Demands.{run-recovered}
 use Rattle.check_rules.specs.Rules.{starts, Passed, codeOf}
+use Rattle.laws_check.specs.Row.{Unsure}
 use Rattle.laws_check.specs.Good.{Serves, Waiting, Good, Allowed, Safe}
-use Rattle.laws_check.specs.Passed.{JustLoaded, Comes, ruledOut, Meets, NeverFaultsSo, AsksInRange, Parts, FramesWithin, RunsSo, RunsAskInRange}
+use Rattle.laws_check.specs.Passed.{JustLoaded, Comes, ruledOut, Meets, NeverFaultsSo, AsksInRange, Parts, FramesWithin, RunsSo, Asked, RunsAskInRange}
 use Rattle.laws_check.proofs.Walked.{main-is-taken-with-none}
 use Rattle.laws_check.proofs.Kept.{good-at, a-step-stays-good}
 
@@ -40,7 +41,6 @@ allowed-not-ruled-out x f.StackFull h = refl
 allowed-not-ruled-out x f.FramesFull h = refl
 allowed-not-ruled-out x f.CellsFull h = refl
 allowed-not-ruled-out x f.TooDeep h = refl
-allowed-not-ruled-out x f.UnitsSpent h = refl
 allowed-not-ruled-out x f.NoFunction h = absurd h
 
 -- 6 is the number of one fault
@@ -58,7 +58,6 @@ only-six f.StackFull e = absurd (let z : ⊥ = omega arith in z)
 only-six f.FramesFull e = absurd (let z : ⊥ = omega arith in z)
 only-six f.CellsFull e = absurd (let z : ⊥ = omega arith in z)
 only-six f.TooDeep e = absurd (let z : ⊥ = omega arith in z)
-only-six f.UnitsSpent e = absurd (let z : ⊥ = omega arith in z)
 only-six f.NoFunction e = absurd (let z : ⊥ = omega arith in z)
 
 module _ (p : Program) (ok : Passed p) where
@@ -114,23 +113,30 @@ module _ (p : Program) (ok : Passed p) where
   -- ---- whole runs
 
   -- the step that stopped a run, at a state that it came to
-  run-stops : (w : World) → Serves p w → (m : Machine) → JustLoaded m → (u n : ℕ) (did : Tally) (trace : List Entry) (r : Recovered w m u n did trace)
-      → Meets p w (r .at) (r .fault)
+  run-stops : {w : World} → Serves p w → {m : Machine} → JustLoaded m → {u n : ℕ} {did : Tally} {trace : List Entry} (r : Recovered w m u n did trace)
+      → (i : Fault) (t : State) → stepOf w (r .at) ≡ faulted i t → Meets p w (r .at) i
   unfolding over
-  run-stops w of m loaded u n did trace r = record {
+  run-stops of {m} loaded {u} r i t q = record {
     comes = record { serves = of; machine = m; loaded = loaded; units = u; count = r .steps; before = _; after = r .kept; path = r .path };
     inside = leb-false _ _ (r .goes-on);
-    left = r .after;
-    step = r .stops;
+    left = t;
+    step = q;
   }
 
   pub passed-runs-so : RunsSo p
-  passed-runs-so w of m loaded u n did trace e =
-      let r = run-recovered w m u n did trace e in
-      rw (r .number) (passed-never-faults-so w (r .at) (r .fault) (run-stops w of m loaded u n did trace r))
+  unfolding ruledOut
+  passed-runs-so w of m loaded u n did trace e = let r = run-recovered w m u n did trace e in by r (r .cut)
+    where
+      by : (r : Recovered w m u n did trace) {t : State} {i spent : ℕ} → Cut w u (r .at) t i spent → ruledOut i ≡ false
+      by r (faulting i t q) = passed-never-faults-so w (r .at) i (run-stops of loaded r i t q)
+      by r (unpaid q) = refl
 
   pub passed-runs-ask-in-range : RunsAskInRange p
-  passed-runs-ask-in-range w of m loaded u did trace e =
-      let r = run-recovered w m u 6 did trace e in
-      let six : r .fault ≡ f.OutOfRange = only-six (r .fault) (sym (r .number)) in
-      record { run = r; opcode = passed-asks-in-range w (r .at) (rw six at (run-stops w of m loaded u 6 did trace r)) }
+  passed-runs-ask-in-range w of m loaded u did trace e = by (run-recovered w m u 6 did trace e)
+    where
+      asked : (r : Recovered w m u 6 did trace) {t : State} {n spent : ℕ} → n ≡ 6 → Cut w u (r .at) t n spent → Unsure (opcodeIn (steps.codeOf w (r .at)) (position (r .at)) .what)
+      asked r six (faulting i t q) = passed-asks-in-range w (r .at) (rw (only-six i six) at (run-stops of loaded r i t q))
+      asked r six (unpaid q) = absurd (let z : ⊥ = omega arith in z)
+
+      by : Recovered w m u 6 did trace → Asked w m u did trace
+      by r = record { run = r; opcode = asked r refl (r .cut) }

@@ -9,7 +9,7 @@ use Rattle.model.specs.declared.Fault.{Fault}
 use Rattle.model.specs.declared.Fault.the-variants as f
 use Rattle.model.specs.declared.Frame.{Frame}
 use Rattle.model.specs.Programs.{Program}
-use Rattle.model.specs.Steps.{World, State, Outcome, went, returned, faulted, position}
+use Rattle.model.specs.Steps.{World, State, Outcome, went, returned, faulted, short, position}
 use Rattle.check_rules.specs.Rules.{Path, codeOf, countOf, isMain}
 use Rattle.laws_check.specs.Row.{Unsure}
 
@@ -58,7 +58,6 @@ Allowed x f.StackFull = Unit
 Allowed x f.FramesFull = Unit
 Allowed x f.CellsFull = Unit
 Allowed x f.TooDeep = Unit
-Allowed x f.UnitsSpent = Unit
 Allowed x f.NoFunction = ⊥
 
 -- of a step of the opcode x
@@ -66,3 +65,4 @@ abbrev pub Safe : Program → Decoded → Outcome → Type 0
 Safe p x (went t) = Good p t
 Safe p x (returned v t) = Good p t
 Safe p x (faulted n t) = Allowed x n
+Safe p x short = Unit

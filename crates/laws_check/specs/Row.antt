@@ -15,7 +15,7 @@ use Rattle.model.specs.declared.Fault.{Fault}
 use Rattle.model.specs.declared.Fault.the-variants as f
 use Rattle.model.specs.declared.Frame.{Frame}
 use Rattle.model.specs.Opcodes.{firstNames, popped, opcodeAt}
-use Rattle.model.specs.Steps.{World, State, Outcome, went, returned, faulted, at, position}
+use Rattle.model.specs.Steps.{World, State, Outcome, went, returned, faulted, short, at, position}
 use Rattle.check_rules.specs.Rules.{getLocal, jumpIfFalse, jump, call, callCallable, return}
 
 -- the two opcodes that ask for a number which no check knows
@@ -45,7 +45,6 @@ Why k a b w s f.StackFull = Unit
 Why k a b w s f.FramesFull = Unit
 Why k a b w s f.CellsFull = Unit
 Why k a b w s f.TooDeep = Unit
-Why k a b w s f.UnitsSpent = Unit
 Why k a b w s f.NoFunction = k ≡ callCallable
 
 -- from s to t in the same frame, which then stands at i: the row's values are popped, and the row's number of values pushed
@@ -79,6 +78,7 @@ pub data Tied (k a b : ℕ) (w : World) (s : State) : Outcome → Type 0 where
   comes-back : {t : State} (c : Frame) (cs : List Frame) → k ≡ return → Outward k a b c cs s t → Tied k a b w s (went t)
   ends : {t : State} {v : Value} → k ≡ return → s .callers ≡ [] → Onward k a b (position s) s t → Tied k a b w s (returned v t)
   faults : {n : Fault} {t : State} → Why k a b w s n → Tied k a b w s (faulted n t)
+  pauses : Tied k a b w s short
 
 -- in short, where it neither calls nor returns
 unfoldable pub callsOrReturns : ℕ → Bool

@@ -28,7 +28,7 @@ use Rattle.model.specs.Scalars.{zeroDivisor}
 use Rattle.model.specs.Heap.{Cell, built, unbuilt, headIn, deepest, depthIn, fieldOf, buildOf, listElements, structFields}
 use Rattle.model.specs.Equality.{Same, same, sameOf}
 use Rattle.model.specs.Programs.{Function, functionNamed}
-use Rattle.model.specs.Steps.{World, State, Outcome, went, returned, faulted, pushing, onFound, constantOf, slotOf, lastOf, loadStep, slotStep, lastStep, negateStep, arithmeticStep, orderingStep, onSame, equalStep, logicStep, notStep, jumpStep, jumpIfFalseStep, enter, callStep, enterNamed, callCallableStep, onBuilt, buildStep, structStep, fieldStep, returnTo, returnStep, execOf}
+use Rattle.model.specs.Steps.{World, State, Outcome, went, returned, faulted, short, pushing, onFound, constantOf, slotOf, lastOf, loadStep, slotStep, lastStep, negateStep, arithmeticStep, orderingStep, onSame, equalStep, logicStep, notStep, jumpStep, jumpIfFalseStep, enter, callStep, enterNamed, callCallableStep, onBuilt, buildStep, structStep, fieldStep, returnTo, returnStep, execOf}
 use Rattle.laws_checks.specs.Table.{Check, constant-known, slot-filled, function-known, struct-known, value-there, scalar-at, boolean-at, reference-at, struct-at, values-there, last-there, field-there, name-known, arguments-there, divisor-fine, pairs-paid, depth-fine, cells-free, frame-free, place-free, numberOf, checksOf, nth, isThere, isFound, pairsOf, passes, firstFailed, Keeps}
 
 -- ---- no check is left
@@ -203,9 +203,15 @@ module _ (w : World) (s : State) where
   unfolding orderingStep
   orders x = two-scalars [] _ (λ y z r q e. went-on w s _)
 
+  -- a step that goes on if the pairs are paid for, and is short otherwise
+  paid-or : (b : Bool) → passes w s pairs-paid ≡ b → (t : State) → Keeps (firstFailed w s (pairs-paid ∷ [])) (if b then went t else short)
+  unfolding firstFailed Keeps
+  paid-or true e t = subst (λ (b : Bool). Keeps (if b then none else some pairs-paid) (went t)) (sym e) tt
+  paid-or false e t = subst (λ (b : Bool). Keeps (if b then none else some pairs-paid) short) (sym e) refl
+
   pays : (t : Bool → Bool) (q : List Value) (r : Same) → passes w s pairs-paid ≡ leb (pairsOf r) (s .units) → Keeps (firstFailed w s (pairs-paid ∷ [])) (onSame t q s r)
-  unfolding onSame pairsOf numberOf faultNumber
-  pays t q (same b k) e = asked w s pairs-paid [] (leb k (s .units)) e _ (λ z. went-on w s _) f.UnitsSpent _ refl
+  unfolding onSame pairsOf
+  pays t q (same b k) e = paid-or (leb k (s .units)) e _
 
   compares : (t : Bool → Bool) → Keeps (firstFailed w s (value-there 0 ∷ value-there 1 ∷ pairs-paid ∷ [])) (equalStep t w s)
   unfolding equalStep passes nth

@@ -20,7 +20,7 @@ use Rattle.model.specs.Scalars.{zeroDivisor}
 use Rattle.model.specs.Heap.{headIn, deepest}
 use Rattle.model.specs.Equality.{Same, same, sameOf}
 use Rattle.model.specs.Programs.{functionNamed}
-use Rattle.model.specs.Steps.{World, State, Outcome, went, returned, faulted}
+use Rattle.model.specs.Steps.{World, State, Outcome, went, returned, faulted, short}
 
 -- a check, and the number of the fault where it fails. Values are counted from the top of the stack, from 0 on
 pub data Check : Type 0 where
@@ -145,11 +145,13 @@ unfoldable pub firstFailed : World → State → List Check → Option Check
 firstFailed w s [] = none
 firstFailed w s (c ∷ cs) = if passes w s c then firstFailed w s cs else some c
 
--- a step faults exactly if a check fails, and its number is that of the first that does
+-- a step faults exactly if a check fails, and its number is that of the first that does; where that is units for the pairs (13) it is short
 unfoldable pub Keeps : Option Check → Outcome → Type 0
 Keeps none (went t) = Unit {0}
 Keeps none (returned v t) = Unit {0}
 Keeps none (faulted n t) = ⊥
+Keeps none short = ⊥
 Keeps (some c) (went t) = ⊥
 Keeps (some c) (returned v t) = ⊥
 Keeps (some c) (faulted n t) = faultNumber n ≡ numberOf c
+Keeps (some c) short = c ≡ pairs-paid

@@ -33,7 +33,7 @@ use Rattle.laws_runs.specs.Sane.{SaneWorld, Sane}
 use Rattle.laws_runs.proofs.Combinators.{if-each}
 use Rattle.laws_runs.proofs.Does.{Makes, list, struct}
 use Rattle.laws_runs.proofs.Placed.{grows-placed}
-use Rattle.laws_meaning.specs.Alike.{AlikeValue, AlikeValues, Layout, laidOut, AlikeConstants, SameFree, AlikeState, AlikeOutcome, goes, returns, faults, Both}
+use Rattle.laws_meaning.specs.Alike.{AlikeValue, AlikeValues, Layout, laidOut, AlikeConstants, SameFree, AlikeState, AlikeOutcome, goes, returns, faults, runs-short, Both}
 use Rattle.laws_meaning.specs.Alike as a
 use Rattle.laws_meaning.proofs.Values.{Boths, empty, over, BothLast, nothing, is, boths-of, last-of, values-on, last-on, Kinds, scalars, booleans, strings, references, lists, structs, BothFound, got, bad, found-if, kinds, same-alike, length-alike, at-alike, drop-alike, take-alike, turned-alike, field-alike}
 use Rattle.laws_meaning.proofs.Builds.{BothGrow, BothBuilt, made, refused, build-alike}
@@ -185,7 +185,7 @@ module _ (w : World) (lay : Layout) (good : SaneWorld w) (beside-good : SaneWorl
   onSame-alike : (t : Bool → Bool) (z : Same) {r r' : List Value} → Bs r r' → R (onSame t r s z) (onSame t r' other z)
   unfolding onSame
   onSame-alike t (same b k) bs =
-      if-each R (leb k (s .units)) (λ h. goes (states (s .frame) (s .callers) (s .units - k) (over (truth (t b)) bs))) (λ h. faults refl (states (s .frame) (s .callers) 0 (sides .stack)))
+      if-each R (leb k (s .units)) (λ h. goes (states (s .frame) (s .callers) (s .units - k) (over (truth (t b)) bs))) (λ h. runs-short)
 
   enter-alike : (i k : ℕ) {r r' : List Value} → Bs r r' → R (enter w i k r s) (enter (laidOut lay w) i k r' other)
   unfolding enter
@@ -322,7 +322,7 @@ module _ (w : World) (lay : Layout) (good : SaneWorld w) (beside-good : SaneWorl
   step-beside : (s : State) → C s → Rs s stepOf
   unfolding stepOf fetched codeOf
   step-beside s c =
-      if-each (AlikeOutcome w lay) (eqb (s .units) 0) (λ h. fault-beside s c f.UnitsSpent)
+      if-each (AlikeOutcome w lay) (eqb (s .units) 0) (λ h. runs-short)
       (λ h. decoded-alike (at (suc (position s)) (withUnits (s .units - 1) s)) (moved s c _ _) _ _)
 
   step-parts : (s : State) → C s → (q : Frame) (cs : List Frame) (u : ℕ) → q ≡ s .frame → cs ≡ s .callers → u ≡ s .units

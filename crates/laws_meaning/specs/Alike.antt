@@ -11,8 +11,8 @@ use Rattle.model.specs.declared.Fault.{Fault}
 use Rattle.model.specs.Values.{faultNumber}
 use Rattle.model.specs.Heap.{Cell, placedBelow}
 use Rattle.model.specs.Trees.{meaning}
-use Rattle.model.specs.Steps.{World, State, Outcome, went, returned, faulted}
-use Rattle.model.specs.Runs.{Machine, machineOf}
+use Rattle.model.specs.Steps.{World, State, Outcome, went, returned, faulted, short}
+use Rattle.model.specs.Runs.{Machine, machineOf, Progress, Under}
 
 -- ---- values, each over its text and in its heap
 
@@ -73,3 +73,24 @@ pub data AlikeOutcome (w : World) (o : Layout) : Outcome → Outcome → Type 0 
   goes : {s s' : State} → AlikeState w o s s' → AlikeOutcome w o (went s) (went s')
   returns : {x x' : Value} {s s' : State} → AlikeValue (w .text) (o .text) (s .heap) (s' .heap) x x' → AlikeState w o s s' → AlikeOutcome w o (returned x s) (returned x' s')
   faults : {i i' : Fault} {s s' : State} → faultNumber i ≡ faultNumber i' → AlikeState w o s s' → AlikeOutcome w o (faulted i s) (faulted i' s')
+  runs-short : AlikeOutcome w o short short
+
+-- ---- runs under way
+
+-- how far they have come: what a fault would go back to, and how many root Returns they have completed
+pub record AlikeMark (w : World) (o : Layout) (k k' : Progress) : Type 0 where
+  pub last : AlikeLast (w .text) (o .text) (k .heap) (k' .heap) (k .last) (k' .last)
+  pub free : SameFree (w .cellRoom) (o .cellRoom) (k .heap) (k' .heap)
+  pub returns : k .returns ≡ k' .returns
+
+-- the answers so far: none on either side, or the last results
+pub data Answers (s s' : State) (l l' : Last) : Type 0 where
+  not-yet : l ≡ Nothing → l' ≡ Nothing → Answers s s' l l'
+  latest : l ≡ s .last → l' ≡ s' .last → Answers s s' l l'
+
+pub record AlikeUnder (w : World) (o : Layout) (r r' : Under) : Type 0 where
+  pub given : r' .given ≡ r .given
+  pub state : AlikeState w o (r .state) (r' .state)
+  pub start : AlikeValues (w .text) (o .text) (r .progress .heap) (r' .progress .heap) (r .start) (r' .start)
+  pub marks : AlikeMark w o (r .progress) (r' .progress)
+  pub answers : Answers (r .state) (r' .state) (r .progress .answer) (r' .progress .answer)

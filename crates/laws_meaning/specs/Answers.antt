@@ -6,9 +6,9 @@ use Rattle.model.specs.declared.Tally.{Tally}
 use Rattle.model.specs.Heap.{Cell}
 use Rattle.model.specs.Trees.{Tree, meaning}
 use Rattle.model.specs.Steps.{World}
-use Rattle.model.specs.Runs.{Entry, Reply, Ran}
+use Rattle.model.specs.Runs.{Entry, Reply, Ran, Under, Part}
 use Rattle.model.specs.Runs as r
-use Rattle.laws_meaning.specs.Alike.{Layout, laidOut, AlikeMachine}
+use Rattle.laws_meaning.specs.Alike.{Layout, laidOut, AlikeMachine, AlikeUnder}
 
 -- a reply that has the value's tree in place of the value
 pub data Meant : Type 0 where
@@ -29,6 +29,11 @@ meant w x = meantIn (w .text) (x .machine .heap) (x .reply)
 pub record AlikeRan (w : World) (o : Layout) (x x' : Ran) : Type 0 where
   pub answer : meant w x ≡ meant (laidOut o w) x'
   pub machine : AlikeMachine w o (x .machine) (x' .machine)
+
+-- two parts of runs: both are over, or both are paused
+pub data AlikePart (w : World) (o : Layout) : Part → Part → Type 0 where
+  ends : {x x' : Ran} → AlikeRan w o x x' → AlikePart w o (r.ends x) (r.ends x')
+  pauses : {x x' : Under} → AlikeUnder w o x x' → AlikePart w o (r.pauses x) (r.pauses x')
 
 -- the text u has t at its front
 pub record Begins (t u : List ℕ) : Type 0 where

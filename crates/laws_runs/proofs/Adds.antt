@@ -20,7 +20,7 @@ built-grows room H k us {H'} e = record { more = blockOf H k us; is = grown-of r
 
 does-adds : {w : World} {a : ℕ} {s t : State} {x y : Outcome} → Does w a s t x y → Adds (s .heap) (s .last) x
 does-adds (fault n) = (grows-none _, refl)
-does-adds (spent x) = (grows-none _, refl)
+does-adds (spent x) = tt
 does-adds (full b) = (built-grows _ _ _ _ (b .gives), refl)
 does-adds (push h l) = (grows-none _, refl)
 does-adds (answer b p) = (grows-none _, refl)
@@ -34,7 +34,7 @@ does-adds (back b e) = (grows-none _, refl)
 does-adds (home b e) = (refl, refl)
 
 stepped-adds : {w : World} {s t : State} {x y : Outcome} → Stepped w s t x y → Adds (s .heap) (s .last) x
-stepped-adds (unpaid e x) = (grows-none _, refl)
+stepped-adds (unpaid e x) = tt
 stepped-adds (unread h n) = (grows-none _, refl)
 stepped-adds (ran i a h l k e d) = does-adds d
 

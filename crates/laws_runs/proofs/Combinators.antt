@@ -19,7 +19,7 @@ use Rattle.model.specs.Basics.{if_then_else_}
 use Rattle.model.specs.Values.{ifScalar, ifBoolean, ifReference, ifStruct, popping, poppingScalar, poppingBoolean}
 use Rattle.model.specs.Heap.{Cell, Built, built, unbuilt}
 use Rattle.model.specs.Equality.{Same, same}
-use Rattle.model.specs.Steps.{World, State, Outcome, went, faulted, withStack, withHeap, withUnits, withFrames, pushing, onFound, onSame, enter, onBuilt}
+use Rattle.model.specs.Steps.{World, State, Outcome, went, faulted, short, withStack, withHeap, withUnits, withFrames, pushing, onFound, onSame, enter, onBuilt}
 
 module _ {A B : Type 0} (R : A → B → Type 0) where
   pub if-each : (b : Bool) {x y : A} {x' y' : B} → (b ≡ true → R x x') → (b ≡ false → R y y') → R (if b then x else y) (if b then x' else y')
@@ -100,7 +100,7 @@ module _ (R : Outcome → Outcome → Type 0) where
     pushing-each x p q = if-each R (ltb (length (s .stack)) (w .stackRoom)) (λ e. q (ltb-true _ _ e)) (λ e. p)
 
     -- where s has too few units, nothing is asked of the other
-    pub onSame-each : (t : Bool → Bool) (r : List Value) (x : Same) → s .units ≤ u → ((y : Outcome) → R (faulted f.UnitsSpent (withUnits 0 s)) y)
+    pub onSame-each : (t : Bool → Bool) (r : List Value) (x : Same) → s .units ≤ u → ((y : Outcome) → R short y)
         → ((b : Bool) (k : ℕ) → x ≡ same b k → k ≤ s .units
         → R (went (withStack (v.Boolean (t b) ∷ r) (withUnits (s .units - k) s))) (went (withStack (v.Boolean (t b) ∷ r) (withUnits (u - k) s))))
         → R (onSame t r s x) (onSame t r (withUnits u s) x)

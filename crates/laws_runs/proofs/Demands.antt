@@ -7,17 +7,15 @@ use native.Mathlib.Omega.{arith}
 use Rattle.model.specs.declared.Value.{Value}
 use Rattle.model.specs.declared.Last.{Last}
 use Rattle.model.specs.declared.Last.the-variants.{Nothing, Is}
-use Rattle.model.specs.declared.Fault.{Fault}
 use Rattle.model.specs.declared.Tally.{Tally}
-use Rattle.model.specs.Values.{faultNumber}
 use Rattle.model.specs.Steps.{World, State, went, returned, stepOf}
-use Rattle.model.specs.Runs.{Machine, begin, Progress, atStart, counted, Ended, ended, stopped, over, endOf, Entry, traceOf, fault, tally, answered, recovered, settle, runOf}
-use Rattle.laws_runs.specs.Paths.{Steps, none, on, ret, StoppedBy}
-use Rattle.laws_runs.specs.Demand.{stay, go, Since, start, return, repliesOf, Recovered}
+use Rattle.model.specs.Runs.{Machine, begin, Progress, atStart, counted, Ended, ended, stopped, paused, over, endOf, Entry, traceOf, fault, tally, answered, recovered, partOf, abandonOf, givenUp, runOf}
+use Rattle.laws_runs.specs.Paths.{Steps, none, on, ret, StoppedBy, PausedBy}
+use Rattle.laws_runs.specs.Demand.{stay, go, Since, start, return, repliesOf, Cut, faulting, unpaid, Recovered}
 use Rattle.laws_runs.specs.Sane.{SaneWorld, Sane, Faults, Kept}
 use Rattle.laws_runs.proofs.Ends.{end-of}
 use Rattle.laws_runs.proofs.Paths.{run-path, returns-counted, marked, mark-last}
-use Rattle.laws_runs.proofs.Keeps.{step-keeps}
+use Rattle.laws_runs.proofs.Keeps.{cut-faults, step-keeps}
 use Rattle.laws_runs.proofs.Runs.{path-sane}
 
 module _ (w : World) where
@@ -44,42 +42,49 @@ module _ (w : World) where
   no-fault (Is y) x n did trace e = let z : _≡_ {A = ℕ} 0 1 = cc in omega arith
 
   module _ (m : Machine) (u n : ℕ) (did : Tally) (trace : List Entry) where
-    stopped-recovered : (i : Fault) (t : State) (k : Progress) → endOf w (begin m u) ≡ stopped i t k
-        → fault (faultNumber i) (tally (u - t .units) k) (traceOf (w .functions) (t .frame ∷ t .callers)) ≡ fault n did trace
+    -- cut at s, where the run had come as far as k
+    cut-recovered : {c i spent : ℕ} {k : Progress} {s t : State} → Steps w c (atStart (begin m u)) (begin m u) k s → over w s ≡ false → Cut w u s t i spent
+        → runOf w m u .machine ≡ recovered w (m .stack) k → fault i (tally spent k) (traceOf (w .functions) (t .frame ∷ t .callers)) ≡ fault n did trace
         → Recovered w m u n did trace
-    stopped-recovered i t k q e =
-        let s = begin m u in
-        let r : StoppedBy w (atStart s) s i t k = run-path w (atStart s) s (sym (end-of w s) ∙ q) in
-        let same : did ≡ tally (u - t .units) k = cc in
-        let left : runOf w m u .machine ≡ recovered w m k = unfold runOf settle in rw q in
+    cut-recovered {i = i} {spent = spent} {k = k} {s = s} {t = t} p o cut left e =
+        let same : did ≡ tally spent k = cc in
+        let number : i ≡ n = cc in
         record {
-          steps = r .steps;
+          steps = _;
           kept = k;
-          at = r .at;
-          path = r .path;
-          since = mark-since (r .path);
-          marked = mark-last w (marked s) (r .path);
-          fault = i;
+          at = s;
+          path = p;
+          since = mark-since p;
+          marked = mark-last w (marked (begin m u)) p;
+          goes-on = o;
           after = t;
-          goes-on = r .goes-on;
-          stops = r .stops;
-          number = cc;
-          units = ap (λ (x : Tally). x .spent) same;
-          returns = ap (λ (x : Tally). x .returns) same ∙ returns-counted w (r .path) ∙ omega arith;
+          cut = subst (λ (x : ℕ). Cut w u s t x (did .spent)) number (subst (Cut w u s t i) (sym (ap (λ (x : Tally). x .spent) same)) cut);
+          returns = ap (λ (x : Tally). x .returns) same ∙ returns-counted w p ∙ omega arith;
           traced = cc;
           leaves = left;
           later = (λ calls. ap (repliesOf calls) left);
         }
 
-    settled-recovered : (x : Ended) → endOf w (begin m u) ≡ x → settle w m u x .reply ≡ fault n did trace → Recovered w m u n did trace
-    unfolding settle
+    settled-recovered : (x : Ended) → endOf w (begin m u) ≡ x → givenUp w (partOf w (m .stack) u x) .reply ≡ fault n did trace → Recovered w m u n did trace
+    unfolding partOf abandonOf givenUp
     settled-recovered (ended k t) q e = absurd (no-fault (k .answer) (tally (u - t .units) k) n did trace e)
-    settled-recovered (stopped i t k) q e = stopped-recovered i t k q e
+    settled-recovered (stopped i t k) q e =
+        let s = begin m u in
+        let r : StoppedBy w (atStart s) s i t k = run-path w (atStart s) s (sym (end-of w s) ∙ q) in
+        cut-recovered (r .path) (r .goes-on) (faulting i t (r .stops)) (unfold runOf in rw q) e
+    settled-recovered (paused k t) q e =
+        let s = begin m u in
+        let r : PausedBy w (atStart s) s k t = run-path w (atStart s) s (sym (end-of w s) ∙ q) in
+        cut-recovered (r .path) (r .goes-on) (unpaid (r .unpaid)) (unfold runOf in rw q) e
 
     pub run-recovered : runOf w m u .reply ≡ fault n did trace → Recovered w m u n did trace
     unfolding runOf
     run-recovered e = settled-recovered (endOf w (begin m u)) refl e
 
-  -- in good order the step that faults drops and adds no frame, and its backtrace stands
+  -- in good order a step that faults drops and adds no frame, nor does giving up, and the backtrace stands
+  cut-stands : {u n spent : ℕ} {s t : State} → SaneWorld w → Sane w s → over w s ≡ false → Cut w u s t n spent → Faults w s t
+  cut-stands {s = s} good h o (faulting f t q) = subst (Kept w s) q (step-keeps w s good h o)
+  cut-stands {s = s} good h o (unpaid q) = cut-faults w s h o
+
   pub recovered-faults : {m : Machine} {u n : ℕ} {did : Tally} {trace : List Entry} → SaneWorld w → Sane w (begin m u) → (r : Recovered w m u n did trace) → Faults w (r .at) (r .after)
-  recovered-faults good h r = subst (Kept w (r .at)) (r .stops) (step-keeps w (r .at) good (path-sane w good h (r .path)) (r .goes-on))
+  recovered-faults good h r = cut-stands good (path-sane w good h (r .path)) (r .goes-on) (r .cut)

@@ -27,7 +27,7 @@ use Rattle.model.specs.Scalars.{zeroDivisor}
 use Rattle.model.specs.Heap.{Cell, built, buildOf, listElements, structFields, fieldOf}
 use Rattle.model.specs.Equality.{Same, sameBytes}
 use Rattle.model.specs.Programs.{Function, functionNamed, newestFrom, orElse, wordAt}
-use Rattle.model.specs.Steps.{World, State, Outcome, went, returned, faulted, withStack, withHeap, withLast, withUnits, withFrames, at, position, codeOf, pushing, onFound, constantOf, slotOf, lastOf, loadStep, slotStep, lastStep, negateStep, arithmeticStep, orderingStep, onSame, equalStep, logicStep, notStep, jumpStep, jumpIfFalseStep, enter, callStep, enterNamed, callCallableStep, buildStep, structStep, fieldStep, cut, returnTo, returnStep, execOf, operandsThen, decodedThen, fetched, stepOf}
+use Rattle.model.specs.Steps.{World, State, Outcome, went, returned, faulted, short, withStack, withHeap, withLast, withUnits, withFrames, at, position, codeOf, pushing, onFound, constantOf, slotOf, lastOf, loadStep, slotStep, lastStep, negateStep, arithmeticStep, orderingStep, onSame, equalStep, logicStep, notStep, jumpStep, jumpIfFalseStep, enter, callStep, enterNamed, callCallableStep, buildStep, structStep, fieldStep, cut, returnTo, returnStep, execOf, operandsThen, decodedThen, fetched, stepOf}
 use Rattle.cells.proofs.Meaning.{got}
 use Rattle.laws_runs.proofs.Combinators.{if-each, if-left, popping-each, ifReference-each, ifStruct-each, poppingScalar-each, poppingBoolean-each, onFound-each, pushing-each, onSame-each, onBuilt-each, enter-each}
 
@@ -64,7 +64,7 @@ pub record Builds (w : World) (s : State) (c : ℕ → Value) (elements : ℕ �
 pub data Does (w : World) (a : ℕ) (s t : State) : Outcome → Outcome → Type 0 where
   fault : (n : Fault) → Does w a s t (faulted n s) (faulted n t)
   -- a comparison for which s has too few units
-  spent : (x : Outcome) → Does w a s t (faulted f.UnitsSpent (withUnits 0 s)) x
+  spent : (x : Outcome) → Does w a s t short x
   -- a build with no room for its value
   full : {c : ℕ → Value} {elements : ℕ → List Value → List Value} {k n : ℕ} {H : List Cell} → Builds w s c elements k n H
       → Does w a s t (faulted f.StackFull (withStack (drop n (s .stack)) (withHeap H s))) (faulted f.StackFull (withStack (drop n (s .stack)) (withHeap H t)))
@@ -93,7 +93,7 @@ fetchedAt i s = at i (withUnits (s .units - 1) s)
 -- what a step does from s; and, beside it, from t
 pub data Stepped (w : World) (s t : State) : Outcome → Outcome → Type 0 where
   -- no unit is left
-  unpaid : s .units ≡ 0 → (x : Outcome) → Stepped w s t (faulted f.UnitsSpent s) x
+  unpaid : s .units ≡ 0 → (x : Outcome) → Stepped w s t short x
   -- no instruction, or not all of it
   unread : 1 ≤ s .units → (n : Fault) → Stepped w s t (faulted n (fetchedAt (suc (position s)) s)) (faulted n (fetchedAt (suc (position s)) t))
   -- an instruction whose operands end at i, the first of them a

@@ -3,18 +3,19 @@ use mathlib.Core.Path.{_≡_, refl}
 use mathlib.Core.Bool.{Bool, true, false}
 use Prim.Native.Nat.{ℕ, zero, suc, _<_}
 use native.Mathlib.Omega.{arith}
-use Rattle.model.specs.Steps.{World, State, Outcome, went, returned, faulted, stepOf}
-use Rattle.model.specs.Runs.{Progress, atStart, counted, Ended, ended, over, next, turn, runFor, endOf}
-use Rattle.laws_runs.specs.Paths.{Spends, endFrom}
+use Rattle.model.specs.Steps.{World, State, Outcome, went, returned, faulted, short, stepOf}
+use Rattle.model.specs.Runs.{Progress, atStart, counted, Ended, ended, over, endFrom, next, turn, runFor, endOf}
+use Rattle.laws_runs.specs.Paths.{Spends}
 use Rattle.laws_runs.proofs.Spends.{step-spends}
 
 -- two ways to go on that agree wherever fewer units are left
 module _ (s : State) (k k' : Progress → State → Ended) (same : (m : Progress) (t : State) → t .units < s .units → k m t ≡ k' m t) where
-  next-same : (m : Progress) (x : Outcome) → Spends s x → next k m x ≡ next k' m x
+  next-same : (m : Progress) (x : Outcome) → Spends s x → next k m s x ≡ next k' m s x
   unfolding next
   next-same m (went t) l = same m t l
   next-same m (returned v t) l = same (counted v m t) t l
   next-same m (faulted n t) l = refl
+  next-same m short l = refl
 
   turn-same : (w : World) (b : Bool) (m : Progress) → turn w k b m s ≡ turn w k' b m s
   unfolding turn
@@ -37,10 +38,10 @@ module _ (w : World) where
   unfolding endFrom runFor turn
   end-over m s e = rw e
 
-  pub end-step : (m : Progress) (s : State) → over w s ≡ false → endFrom w m s ≡ next (endFrom w) m (stepOf w s)
+  pub end-step : (m : Progress) (s : State) → over w s ≡ false → endFrom w m s ≡ next (endFrom w) m s (stepOf w s)
   unfolding endFrom runFor turn
   end-step m s e = rw e (next-same s (runFor w (s .units)) (endFrom w) (λ l t h. run-end (s .units) l t h) m (stepOf w s) (step-spends w s))
 
   pub end-of : (s : State) → endOf w s ≡ endFrom w (atStart s) s
-  unfolding endOf endFrom
+  unfolding endOf
   end-of s = refl

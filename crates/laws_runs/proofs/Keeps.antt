@@ -1,17 +1,19 @@
 -- A step keeps good order.
 use mathlib.Core.Path.{_≡_, refl, ap, subst}
-use mathlib.Core.Bool.{true, false}
+use mathlib.Core.Bool.{Bool, true, false}
 use mathlib.Core.List.{List, [], _∷_}
 use Prim.Native.Nat.{ℕ, zero, suc, _-_, _≤_, _<_}
 use native.Mathlib.Omega.{arith}
 use borrow.Author.Tests.{lt-ltb, leb-false}
+use lib.Dec.{eqb}
 use lib.ListN.{length, drop, length-drop}
 use Rattle.model.specs.declared.Value.{Value}
 use Rattle.model.specs.declared.Frame.{Frame}
+use Rattle.model.specs.Basics.{if_then_else_}
 use Rattle.model.specs.Heap.{Cell}
 use Rattle.model.specs.Programs.{Function, functionAt, wordAt}
-use Rattle.model.specs.Steps.{World, State, Outcome, went, returned, faulted, withStack, withHeap, withUnits, at, position, codeOf, cut, stepOf}
-use Rattle.model.specs.Runs.{over, traceable}
+use Rattle.model.specs.Steps.{World, State, Outcome, went, returned, faulted, short, withStack, withHeap, withUnits, at, position, codeOf, cut, stepOf}
+use Rattle.model.specs.Runs.{over, traceable, cutAt}
 use Rattle.cells.proofs.Order.{Placed}
 use Rattle.laws_runs.specs.Sane.{AllPlaced, LastPlaced, CodesFit, SaneWorld, FrameFits, CallerFits, CallersFit, Rooted, Sane, SameFrames, Faults, Kept}
 use Rattle.laws_runs.proofs.Does.{Below, here, under, truth, Held, constant, slot, last, Does, fault, spent, full, push, answer, compare, fall, leap, call, build, field, back, home, fetchedAt, Stepped, unpaid, unread, ran, step-one}
@@ -103,8 +105,8 @@ module _ (w : World) (good : SaneWorld w) (s : State) (sane : Sane w s) (ready :
   here-popped : (n : ℕ) (vs : List Value) → length vs ≤ length (s .stack) → AllPlaced (text w) (s .heap) vs → Sane w (withStack vs (withUnits n s))
   here-popped n vs l a = popped w s sane n (position s) vs (sane .frame) l a
 
-  short : position s ≤ 65535
-  short = let z = ready .to in let y = code-fits (w .functions) (good .codes) (s .frame .function) in omega arith
+  within : position s ≤ 65535
+  within = let z = ready .to in let y = code-fits (w .functions) (good .codes) (s .frame .function) in omega arith
 
   held-placed : {x : Value} → Held w s x → Placed (text w) (s .heap) (length (s .heap)) x
   unfolding LastPlaced
@@ -123,13 +125,13 @@ module _ (w : World) (good : SaneWorld w) (s : State) (sane : Sane w s) (ready :
   does-kept : {a : ℕ} {t : State} {x y : Outcome} → a ≤ 65535 → Does w a s t x y → Kept w s x
   unfolding AllPlaced LastPlaced CallersFit Rooted cut
   does-kept h (fault n) = here-stops (s .units) (s .stack) (s .heap)
-  does-kept h (spent x) = here-stops 0 (s .stack) (s .heap)
+  does-kept h (spent x) = tt
   does-kept h (full b) = here-stops (s .units) _ _
   does-kept h (push g l) = stacked w s sane (s .units) (position s) _ (sane .frame) l (held-placed g, sane .placed)
   does-kept h (answer b p) = here-popped (s .units) _ (below-length b) (plain-placed (text w) (s .heap) _ p, rest b)
   does-kept h (compare b k l g) = here-popped _ _ (below-length l) (plain-placed (text w) (s .heap) _ (truth b), rest l)
   does-kept h (fall b) = here-popped (s .units) _ (below-length b) (all-below (text w) (s .heap) b (sane .placed))
-  does-kept h (leap b) = popped w s sane (s .units) _ _ (moved w s sane _ (let z = short in omega arith)) (below-length b) (all-below (text w) (s .heap) b (sane .placed))
+  does-kept h (leap b) = popped w s sane (s .units) _ _ (moved w s sane _ (let z = within in omega arith)) (below-length b) (all-below (text w) (s .heap) b (sane .placed))
   does-kept h (call i n b l m g) = let z = below-length b in let y = sane .stack in record {
     stack = omega arith;
     frames = g;
@@ -198,16 +200,26 @@ module _ (w : World) (good : SaneWorld w) (s : State) (sane : Sane w s) (l : pos
   kept-before i (went t) k = k
   kept-before i (returned y t) k = record { sane = k .sane; last = k .last; frames = same-before i (k .frames) }
   kept-before i (faulted n t) k = record { frames = same-before i (k .frames); traced = k .traced }
+  kept-before i short k = tt
 
   stepped-kept : {t : State} {x y : Outcome} → Stepped w s t x y → Kept w s x
   unfolding codeOf
-  stepped-kept (unpaid e x) = stops w s sane (s .units) (position s) (s .stack) (s .heap) (omega arith)
+  stepped-kept (unpaid e x) = tt
   stepped-kept (unread h n) = stops w s sane (s .units - 1) (suc (position s)) (s .stack) (s .heap) (omega arith)
   stepped-kept {x = x} (ran i a h g k e d) =
       let z : length (codeOf w s) ≤ 65535 = code-fits (w .functions) (good .codes) (s .frame .function) in
       let f : FrameFits w (at i s .frame) = moved w s sane i (omega arith) in
       let b = stacked w s sane (s .units - 1) i (s .stack) f (sane .stack) (sane .placed) in
       kept-before i x (does-kept w good (fetchedAt i s) b (record { frame = f; from = omega arith; to = k }) (rw e (word-fits w good s (suc (position s)))) d)
+
+-- a run that is given up is cut where it stands, or behind an opcode that was fetched
+pub cut-faults : (w : World) (s : State) → Sane w s → over w s ≡ false → Faults w s (cutAt s)
+unfolding over cutAt
+cut-faults w s sane o = let l : position s < length (codeOf w s) = leb-false _ _ o in stops w s sane (s .units) _ (s .stack) (s .heap) (by (eqb (s .units) 0) l)
+  where
+    by : (b : Bool) → position s < length (codeOf w s) → (if b then position s else suc (position s)) - 1 < length (codeOf w s)
+    by true l = omega arith
+    by false l = omega arith
 
 pub step-keeps : (w : World) (s : State) → SaneWorld w → Sane w s → over w s ≡ false → Kept w s (stepOf w s)
 unfolding over

@@ -11,8 +11,9 @@ pub mod Paths
 pub mod Placed
 pub mod Keeps
 pub mod Runs
--- more units
+-- more units, and units that are dealt out
 pub mod More
+pub mod Parts
 -- good order as a run judges it
 pub mod Tests
 pub mod Programs

@@ -4,9 +4,9 @@ use mathlib.Core.Bool.{Bool, true, false}
 use Prim.Native.Nat.{ℕ, zero, suc, _+_, _≤_, _<_}
 use native.Mathlib.Omega.{arith}
 use Rattle.model.specs.declared.Value.{Value}
-use Rattle.model.specs.Steps.{World, State, Outcome, went, returned, faulted, stepOf}
-use Rattle.model.specs.Runs.{Progress, atStart, counted, Ended, ended, stopped, over, next, turn, runFor}
-use Rattle.laws_runs.specs.Paths.{Grows, Adds, endFrom, Steps, none, on, ret, rootReturns, By, Marked}
+use Rattle.model.specs.Steps.{World, State, Outcome, went, returned, faulted, short, stepOf}
+use Rattle.model.specs.Runs.{Progress, atStart, counted, Ended, ended, stopped, paused, over, endFrom, next, turn, runFor}
+use Rattle.laws_runs.specs.Paths.{Grows, Adds, Steps, none, on, ret, rootReturns, By, Marked}
 use Rattle.laws_runs.proofs.Spends.{went-spends, returned-spends}
 use Rattle.laws_runs.proofs.Adds.{grows-none, grows-on, step-adds}
 use Rattle.laws_runs.proofs.Ends.{end-over, end-step}
@@ -25,17 +25,20 @@ module _ (w : World) where
     by-on : (s' : State) → stepOf w s ≡ went s' → (e : Ended) → By w m s' e → By w m s e
     by-on s' q (ended k t) r = record { steps = suc (r .steps); path = on o q (r .path); over = r .over }
     by-on s' q (stopped n t k) r = record { steps = suc (r .steps); at = r .at; path = on o q (r .path); goes-on = r .goes-on; stops = r .stops }
+    by-on s' q (paused k t) r = record { steps = suc (r .steps); path = on o q (r .path); goes-on = r .goes-on; unpaid = r .unpaid }
 
     by-ret : (x : Value) (s' : State) → stepOf w s ≡ returned x s' → (e : Ended) → By w (counted x m s') s' e → By w m s e
     by-ret x s' q (ended k t) r = record { steps = suc (r .steps); path = ret o q (r .path); over = r .over }
     by-ret x s' q (stopped n t k) r = record { steps = suc (r .steps); at = r .at; path = ret o q (r .path); goes-on = r .goes-on; stops = r .stops }
+    by-ret x s' q (paused k t) r = record { steps = suc (r .steps); path = ret o q (r .path); goes-on = r .goes-on; unpaid = r .unpaid }
 
   module _ (n : ℕ) (rest : (m : Progress) (s : State) → s .units < n → By w m s (runFor w n m s)) (m : Progress) (s : State) (h : s .units < suc n) where
-    by-step : over w s ≡ false → (x : Outcome) → stepOf w s ≡ x → By w m s (next (runFor w n) m x)
+    by-step : over w s ≡ false → (x : Outcome) → stepOf w s ≡ x → By w m s (next (runFor w n) m s x)
     unfolding next
     by-step o (went t) q = by-on m s o t q (runFor w n m t) (rest m t (let z = went-spends w s q in omega arith))
     by-step o (returned x t) q = by-ret m s o x t q (runFor w n (counted x m t) t) (rest (counted x m t) t (let z = returned-spends w s q in omega arith))
     by-step o (faulted i t) q = record { steps = 0; at = s; path = none; goes-on = o; stops = q }
+    by-step o short q = record { steps = 0; path = none; goes-on = o; unpaid = q }
 
     by-turn : (b : Bool) → over w s ≡ b → By w m s (turn w (runFor w n) b m s)
     unfolding turn
@@ -59,13 +62,14 @@ module _ (w : World) where
   pub path-end : {n : ℕ} {m k : Progress} {s t : State} → Steps w n m s k t → endFrom w m s ≡ endFrom w k t
   unfolding next
   path-end none = refl
-  path-end (on {m = m} {s = s} o q p) = end-step w m s o ∙ ap (next (endFrom w) m) q ∙ path-end p
-  path-end (ret {m = m} {s = s} o q p) = end-step w m s o ∙ ap (next (endFrom w) m) q ∙ path-end p
+  path-end (on {m = m} {s = s} o q p) = end-step w m s o ∙ ap (next (endFrom w) m s) q ∙ path-end p
+  path-end (ret {m = m} {s = s} o q p) = end-step w m s o ∙ ap (next (endFrom w) m s) q ∙ path-end p
 
   pub path-run : (m : Progress) (s : State) (e : Ended) → By w m s e → endFrom w m s ≡ e
   unfolding next
   path-run m s (ended k t) r = path-end (r .path) ∙ end-over w k t (r .over)
-  path-run m s (stopped n t k) r = path-end (r .path) ∙ end-step w k (r .at) (r .goes-on) ∙ ap (next (endFrom w) k) (r .stops)
+  path-run m s (stopped n t k) r = path-end (r .path) ∙ end-step w k (r .at) (r .goes-on) ∙ ap (next (endFrom w) k (r .at)) (r .stops)
+  path-run m s (paused k t) r = path-end (r .path) ∙ end-step w k t (r .goes-on) ∙ ap (next (endFrom w) k t) (r .unpaid)
 
   -- ---- along a path
 

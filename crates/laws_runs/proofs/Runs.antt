@@ -1,24 +1,25 @@
 -- A run keeps good order, whether it ends or faults.
 use mathlib.Core.Path.{_≡_, refl, sym, subst, _∙_}
 use mathlib.Core.Bool.{true, false}
-use mathlib.Core.List.{_∷_}
-use Prim.Native.Nat.{ℕ}
+use mathlib.Core.List.{List, _∷_}
+use Prim.Native.Nat.{ℕ, _+_, _≤_}
 use native.Mathlib.Omega.{arith}
 use lib.ListN.{length}
 use Rattle.model.specs.declared.Value.{Value}
 use Rattle.model.specs.declared.Fault.{Fault}
-use Rattle.model.specs.Steps.{World, State, went, returned, stepOf}
-use Rattle.model.specs.Runs.{Machine, begin, Progress, atStart, counted, Ended, ended, stopped, over, endOf, traceable, recovered, settle, runOf}
-use Rattle.laws_runs.specs.Sane.{SaneWorld, CallersFit, Rooted, Sane, SaneMark, Returns, Faults, Kept}
-use Rattle.laws_runs.specs.Paths.{Grows, endFrom, Steps, none, on, ret, EndedBy, StoppedBy}
+use Rattle.model.specs.Steps.{World, State, went, returned, withUnits, stepOf}
+use Rattle.model.specs.Runs.{Machine, begin, Progress, atStart, counted, Ended, ended, stopped, paused, over, endFrom, endOf, traceable, cutAt, recovered, Under, Part, ends, pauses, partOf, beginOf, continueOf, abandonOf, givenUp, runOf}
+use Rattle.laws_runs.specs.Sane.{AllPlaced, SaneWorld, CallersFit, Rooted, Sane, SaneMark, Returns, Faults, Kept}
+use Rattle.laws_runs.specs.Paths.{Steps, none, on, ret, By, EndedBy, StoppedBy, PausedBy, Marked}
+use Rattle.laws_runs.specs.Parts.{SaneUnder, SanePart}
 use Rattle.laws_runs.proofs.Ends.{end-of}
-use Rattle.laws_runs.proofs.Paths.{run-path, marked, mark-grows}
+use Rattle.laws_runs.proofs.Paths.{run-by, run-path, path-spends, marked, mark-last, mark-grows}
 use Rattle.laws_runs.proofs.Placed.{all-grows}
-use Rattle.laws_runs.proofs.Keeps.{code-fits, step-keeps}
+use Rattle.laws_runs.proofs.Keeps.{code-fits, cut-faults, step-keeps}
 
 -- good order does not ask for the units
-pub other-units : {w : World} {m : Machine} {u : ℕ} (n : ℕ) → Sane w (begin m u) → Sane w (begin m n)
-other-units n s = record {
+pub any-units : {w : World} (q : State) {n : ℕ} → Sane w q → Sane w (withUnits n q)
+any-units q s = record {
   stack = s .stack;
   frames = s .frames;
   cells = s .cells;
@@ -68,15 +69,20 @@ module _ (w : World) (good : SaneWorld w) where
       let f : Faults w (r .at) t = subst (Kept w (r .at)) (r .stops) (step-keeps w (r .at) good (path-sane h (r .path)) (r .goes-on)) in
       f .traced
 
-  -- the starting stack over a good mark that has the starting cells at its front
-  pub recover-sane : (m : Machine) (u n : ℕ) (k : Progress) → Sane w (begin m u) → SaneMark w k → Grows (m .heap) (k .heap) → Sane w (begin (recovered w m k) n)
+  -- so does that of a run that is given up
+  pub run-cut : (m : Progress) (s : State) {k : Progress} {t : State} → Sane w s → endFrom w m s ≡ paused k t → Faults w t (cutAt t)
+  run-cut m s {k} {t} h q = let r : PausedBy w m s k t = run-path w m s q in cut-faults w t (path-sane h (r .path)) (r .goes-on)
+
+  -- a starting stack over a good mark
+  pub recover-sane : {s : State} (start : List Value) {k : Progress} → Sane w s → length start ≤ w .stackRoom → AllPlaced (length (w .text)) (k .heap) start → SaneMark w k
+      → (i : ℕ) → Sane w (begin (recovered w start k) i)
   unfolding recovered CallersFit Rooted
-  recover-sane m u n k h g l = record {
-    stack = h .stack;
+  recover-sane start h l p g i = record {
+    stack = l;
     frames = let z = h .frames in omega arith;
     cells = g .cells;
     heap = g .heap;
-    placed = all-grows (length (w .text)) l (m .stack) (h .placed);
+    placed = p;
     last = g .last;
     frame = record {
       known = let z = h .frame .known in omega arith;
@@ -87,20 +93,47 @@ module _ (w : World) (good : SaneWorld w) where
     root = (refl, refl);
   }
 
-  module _ (m : Machine) (u : ℕ) (h : Sane w (begin m u)) where
-    -- what a fault leaves is in good order
-    pub recovered-sane : {n : Fault} {t : State} {k : Progress} → endOf w (begin m u) ≡ stopped n t k → (i : ℕ) → Sane w (begin (recovered w m k) i)
-    recovered-sane {n} {t} {k} q i =
-        let s = begin m u in
-        let r : StoppedBy w (atStart s) s n t k = run-path w (atStart s) s (sym (end-of w s) ∙ q) in
-        recover-sane m u i k h (path-mark h (mark-sane h) (r .path)) (mark-grows w (marked s) (r .path))
+  -- ---- a part of a run, from s, where the run had come as far as m and was given g units in all
 
-    settled-sane : (e : Ended) → endOf w (begin m u) ≡ e → (i : ℕ) → Sane w (begin (settle w m u e .machine) i)
-    unfolding settle
-    settled-sane (ended k t) q i = other-units i (run-sane (atStart (begin m u)) (begin m u) h (sym (end-of w (begin m u)) ∙ q))
-    settled-sane (stopped n t k) q i = recovered-sane q i
+  module _ {m : Progress} {s : State} (start : List Value) {g : ℕ} (h : Sane w s) (k : SaneMark w m) (f : Marked m s) (l : length start ≤ w .stackRoom)
+      (p : AllPlaced (length (w .text)) (m .heap) start) (u : s .units ≤ g) where
+    by-sane : (e : Ended) → By w m s e → SanePart w (partOf w start g e)
+    unfolding partOf
+    by-sane (ended j t) r = λ i. any-units t (path-sane h (r .path))
+    by-sane (stopped n t j) r = recover-sane start h l (all-grows (length (w .text)) (mark-grows w f (r .path)) start p) (path-mark h k (r .path))
+    by-sane (paused j t) r = record {
+      state = path-sane h (r .path);
+      inside = r .goes-on;
+      units = let z = path-spends w (r .path) in omega arith;
+      start = l;
+      placed = all-grows (length (w .text)) (mark-grows w f (r .path)) start p;
+      mark = path-mark h k (r .path);
+      marked = mark-last w f (r .path);
+    }
 
-    -- so is what any run leaves
-    pub ran-sane : (i : ℕ) → Sane w (begin (runOf w m u .machine) i)
-    unfolding runOf
-    ran-sane i = settled-sane (endOf w (begin m u)) refl i
+    -- what it leaves is in good order
+    pub part-sane : SanePart w (partOf w start g (endFrom w m s))
+    part-sane = by-sane (endFrom w m s) (run-by w m s)
+
+  pub begun-sane : (m : Machine) → Sane w (begin m 0) → SanePart w (beginOf w m)
+  unfolding beginOf endOf
+  begun-sane m h = part-sane (m .stack) h (mark-sane h) (marked (begin m 0)) (h .stack) (h .placed) (omega arith)
+
+  pub continued-sane : (r : Under) → SaneUnder w r → (u : ℕ) → SanePart w (continueOf w r u)
+  unfolding continueOf
+  continued-sane r h u = part-sane (r .start) (any-units (r .state) (h .state)) (h .mark) (record { last = h .marked .last; heap = h .marked .heap }) (h .start) (h .placed) (let z = h .units in omega arith)
+
+  pub abandoned-sane : (r : Under) → SaneUnder w r → (i : ℕ) → Sane w (begin (abandonOf w r .machine) i)
+  unfolding abandonOf
+  abandoned-sane r h i = recover-sane (r .start) (h .state) (h .start) (h .placed) (h .mark) i
+
+  -- whatever a part comes to, giving it up leaves a machine in good order
+  given-up-sane : (x : Part) → SanePart w x → (i : ℕ) → Sane w (begin (givenUp w x .machine) i)
+  unfolding givenUp
+  given-up-sane (ends x) h i = h i
+  given-up-sane (pauses r) h i = abandoned-sane r h i
+
+  -- so is what one run leaves
+  pub ran-sane : (m : Machine) (u : ℕ) → Sane w (begin m u) → (i : ℕ) → Sane w (begin (runOf w m u .machine) i)
+  unfolding runOf endOf
+  ran-sane m u h = given-up-sane _ (part-sane (m .stack) h (mark-sane h) (marked (begin m u)) (h .stack) (h .placed) (omega arith))

@@ -5,8 +5,7 @@ use native.Mathlib.Omega.{arith}
 use borrow.Author.Tests.{eq-eqb}
 use Rattle.model.specs.declared.Value.{Value}
 use Rattle.model.specs.declared.Fault.{Fault}
-use Rattle.model.specs.declared.Fault.the-variants as f
-use Rattle.model.specs.Steps.{World, State, Outcome, went, returned, faulted, stepOf}
+use Rattle.model.specs.Steps.{World, State, Outcome, went, returned, faulted, short, stepOf}
 use Rattle.laws_runs.specs.Paths.{Spends}
 use Rattle.laws_runs.proofs.Does.{Does, fault, spent, full, push, answer, compare, fall, leap, call, build, field, back, home, Stepped, unpaid, unread, ran, step-one}
 
@@ -15,10 +14,11 @@ abbrev Left : ℕ → Outcome → Type 0
 Left n (went s) = s .units ≤ n
 Left n (returned x s) = s .units ≤ n
 Left n (faulted i s) = s .units ≤ n
+Left n short = Unit
 
 does-left : {w : World} {a : ℕ} {s t : State} {x y : Outcome} → Does w a s t x y → Left (s .units) x
 does-left (fault n) = omega arith
-does-left (spent x) = omega arith
+does-left (spent x) = tt
 does-left (full b) = omega arith
 does-left (push h l) = omega arith
 does-left (answer b p) = omega arith
@@ -35,9 +35,10 @@ left-spends : (s : State) → 1 ≤ s .units → (x : Outcome) → Left (s .unit
 left-spends s h (went t) l = omega arith
 left-spends s h (returned v t) l = omega arith
 left-spends s h (faulted n t) l = omega arith
+left-spends s h short l = tt
 
 stepped-spends : {w : World} {s t : State} {x y : Outcome} → Stepped w s t x y → Spends s x
-stepped-spends (unpaid e x) = omega arith
+stepped-spends (unpaid e x) = tt
 stepped-spends (unread h n) = omega arith
 stepped-spends {s = s} {x = x} (ran i a h l k e d) = left-spends s h x (does-left d)
 
@@ -53,6 +54,6 @@ returned-spends w s e = subst (Spends s) e (step-spends w s)
 pub faulted-spends : (w : World) (s : State) {s' : State} {n : Fault} → stepOf w s ≡ faulted n s' → s' .units ≤ s .units
 faulted-spends w s e = subst (Spends s) e (step-spends w s)
 
-pub no-units : (w : World) (s : State) → s .units ≡ 0 → stepOf w s ≡ faulted f.UnitsSpent s
+pub no-units : (w : World) (s : State) → s .units ≡ 0 → stepOf w s ≡ short
 unfolding stepOf
 no-units w s e = rw (eq-eqb (s .units) 0 e)

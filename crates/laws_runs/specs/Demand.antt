@@ -7,8 +7,8 @@ use Rattle.model.specs.declared.Value.{Value}
 use Rattle.model.specs.declared.Fault.{Fault}
 use Rattle.model.specs.declared.Tally.{Tally}
 use Rattle.model.specs.Values.{faultNumber}
-use Rattle.model.specs.Steps.{World, State, went, returned, faulted, stepOf}
-use Rattle.model.specs.Runs.{Machine, begin, Progress, atStart, counted, over, Entry, traceOf, Reply, recovered, runOf}
+use Rattle.model.specs.Steps.{World, State, went, returned, faulted, short, stepOf}
+use Rattle.model.specs.Runs.{Machine, begin, Progress, atStart, counted, over, Entry, traceOf, Reply, cutAt, recovered, runOf}
 use Rattle.laws_runs.specs.Paths.{Steps, rootReturns, Marked}
 
 -- written steps from s to t, none of them a root Return
@@ -30,9 +30,16 @@ unfoldable pub repliesOf : List Call → Machine → List Reply
 repliesOf [] m = []
 repliesOf (c ∷ cs) m = runOf (c .world) m (c .units) .reply ∷ repliesOf cs (runOf (c .world) m (c .units) .machine)
 
+-- why a run that was given u units was cut at s; the state that its backtrace tells of; and the number and the units that come back
+pub data Cut (w : World) (u : ℕ) (s : State) : State → (n spent : ℕ) → Type 0 where
+  -- the step from s faults
+  faulting : (f : Fault) (t : State) → stepOf w s ≡ faulted f t → Cut w u s t (faultNumber f) (u - t .units)
+  -- it cannot be paid for, and the run is given up: all the units count
+  unpaid : stepOf w s ≡ short → Cut w u s (cutAt s) 13 u
+
 -- a run of m with u units that answers fault n, what it did, and a backtrace
 pub record Recovered (w : World) (m : Machine) (u n : ℕ) (did : Tally) (trace : List Entry) : Type 0 where
-  -- the written steps up to the step that faults, and how far the run had come
+  -- the written steps up to the cut, and how far the run had come
   pub steps : ℕ
   pub kept : Progress
   pub at : State
@@ -40,17 +47,13 @@ pub record Recovered (w : World) (m : Machine) (u n : ℕ) (did : Tally) (trace 
   -- it is of the last completed root Return, or of the start; it has the last result of `at`, and cells at the front of those of `at`
   pub since : Since w (atStart (begin m u)) (begin m u) kept at
   pub marked : Marked kept at
-  -- the step that faults
-  pub fault : Fault
-  pub after : State
+  -- the cut, and the answer
   pub goes-on : over w at ≡ false
-  pub stops : stepOf w at ≡ faulted fault after
-  -- the answer
-  pub number : n ≡ faultNumber fault
-  pub units : did .spent ≡ u - after .units
+  pub after : State
+  pub cut : Cut w u at after n (did .spent)
   pub returns : did .returns ≡ rootReturns path
   pub traced : trace ≡ traceOf (w .functions) (after .frame ∷ after .callers)
   -- what is left: the starting stack, one frame at the end of main, the cells and the last result that were kept
-  pub leaves : runOf w m u .machine ≡ recovered w m kept
+  pub leaves : runOf w m u .machine ≡ recovered w (m .stack) kept
   -- and whatever runs come then, they answer as on a machine set up so by hand
-  pub later : (calls : List Call) → repliesOf calls (runOf w m u .machine) ≡ repliesOf calls (recovered w m kept)
+  pub later : (calls : List Call) → repliesOf calls (runOf w m u .machine) ≡ repliesOf calls (recovered w (m .stack) kept)

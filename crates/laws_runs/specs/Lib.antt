@@ -1,5 +1,6 @@
 -- What the theorems say of a run.
 pub mod Sane
 pub mod Paths
+pub mod Parts
 pub mod Ordered
 pub mod Demand

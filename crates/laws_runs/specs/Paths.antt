@@ -7,10 +7,9 @@ use Rattle.model.specs.declared.Value.{Value}
 use Rattle.model.specs.declared.Last.{Last}
 use Rattle.model.specs.declared.Last.the-variants.{Is}
 use Rattle.model.specs.declared.Fault.{Fault}
-use Rattle.model.specs.declared.Fault.the-variants as f
 use Rattle.model.specs.Heap.{Cell}
-use Rattle.model.specs.Steps.{World, State, Outcome, went, returned, faulted, withUnits, stepOf}
-use Rattle.model.specs.Runs.{Progress, counted, Ended, ended, stopped, over, runFor}
+use Rattle.model.specs.Steps.{World, State, Outcome, went, returned, faulted, short, withUnits, stepOf}
+use Rattle.model.specs.Runs.{Progress, counted, Ended, ended, stopped, paused, over, endFrom}
 
 -- ---- what a step from s does to the units, the heap and the last result
 
@@ -19,6 +18,7 @@ abbrev pub Spends : State → Outcome → Type 0
 Spends s (went s') = s' .units < s .units
 Spends s (returned x s') = s' .units < s .units
 Spends s (faulted n s') = s' .units ≤ s .units
+Spends s short = Unit
 
 -- the heap H' is H with cells behind it
 pub record Grows (H H' : List Cell) : Type 0 where
@@ -30,12 +30,9 @@ abbrev pub Adds : List Cell → Last → Outcome → Type 0
 Adds H l (went s) = Grows H (s .heap) × (s .last ≡ l)
 Adds H l (returned x s) = (s .heap ≡ H) × (s .last ≡ Is x)
 Adds H l (faulted n s) = Grows H (s .heap) × (s .last ≡ l)
+Adds H l short = Unit
 
 -- ---- a run
-
--- the end of a run that has come as far as m; turns never run short, since each step spends a unit
-unfoldable pub endFrom : World → Progress → State → Ended
-endFrom w m s = runFor w (suc (s .units)) m s
 
 -- n written steps from s to t; m is how far the run had come before them, k after them
 pub data Steps (w : World) : ℕ → Progress → State → Progress → State → Type 0 where
@@ -63,10 +60,18 @@ pub record StoppedBy (w : World) (m : Progress) (s : State) (n : Fault) (t : Sta
   pub goes-on : over w at ≡ false
   pub stops : stepOf w at ≡ faulted n t
 
+-- a run that is paused: the written steps up to the state where it stands, from which a step cannot be paid for
+pub record PausedBy (w : World) (m : Progress) (s : State) (k : Progress) (t : State) : Type 0 where
+  pub steps : ℕ
+  pub path : Steps w steps m s k t
+  pub goes-on : over w t ≡ false
+  pub unpaid : stepOf w t ≡ short
+
 -- what an end of a run says of the written steps
 abbrev pub By : World → Progress → State → Ended → Type 0
 By w m s (ended k t) = EndedBy w m s k t
 By w m s (stopped n t k) = StoppedBy w m s n t k
+By w m s (paused k t) = PausedBy w m s k t
 
 -- what a fault goes back to has the last result of s, and its cells are at the front of the heap of s
 pub record Marked (m : Progress) (s : State) : Type 0 where
@@ -79,11 +84,8 @@ pub record Marked (m : Progress) (s : State) : Type 0 where
 abbrev pub more : ℕ → State → State
 more d s = withUnits (s .units + d) s
 
-abbrev pub moreEnd : ℕ → Ended → Ended
-moreEnd d (ended k t) = ended k (more d t)
-moreEnd d (stopped n t k) = stopped n (more d t) k
-
--- an end for which the units were enough
-abbrev pub Paid : Ended → Type 0
-Paid (ended k t) = Unit
-Paid (stopped n t k) = n ≡ f.UnitsSpent → ⊥
+-- d units more, given to a run that has come so far: a paused one goes on with them, and for any other they are left
+abbrev pub resumed : World → ℕ → Ended → Ended
+resumed w d (ended k t) = ended k (more d t)
+resumed w d (stopped n t k) = stopped n (more d t) k
+resumed w d (paused k t) = endFrom w k (more d t)

@@ -10,7 +10,7 @@ use Rattle.model.specs.declared.Last.the-variants.{Nothing, Is}
 use Rattle.model.specs.declared.Frame.{Frame}
 use Rattle.model.specs.Heap.{Cell, heapOk, placedBelow}
 use Rattle.model.specs.Programs.{Function, functionAt}
-use Rattle.model.specs.Steps.{World, State, Outcome, went, returned, faulted}
+use Rattle.model.specs.Steps.{World, State, Outcome, went, returned, faulted, short}
 use Rattle.model.specs.Runs.{Progress, traceable}
 
 -- every value is placed in the heap, over t bytes of text
@@ -91,3 +91,4 @@ abbrev pub Kept : World → State → Outcome → Type 0
 Kept w s (went s') = Sane w s'
 Kept w s (returned x s') = Returns w s x s'
 Kept w s (faulted n s') = Faults w s s'
+Kept w s short = Unit

@@ -12,7 +12,7 @@ use Rattle.model.specs.declared.Fault.the-variants as f
 use Rattle.model.specs.Values.{faultNumber}
 use Rattle.model.specs.Trees.{Tree}
 use Rattle.model.specs.Steps.{World, State}
-use Rattle.model.specs.Runs.{Machine, begin, Ended, ended, stopped, endOf, machineOf, answered, settle, runOf}
+use Rattle.model.specs.Runs.{Machine, begin, Ended, ended, stopped, paused, endOf, machineOf, answered, partOf, givenUp, runOf}
 use Rattle.laws_runs.specs.Sane.{SaneWorld, Sane}
 use Rattle.laws_rust.specs.Vm as rust
 use Rattle.laws_rust.specs.Vm.{Vm, Did, Result, run-without-cleanup}
@@ -74,12 +74,12 @@ module _ (w : World) (m : Machine) (u : ℕ) where
   answered-so s Nothing t = refl
   answered-so s (Is x) t = refl
 
-  answers-as : (e : Ended) {x y : Result} → x ≡ y → AnswersAs w (settle w m u e) y → AnswersAs w (settle w m u e) x
-  answers-as e q a = subst (AnswersAs w (settle w m u e)) (sym q) a
+  answers-as : (e : Ended) {x y : Result} → x ≡ y → AnswersAs w (givenUp w (partOf w (m .stack) u e)) y → AnswersAs w (givenUp w (partOf w (m .stack) u e)) x
+  answers-as e q a = subst (AnswersAs w (givenUp w (partOf w (m .stack) u e))) (sym q) a
 
   -- where x is what `run` comes to
-  answers-so : (e : Ended) → Unlimited e → (x : Result) → RunAs w (settle w m u e .machine) e x → AnswersAs w (settle w m u e) x
-  unfolding RunAs Unlimited settle faultNumber IsFault AnswersAs
+  answers-so : (e : Ended) → Unlimited e → (x : Result) → RunAs w (givenUp w (partOf w (m .stack) u e) .machine) e x → AnswersAs w (givenUp w (partOf w (m .stack) u e)) x
+  unfolding RunAs Unlimited partOf givenUp faultNumber IsFault AnswersAs
   answers-so (ended k s) l x h = answers-as (ended k s) h (answered-so s (k .answer) _, refl)
   answers-so (stopped f.UnknownOpcode s k) l x h = answers-as (stopped f.UnknownOpcode s k) h refl
   answers-so (stopped f.NotCarried s k) l x h = answers-as (stopped f.NotCarried s k) h refl
@@ -93,8 +93,8 @@ module _ (w : World) (m : Machine) (u : ℕ) where
   answers-so (stopped f.FramesFull s k) l x h = absurd (true≢false l)
   answers-so (stopped f.CellsFull s k) l x h = absurd (true≢false l)
   answers-so (stopped f.TooDeep s k) l x h = absurd (true≢false l)
-  answers-so (stopped f.UnitsSpent s k) l x h = absurd (true≢false l)
   answers-so (stopped f.NoFunction s k) l x h = answers-as (stopped f.NoFunction s k) h refl
+  answers-so (paused k s) l x h = absurd l
 
 -- THE THEOREM, THE OTHER WAY: whatever the Rust comes to, in however many turns, the rules answer, and leave the machine that it leaves
 pub rust-same : (w : World) → SaneWorld w → length (w .functions) ≤ 65536 → (m : Machine) (u : ℕ) → Sane w (begin m u)
@@ -102,7 +102,7 @@ pub rust-same : (w : World) → SaneWorld w → length (w .functions) ≤ 65536 
 unfolding runOf
 rust-same w good few m u sane l turns = on (rust.run turns (rustOf w m)) (ends-same w good few m u sane turns)
   where
-    on : (x : Result) → (Ends x → RunAs w (runOf w m u .machine) (endOf w (begin m u)) x) → AnswersAs w (settle w m u (endOf w (begin m u))) x
+    on : (x : Result) → (Ends x → RunAs w (runOf w m u .machine) (endOf w (begin m u)) x) → AnswersAs w (givenUp w (partOf w (m .stack) u (endOf w (begin m u)))) x
     on (rust.ok r vm) h = answers-so w m u (endOf w (begin m u)) l (rust.ok r vm) (h tt)
     on (rust.err vm) h = answers-so w m u (endOf w (begin m u)) l (rust.err vm) (h tt)
     on rust.panics h = answers-so w m u (endOf w (begin m u)) l rust.panics (h tt)

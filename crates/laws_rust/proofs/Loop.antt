@@ -11,8 +11,8 @@ use Rattle.model.specs.declared.Fault.{Fault}
 use Rattle.model.specs.declared.Fault.the-variants as f
 use Rattle.model.specs.Trees.{Tree}
 use Rattle.model.specs.Programs.{Function, functionAt}
-use Rattle.model.specs.Steps.{World, State, Outcome, went, returned, faulted, stepOf}
-use Rattle.model.specs.Runs.{Machine, begin, Progress, atStart, counted, Ended, ended, stopped, over, endOf, recovered, settle, runOf}
+use Rattle.model.specs.Steps.{World, State, Outcome, went, returned, faulted, short, stepOf}
+use Rattle.model.specs.Runs.{Machine, begin, Progress, atStart, counted, Ended, ended, stopped, paused, over, endOf, recovered, partOf, givenUp, runOf}
 use Rattle.laws_runs.specs.Sane.{LastPlaced, SaneWorld, Sane, SaneMark}
 use Rattle.laws_runs.specs.Paths.{Grows, Adds, Steps, EndedBy, StoppedBy, Marked}
 use Rattle.laws_runs.specs.Paths as paths
@@ -97,7 +97,7 @@ main-is (f ∷ fs) = refl
 -- what the Rust's cleanup leaves of vm, whose stack is vs: the stack of the start, one frame at the end of main, and the last result as it is
 module _ (w : World) (m : Machine) (u : ℕ) (sane : Sane w (begin m u)) (k : Progress) (t : State) (mark : SaneMark w k) (last : k .last ≡ t .last)
     (start : Grows (m .heap) (k .heap)) (since : Grows (k .heap) (t .heap)) where
-  cleaned-is : (vs : List Tree) → rust.cleaned (rustOf w m) (rust.with-stack vs (rustAt w t)) ≡ rustOf w (recovered w m k)
+  cleaned-is : (vs : List Tree) → rust.cleaned (rustOf w m) (rust.with-stack vs (rustAt w t)) ≡ rustOf w (recovered w (m .stack) k)
   unfolding rust.cleaned rustOf recovered
   cleaned-is vs =
       rw (main-is (w .functions), sym last, last-grown (w .text) (mark .heap) since (k .last) (mark .last), stack-grown (w .text) (sane .heap) start (m .stack) (sane .placed)) refl
@@ -113,7 +113,7 @@ module _ (w : World) (m : Machine) (u : ℕ) (sane : Sane w (begin m u)) (k : Pr
     comes-to-panic h = ap (rust.clean-up (rustOf w m)) (panicked-behind turns r d h)
 
     stops-so : (n : Fault) → FaultsAs (rustAt w t) n d
-        → RunAs w (recovered w m k) (stopped n t k) (rust.clean-up (rustOf w m) (rust.behind (run-without-cleanup (suc turns)) r d))
+        → RunAs w (recovered w (m .stack) k) (stopped n t k) (rust.clean-up (rustOf w m) (rust.behind (run-without-cleanup (suc turns)) r d))
     unfolding FaultsAs RunAs DividesByZero rust.clean-up rust.behind
     stops-so f.UnknownOpcode h = comes-to h
     stops-so f.NotCarried h = comes-to h
@@ -127,15 +127,14 @@ module _ (w : World) (m : Machine) (u : ℕ) (sane : Sane w (begin m u)) (k : Pr
     stops-so f.FramesFull h = tt
     stops-so f.CellsFull h = tt
     stops-so f.TooDeep h = tt
-    stops-so f.UnitsSpent h = tt
     stops-so f.NoFunction h = comes-to-panic h
 
 -- ---- a run
 
 module _ (w : World) (good : SaneWorld w) (few : length (w .functions) ≤ 65536) (m : Machine) (u : ℕ) (sane : Sane w (begin m u)) where
   ended-same : {k : Progress} {t : State} → EndedBy w (atStart (begin m u)) (begin m u) k t → (turns : ℕ)
-      → RunAs w (settle w m u (ended k t) .machine) (ended k t) (rust.run (suc u + turns) (rustOf w m))
-  unfolding RunAs settle rust.run rust.clean-up rust.test LastPlaced
+      → RunAs w (givenUp w (partOf w (m .stack) u (ended k t)) .machine) (ended k t) (rust.run (suc u + turns) (rustOf w m))
+  unfolding RunAs partOf givenUp rust.run rust.clean-up rust.test LastPlaced
   ended-same {k} {t} by turns =
       let spent = path-spends w (by .path) in
       let z : suc u + turns ≡ by .steps + suc (u - by .steps + turns) = omega arith in
@@ -161,7 +160,7 @@ module _ (w : World) (good : SaneWorld w) (few : length (w .functions) ≤ 65536
         ap (rust.clean-up (rustOf w m)) (along w good few (by .path) sane tt (suc turns) ∙ tested w (by .at) before turns _ false (by .goes-on))
 
     -- there is a unit for the step, and so there are two turns: the one that faults, and the test behind it
-    stopped-paid : (turns : ℕ) → 1 ≤ by .at .units → RunAs w (recovered w m k) (stopped n t k) (rust.run (suc u + turns) (rustOf w m))
+    stopped-paid : (turns : ℕ) → 1 ≤ by .at .units → RunAs w (recovered w (m .stack) k) (stopped n t k) (rust.run (suc u + turns) (rustOf w m))
     unfolding Agrees
     stopped-paid turns paid =
         let spent = path-spends w (by .path) in
@@ -171,20 +170,20 @@ module _ (w : World) (good : SaneWorld w) (few : length (w .functions) ≤ 65536
         (stops-so w m u sane k t (path-mark w good sane (mark-sane sane) (by .path)) (so .last ∙ sym (adds .1)) (mark-grows w (marked (begin m u)) (by .path))
         (grows-on (so .heap) (adds .0)) _ _ _ n d)
 
-    stopped-same : (turns : ℕ) → RunAs w (settle w m u (stopped n t k) .machine) (stopped n t k) (rust.run (suc u + turns) (rustOf w m))
-    unfolding settle RunAs
+    stopped-same : (turns : ℕ) → RunAs w (givenUp w (partOf w (m .stack) u (stopped n t k)) .machine) (stopped n t k) (rust.run (suc u + turns) (rustOf w m))
+    unfolding partOf givenUp RunAs
     stopped-same turns = on (by .at .units) refl
       where
-        on : (x : ℕ) → by .at .units ≡ x → RunAs w (recovered w m k) (stopped n t k) (rust.run (suc u + turns) (rustOf w m))
+        on : (x : ℕ) → by .at .units ≡ x → RunAs w (recovered w (m .stack) k) (stopped n t k) (rust.run (suc u + turns) (rustOf w m))
         on zero e =
-            let z : faulted f.UnitsSpent (by .at) ≡ faulted n t = sym (no-units w (by .at) e) ∙ by .stops in
-            let y : f.UnitsSpent ≡ n = cc in
-            subst (λ (i : Fault). RunAs w (recovered w m k) (stopped i t k) (rust.run (suc u + turns) (rustOf w m))) y tt
+            let z : short ≡ faulted n t = sym (no-units w (by .at) e) ∙ by .stops in
+            absurd (let y : _≡_ {A = ℕ} 0 1 = cc in let no : ⊥ = omega arith in no)
         on (suc x) e = stopped-paid turns (omega arith)
 
-  settled-same : (e : Ended) → endOf w (begin m u) ≡ e → (turns : ℕ) → RunAs w (settle w m u e .machine) e (rust.run (suc u + turns) (rustOf w m))
+  settled-same : (e : Ended) → endOf w (begin m u) ≡ e → (turns : ℕ) → RunAs w (givenUp w (partOf w (m .stack) u e) .machine) e (rust.run (suc u + turns) (rustOf w m))
   settled-same (ended k t) q turns = ended-same (run-path w (atStart (begin m u)) (begin m u) (sym (end-of w (begin m u)) ∙ q)) turns
   settled-same (stopped n t k) q turns = stopped-same (run-path w (atStart (begin m u)) (begin m u) (sym (end-of w (begin m u)) ∙ q)) turns
+  settled-same (paused k t) q turns = unfold RunAs in tt
 
 -- THE THEOREM: in one turn more than there are units, and in any more than that, the Rust comes to what the rules' run comes to, and leaves its machine
 pub run-same : (w : World) → SaneWorld w → length (w .functions) ≤ 65536 → (m : Machine) (u : ℕ) → Sane w (begin m u) → (turns : ℕ)

@@ -17,7 +17,7 @@ use Rattle.model.specs.declared.Fault.the-variants as f
 use Rattle.model.specs.Basics.{if_then_else_, ascii}
 use Rattle.model.specs.Opcodes.{Opcode, op, operands, opcodes, opcodeAt}
 use Rattle.model.specs.Programs.{opcodeIn}
-use Rattle.model.specs.Steps.{World, State, faulted, withUnits, at, position, codeOf, execOf, operandsThen, decodedThen, fetched, stepOf}
+use Rattle.model.specs.Steps.{World, State, faulted, short, withUnits, at, position, codeOf, execOf, operandsThen, decodedThen, fetched, stepOf}
 use Rattle.model.specs.Runs.{over}
 use Rattle.laws_runs.specs.Sane.{SaneWorld, Sane}
 use Rattle.laws_rust.specs.Vm as rust
@@ -158,7 +158,7 @@ pub step-same : (w : World) → SaneWorld w → length (w .functions) ≤ 65536 
 unfolding stepOf over fetched opcodeAt codeOf rust.turn Agrees FaultsAs
 step-same w good few s sane o = on (eqb (s .units) 0)
   where
-    on : (b : Bool) → Agrees w (if b then faulted f.UnitsSpent s else fetched w (opcodeIn (codeOf w s) (position s)) s) (rust.turn (rustAt w s))
+    on : (b : Bool) → Agrees w (if b then short else fetched w (opcodeIn (codeOf w s) (position s)) s) (rust.turn (rustAt w s))
     on true = tt
     on false =
         let l : position s < length (codeOf w s) = leb-false _ _ o in

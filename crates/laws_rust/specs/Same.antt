@@ -14,8 +14,8 @@ use Rattle.model.specs.Values.{faultNumber}
 use Rattle.model.specs.Heap.{Cell}
 use Rattle.model.specs.Trees.{Tree, meaning}
 use Rattle.model.specs.Programs.{Function}
-use Rattle.model.specs.Steps.{World, State, Outcome, went, returned, faulted}
-use Rattle.model.specs.Runs.{Machine, Ended, ended, stopped, Reply, value, continue, fault, Ran}
+use Rattle.model.specs.Steps.{World, State, Outcome, went, returned, faulted, short}
+use Rattle.model.specs.Runs.{Machine, Ended, ended, stopped, paused, Reply, value, continue, fault, Ran}
 use Rattle.laws_rust.specs.Vm as rust
 use Rattle.laws_rust.specs.Vm.{Vm, Chunk, CallFrame, Did, Result}
 
@@ -74,14 +74,14 @@ FaultsAs vm f.StackFull d = Unit {0}
 FaultsAs vm f.FramesFull d = Unit {0}
 FaultsAs vm f.CellsFull d = Unit {0}
 FaultsAs vm f.TooDeep d = Unit {0}
-FaultsAs vm f.UnitsSpent d = Unit {0}
 FaultsAs vm f.NoFunction d = Panics d
 
--- a step of the rules, and a turn of the Rust's loop, from the same state
+-- a step of the rules, and a turn of the Rust's loop, from the same state; the Rust knows no units
 unfoldable pub Agrees : World → Outcome → Did → Type 0
 Agrees w (went s) d = d ≡ rust.went (rustAt w s)
 Agrees w (returned v s) d = d ≡ rust.returned (meaning (w .text) (s .heap) v) (rustAt w s)
 Agrees w (faulted n s) d = FaultsAs (rustAt w s) n d
+Agrees w short d = Unit {0}
 
 -- ---- a run
 
@@ -100,8 +100,8 @@ RunAs w left (stopped f.StackFull s k) r = Unit {0}
 RunAs w left (stopped f.FramesFull s k) r = Unit {0}
 RunAs w left (stopped f.CellsFull s k) r = Unit {0}
 RunAs w left (stopped f.TooDeep s k) r = Unit {0}
-RunAs w left (stopped f.UnitsSpent s k) r = Unit {0}
 RunAs w left (stopped f.NoFunction s k) r = r ≡ rust.panics
+RunAs w left (paused k s) r = Unit {0}
 
 -- ---- the other way: what the rules answer, by what `run` comes to
 
@@ -114,10 +114,11 @@ Ends rust.casts = Unit
 Ends rust.leaves = Unit
 Ends rust.goes-on = ⊥
 
--- no limit is met: the rules' run does not stop by 9 to 13
+-- no limit is met: the rules' run does not stop by 9 to 12, and its units reach
 unfoldable pub Unlimited : Ended → Type 0
 Unlimited (ended k s) = Unit {0}
-Unlimited (stopped n s k) = leb 9 (faultNumber n) && leb (faultNumber n) 13 ≡ false
+Unlimited (stopped n s k) = leb 9 (faultNumber n) && leb (faultNumber n) 12 ≡ false
+Unlimited (paused k s) = ⊥
 
 -- the answer is that value, or "continue" if there is none
 unfoldable pub Means : World → Machine → Reply → Option Tree → Type 0

@@ -10,10 +10,9 @@ use lib.ListN.{getD}
 use Rattle.model.specs.declared.Vm.{Vm}
 use Rattle.model.specs.Values.{places}
 use Rattle.model.specs.Steps.{State}
-use Rattle.model.specs.Runs.{begin, atStart, endOf}
+use Rattle.model.specs.Runs.{begin, atStart, endOf, endFrom}
 use Rattle.model.specs.Stores.{Stores}
 use Rattle.model.specs.Machines.{Lent, frameRoom, machineIn, worldOf}
-use Rattle.laws_runs.specs.Paths.{endFrom}
 use Rattle.laws_runs.specs.Ordered.{CodeBytes}
 use Rattle.laws_runs.proofs.Ends.{end-of}
 use Rattle.laws_runs.proofs.Programs.{parts-of}

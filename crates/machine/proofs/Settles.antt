@@ -24,7 +24,7 @@ use Rattle.model.specs.declared.RunResult.the-variants as r
 use Rattle.model.specs.Basics.{written}
 use Rattle.model.specs.Values.{faultNumber, places}
 use Rattle.model.specs.Programs.{functionAt}
-use Rattle.model.specs.Runs.{Machine, begin, machineOf, Ended, ended, stopped, endOf, root, Entry, traceOf, traceable, recovered, Ran, answered, fault, settle, runOf}
+use Rattle.model.specs.Runs.{Machine, begin, machineOf, Ended, ended, endOf, root, Entry, traceOf, traceable, recovered, Ran, answered, fault, partOf, cutAt, abandonOf, givenUp, runOf}
 use Rattle.model.specs.Stores.{Stores, size, codeWord, functionsFrom, worldIn}
 use Rattle.model.specs.Machines.{Lent, frameRoom, machineIn, worldOf, runOrder, ran, runAnswer, copyAfter, entryWords, traceOfReply, traceAfter, entriesIn, ranAs, SameRooms, Left, RunPost}
 use Rattle.model.specs.Machines as mc
@@ -39,7 +39,7 @@ use Rattle.run_arms.specs.Links.{frameIn, stateOf}
 use Rattle.run_arms.proofs.Keeping.{exact-at}
 use Rattle.run_steps.specs.Links.{answerIn, progressIn}
 use Rattle.run_loop.specs.declared.Course.{Course}
-use Rattle.run_loop.specs.Links.{Ends, over, stop, TurnsPost}
+use Rattle.run_loop.specs.Links.{Ends, over, pause, stop, TurnsPost}
 use Rattle.run_ends.specs.Links.{vmEnded, resultBy, tallyOf, endedWith, vmFaulted, faultedWith}
 use Rattle.machine.specs.Links.{runLent, Granted}
 use Rattle.frames.proofs.Callers.{innermost-is, callers-are, callers-kept, length-callers}
@@ -94,13 +94,12 @@ some-fault f.StackFull e = omega arith
 some-fault f.FramesFull e = omega arith
 some-fault f.CellsFull e = omega arith
 some-fault f.TooDeep e = omega arith
-some-fault f.UnitsSpent e = omega arith
 some-fault f.NoFunction e = omega arith
 
 -- ---- a run that was granted
 
 module _ (m : Vm) (s : Stores) (l : Lent) (u : ℕ) where
-  run-is : (e : Ended) → Granted m s l → endOf (worldOf m s l) (begin (machineIn m l) u) ≡ e → runAnswer m s l u ≡ ran (m .program) (settle (worldOf m s l) (machineIn m l) u e)
+  run-is : (e : Ended) → Granted m s l → endOf (worldOf m s l) (begin (machineIn m l) u) ≡ e → runAnswer m s l u ≡ ran (m .program) (givenUp (worldOf m s l) (partOf (worldOf m s l) (machineIn m l .stack) u e))
   unfolding runAnswer runOf
   run-is e g q = rw (g .order, g .long, q)
 
@@ -167,6 +166,7 @@ module _ (m : Vm) (s : Stores) (l : Lent) (u : ℕ) (k : Fixed) (g : Going) (c :
   module _ (no : c .fault ≡ 0) where
     is-ended : Ends (worldOf m s l) ranEnd c stack cells frames → ranEnd ≡ ended (progressIn now cells) (stateOf now stack cells callers)
     is-ended (over n e z) = e
+    is-ended (pause g n e t) = absurd (let z : ⊥ = omega (arith, ap (λ (x : Course). x .fault) n) in z)
     is-ended (stop x n e t) = absurd (some-fault x (sym n ∙ no))
 
     abbrev framesEnded : List Frame
@@ -196,33 +196,36 @@ module _ (m : Vm) (s : Stores) (l : Lent) (u : ℕ) (k : Fixed) (g : Going) (c :
         run-order s u (h .begins .granted .order) (h .begins .bytes)
         (unfold vmEnded in record { program = refl; stack = rooms-ended .stack; cells = rooms-ended .cells; frames = rooms-ended .frames })
         (unfold vmEnded runLent in record { cells = h .turns .fits .cells .exact; stack = exact-at (now .sp) stack (h .turns .fits .stack .exact); frames = omega arith })
-        (machine-ended ∙ unfold runOf settle in rw (is-ended ends))
+        (machine-ended ∙ unfold runOf partOf givenUp in rw (is-ended ends))
 
     pub run-ended : RunPost m s l u (endedWith m u now) lentEnded
     unfolding endedWith
     run-ended =
         let q = run-is m s l u (ended (progressIn now cells) (stateOf now stack cells callers)) (h .begins .granted) (is-ended ends) in
         posted m s l u _ (endedWith m u now) lentEnded q
-        (result-is lentEnded (answerIn now) (vmEnded m now) (tallyOf u now) ∙ unfold settle vmEnded in rw machine-ended)
+        (result-is lentEnded (answerIn now) (vmEnded m now) (tallyOf u now) ∙ unfold partOf givenUp vmEnded in rw machine-ended)
         (unfold runLent in refl)
-        (unfold settle runLent written in rw (no-trace (answerIn now) (tallyOf u now)))
+        (unfold partOf givenUp runLent written in rw (no-trace (answerIn now) (tallyOf u now)))
         rooms-ended
         (result-left s l lentEnded (answerIn now) (vmEnded m now) (tallyOf u now) order-ended)
 
   -- ---- stopped
 
   module _ (some : c .fault ≡ 0 → ⊥) where
-    -- the fault that stopped it
+    -- what one run then comes to: the fault that stopped it, or 13 where it was given up; and its backtrace stands
     record Stop : Type 0 where
-      number : Fault
-      told : c .fault ≡ faultNumber number
-      end : ranEnd ≡ stopped number (stateOf now stack cells callers) (progressIn now cells)
+      settles : givenUp (worldOf m s l) (partOf (worldOf m s l) (machineIn m l .stack) u ranEnd)
+          ≡ record {
+            reply = fault (c .fault) (tallyOf u now) (traceOf (functionsFrom (m .program .functions) 0 s) (frameIn now ∷ callers));
+            machine = recovered (worldOf m s l) (machineIn m l .stack) (progressIn now cells);
+          }
       traced : traceable (functionsFrom (m .program .functions) 0 s) (frameIn now ∷ callers) ≡ true
 
     is-stopped : Ends (worldOf m s l) ranEnd c stack cells frames → Stop
-    unfolding worldOf worldIn
+    unfolding worldOf worldIn partOf givenUp abandonOf cutAt answerIn
     is-stopped (over n e z) = absurd (some n)
-    is-stopped (stop x n e t) = record { number = x; told = n; end = e; traced = t }
+    is-stopped (pause g n e t) = let z : u - 0 ≡ u = omega arith in record { settles = rw (e, n, z); traced = rw n t }
+    is-stopped (stop x n e t) = record { settles = rw (e, n); traced = t }
 
     stops : Stop
     stops = is-stopped ends
@@ -259,7 +262,7 @@ module _ (m : Vm) (s : Stores) (l : Lent) (u : ℕ) (k : Fixed) (g : Going) (c :
     main-length : length (functionAt (functionsFrom (m .program .functions) 0 s) 0 .code) ≡ size (codeWord (s .functions) 0)
     main-length = code-size (m .program) s parts 0 (has-main (m .program) s parts)
 
-    machine-stopped : machineIn (vmFaulted m now) lentStopped ≡ recovered (worldOf m s l) (machineIn m l) (progressIn now cells)
+    machine-stopped : machineIn (vmFaulted m now) lentStopped ≡ recovered (worldOf m s l) (machineIn m l .stack) (progressIn now cells)
     unfolding machineIn vmFaulted runLent recovered worldOf worldIn
     machine-stopped =
         let there : 0 < length frames = let z = callers-there in omega arith in
@@ -296,7 +299,7 @@ module _ (m : Vm) (s : Stores) (l : Lent) (u : ℕ) (k : Fixed) (g : Going) (c :
         run-order s u (h .begins .granted .order) (h .begins .bytes)
         (unfold vmFaulted in record { program = refl; stack = rooms-stopped .stack; cells = rooms-stopped .cells; frames = rooms-stopped .frames })
         exact-stopped
-        (machine-stopped ∙ unfold runOf settle in rw (stops .end))
+        (machine-stopped ∙ unfold runOf in sym (ap (λ (x : Ran). x .machine) (stops .settles)))
 
     told-words : words ≡ entryWords (traceOf (functionsFrom (m .program .functions) 0 s) (frameIn now ∷ callers))
     told-words = trace-told (m .program) s parts (frameIn now ∷ callers) (stops .traced)
@@ -310,10 +313,10 @@ module _ (m : Vm) (s : Stores) (l : Lent) (u : ℕ) (k : Fixed) (g : Going) (c :
 
     pub run-faulted : RunPost m s l u (faultedWith m u now (c .fault)) lentStopped
     run-faulted =
-        let q = run-is m s l u (stopped (stops .number) (stateOf now stack cells callers) (progressIn now cells)) (h .begins .granted) (stops .end) in
+        let q = run-is m s l u ranEnd (h .begins .granted) refl ∙ ap (ran (m .program)) (stops .settles) in
         posted m s l u _ (faultedWith m u now (c .fault)) lentStopped q
-        (unfold faultedWith settle vmFaulted worldOf worldIn runLent in fault-is lentStopped (vmFaulted m now) (tallyOf u now) (suc (now .callers)) (stops .told) told-entries machine-stopped)
+        (unfold faultedWith vmFaulted runLent in fault-is lentStopped (vmFaulted m now) (tallyOf u now) (suc (now .callers)) refl told-entries machine-stopped)
         (unfold runLent in refl)
-        (unfold settle runLent traceOfReply worldOf worldIn in rw told-words)
+        (unfold runLent traceOfReply in rw told-words)
         rooms-stopped
         (unfold faultedWith in order-stopped)

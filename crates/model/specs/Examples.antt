@@ -19,7 +19,7 @@ use Rattle.model.specs.Programs.{Constant, scalar, boolean, Function, Pr
 use Rattle.model.specs.Images.{imageOf, Judged, fine, broken, judge}
 use Rattle.model.specs.Listings.{Listed, text, unlisted, listingOf}
 use Rattle.model.specs.Steps.{World}
-use Rattle.model.specs.Runs.{Machine, Entry, entry, Traced, trace, untraced, backtraceOf, root, Reply, value, continue, fault, Ran, runOf}
+use Rattle.model.specs.Runs.{Machine, Entry, entry, Traced, trace, untraced, backtraceOf, root, Reply, value, continue, fault, Ran, beginOf, dealt, givenUp}
 use Rattle.model.specs.Stores.{worldIn}
 use Rattle.model.specs.Loading.{laid, countsFor}
 use Rattle.model.specs.Reports.{emptyStores, runnerText, listerText}
@@ -157,12 +157,16 @@ loaded = record { stack = []; frame = root 0; callers = []; heap = []; last = No
 unfoldable pub shown : Ran → Shown
 shown r = ran (r .reply) (r .machine .stack) (r .machine .frame ∷ r .machine .callers) (r .machine .last)
 
+-- a run of m, begun, continued with each of these units in turn, and abandoned where it is paused
+unfoldable pub inParts : Program → Machine → List ℕ → Ran
+inParts p m us = givenUp (world p) (dealt (world p) (beginOf (world p) m) us)
+
 unfoldable pub run : Program → ℕ → Ran
-run p u = runOf (world p) loaded u
+run p u = inParts p loaded (u ∷ [])
 
 -- run, and run again on the machine that is left
 unfoldable pub again : Program → ℕ → Ran
-again p u = runOf (world p) (run p u .machine) u
+again p u = inParts p (run p u .machine) (u ∷ [])
 
 abbrev frame : ℕ → ℕ → ℕ → Frame
 frame f i b = record { function = f; position = i; base = b }
@@ -196,11 +200,23 @@ examples =
     ∷ (shown (run p3 1000000) shows ran (fault 8 (did 3 0) (entry 0 6 ∷ [])) [] (frame 0 8 0 ∷ []) Nothing)
     -- P4: the last result stays
     ∷ (shown (run p4 1000000) shows ran (fault 8 (did 5 1) (entry 0 10 ∷ [])) [] (frame 0 12 0 ∷ []) (Is (scalarOf n1)))
+    -- P4 with its units dealt out: the root Return of the first part counts
+    ∷ (shown (inParts p4 loaded (2 ∷ 3 ∷ [])) shows ran (fault 8 (did 5 1) (entry 0 10 ∷ [])) [] (frame 0 12 0 ∷ []) (Is (scalarOf n1)))
     -- P5
     ∷ (shown (run p5 1000000) shows ran (value (v.Boolean true) (did 10 1)) [] (frame 0 20 0 ∷ []) (Is (v.Boolean true)))
+    -- given up: with 6 units before Equal, which was not fetched; with 7 and 8 in Equal, whose two pairs they do not pay for
+    ∷ (shown (run p5 6) shows ran (fault 13 (did 6 0) (entry 0 17 ∷ [])) [] (frame 0 20 0 ∷ []) Nothing)
+    ∷ (shown (run p5 7) shows ran (fault 13 (did 7 0) (entry 0 18 ∷ [])) [] (frame 0 20 0 ∷ []) Nothing)
+    ∷ (shown (run p5 8) shows ran (fault 13 (did 8 0) (entry 0 18 ∷ [])) [] (frame 0 20 0 ∷ []) Nothing)
+    -- P5 with its 10 units dealt out, 0 among them: paused before Equal with 1 and 2 of its 3 units, and then it goes on
+    ∷ (shown (inParts p5 loaded (6 ∷ 0 ∷ 1 ∷ 1 ∷ 1 ∷ 1 ∷ [])) shows ran (value (v.Boolean true) (did 10 1)) [] (frame 0 20 0 ∷ []) (Is (v.Boolean true)))
+    -- abandoned with nothing given: fault 13, byte 0, nothing spent
+    ∷ (shown (inParts p1 loaded []) shows ran (fault 13 (did 0 0) (entry 0 0 ∷ [])) [] (frame 0 8 0 ∷ []) Nothing)
     -- P6: both runs
     ∷ (shown (run p6 1000000) shows ran (continue (did 1 0)) [] (frame 1 0 0 ∷ frame 0 5 0 ∷ []) Nothing)
     ∷ (shown (again p6 1000000) shows ran (continue (did 0 0)) [] (frame 1 0 0 ∷ frame 0 5 0 ∷ []) Nothing)
+    -- begun at the end of its code it is over at once
+    ∷ (shown (inParts p6 (run p6 1000000 .machine) []) shows ran (continue (did 0 0)) [] (frame 1 0 0 ∷ frame 0 5 0 ∷ []) Nothing)
     -- P7: position 8, and the backtrace
     ∷ (shown (run p7 1000000) shows ran (continue (did 1 0)) [] (frame 0 8 0 ∷ []) Nothing)
     ∷ (traced (backtraceOf (p7 .functions) (run p7 1000000 .machine .frame ∷ [])) shows traced (untraced 16))
@@ -219,7 +235,7 @@ examples =
 
 -- P1 to P9 and the jump, together: the rules give what they are said to give
 pub examples-hold : map (λ e. e .gives) examples ≡ map (λ e. e .says) examples
-unfolding from coded program alone p1 p1-flat p1-image p1-listing counted-operands counted-listing p3 p4 p5 p6 p7 p8 jumped world loaded shown run again scalarOf examples trailingZeros
+unfolding from coded program alone p1 p1-flat p1-image p1-listing counted-operands counted-listing p3 p4 p5 p6 p7 p8 jumped world loaded shown inParts run again scalarOf examples trailingZeros
     basics.computes opcodes.computes numbers.computes values.computes scalars.computes heap.computes equality.computes programs.computes
     images.computes listings.computes steps.computes runs.computes stores.computes orders.computes loading.computes machines.computes
     reports.computes Ieee.ofBits Ieee.ofFields Ieee.odd Ieee.add Ieee.sum Ieee.round Ieee.units Ieee.size Ieee.span Ieee.climb Ieee.div Ieee.eq

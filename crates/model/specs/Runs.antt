@@ -1,21 +1,20 @@
 -- [run] A run with units, its answer, what a fault leaves, and the backtrace.
 use mathlib.Core.Bool.{Bool, true, false, _&&_}
 use mathlib.Core.List.{List, [], _∷_}
-use Prim.Native.Nat.{ℕ, zero, suc, _-_}
-use lib.Dec.{ltb, leb}
+use Prim.Native.Nat.{ℕ, zero, suc, _+_, _-_}
+use lib.Dec.{ltb, leb, eqb}
 use lib.ListN.{length, getD}
 use Rattle.model.specs.declared.Value.{Value}
 use Rattle.model.specs.declared.Last.{Last}
 use Rattle.model.specs.declared.Last.the-variants.{Nothing, Is}
 use Rattle.model.specs.declared.Fault.{Fault}
-use Rattle.model.specs.declared.Fault.the-variants as f
 use Rattle.model.specs.declared.Frame.{Frame}
 use Rattle.model.specs.declared.Tally.{Tally}
 use Rattle.model.specs.Basics.{if_then_else_}
 use Rattle.model.specs.Values.{faultNumber}
 use Rattle.model.specs.Heap.{Cell}
 use Rattle.model.specs.Programs.{Function, functionAt}
-use Rattle.model.specs.Steps.{World, State, Outcome, went, returned, faulted, codeOf, position, stepOf}
+use Rattle.model.specs.Steps.{World, State, Outcome, went, returned, faulted, short, withUnits, at, codeOf, position, stepOf}
 
 -- a machine between runs. Slots past its counts are no part of it.
 pub record Machine : Type 0 where
@@ -51,30 +50,37 @@ atStart s = record { answer = Nothing; returns = 0; heap = s .heap; last = s .la
 abbrev pub counted : Value → Progress → State → Progress
 counted v p s = record { answer = Is v; returns = suc (p .returns); heap = s .heap; last = s .last }
 
--- a run has ended, or a fault has stopped it
+-- a run has ended, or a fault has stopped it; or it is paused before an instruction that its units do not pay for, as it then stands
 pub data Ended : Type 0 where
   ended : Progress → State → Ended
   stopped : Fault → State → Progress → Ended
+  paused : Progress → State → Ended
 
--- after a step: the run goes on; so it does after a root Return, which has counted; a fault stops it
-unfoldable pub next : (goOn : Progress → State → Ended) → Progress → Outcome → Ended
-next goOn p (went s) = goOn p s
-next goOn p (returned v s) = goOn (counted v p s) s
-next goOn p (faulted n s) = stopped n s p
+-- after a step from `before`: the run goes on; so it does after a root Return, which has counted; a fault stops it; a step that cannot be paid for
+-- has changed nothing
+unfoldable pub next : (goOn : Progress → State → Ended) → Progress → (before : State) → Outcome → Ended
+next goOn p before (went s) = goOn p s
+next goOn p before (returned v s) = goOn (counted v p s) s
+next goOn p before (faulted n s) = stopped n s p
+next goOn p before short = paused p before
 
 -- [run.end] is looked at before each step
 unfoldable pub turn : World → (goOn : Progress → State → Ended) → (isOver : Bool) → Progress → State → Ended
 turn w goOn true p s = ended p s
-turn w goOn false p s = next goOn p (stepOf w s)
+turn w goOn false p s = next goOn p s (stepOf w s)
 
--- steps, until the run ends or a fault stops it; so many turns at most
+-- steps, until the run ends, or a fault stops it, or its units are short; so many turns at most
 unfoldable pub runFor : World → (turns : ℕ) → Progress → State → Ended
-runFor w zero p s = stopped f.UnitsSpent s p
+runFor w zero p s = paused p s
 runFor w (suc turns) p s = turn w (runFor w turns) (over w s) p s
 
--- a whole run. Each step spends a unit, so there are never more turns than these.
+-- the end of a run that has come as far as p and stands at s. Each step spends a unit, so there are never more turns than these.
+unfoldable pub endFrom : World → Progress → State → Ended
+endFrom w p s = runFor w (suc (s .units)) p s
+
+-- the end of a whole run
 unfoldable pub endOf : World → State → Ended
-endOf w s = runFor w (suc (s .units)) (atStart s) s
+endOf w s = endFrom w (atStart s) s
 
 -- ---- [backtrace] innermost frame first: function, and the place of code byte position less 1, or byte 0 at position 0
 
@@ -107,8 +113,8 @@ backtraceOf fs rs = if traceable fs rs then trace (traceOf fs rs) else untraced 
 abbrev pub root : ℕ → Frame
 root i = record { function = 0; position = i; base = 0 }
 
-unfoldable pub recovered : World → Machine → Progress → Machine
-recovered w m p = record { stack = m .stack; frame = root (length (functionAt (w .functions) 0 .code)); callers = []; heap = p .heap; last = p .last }
+unfoldable pub recovered : World → (start : List Value) → Progress → Machine
+recovered w start p = record { stack = start; frame = root (length (functionAt (w .functions) 0 .code)); callers = []; heap = p .heap; last = p .last }
 
 -- ---- what a run answers: a value or "continue", or a fault's number and backtrace; all with the units spent and the root Returns completed
 
@@ -129,16 +135,64 @@ unfoldable pub answered : Last → Tally → Reply
 answered Nothing t = continue t
 answered (Is v) t = value v t
 
--- u is how many units the run was given
-unfoldable pub settle : World → Machine → ℕ → Ended → Ran
-settle w m u (ended p s) = record { reply = answered (p .answer) (tally (u - s .units) p); machine = machineOf s }
-settle w m u (stopped n s p) = record { reply = fault (faultNumber n) (tally (u - s .units) p) (traceOf (w .functions) (s .frame ∷ s .callers)); machine = recovered w m p }
+-- ---- [parts] a run in parts: a beginning, which copies the stack; a continuing, which takes units; an abandoning
 
--- a run of m with u units
+-- a run under way, as it stands between its parts: the units that it was given in all, the stack of its start, how far it has come; and its state,
+-- which has the units that are left
+pub record Under : Type 0 where
+  pub given : ℕ
+  pub start : List Value
+  pub progress : Progress
+  pub state : State
+
+-- what a part comes to: the run is over, or it is paused
+pub data Part : Type 0 where
+  ends : Ran → Part
+  pauses : Under → Part
+
+-- u is how many units the run was given in all, with this part
+unfoldable pub partOf : World → (start : List Value) → (u : ℕ) → Ended → Part
+partOf w start u (ended p s) = ends (record { reply = answered (p .answer) (tally (u - s .units) p); machine = machineOf s })
+partOf w start u (stopped n s p) =
+    ends (record { reply = fault (faultNumber n) (tally (u - s .units) p) (traceOf (w .functions) (s .frame ∷ s .callers)); machine = recovered w start p })
+partOf w start u (paused p s) = pauses (record { given = u; start = start; progress = p; state = s })
+
+-- "A run begun with its position at or past the end is over at once, with 'continue'"; any other has no unit for its first instruction
+unfoldable pub beginOf : World → Machine → Part
+beginOf w m = partOf w (m .stack) 0 (endOf w (begin m 0))
+
+-- "unspent units carry over"
+unfoldable pub continueOf : World → Under → (units : ℕ) → Part
+continueOf w r u = partOf w (r .start) (r .given + u) (endFrom w (r .progress) (withUnits (r .state .units + u) (r .state)))
+
+-- where a run that is abandoned was cut: before an instruction that was not fetched; if units are left, they were too few for the pairs of a
+-- comparison, which had been fetched
+unfoldable pub cutAt : State → State
+cutAt s = at (if eqb (s .units) 0 then position s else suc (position s)) s
+
+-- "abandoning it gives fault 13 and the recovery of demand 3": all the units that it was given count as spent
+unfoldable pub abandonOf : World → Under → Ran
+abandonOf w r = record {
+  reply = fault 13 (tally (r .given) (r .progress)) (traceOf (w .functions) (cutAt (r .state) .frame ∷ cutAt (r .state) .callers));
+  machine = recovered w (r .start) (r .progress);
+}
+
+-- units dealt out: the run is continued with each in turn, until it is over
+unfoldable pub dealt : World → Part → List ℕ → Part
+dealt w x [] = x
+dealt w (ends x) (u ∷ us) = ends x
+dealt w (pauses r) (u ∷ us) = dealt w (continueOf w r u) us
+
+-- ---- one run: given u units at once, and abandoned where it is paused
+
+unfoldable pub givenUp : World → Part → Ran
+givenUp w (ends x) = x
+givenUp w (pauses r) = abandonOf w r
+
 unfoldable pub runOf : World → Machine → ℕ → Ran
-runOf w m u = settle w m u (endOf w (begin m u))
+runOf w m u = givenUp w (partOf w (m .stack) u (endOf w (begin m u)))
 
 -- all that an example computes with here
 unfoldable pub computes : Type 1
-unfolding over next turn runFor endOf traceOf traceable backtraceOf recovered answered settle runOf
+unfolding over next turn runFor endFrom endOf traceOf traceable backtraceOf recovered answered partOf beginOf continueOf cutAt abandonOf dealt givenUp runOf
 computes = Type 0

@@ -55,6 +55,8 @@ pub data Outcome : Type 0 where
   returned : Value → State → Outcome
   -- a fault has dropped and added no frame
   faulted : Fault → State → Outcome
+  -- [pause] the units that are left do not pay for the step: nothing has changed
+  short : Outcome
 
 -- ---- the state's parts
 
@@ -132,9 +134,9 @@ orderingStep c s =
 
 -- ---- [equal], [units] one more unit for each pair visited below the top pair
 
--- the verdict becomes a value by t; too few units spend all
+-- the verdict becomes a value by t; a comparison whose pairs cost more than is left spends nothing
 unfoldable pub onSame : (Bool → Bool) → List Value → State → Same → Outcome
-onSame t r s (same b k) = if leb k (s .units) then went (withStack (v.Boolean (t b) ∷ r) (withUnits (s .units - k) s)) else faulted f.UnitsSpent (withUnits 0 s)
+onSame t r s (same b k) = if leb k (s .units) then went (withStack (v.Boolean (t b) ∷ r) (withUnits (s .units - k) s)) else short
 
 unfoldable pub equalStep : (Bool → Bool) → World → State → Outcome
 equalStep t w s =
@@ -255,7 +257,7 @@ unfoldable pub fetched : World → Opcode → State → Outcome
 fetched w c s = decodedThen w (c .what) (operands c) (at (suc (position s)) (withUnits (s .units - 1) s))
 
 unfoldable pub stepOf : World → State → Outcome
-stepOf w s = if eqb (s .units) 0 then faulted f.UnitsSpent s else fetched w (opcodeIn (codeOf w s) (position s)) s
+stepOf w s = if eqb (s .units) 0 then short else fetched w (opcodeIn (codeOf w s) (position s)) s
 
 -- all that an example computes with here
 unfoldable pub computes : Type 1

@@ -57,7 +57,6 @@ faultNumber f.StackFull = 9
 faultNumber f.FramesFull = 10
 faultNumber f.CellsFull = 11
 faultNumber f.TooDeep = 12
-faultNumber f.UnitsSpent = 13
 faultNumber f.NoFunction = 14
 
 -- ---- [pops] from the top of a stack, whose top is first: 4 before 5 at each

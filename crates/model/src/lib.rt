@@ -103,7 +103,7 @@ pub enum Last {
     Is(Value),
 }
 
-// Why a step did not complete. WrongKind holds the popped value.
+// Why a step faults. WrongKind holds the popped value. Units that do not reach are no fault of a step: it pauses the run.
 pub enum Fault {
     UnknownOpcode,
     NotCarried,
@@ -117,7 +117,6 @@ pub enum Fault {
     FramesFull,
     CellsFull,
     TooDeep,
-    UnitsSpent,
     NoFunction,
 }
 

@@ -19,7 +19,7 @@ use Rattle.model.specs.Basics.{if_then_else_}
 use Rattle.model.specs.Values.{places, vals, valueAt, ifStruct}
 use Rattle.model.specs.Heap.{item, heapOf, fieldOf, listElements, placedBelow}
 use Rattle.model.specs.Equality.{Same, same, sameOf}
-use Rattle.model.specs.Steps.{World, State, Outcome, went, faulted, withStack, withUnits, pushing, onFound, onSame, equalStep, onBuilt, buildStep, structStep, fieldStep}
+use Rattle.model.specs.Steps.{World, State, Outcome, went, faulted, short, withStack, withUnits, pushing, onFound, onSame, equalStep, onBuilt, buildStep, structStep, fieldStep}
 use Rattle.value.specs.Links.{Written, popOf}
 use Rattle.value.proofs.Stores.{length-vals, vals-drop}
 use Rattle.value.proofs.Operands.{got-some}
@@ -33,8 +33,8 @@ use Rattle.cells.proofs.Stands.{length-heap, heap-cut}
 use Rattle.run_arms.specs.declared.Fixed.{Fixed}
 use Rattle.run_arms.specs.declared.Going.{Going}
 use Rattle.run_arms.specs.declared.Answer.{Answer}
-use Rattle.run_arms.specs.declared.Answer.the-variants.{Went, Stopped}
-use Rattle.run_arms.specs.Links.{stateOf, Within, Suits, Kept, ArmPost, CellsWithin, Blocks, BlockPost, verdictBy, builtBy}
+use Rattle.run_arms.specs.declared.Answer.the-variants.{Went, Returned, Call, Back, Stopped, Short}
+use Rattle.run_arms.specs.Links.{stateOf, Within, Suits, Kept, Paid, Unwritten, ArmPost, CellsWithin, Blocks, BlockPost, verdictBy, builtBy}
 use Rattle.run_arms.proofs.Keeping.{fewer}
 use Rattle.run_arms.proofs.Rules.{no-top, top}
 use Rattle.run_arms.proofs.Posts.{withCount, One, refused, settled, one-none, one-wrong}
@@ -74,9 +74,17 @@ withUsed u g = record {
 -- the rule goes another way to the same outcome
 pub same-block : {rule other : State → Outcome} {k : Fixed} {g : Going} {s x : List ℕ} {r : Answer} {t y : List ℕ}
     → ((cs : List Frame) → other (stateOf g s x cs) ≡ rule (stateOf g s x cs)) → BlockPost rule k g s x r t y → BlockPost other k g s x r t y
-same-block e p = record { means = λ cs h. p .means cs h ∙ sym (e cs); within = p .within; kept = p .kept; cells = p .cells; before = p .before; caller = p .caller }
+same-block e p = record { means = λ cs h. p .means cs h ∙ sym (e cs); within = p .within; kept = p .kept; cells = p .cells; before = p .before; caller = p .caller; unwritten = p .unwritten }
 
 -- ---- an arm that ends as one does that is lent the stack alone
+
+paid-written : (r : Answer) (s x s' x' : List ℕ) → Paid r → Unwritten r s x s' x'
+paid-written (Went g) s x s' x' h = tt
+paid-written (Returned c) s x s' x' h = tt
+paid-written (Call g i b) s x s' x' h = tt
+paid-written (Back g) s x s' x' h = tt
+paid-written (Stopped g n) s x s' x' h = tt
+paid-written (Short g) s x s' x' h = absurd h
 
 module _ {rule other : State → Outcome} {k : Fixed} {g : Going} {s x : List ℕ} {r : Answer} {t : List ℕ} where
   -- it goes on from the machine h and the cells y, in which those that were taken stay
@@ -89,6 +97,7 @@ module _ {rule other : State → Outcome} {k : Fixed} {g : Going} {s x : List �
     cells = record { count = rw (p .used) (c .count); exact = rw (p .used) (c .exact) };
     before = b;
     caller = p .caller;
+    unwritten = paid-written r s x t y (p .paid);
   }
 
   -- or from where it is
@@ -124,14 +133,14 @@ module _ {m : ℕ} {k : Fixed} {g : Going} {s x : List ℕ} (b : Blocks m k g s 
 -- what is done by a verdict
 abbrev byVerdict : (Bool → Bool) → List Value → State → Verdict → Outcome
 byVerdict t r u (Done a l) = went (withStack (v.Boolean (t a) ∷ r) (withUnits l u))
-byVerdict t r u Out = faulted f.UnitsSpent (withUnits 0 u)
+byVerdict t r u Out = short
 
 on-verdict : (t : Bool → Bool) (r : List Value) (u : State) (z : Same) → onSame t r u z ≡ byVerdict t r u (verdict (u .units) z)
 unfolding onSame verdict
 on-verdict t r u (same a n) = on (leb n (u .units))
   where
     on : (y : Bool)
-        → (if y then went (withStack (v.Boolean (t a) ∷ r) (withUnits (u .units - n) u)) else faulted f.UnitsSpent (withUnits 0 u))
+        → (if y then went (withStack (v.Boolean (t a) ∷ r) (withUnits (u .units - n) u)) else short)
         ≡ byVerdict t r u (if y then Done a (u .units - n) else Out)
     on true = refl
     on false = refl
@@ -181,8 +190,16 @@ module _ (text : List ℕ) {k : Fixed} {g : Going} {s x : List ℕ} (b : Blocks 
         still : (l : ℕ) → Within k (withLeft l g) s
         still l = fewer (b .stack) (omega arith) refl
 
-        pub equal-out : d ≡ Out → BlockPost (equalStep t u) k g s x (Stopped (withLeft 0 g) f.UnitsSpent) s x
-        equal-out o = spends 0 (λ cs. rw o) (refused (still 0) {rule = faulted f.UnitsSpent} (λ x cs h. refl))
+        pub equal-out : d ≡ Out → BlockPost (equalStep t u) k g s x (Short g) s x
+        equal-out o = record {
+          means = λ cs h. sym (judged cs ∙ rw o);
+          within = b .stack;
+          kept = record { callers = refl; mark = refl; returns = refl };
+          cells = b .cells;
+          before = λ n i. refl;
+          caller = tt;
+          unwritten = (refl, refl);
+        }
 
         pub equal-done : {a c : Bool} {l : ℕ} {w : List ℕ} → d ≡ Done a l → c ≡ t a → Written s (g .sp - 1 - 1) (item (v.Boolean c)) w
             → BlockPost (equalStep t u) k g s x (Went (withCount (g .sp - 1) (withLeft l g))) w x

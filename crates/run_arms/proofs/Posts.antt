@@ -64,7 +64,7 @@ withCount n g = withWords n (g .position) (g .kind) (g .payload) g
 -- the rule goes another way to the same outcome
 pub same-rule : {rule other : State → Outcome} {k : Fixed} {g : Going} {s : List ℕ} {r : Answer} {t : List ℕ}
     → ((x : List ℕ) (cs : List Frame) → other (stateOf g s x cs) ≡ rule (stateOf g s x cs)) → ArmPost rule k g s r t → ArmPost other k g s r t
-same-rule e p = record { means = λ x cs h. p .means x cs h ∙ sym (e x cs); within = p .within; kept = p .kept; used = p .used; caller = p .caller }
+same-rule e p = record { means = λ x cs h. p .means x cs h ∙ sym (e x cs); within = p .within; kept = p .kept; used = p .used; caller = p .caller; paid = p .paid }
 
 module _ {k : Fixed} {g : Going} {s : List ℕ} (w : Within k g s) where
   -- a fault, and nothing is changed
@@ -77,6 +77,7 @@ module _ {k : Fixed} {g : Going} {s : List ℕ} (w : Within k g s) where
     kept = record { callers = refl; mark = refl; returns = refl };
     used = refl;
     caller = tt;
+    paid = tt;
   }
 
   -- values are dropped, and the position is another
@@ -89,6 +90,7 @@ module _ {k : Fixed} {g : Going} {s : List ℕ} (w : Within k g s) where
     kept = record { callers = refl; mark = refl; returns = refl };
     used = refl;
     caller = tt;
+    paid = tt;
   }
 
   -- a value is written on top of the i values that are left
@@ -105,6 +107,7 @@ module _ {k : Fixed} {g : Going} {s : List ℕ} (w : Within k g s) where
       kept = record { callers = refl; mark = refl; returns = refl };
       used = refl;
       caller = tt;
+      paid = tt;
     }
 
 -- ---- pushes
@@ -167,6 +170,7 @@ module _ {k : Fixed} {g : Going} {s : List ℕ} (w : Within k g s) {u : World} (
         kept = record { callers = refl; mark = refl; returns = refl };
         used = refl;
         caller = tt;
+        paid = tt;
       }
 
   module _ (i n : ℕ) where
@@ -346,6 +350,7 @@ module _ {k : Fixed} {g : Going} {s : List ℕ} (w : Within k g s) {r : Found} (
         kept = record { callers = refl; mark = refl; returns = refl };
         used = refl;
         caller = tt;
+        paid = tt;
       }
 
     -- with a caller
@@ -366,4 +371,5 @@ module _ {k : Fixed} {g : Going} {s : List ℕ} (w : Within k g s) {r : Found} (
         kept = record { callers = refl; mark = refl; returns = refl };
         used = refl;
         caller = some-caller (g .callers) z;
+        paid = tt;
       }

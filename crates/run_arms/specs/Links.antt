@@ -13,12 +13,12 @@ use Rattle.model.specs.Values.{vals, places, valueAt, kindAt, payloadAt, exactV
 use Rattle.model.specs.Heap.{heapOf, heapOk, placedBelow, exactCells}
 use Rattle.model.specs.Stores.{Stores}
 use Rattle.model.specs.Emission.{namesFrom}
-use Rattle.model.specs.Steps.{World, State, Outcome, went, returned, faulted, withFrames, withLast}
+use Rattle.model.specs.Steps.{World, State, Outcome, went, returned, faulted, short, withFrames, withLast}
 use Rattle.value.specs.Links.{lastIn}
 use Rattle.run_arms.specs.declared.Fixed.{Fixed}
 use Rattle.run_arms.specs.declared.Going.{Going}
 use Rattle.run_arms.specs.declared.Answer.{Answer}
-use Rattle.run_arms.specs.declared.Answer.the-variants.{Went, Returned, Call, Back, Stopped}
+use Rattle.run_arms.specs.declared.Answer.the-variants.{Went, Returned, Call, Back, Stopped, Short}
 
 -- ---- what the words stand for: s is the stack's store, x the cells', cs the callers
 
@@ -44,6 +44,7 @@ outcomeOf cs (Returned c) s x = returned (c .value) (withLast (c .value) (stateO
 outcomeOf cs (Call g i b) s x = went (withFrames (entered i b) (frameIn g ∷ cs) (stateOf g s x cs))
 outcomeOf cs (Back g) s x = backTo cs (stateOf g s x cs)
 outcomeOf cs (Stopped g n) s x = faulted n (stateOf g s x cs)
+outcomeOf cs (Short g) s x = short
 
 -- ---- what the code leans on
 
@@ -77,6 +78,7 @@ goingIn (Returned c) = c .going
 goingIn (Call g i b) = g
 goingIn (Back g) = g
 goingIn (Stopped g n) = g
+goingIn (Short g) = g
 
 -- an arm changes neither the callers' count, nor what a fault goes back to; a root Return is the run's to count
 pub record Kept (g : Going) (n : Going) : Type 0 where
@@ -91,6 +93,25 @@ HasCaller (Returned c) = Unit
 HasCaller (Call g i b) = Unit
 HasCaller (Back g) = 0 < g .callers
 HasCaller (Stopped g n) = Unit
+HasCaller (Short g) = Unit
+
+-- only a comparison, and a step with no unit left, can be short
+abbrev pub Paid : Answer → Type 0
+Paid (Went g) = Unit
+Paid (Returned c) = Unit
+Paid (Call g i b) = Unit
+Paid (Back g) = Unit
+Paid (Stopped g n) = Unit
+Paid (Short g) = ⊥
+
+-- a step that is short has written nothing: s and x are the stores before it, s' and x' behind it
+abbrev pub Unwritten : Answer → (s x s' x' : List ℕ) → Type 0
+Unwritten (Went g) s x s' x' = Unit
+Unwritten (Returned c) s x s' x' = Unit
+Unwritten (Call g i b) s x s' x' = Unit
+Unwritten (Back g) s x s' x' = Unit
+Unwritten (Stopped g n) s x s' x' = Unit
+Unwritten (Short g) s x s' x' = (s' ≡ s) × (x' ≡ x)
 
 -- what an arm ensures that is lent the stack alone: whatever the cells are, they stay
 pub record ArmPost (rule : State → Outcome) (k : Fixed) (g : Going) (s : List ℕ) (r : Answer) (s' : List ℕ) : Type 0 where
@@ -99,6 +120,7 @@ pub record ArmPost (rule : State → Outcome) (k : Fixed) (g : Going) (s : List 
   pub kept : Kept g (goingIn r)
   pub used : goingIn r .used ≡ g .used
   pub caller : HasCaller r
+  pub paid : Paid r
 
 -- the taken cells are within the store, and in exact words
 pub record CellsWithin (g : Going) (x : List ℕ) : Type 0 where
@@ -120,6 +142,7 @@ pub record BlockPost (rule : State → Outcome) (k : Fixed) (g : Going) (s x : L
   pub cells : CellsWithin (goingIn r) x'
   pub before : (n : ℕ) → n ≤ g .used → heapOf n x' ≡ heapOf n x
   pub caller : HasCaller r
+  pub unwritten : Unwritten r s x s' x'
 
 -- the value of Equal, or of NotEqual, from the verdict
 unfoldable pub verdictBy : Bool → Bool → Bool

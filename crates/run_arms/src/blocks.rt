@@ -41,7 +41,7 @@ pub fn equal(k: Fixed, g: Going, not: bool, text: &[u8], cells: &[u64], stack: &
         return Answer::Stopped(g, Fault::TooFewValues);
     };
     match cells::equal(text, cells, g.used, x, y, g.units) {
-        Verdict::Out => Answer::Stopped(Going { units: 0, ..g }, Fault::UnitsSpent),
+        Verdict::Out => Answer::Short(g),
         Verdict::Done(same, units) => {
             let v = told(not, same);
             words::write_value(stack, count - 1, Value::Boolean(v));

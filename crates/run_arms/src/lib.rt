@@ -40,11 +40,13 @@ pub struct Completed {
     pub value: Value,
 }
 
-// What a step answers. Call: the function to enter and its base. Back: a Return to the caller, whose frame the run has.
+// What a step answers. Call: the function to enter and its base. Back: a Return to the caller, whose frame the run has. Short: the units that are
+// left do not pay for the step, which has written nothing.
 pub enum Answer {
     Went(Going),
     Returned(Completed),
     Call(Going, usize, usize),
     Back(Going),
     Stopped(Going, Fault),
+    Short(Going),
 }

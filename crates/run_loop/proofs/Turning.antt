@@ -14,10 +14,10 @@ use Rattle.model.specs.declared.Frame.{Frame}
 use Rattle.model.specs.Values.{payloadAt}
 use Rattle.model.specs.Heap.{heapOf}
 use Rattle.model.specs.Steps.{World, State, withFrames}
-use Rattle.model.specs.Runs.{Ended, ended, stopped, traceable}
+use Rattle.model.specs.Runs.{Ended, ended, stopped, paused, endFrom, cutAt, traceable}
 use Rattle.model.specs.Stores.{part, codeWord}
 use Rattle.laws_runs.specs.Sane.{Sane}
-use Rattle.laws_runs.specs.Paths.{endFrom}
+use Rattle.laws_runs.proofs.Keeps.{cut-faults}
 use Rattle.frames.specs.Links.{noFrame, callersOf}
 use Rattle.frames.proofs.Orders.{is-true, is-false}
 use Rattle.frames.proofs.Callers.{length-callers, callers-more, callers-first}
@@ -25,11 +25,11 @@ use Rattle.run_arms.specs.declared.Fixed.{Fixed}
 use Rattle.run_arms.specs.declared.Going.{Going}
 use Rattle.run_arms.specs.Links.{stateOf, frameIn, entered}
 use Rattle.run_steps.specs.declared.Event.{Event}
-use Rattle.run_steps.specs.declared.Event.the-variants.{Over, Call, Back, Stopped}
+use Rattle.run_steps.specs.declared.Event.the-variants.{Over, Call, Back, Stopped, Paused}
 use Rattle.run_steps.specs.Links.{Ready, answerIn, progressIn, backIn, afterEvent, SaneBack, goingAt, ExecPost}
 use Rattle.run_steps.proofs.Following.{lent-on}
 use Rattle.run_loop.specs.declared.Course.{Course}
-use Rattle.run_loop.specs.Links.{codeIn, Under, Ends, TurnsPost, goesOn, isOver, isStopped, inFrame}
+use Rattle.run_loop.specs.Links.{codeIn, Under, Ends, TurnsPost, goesOn, isOver, isStopped, cutIn, isGivenUp, inFrame}
 use Rattle.run_loop.specs.Links as ends
 
 -- ---- what the steps inside a function are lent
@@ -85,6 +85,9 @@ over-less c is on = let a = ap weight is in let b = weight-on c on in omega arit
 
 pub stopped-less : (c : Course) {r : Course} {m : Going} (f : Fault) → r ≡ isStopped m f → T (c .on) → weight r < weight c
 stopped-less c f is on = let a = ap weight is in let b = weight-on c on in omega arith
+
+pub paused-less : (c : Course) {r : Course} (m : Going) → r ≡ isGivenUp m → T (c .on) → weight r < weight c
+paused-less c m is on = let a = ap weight is in let b = weight-on c on in omega arith
 
 module _ (k : Fixed) (n : ℕ) (constants functions text main other : List ℕ) where
   -- the run goes on in h, s', x', frames' as it did in g, s, x, frames
@@ -199,6 +202,23 @@ module _ (k : Fixed) (n : ℕ) (constants functions text main other : List ℕ) 
         before = p .before;
       }
 
+      ends-paused : {m : Going} → ExecPost w (callersOf (g .callers) frames) k g s x (Paused m) s' x' → TurnsPost w k g s x frames (isGivenUp m) s' x' frames
+      unfolding afterEvent
+      ends-paused {m} p = record {
+        ends = ends.pause m refl (p .means ∙ ap (λ (i : ℕ). paused (progressIn m x') (stateOf m s' x' (callersOf i frames))) (sym (p .callers)))
+            (subst (λ (i : ℕ). traceable (w .functions) (frameIn (cutIn m) ∷ callersOf i frames) ≡ true) (sym (p .callers))
+            (unfold cutAt in cut-faults w (stateOf m s' x' (callersOf (g .callers) frames)) (p .sane .0) (p .sane .1) .traced));
+        fits = record {
+          stack = record { count = p .fits .stack .count; room = p .fits .stack .room; exact = p .fits .stack .exact; callers = p .fits .stack .callers };
+          cells = record { count = p .fits .cells .count; exact = p .fits .cells .exact };
+          mark = p .fits .mark;
+          returns = let z = p .fits .returns in omega arith;
+        };
+        units = omega arith;
+        mark = p .mark;
+        before = p .before;
+      }
+
   module _ {w : World} {g : Going} {s x : List ℕ} {frames : List Frame} {h : Going} {s' x' : List ℕ} {frames' : List Frame} (z : Gone w g s x frames h s' x' frames') where
     gone-on : {i : Going} {t y : List ℕ} {rows : List Frame} → Gone w h s' x' frames' i t y rows → Gone w g s x frames i t y rows
     gone-on q = record {
@@ -246,6 +266,10 @@ module _ (k : Fixed) (n : ℕ) (constants functions text main other : List ℕ) 
         stopped-on {m} {f} said is = subst (λ (r : Course). Ways (r .on) g₀ s₀ x₀ frames₀ r s' x' frames) (sym is)
             (λ w at. let z = ways w at in ended-on z (ends-stopped (z .under) e (said w _ (ready (z .under)))))
 
+        pub paused-on : {m : Going} → Said (c .going) s x (Paused m) s' x' → r ≡ isGivenUp m → Ways (r .on) g₀ s₀ x₀ frames₀ r s' x' frames
+        paused-on {m} said is = subst (λ (r : Course). Ways (r .on) g₀ s₀ x₀ frames₀ r s' x' frames) (sym is)
+            (λ w at. let z = ways w at in ended-on z (ends-paused (z .under) e (said w _ (ready (z .under)))))
+
         pub call-on : {m : Going} {i b : ℕ} {f : Frame} {rows : List Frame} → Said (c .going) s x (Call m i b) s' x' → f ≡ frameIn m
             → rows ≡ set frames (m .callers) f → r ≡ goesOn (inFrame m (m .callers + 1) (entered i b))
             → Ways (r .on) g₀ s₀ x₀ frames₀ r s' x' rows
@@ -270,6 +294,10 @@ module _ (k : Fixed) (n : ℕ) (constants functions text main other : List ℕ) 
             let p = said w _ (ready (ways w at .under)) in
             let l = some-caller w (callersOf (c .going .callers) frames) (stateOf m s' x' (callersOf (c .going .callers) frames)) (p .sane .1) in
             let a = length-callers (c .going .callers) frames in let b = p .callers in omega arith
+
+        -- a paused machine stands at a position that fits a word
+        pub fetchable : {m : Going} → Said (c .going) s x (Paused m) s' x' → m .position < 0x1_0000_0000
+        fetchable said = let z = said w _ (ready (ways w at .under)) .sane .0 .frame .position in omega arith
 
         pub call-less : {m : Going} {i b : ℕ} {r : Course} → Said (c .going) s x (Call m i b) s' x' → r ≡ goesOn (inFrame m (m .callers + 1) (entered i b)) → T (c .on) → weight r < weight c
         call-less said is on = let l = said w _ (ready (ways w at .under)) .sane .0 in let a = ap weight is in let b = weight-on c on in omega arith

@@ -12,12 +12,12 @@ use Rattle.model.specs.declared.Fault.{Fault}
 use Rattle.model.specs.declared.Frame.{Frame}
 use Rattle.model.specs.Values.{kind, payload}
 use Rattle.model.specs.Heap.{Cell, heapOf}
-use Rattle.model.specs.Steps.{World, State, Outcome, went, returned, faulted, withLast, codeOf, stepOf}
-use Rattle.model.specs.Runs.{Progress, stopped, over, next}
+use Rattle.model.specs.Steps.{World, State, Outcome, went, returned, faulted, short, withLast, codeOf, stepOf}
+use Rattle.model.specs.Runs.{Progress, stopped, paused, over, endFrom, next}
 use Rattle.cells.proofs.Stands.{length-heap}
 use Rattle.layout.proofs.Parts.{places-same}
 use Rattle.laws_runs.specs.Sane as sane
-use Rattle.laws_runs.specs.Paths.{Spends, Grows, Adds, endFrom}
+use Rattle.laws_runs.specs.Paths.{Spends, Grows, Adds}
 use Rattle.laws_runs.proofs.Does.{Does, Stepped, step-one}
 use Rattle.laws_runs.proofs.Does as does
 use Rattle.laws_runs.proofs.Spends.{step-spends}
@@ -33,7 +33,7 @@ use Rattle.value.specs.Links.{PayloadOf, lastIn}
 use Rattle.value.proofs.Lasts.{last-words}
 use Rattle.run_arms.specs.Links.{stateOf, outcomeOf, goingIn, Kept, BlockPost}
 use Rattle.run_steps.specs.declared.Event.{Event}
-use Rattle.run_steps.specs.declared.Event.the-variants.{Over, Call, Back, Stopped}
+use Rattle.run_steps.specs.declared.Event.the-variants.{Over, Call, Back, Stopped, Paused}
 use Rattle.run_steps.specs.Links.{Lent, Ready, answerIn, progressIn, CountedPost, backIn, afterEvent, goingAt, SaneAt, ExecPost}
 
 -- ---- a step that keeps the callers keeps the function
@@ -42,6 +42,7 @@ abbrev SameCalled : List Frame → ℕ → Outcome → Type 0
 SameCalled cs i (went t) = length (t .callers) ≡ length cs → t .frame .function ≡ i
 SameCalled cs i (returned x t) = Unit
 SameCalled cs i (faulted n t) = Unit
+SameCalled cs i short = Unit
 
 does-called : {w : World} {a : ℕ} {s t : State} {x y : Outcome} → Does w a s t x y → SameCalled (s .callers) (s .frame .function) x
 does-called (does.fault n) = tt
@@ -133,6 +134,7 @@ module _ {w : World} {cs : List Frame} {k : Fixed} {code constants functions tex
     sane-on h t y (Call m i b) q = (omega (arith, q .0), q .1)
     sane-on h t y (Back m) q = (omega (arith, q .0), q .1)
     sane-on h t y (Stopped m n) q = q
+    sane-on h t y (Paused m) q = q
 
     pub ends-on : {e : Event} {t y : List ℕ} → ExecPost w cs k n s' x' e t y → ExecPost w cs k g s x e t y
     ends-on {e} q = record {
@@ -179,8 +181,8 @@ module _ {w : World} {cs : List Frame} {k : Fixed} {code constants functions tex
       called : SameCalled cs (g .function) (outcomeOf cs r s' x')
       called = subst (SameCalled cs (g .function)) outcome (stepped-called (step-one w (stateOf g s x cs)))
 
-      follows : endFrom w (progressIn g x) (stateOf g s x cs) ≡ next (endFrom w) (progressIn g x) (outcomeOf cs r s' x')
-      follows = end-step w _ (stateOf g s x cs) inside ∙ ap (next (endFrom w) (progressIn g x)) outcome
+      follows : endFrom w (progressIn g x) (stateOf g s x cs) ≡ next (endFrom w) (progressIn g x) (stateOf g s x cs) (outcomeOf cs r s' x')
+      follows = end-step w _ (stateOf g s x cs) inside ∙ ap (next (endFrom w) (progressIn g x) (stateOf g s x cs)) outcome
 
       before-mark : (i : ℕ) → i ≤ g .mark → heapOf i x' ≡ heapOf i x
       before-mark i l = p .before i (let z = at .fits .mark in omega arith)
@@ -248,6 +250,19 @@ module _ {w : World} {cs : List Frame} {k : Fixed} {code constants functions tex
           let l : n .units ≤ g .units = spends h p in
           leaves h p (Stopped n m) refl (a .1) (a .0) l
           (follows h p ∙ ap (stopped m (stateOf n s' x' cs)) (same-progress h p (p .kept) (a .1))) (kept h p .traced)
+
+    -- a step that is short has written nothing: the machine is paused before it
+    pub pauses : g .position < length code → {n : Going} {s' x' : List ℕ} → BlockPost (stepOf w) k g s x (r.Short n) s' x' → ExecPost w cs k g s x (Paused g) s' x'
+    unfolding next afterEvent
+    pauses h p = rw (p .unwritten .0, p .unwritten .1) (record {
+      means = follows h p;
+      fits = at .fits;
+      sane = (at .sane, inside h p);
+      callers = refl;
+      units = omega arith;
+      mark = omega arith;
+      before = λ i l. refl;
+    })
 
     pub returned-on : g .position < length code → {d : Completed} {n : Going} {s' x' : List ℕ} → BlockPost (stepOf w) k g s x (r.Returned d) s' x' → CountedPost d n → length x' ≡ length x
         → Came w cs k code constants functions text g s x n s' x'

@@ -31,7 +31,7 @@ use Rattle.laws_runs.proofs.Keeps.{code-fits}
 use Rattle.run_arms.specs.declared.Fixed.{Fixed}
 use Rattle.run_arms.specs.declared.Going.{Going}
 use Rattle.run_arms.specs.declared.Answer.{Answer}
-use Rattle.run_arms.specs.declared.Answer.the-variants.{Stopped}
+use Rattle.run_arms.specs.declared.Answer.the-variants.{Stopped, Short}
 use Rattle.run_arms.specs.Links.{stateOf, Within, CellsWithin, Blocks, BlockPost}
 use Rattle.run_arms.proofs.Posts.{refused}
 use Rattle.run_arms.proofs.Cellwise.{arm-block}
@@ -87,6 +87,7 @@ module _ {g : Going} (i u : ℕ) where
     cells = p .cells;
     before = p .before;
     caller = p .caller;
+    unwritten = p .unwritten;
   }
 
 module _ {w : World} {cs : List Frame} {k : Fixed} {g : Going} {code constants functions text s x : List ℕ} (at : Ready w cs k g code constants functions text s x) where
@@ -114,8 +115,16 @@ module _ {w : World} {cs : List Frame} {k : Fixed} {g : Going} {code constants f
   pub base-fits : g .base ≤ k .slots
   base-fits = rw (at .lent .suits .stackRoom) at (at .sane .frame .base)
 
-  pub unpaid : g .units ≡ 0 → BlockPost (stepOf w) k g s x (Stopped g f.UnitsSpent) s x
-  unpaid e = arm-block (at .fits .cells) (refused (at .fits .stack) (λ x cs h. no-units w _ e))
+  pub unpaid : g .units ≡ 0 → BlockPost (stepOf w) k g s x (Short g) s x
+  unpaid e = record {
+    means = λ cs h. sym (no-units w _ e);
+    within = at .fits .stack;
+    kept = record { callers = refl; mark = refl; returns = refl };
+    cells = at .fits .cells;
+    before = λ n i. refl;
+    caller = tt;
+    unwritten = (refl, refl);
+  }
 
   module _ (some : g .units ≡ 0 → ⊥) {byte : ℕ} (read : byte ≡ getD code (g .position) 0) where
     -- what was fetched, and how many operands follow it

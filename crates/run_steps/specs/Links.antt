@@ -1,6 +1,6 @@
 -- What the code leans on while a run is under way, and what the steps inside one function ensure.
 use mathlib.Core.Path.{_≡_}
-use mathlib.Core.Bool.{true}
+use mathlib.Core.Bool.{true, false}
 use mathlib.Core.List.{List, [], _∷_}
 use Prim.Native.Nat.{ℕ, suc, _+_, _*_, _≤_, _<_, _^_}
 use lib.Dec.{eqb}
@@ -13,18 +13,17 @@ use Rattle.model.specs.Values.{places, kind, payload, valuesFrom}
 use Rattle.model.specs.Heap.{heapOf}
 use Rattle.model.specs.Programs.{functionAt}
 use Rattle.model.specs.Steps.{World, State, withFrames}
-use Rattle.model.specs.Runs.{Progress, Ended, ended, stopped, traceable}
+use Rattle.model.specs.Runs.{Progress, Ended, ended, stopped, paused, over, endFrom, traceable}
 use Rattle.model.specs.Stores.{Stores}
 use Rattle.layout.specs.Links.{namesLent}
 use Rattle.laws_runs.specs.Sane.{Sane, SaneWorld}
-use Rattle.laws_runs.specs.Paths.{endFrom}
 use Rattle.run_arms.specs.declared.Fixed.{Fixed}
 use Rattle.run_arms.specs.declared.Going.{Going}
 use Rattle.run_arms.specs.declared.Completed.{Completed}
 use Rattle.value.specs.Links.{Fine, lastIn}
 use Rattle.run_arms.specs.Links.{Within, Suits, Named, CellsWithin, stateOf, frameIn, entered}
 use Rattle.run_steps.specs.declared.Event.{Event}
-use Rattle.run_steps.specs.declared.Event.the-variants.{Over, Call, Back, Stopped}
+use Rattle.run_steps.specs.declared.Event.the-variants.{Over, Call, Back, Stopped, Paused}
 
 -- the world is what the lent slices say
 pub record Lent (w : World) (k : Fixed) (constants functions text cells : List ℕ) : Type 0 where
@@ -93,14 +92,16 @@ afterEvent w cs (Over n) s x = ended (progressIn n x) (stateOf n s x cs)
 afterEvent w cs (Call n i b) s x = endFrom w (progressIn n x) (withFrames (entered i b) (frameIn n ∷ cs) (stateOf n s x cs))
 afterEvent w cs (Back n) s x = backIn w cs (progressIn n x) (stateOf n s x cs)
 afterEvent w cs (Stopped n f) s x = stopped f (stateOf n s x cs) (progressIn n x)
+afterEvent w cs (Paused n) s x = paused (progressIn n x) (stateOf n s x cs)
 
 abbrev pub goingAt : Event → Going
 goingAt (Over n) = n
 goingAt (Call n i b) = n
 goingAt (Back n) = n
 goingAt (Stopped n f) = n
+goingAt (Paused n) = n
 
--- a sane machine goes on; a fault's backtrace stands; a call or a return has spent a unit
+-- a sane machine goes on; a fault's backtrace stands; a call or a return has spent a unit; a paused machine stands before an instruction
 abbrev pub SaneBack : World → List Frame → State → Type 0
 SaneBack w [] t = ⊥
 SaneBack w (c ∷ cs) t = Sane w (withFrames c cs t)
@@ -110,6 +111,7 @@ SaneAt w cs u (Over n) s x = Sane w (stateOf n s x cs)
 SaneAt w cs u (Call n i b) s x = (n .units < u) × Sane w (withFrames (entered i b) (frameIn n ∷ cs) (stateOf n s x cs))
 SaneAt w cs u (Back n) s x = (n .units < u) × SaneBack w cs (stateOf n s x cs)
 SaneAt w cs u (Stopped n f) s x = traceable (w .functions) (frameIn n ∷ cs) ≡ true
+SaneAt w cs u (Paused n) s x = Sane w (stateOf n s x cs) × (over w (stateOf n s x cs) ≡ false)
 
 pub record ExecPost (w : World) (cs : List Frame) (k : Fixed) (g : Going) (s x : List ℕ) (r : Event) (s' x' : List ℕ) : Type 0 where
   pub means : endFrom w (progressIn g x) (stateOf g s x cs) ≡ afterEvent w cs r s' x'

@@ -23,12 +23,14 @@ ghost use Rattle.model.specs.Steps.{World, execOf, stepOf};
 ghost use Rattle.run_arms.specs.Links.{Blocks, BlockPost};
 ghost use Rattle.run_steps.specs.Links.{Lent, Ready, CountedPost, ExecPost};
 
-// What the steps inside one function come to: the end of its code, a call, a return to the caller, or a fault.
+// What the steps inside one function come to: the end of its code, a call, a return to the caller, or a fault; or the machine before an instruction
+// that its units do not pay for.
 pub enum Event {
     Over(Going),
     Call(Going, usize, usize),
     Back(Going),
     Stopped(Going, Fault),
+    Paused(Going),
 }
 
 // The byte at i; 0 past the code.
@@ -140,7 +142,7 @@ fn step(
 {
     let units = g.units;
     if units == 0 {
-        return Answer::Stopped(g, Fault::UnitsSpent);
+        return Answer::Short(g);
     }
     let position = g.position;
     let opcode = code[position];
@@ -230,6 +232,9 @@ pub fn exec(
             }
             Answer::Stopped(next, fault) => {
                 return Event::Stopped(next, fault);
+            }
+            Answer::Short(unpaid) => {
+                return Event::Paused(g);
             }
         }
     }

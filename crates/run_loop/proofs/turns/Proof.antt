@@ -23,7 +23,7 @@ use Rattle.run_arms.proofs.Fixed.Laws as TF′
 use Rattle.run_arms.proofs.Going as TG
 use Rattle.run_arms.proofs.Going.Laws as TG′
 use Rattle.run_steps.specs.declared.Event.{Event}
-use Rattle.run_steps.specs.declared.Event.the-variants.{Over, Call, Back, Stopped}
+use Rattle.run_steps.specs.declared.Event.the-variants.{Over, Call, Back, Stopped, Paused}
 use Rattle.run_steps.proofs.Event as TE
 use Rattle.run_steps.proofs.Event.Laws as TE′
 use Rattle.run_steps.specs.Links.{Ready}
@@ -34,8 +34,8 @@ use Rattle.frames.proofs.push_frame.Symbol as write-def
 use Rattle.frames.proofs.push_frame.Symbol.{name as #write}
 use Rattle.frames.proofs.push_frame.Met as write-thm
 use Rattle.run_loop.specs.declared.Course.{Course}
-use Rattle.run_loop.specs.Links.{codeIn, goesOn, isOver, isStopped, inFrame, Under}
-use Rattle.run_loop.proofs.Turning.{Ways, Said, weight, over-less, stopped-less, gone-none, goes, ends-so, asks, roomy, over-on, stopped-on, call-on, back-on, within, some-back, call-less, back-less}
+use Rattle.run_loop.specs.Links.{codeIn, goesOn, isOver, isStopped, isGivenUp, inFrame, Under}
+use Rattle.run_loop.proofs.Turning.{Ways, Said, weight, over-less, stopped-less, paused-less, gone-none, goes, ends-so, asks, roomy, over-on, stopped-on, paused-on, call-on, back-on, within, some-back, fetchable, call-less, back-less}
 use Rattle.run_loop.proofs.Course as TC
 use Rattle.run_loop.proofs.Course.Laws as TC′
 use Rattle.run_loop.proofs.begun as begun
@@ -50,6 +50,10 @@ use Rattle.run_loop.proofs.over as over
 use Rattle.run_loop.proofs.over.Symbol as over-def
 use Rattle.run_loop.proofs.over.Symbol.{name as #over}
 use Rattle.run_loop.proofs.over.Met as over-thm
+use Rattle.run_loop.proofs.given_up as pause
+use Rattle.run_loop.proofs.given_up.Symbol as pause-def
+use Rattle.run_loop.proofs.given_up.Symbol.{name as #pause}
+use Rattle.run_loop.proofs.given_up.Met as pause-thm
 use Rattle.run_loop.proofs.frame_of as frame-of
 use Rattle.run_loop.proofs.frame_of.Symbol as frame-of-def
 use Rattle.run_loop.proofs.frame_of.Symbol.{name as #frame-of}
@@ -128,6 +132,9 @@ stopped-is g f is =
     let z = EL.owed TE.the-type TE′.the-laws (Stopped g f) _ is in
     (z .0, subst (Is TN.the-row f) (TN′.lowers .val-is f _ (z .1 .0)) (z .1 .0))
 
+paused-is : (g : Going) → IsEvent (Paused g) → IsGoing g
+paused-is g is = EL.owed TE.the-type TE′.the-laws (Paused g) _ is .0
+
 abbrev kinds : List (Kind 8)
 kinds =
     own TF.the-row kval (TF′.lowers .val-is) (λ x f. refl) ∷ own TG.the-row gval (TG′.lowers .val-is) (λ x f. refl) ∷ number ∷
@@ -157,6 +164,9 @@ module _ {M : Type 1} (𝓤 : URA M) (H : Heap 𝓤) (A : Atoms 𝓤) (W : Given
 
   abbrev Overs : Contract 𝓤
   Overs = tripleOf 𝓤 H A over.signature (over.spec 𝓤 H A mem run)
+
+  abbrev Pause : Contract 𝓤
+  Pause = tripleOf 𝓤 H A pause.signature (pause.spec 𝓤 H A mem run)
 
   abbrev FrameOf : Contract 𝓤
   FrameOf = tripleOf 𝓤 H A frame-of.signature (frame-of.spec 𝓤 H A mem run)
@@ -189,6 +199,11 @@ module _ {M : Type 1} (𝓤 : URA M) (H : Heap 𝓤) (A : Atoms 𝓤) (W : Given
     call-over =
         call-with 𝓤 H A W it Overs TC.the-row cval (λ r zs. r ≡ isOver g) (TC′.lowers .val-is) (λ ns. passing (lent it ns))
         (λ ns. refl) (λ ns. unasked W (lent it ns)) (λ ns w. id⊢ 𝓤 _) (LL.makes TG.the-type TG′.the-plain 𝓤 H A g _ is, tt) tt
+
+    call-pause : g .position < 0x1_0000_0000 → Rule 𝓤 H A W it Pause TC.the-row cval (λ r zs. r ≡ isGivenUp g)
+    call-pause ask =
+        call-with 𝓤 H A W it Pause TC.the-row cval (λ r zs. r ≡ isGivenUp g) (TC′.lowers .val-is) (λ ns. passing (lent it ns))
+        (λ ns. refl) (λ ns. asked W (lent it ns) ask) (λ ns w. id⊢ 𝓤 _) (LL.makes TG.the-type TG′.the-plain 𝓤 H A g _ is, tt) tt
 
     call-frame-of : Rule 𝓤 H A W it FrameOf R fval (λ r zs. r ≡ frameIn g)
     call-frame-of = call-with 𝓤 H A W it FrameOf R fval (λ r zs. r ≡ frameIn g) tells (λ ns. passing (lent it ns)) (λ ns. refl)
@@ -236,6 +251,7 @@ module _ {M : Type 1} (𝓤 : URA M) (H : Heap 𝓤) (A : Atoms 𝓤) (W : Given
 
   module _ (𝓣 : Tables 𝓤 H) (k-read : Triple 𝓤 (𝓣 .C #read) (Read 𝓤 H A W mem run)) (k-write : Triple 𝓤 (𝓣 .C #write) (Write 𝓤 H A W mem run))
       (k-begun : Triple 𝓤 (𝓣 .C #begun) Begun) (k-advance : Triple 𝓤 (𝓣 .C #advance) Advance) (k-over : Triple 𝓤 (𝓣 .C #over) Overs)
+      (k-pause : Triple 𝓤 (𝓣 .C #pause) Pause)
       (k-frame-of : Triple 𝓤 (𝓣 .C #frame-of) FrameOf)
       (k-enter : Triple 𝓤 (𝓣 .C #enter) Enter) (k-drop-frame : Triple 𝓤 (𝓣 .C #drop-frame) DropFrame) (k-resume : Triple 𝓤 (𝓣 .C #resume) Resume)
       (k-stop : Triple 𝓤 (𝓣 .C #stop) Stop) (κs : Lfts 8) (qs : Shares 8) (a : Passed kinds TC.the-row κs) (is : Known kinds TC.the-row κs a) where
@@ -499,6 +515,18 @@ module _ {M : Type 1} (𝓤 : URA M) (H : Heap 𝓤) (A : Atoms 𝓤) (W : Given
                   (isr, lens .0, lens .1 .0, e7, stopped-on k n constants functions text main other c (way on) (lens .1 .0 ∙ sym e6) said er),
                 )
                 (stopped-less c f er on))
+            | Paused g ↦ λ ts said lens ise. lands-in ! (event-typed (Paused g) ise) $ matches ! (tag-of ! refl refl refl refl) refl $
+                sets ! (of-opd ! (payload-of ! refl refl refl refl refl refl)) (going-typed g (paused-is g ise)) $
+                nothing ! $ move ! (1 ∷ []) $ call-pause g (paused-is g ise) (fetchable k n constants functions text main other c (way on) under said) .calls ! fm k-pause refl (λ r us er lens′ isr. lands-in ! (course-typed r isr) $ move ! (1 ∷ []) $ drop ! $
+                sets-last ! (of-opd ! (of ! refl)) (course-typed r isr) $ trims ! 13 $
+                again ! loop (c, st, cs, fs, (isc, e5, e6, e7, came)) (
+                  r,
+                  ts .1 .1 .1 .1 .1 .1 .1 .1 .0,
+                  ts .1 .1 .1 .1 .1 .1 .1 .1 .1 .0,
+                  fs,
+                  (isr, lens .0, lens .1 .0, e7, paused-on k n constants functions text main other c (way on) (lens .1 .0 ∙ sym e6) said er),
+                )
+                (paused-less c g er on))
           ]))
           (λ off. sets ! (of-opd ! (of ! refl)) (course-typed c isc) $ leaves ! refl $ by ! (exits c st cs fs isc e5 e6 e7 (ends-so k n constants functions text main other c came off)))
         where
@@ -578,6 +606,8 @@ turns-spec 𝓤 H 𝓜 𝓖 𝓡 =
     (advance-thm.met 𝓤 H 𝓜 𝓖 𝓡))
     (cited 𝓤 H (Overs 𝓤 H (𝓖 .A) W (𝓜 .mem) (𝓡 .run)) 𝓜 𝓡 code.env #over over-def.routine code.calls-run-loop·over
     (over-thm.met 𝓤 H 𝓜 𝓖 𝓡))
+    (cited 𝓤 H (Pause 𝓤 H (𝓖 .A) W (𝓜 .mem) (𝓡 .run)) 𝓜 𝓡 code.env #pause pause-def.routine code.calls-run-loop·given-up
+    (pause-thm.met 𝓤 H 𝓜 𝓖 𝓡))
     (cited 𝓤 H (FrameOf 𝓤 H (𝓖 .A) W (𝓜 .mem) (𝓡 .run)) 𝓜 𝓡 code.env #frame-of frame-of-def.routine code.calls-run-loop·frame-of
     (frame-of-thm.met 𝓤 H 𝓜 𝓖 𝓡))
     (cited 𝓤 H (Enter 𝓤 H (𝓖 .A) W (𝓜 .mem) (𝓡 .run)) 𝓜 𝓡 code.env #enter enter-def.routine code.calls-run-loop·entered

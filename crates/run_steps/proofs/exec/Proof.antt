@@ -6,7 +6,7 @@ use lib.ListN.{length}
 use Rattle.model.specs.declared.Frame.{Frame}
 use Rattle.model.specs.Steps.{World}
 use Rattle.run_steps.specs.Links.{Ready}
-use Rattle.run_steps.proofs.Following.{Came, came-none, came-on, ends-on, ends-over, told, went-on, went-less, returned-on, returned-less, returned-fits, calls-out, stops, back-out}
+use Rattle.run_steps.proofs.Following.{Came, came-none, came-on, ends-on, ends-over, told, went-on, went-less, returned-on, returned-less, returned-fits, calls-out, stops, pauses, back-out}
 use Rattle.run_steps.proofs.exec.Statement.{statement}
 use Rattle.run_steps.proofs.exec.Tie as tie
 
@@ -145,14 +145,31 @@ returns-3 c =
     λ w cs at. let z = at-loop .loop .inv .1 w cs at in
     ends-on z (stops (z .ready) (at-if1 .if1 .taken) (told (c .before .next4 .given .1) (at-step .step .ensures w cs (z .ready))))
 
+enum-known-unpaid : tie.Need-enum-known-unpaid Inv-loop μ-loop
+enum-known-unpaid c = search
+
 same-length-7 : tie.Need-same-length-7 Inv-loop μ-loop
-same-length-7 c = search
+same-length-7 c = search needs
 
 same-length-8 : tie.Need-same-length-8 Inv-loop μ-loop
-same-length-8 c = search
+same-length-8 c = search needs
 
 returns-4 : tie.Need-returns-4 Inv-loop μ-loop
-returns-4 c = λ w cs at. let z = c .before .before .loop .inv .1 w cs at in ends-on z (ends-over (z .ready) (c .if1 .left))
+returns-4 c =
+    let at-step = c .before .before .before .before .before .before .before in
+    let at-if1 = at-step .before .before .before in
+    let at-loop = at-if1 .before .before in
+    λ w cs at. let z = at-loop .loop .inv .1 w cs at in
+    ends-on z (pauses (z .ready) (at-if1 .if1 .taken) (told (c .before .unpaid .given .1) (at-step .step .ensures w cs (z .ready))))
+
+same-length-9 : tie.Need-same-length-9 Inv-loop μ-loop
+same-length-9 c = search
+
+same-length-10 : tie.Need-same-length-10 Inv-loop μ-loop
+same-length-10 c = search
+
+returns-5 : tie.Need-returns-5 Inv-loop μ-loop
+returns-5 c = λ w cs at. let z = c .before .before .loop .inv .1 w cs at in ends-on z (ends-over (z .ready) (c .if1 .left))
 
 pub exec-spec : {M : Type 1} → statement M
 exec-spec =
@@ -181,6 +198,10 @@ exec-spec =
     same-length-5
     same-length-6
     returns-3
+    enum-known-unpaid
     same-length-7
     same-length-8
-    returns-4)
+    returns-4
+    same-length-9
+    same-length-10
+    returns-5)
