@@ -3,7 +3,8 @@
  * stands at chaffwheel_X. Every cw_ function leaves what it tells in m->answer.
  *
  * The host starts from a struct of zeros, sets each pointer to memory of its own that it has written, and each _len to the count of its elements
- * (words, bytes or frames, not places): docs/EMBEDDING.md, "What the host lends". Then cw_new or cw_load makes the machine. */
+ * (words, bytes or frames, not places): docs/EMBEDDING.md, "What the host lends". Then cw_new, cw_load or cw_check makes the machine. heights is lent to
+ * cw_check alone: a host that does not call it leaves it as it is. */
 #ifndef CHAFFWHEEL_STORES_H
 #define CHAFFWHEEL_STORES_H
 
@@ -29,6 +30,8 @@ struct chaffwheel_stores {
     CHAFFWHEEL_STORE(chaffwheel_frame, frames);
     CHAFFWHEEL_STORE(uint64_t, copy);
     CHAFFWHEEL_STORE(uint32_t, trace);
+    /* the check: each function's greatest height */
+    CHAFFWHEEL_STORE(uint32_t, heights);
 };
 
 #define CW_LEND(name) m->name, m->name##_len
@@ -47,6 +50,12 @@ static inline uint32_t cw_load(struct chaffwheel_stores *m, CHAFFWHEEL_SLICE(con
 {
     return chaffwheel_load(image, image_len, CW_VM, CW_LEND(constants), CW_LEND(structs), CW_LEND(functions), CW_LEND(text), CW_CODE,
         CW_LEND(frames), CW_ANSWER);
+}
+
+static inline uint32_t cw_check(struct chaffwheel_stores *m, CHAFFWHEEL_SLICE(const uint8_t, image))
+{
+    return chaffwheel_check(image, image_len, CW_VM, CW_LEND(constants), CW_LEND(structs), CW_LEND(functions), CW_LEND(text), CW_CODE,
+        CW_LEND(frames), CW_LEND(heights), CW_ANSWER);
 }
 
 static inline uint32_t cw_run(struct chaffwheel_stores *m, uint64_t units)

@@ -22,7 +22,7 @@ static inline void machine_init(struct chaffwheel_stores *m, size_t scale)
     MAKE(constants, 2 * 256 * scale), MAKE(structs, 2 * 256 * scale), MAKE(functions, 2 * 256 * scale), MAKE(text, 16384 * scale);
     MAKE(main_code, 8192 * scale), MAKE(main_places, 8192 * scale), MAKE(other_code, 8192 * scale), MAKE(other_places, 8192 * scale);
     MAKE(stack, 2 * 1024 * scale), MAKE(cells, 2 * 2048 * scale), MAKE(frames, 256 * scale);
-    MAKE(copy, m->stack_len), MAKE(trace, 2 * m->frames_len);
+    MAKE(copy, m->stack_len), MAKE(trace, 2 * m->frames_len), MAKE(heights, 256 * scale);
 }
 
 #undef MAKE
@@ -30,7 +30,7 @@ static inline void machine_init(struct chaffwheel_stores *m, size_t scale)
 static inline void machine_free(struct chaffwheel_stores *m)
 {
     free(m->constants), free(m->structs), free(m->functions), free(m->text), free(m->main_code), free(m->main_places), free(m->other_code);
-    free(m->other_places), free(m->stack), free(m->cells), free(m->frames), free(m->copy), free(m->trace);
+    free(m->other_places), free(m->stack), free(m->cells), free(m->frames), free(m->copy), free(m->trace), free(m->heights);
 }
 
 #endif
