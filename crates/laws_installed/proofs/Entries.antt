@@ -97,35 +97,35 @@ module _ (image heights : List ℕ) (s : Stores) (bytes : Bytes image) where
     pub checked-stays-within : StaysWithin (fresh k) s' l u hs
     checked-stays-within = let left = leaves-so h k refl in installed-stays-within (left .passed) (left .installed l frame) hs (left .tells) u
 
-  -- ---- what loading leaves of an image whose program keeps the rules
+-- ---- what loading leaves of an image whose program keeps the rules
 
-  module _ (p : Program) (j : judge image ≡ fine p) (ok : Passed p) where
-    -- what loading leaves, by whether it is within the limits and there is room
-    abbrev loaded : Bool → Bool → LoadRes
-    loaded within room =
-        if within
-        then (if room then record { answer = l.Done (countsFor p); stores = laid p s } else record { answer = l.Refused 21; stores = s })
-        else record { answer = l.Refused 22; stores = s }
+module _ (image : List ℕ) (s : Stores) (bytes : Bytes image) (p : Program) (j : judge image ≡ fine p) (ok : Passed p) where
+  -- what loading leaves, by whether it is within the limits and there is room
+  abbrev loaded : Bool → Bool → LoadRes
+  loaded within room =
+      if within
+      then (if room then record { answer = l.Done (countsFor p); stores = laid p s } else record { answer = l.Refused 21; stores = s })
+      else record { answer = l.Refused 22; stores = s }
 
-    loaded-is : (within room : Bool) → withinLimits p ≡ within → roomFor p s ≡ room → (fs : List Frame) {m : Vm} {s' : Stores} {fs' : List Frame}
-        → startWith (loaded within room .answer) (loaded within room .stores) s fs ≡ record { answer = st.Done m; stores = s'; frames = fs' }
-        → (l : Lent) → l .frames ≡ fs' → Installed p m s' l
-    unfolding startWith innermost
-    loaded-is false room w r fs e l f = absurd (not-done (ap (λ (x : StartRes). x .answer) e))
-    loaded-is true false w r fs e l f = absurd (not-done (ap (λ (x : StartRes). x .answer) e))
-    loaded-is true true w r [] e l f = absurd (not-done (ap (λ (x : StartRes). x .answer) e))
-    loaded-is true true w r (x ∷ fs) {m} {s'} e l f =
-        let machine : fresh (countsFor p) ≡ m = one-machine (ap (λ (y : StartRes). y .answer) e) in
-        let stores : laid p s ≡ s' = ap (λ (y : StartRes). y .stores) e in
-        let frames : l .frames ≡ root 0 ∷ fs = f ∙ sym (ap (λ (y : StartRes). y .frames) e) in
-        subst (λ (v : Vm). Installed p v s' l) machine
-        (subst (λ (t : Stores). Installed p (fresh (countsFor p)) t l) stores (laid-is-installed image p s bytes j w r l (rw frames)))
+  loaded-is : (within room : Bool) → withinLimits p ≡ within → roomFor p s ≡ room → (fs : List Frame) {m : Vm} {s' : Stores} {fs' : List Frame}
+      → startWith (loaded within room .answer) (loaded within room .stores) s fs ≡ record { answer = st.Done m; stores = s'; frames = fs' }
+      → (l : Lent) → l .frames ≡ fs' → Installed p m s' l
+  unfolding startWith innermost
+  loaded-is false room w r fs e l f = absurd (not-done (ap (λ (x : StartRes). x .answer) e))
+  loaded-is true false w r fs e l f = absurd (not-done (ap (λ (x : StartRes). x .answer) e))
+  loaded-is true true w r [] e l f = absurd (not-done (ap (λ (x : StartRes). x .answer) e))
+  loaded-is true true w r (x ∷ fs) {m} {s'} e l f =
+      let machine : fresh (countsFor p) ≡ m = one-machine (ap (λ (y : StartRes). y .answer) e) in
+      let stores : laid p s ≡ s' = ap (λ (y : StartRes). y .stores) e in
+      let frames : l .frames ≡ root 0 ∷ fs = f ∙ sym (ap (λ (y : StartRes). y .frames) e) in
+      subst (λ (v : Vm). Installed p v s' l) machine
+      (subst (λ (t : Stores). Installed p (fresh (countsFor p)) t l) stores (laid-is-installed image p s bytes j w r l (rw frames)))
 
-    pub loaded-runs-so : (fs : List Frame) {m : Vm} {s' : Stores} {fs' : List Frame} → loadMachineOf image s fs ≡ record { answer = st.Done m; stores = s'; frames = fs' }
-        → (l : Lent) → l .frames ≡ fs' → (u : ℕ) (x : RunResult) (l' : Lent) → RunPost m s' l u x l' → FaultsSo m s' l u l' x
-    unfolding loadMachineOf loadOf loadJudged
-    loaded-runs-so fs {m} {s'} e l f u x l' post =
-        installed-runs-so m s' l u ok (loaded-is (withinLimits p) (roomFor p s) refl refl fs (rw j at e) l f) x post
+  pub loaded-runs-so : (fs : List Frame) {m : Vm} {s' : Stores} {fs' : List Frame} → loadMachineOf image s fs ≡ record { answer = st.Done m; stores = s'; frames = fs' }
+      → (l : Lent) → l .frames ≡ fs' → (u : ℕ) (x : RunResult) (l' : Lent) → RunPost m s' l u x l' → FaultsSo m s' l u l' x
+  unfolding loadMachineOf loadOf loadJudged
+  loaded-runs-so fs {m} {s'} e l f u x l' post =
+      installed-runs-so m s' l u ok (loaded-is (withinLimits p) (roomFor p s) refl refl fs (rw j at e) l f) x post
 
 -- ---- the same for a host in C
 
