@@ -1,4 +1,4 @@
 // A line of the listing with notes: what its operands name, and its place.
-mod texts; // texts.rt: constants and names in a note
+pub mod texts; // texts.rt: constants and names in a note
 mod operands; // operands.rt: the notes of the operands
 pub mod lines; // lines.rt: the line
