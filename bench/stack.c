@@ -1,5 +1,5 @@
 /* How much of the host's stack the calls take: a part of it below the call is filled, and looked at after the call. The deepest run compares two
- * lists of depth 64; the deepest loading has many struct names. */
+ * lists of depth 64; the deepest loading has many struct names, and so the deepest check. */
 #include <stdio.h>
 #include <stdlib.h>
 #include <string.h>
@@ -29,6 +29,7 @@ static void lend(void)
     LEND(frames, 256);
     LEND(copy, 2048);
     LEND(trace, 512);
+    LEND(heights, 256);
 }
 
 /* The part of the stack that lies below this function's caller: filled, or looked at. */
@@ -46,6 +47,7 @@ static __attribute__((noinline)) size_t below(int filled)
 
 static uint32_t call_run(void) { return cw_run(&m, 1000000); }
 static uint32_t call_load(void) { return cw_load(&m, image, image_len); }
+static uint32_t call_check(void) { return cw_check(&m, image, image_len); }
 static uint32_t call_new(void) { return cw_new(&m); }
 static uint32_t call_save(void) { return cw_save(&m, image, sizeof image); }
 
@@ -109,5 +111,6 @@ int main(void)
     told("loading 10 struct names", call_load);
     names(60000);
     told("loading 60,000 struct names", call_load);
+    told("checking 60,000 struct names", call_check);
     return 0;
 }

@@ -5,9 +5,9 @@
  * stores are the host's. chaffwheel_stores.h gathers them in a struct and lends them, so that a call is `cw_run(m, units)`.
  *
  * Each function returns CHAFFWHEEL_OK, or the number of its refusal (the names are below). A refusal changes no store; only 20 writes its offset
- * to answer[0].
+ * to answer[0], and 40 the rule and the function to answer[0] and answer[1].
  *
- * Their order, at all but chaffwheel_new and chaffwheel_load: 19 where vm has fewer than 10 words, its last result is not exactly the words of a
+ * Their order, at all but chaffwheel_new, chaffwheel_load and chaffwheel_check: 19 where vm has fewer than 10 words, its last result is not exactly the words of a
  * value or of none, or a value that is handed in is not exactly the words of a value; then the function's own 19; then 17 where answer has fewer
  * words than the function tells; then the other refusals that stand at the function, in order. At chaffwheel_disassemble 1 or 3 come before that 17
  * too. The library judges what it is lent, in time linear in what is taken, the bytes of struct names counted once for each name
@@ -206,6 +206,21 @@ uint32_t chaffwheel_load(
     CHAFFWHEEL_SLICE(uint8_t, text), CHAFFWHEEL_SLICE(uint8_t, main_code), CHAFFWHEEL_SLICE(uint32_t, main_places),
     CHAFFWHEEL_SLICE(uint8_t, other_code), CHAFFWHEEL_SLICE(uint32_t, other_places),
     CHAFFWHEEL_SLICE(chaffwheel_frame, frames), CHAFFWHEEL_SLICE(uint64_t, answer));
+
+/* Checks an image before its rule is installed, and makes a machine over its program, as chaffwheel_load does, if it keeps the six rules of
+ * docs/RULES.md ("The check"). Writes vm, the program's stores and frames[0], and to heights[f] the greatest height of each function f: so many values
+ * a frame of it has on the stack at most. On that machine, whatever the units, faults 1 to 4 and 14 never come, and 6 only from GetUpvalue or a field.
+ * Refused 20: the bytes are no image; answer[0], where there is one, is the offset of the first item that breaks a rule of the format. 17: vm has fewer
+ * than 10 words, answer fewer than 2, or heights fewer than there are functions. 22: a limit. 21: a store is too small for the program, or the frame
+ * store has no place. 40: a rule of the check is broken; answer[CHAFFWHEEL_RULE] is the first, 1 to 6, answer[CHAFFWHEEL_FUNCTION] the lowest function
+ * that breaks it (of rule 4 the one that is called). A refused image leaves the machine that is there as it is. */
+enum { CHAFFWHEEL_RULE = 0, CHAFFWHEEL_FUNCTION = 1 };
+uint32_t chaffwheel_check(
+    CHAFFWHEEL_SLICE(const uint8_t, image), CHAFFWHEEL_SLICE(uint64_t, vm),
+    CHAFFWHEEL_SLICE(uint64_t, constants), CHAFFWHEEL_SLICE(uint64_t, structs), CHAFFWHEEL_SLICE(uint64_t, functions),
+    CHAFFWHEEL_SLICE(uint8_t, text), CHAFFWHEEL_SLICE(uint8_t, main_code), CHAFFWHEEL_SLICE(uint32_t, main_places),
+    CHAFFWHEEL_SLICE(uint8_t, other_code), CHAFFWHEEL_SLICE(uint32_t, other_places),
+    CHAFFWHEEL_SLICE(chaffwheel_frame, frames), CHAFFWHEEL_SLICE(uint32_t, heights), CHAFFWHEEL_SLICE(uint64_t, answer));
 
 /* Runs the machine of vm, with at most this many units. It reads the program's stores; it writes stack, cells and frames, the starting stack
  * to the front of copy, after a fault the backtrace to the front of trace (two words to an entry, function and place, the innermost frame

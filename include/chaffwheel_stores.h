@@ -4,7 +4,8 @@
  *
  * cw_stores_from lays the stores into one block of memory of the host's. A host that wants other sizes starts from a struct of zeros, sets each
  * pointer to memory of its own that it has written, and each _len to the count of its elements (words, bytes or frames, not places):
- * docs/EMBEDDING.md, "What the host lends". Then cw_new or cw_load makes the machine. */
+ * docs/EMBEDDING.md, "What the host lends". Then cw_new, cw_load or cw_check makes the machine. heights
+ * is lent to cw_check alone: a host that does not call it leaves it as it is. */
 #ifndef CHAFFWHEEL_STORES_H
 #define CHAFFWHEEL_STORES_H
 
@@ -31,19 +32,21 @@ struct chaffwheel_stores {
     CHAFFWHEEL_STORE(chaffwheel_frame, frames);
     CHAFFWHEEL_STORE(uint64_t, copy);
     CHAFFWHEEL_STORE(uint32_t, trace);
+    /* the check: each function's greatest height */
+    CHAFFWHEEL_STORE(uint32_t, heights);
 };
 
 /* ---- room for the stores. The runner's sizes, in places; a machine of scale n has n times as many of each. */
 enum {
     CW_CONSTANTS = 256, CW_STRUCTS = 256, CW_FUNCTIONS = 256, CW_TEXT = 16384, CW_MAIN_CODE = 8192, CW_OTHER_CODE = 8192,
-    CW_STACK = 1024, CW_CELLS = 2048, CW_FRAMES = 256
+    CW_STACK = 1024, CW_CELLS = 2048, CW_FRAMES = 256, CW_HEIGHTS = 256
 };
 
 /* How many bytes the stores of a machine take; the block is aligned for uint64_t, as calloc's is. */
 static inline size_t cw_stores_size(size_t scale)
 {
     size_t words = 2 * (CW_CONSTANTS + CW_STRUCTS + CW_FUNCTIONS + 2 * CW_STACK + CW_CELLS);
-    size_t places = CW_MAIN_CODE + CW_OTHER_CODE + 2 * CW_FRAMES;
+    size_t places = CW_MAIN_CODE + CW_OTHER_CODE + 2 * CW_FRAMES + CW_HEIGHTS;
     size_t bytes = CW_TEXT + CW_MAIN_CODE + CW_OTHER_CODE;
     return scale * (words * sizeof(uint64_t) + CW_FRAMES * sizeof(chaffwheel_frame) + places * sizeof(uint32_t) + bytes);
 }
@@ -69,7 +72,8 @@ static inline void cw_stores_from(struct chaffwheel_stores *m, void *block, size
     CW_TAKE(main_places, (uint32_t *)(void *)(m->frames + m->frames_len), CW_MAIN_CODE);
     CW_TAKE(other_places, m->main_places + m->main_places_len, CW_OTHER_CODE);
     CW_TAKE(trace, m->other_places + m->other_places_len, 2 * CW_FRAMES);
-    CW_TAKE(text, (uint8_t *)(void *)(m->trace + m->trace_len), CW_TEXT);
+    CW_TAKE(heights, m->trace + m->trace_len, CW_HEIGHTS);
+    CW_TAKE(text, (uint8_t *)(void *)(m->heights + m->heights_len), CW_TEXT);
     CW_TAKE(main_code, m->text + m->text_len, CW_MAIN_CODE);
     CW_TAKE(other_code, m->main_code + m->main_code_len, CW_OTHER_CODE);
 #undef CW_TAKE
@@ -91,6 +95,12 @@ static inline uint32_t cw_load(struct chaffwheel_stores *m, CHAFFWHEEL_SLICE(con
 {
     return chaffwheel_load(image, image_len, CW_VM, CW_LEND(constants), CW_LEND(structs), CW_LEND(functions), CW_LEND(text), CW_CODE,
         CW_LEND(frames), CW_ANSWER);
+}
+
+static inline uint32_t cw_check(struct chaffwheel_stores *m, CHAFFWHEEL_SLICE(const uint8_t, image))
+{
+    return chaffwheel_check(image, image_len, CW_VM, CW_LEND(constants), CW_LEND(structs), CW_LEND(functions), CW_LEND(text), CW_CODE,
+        CW_LEND(frames), CW_LEND(heights), CW_ANSWER);
 }
 
 static inline uint32_t cw_run(struct chaffwheel_stores *m, uint64_t units)

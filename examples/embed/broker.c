@@ -1,5 +1,6 @@
 /* A broker that runs a rule over a reading, meets a fault behind the rule's Return, and counts the reading once: docs/EMBEDDING.md.
  * The rule is examples/story.rule: it adds 1 to the last result, returns that, then divides by a constant that is 0 by mistake.
+ * It is checked before it is installed, and a rule that is broken is refused there: the one that was installed stays.
  * Then a rule that jumps over a Return, where the place of the fault would tell a lie and the number of root Returns does not.
  * At the end a rule that answers with a list, and what the broker reads of it. */
 #include <inttypes.h>
@@ -73,9 +74,9 @@ static struct journal whole_rule(struct chaffwheel_stores *m, uint8_t *image, si
 {
     struct journal j = { .before = before, .after = before };
     bring(image, 0, before);
-    j.refused = cw_load(m, image, len);
+    j.refused = cw_check(m, image, len);
     if (j.refused)
-        return j;
+        return j; /* nothing is installed: the machine is the one from before */
     j = run(m, before, units);
     j.brought = 1;
     return j;
@@ -115,6 +116,36 @@ static struct journal jump_rule(struct chaffwheel_stores *m, uint64_t units)
 {
     struct journal j = { .before = NAN, .after = NAN, .refused = emit_jump_rule(m) };
     return j.refused ? j : run(m, NAN, units);
+}
+
+/* A rule that a vendor broke: its Return finds no value where the jump was taken. It is emitted on a machine aside, and its image saved. */
+static uint32_t broken_rule(uint8_t *image, size_t room, size_t *len)
+{
+    struct chaffwheel_stores aside, *m = &aside;
+    machine_init(m, 1);
+    uint32_t no = cw_new(m);
+    no = no ? no : cw_add_boolean(m, false);           /* constant 0 */
+    no = no ? no : cw_add_op1(m, LOAD_CONSTANT, 0, 1);
+    no = no ? no : cw_add_op1(m, JUMP_IF_FALSE, 3, 2); /* over the 3 bytes of place 3, which push the value */
+    no = no ? no : cw_add_op1(m, LOAD_CONSTANT, 0, 3);
+    no = no ? no : cw_add_op(m, RETURN, 4);
+    no = no ? no : cw_save(m, image, room);
+    *len = no ? 0 : m->answer[0];
+    machine_free(m);
+    return no;
+}
+
+/* The broken rule is refused before it is installed, by day, and the rule that was there still runs. */
+static int refused_by_day(struct chaffwheel_stores *m)
+{
+    uint8_t image[256];
+    size_t len;
+    if (broken_rule(image, sizeof image, &len))
+        return 0;
+    uint32_t no = cw_check(m, image, len);
+    printf("a broken rule, checked before it is installed\n");
+    printf("    refused %" PRIu32 ": rule %" PRIu64 ", function %" PRIu64 "\n", no, m->answer[CHAFFWHEEL_RULE], m->answer[CHAFFWHEEL_FUNCTION]);
+    return no == 40 && m->answer[CHAFFWHEEL_RULE] == 6 && m->answer[CHAFFWHEEL_FUNCTION] == 0;
 }
 
 /* A rule that is emitted: it returns a list of the reading and its unit of measure, and leaves a text on the stack. */
@@ -217,7 +248,10 @@ int main(int argc, char **argv)
     machine_init(&m, 1);
 
     struct journal first = whole_rule(&m, image, len, 41, 1000000);
+    printf("the rule is checked and installed: its greatest height is %" PRIu32 "\n", m.heights[0]);
     show("the rule as it was written, from 41", &first);
+
+    int by_day = refused_by_day(&m);
 
     struct journal rest = rest_of_rule(&m, first.after, 1000000);
     show("the rest, mended, on the same machine: right, this run has nothing to count", &rest);
@@ -244,5 +278,5 @@ int main(int argc, char **argv)
     int story = counted(&first) && first.after == 42 && !counted(&rest) && rest.after == 42 && counted(&once) && once.after == 42
         && counted(&twice) && twice.after == 43 && !counted(&again) && again.after == 41;
     int jump = passed.place == 4 && passed.returns == 0 && !counted(&passed) && jumped.returns == 1 && counted(&jumped) && jumped.after == 1;
-    return !refused && story && jump ? 0 : 1;
+    return !refused && by_day && story && jump ? 0 : 1;
 }

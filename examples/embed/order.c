@@ -23,7 +23,7 @@ static uint64_t sum(const struct chaffwheel_stores *m)
 {
     uint64_t h = sum_of(14695981039346656037u, m->vm, sizeof m->vm);
     SUM(constants), SUM(structs), SUM(functions), SUM(text), SUM(main_code), SUM(main_places), SUM(other_code), SUM(other_places);
-    SUM(stack), SUM(cells), SUM(frames), SUM(copy), SUM(trace);
+    SUM(stack), SUM(cells), SUM(frames), SUM(copy), SUM(trace), SUM(heights);
     return h;
 }
 
@@ -116,6 +116,38 @@ static void loading(struct chaffwheel_stores *m)
     MUST(17, chaffwheel_new(VM, LEND(functions), m->text, 0, LEND(frames), SHORT));
 }
 
+/* the check: 20, 17 (the record, the answer, the heights), 21 (the program's stores, the frames), 40, each before the next; 20 and 40 tell more */
+static void checking(struct chaffwheel_stores *m)
+{
+    /* a Return that finds no value; the same behind a byte that is no opcode; and three zeros, which are no image */
+    static const uint8_t low[] = { 0, 0, 1, 6, '<', 'm', 'a', 'i', 'n', '>', 1, RETURN, 1, 0 };
+    static const uint8_t cut[] = { 0, 0, 1, 6, '<', 'm', 'a', 'i', 'n', '>', 2, 99, RETURN, 2, 0 }, broken[] = { 0, 0, 0 };
+#define CHECK(image, words, frames_len, heights_len, answer_len) \
+    chaffwheel_check(image, sizeof image, m->vm, words, PROGRAM, m->frames, frames_len, m->heights, heights_len, m->answer, answer_len)
+    for (size_t words = 0; words <= CHAFFWHEEL_VM; words += 9)
+        for (size_t heights = 0; heights < 2; heights++)
+            for (size_t told = 0; told < 3; told++) {
+                m->answer[0] = 99;
+                MUST(20, CHECK(broken, words, 0, heights, told));
+                if (m->answer[0] != (told ? 2 : 99))
+                    wrong++, printf("line %d: offset %" PRIu64 "\n", __LINE__, m->answer[0]);
+                MUST(17, CHECK(low, words, 0, heights, told));
+            }
+    MUST(17, CHECK(low, CHAFFWHEEL_VM, 0, 0, 2));
+    MUST(17, CHECK(low, CHAFFWHEEL_VM, 0, 1, 1));
+    MUST(21, CHECK(low, CHAFFWHEEL_VM, 0, 1, 2));
+    MUST(21, chaffwheel_check(low, sizeof low, VM, LEND(constants), LEND(structs), LEND(functions), LEND(text), m->main_code, 0, LEND(main_places),
+        LEND(other_code), LEND(other_places), LEND(frames), LEND(heights), ANSWER));
+    m->answer[0] = m->answer[1] = 99;
+    MUST(40, CHECK(low, CHAFFWHEEL_VM, 1, 1, 2));
+    if (m->answer[CHAFFWHEEL_RULE] != 6 || m->answer[CHAFFWHEEL_FUNCTION] != 0)
+        wrong++, printf("line %d: rule %" PRIu64 " function %" PRIu64 "\n", __LINE__, m->answer[0], m->answer[1]);
+    MUST(40, CHECK(cut, CHAFFWHEEL_VM, 1, 1, 2));
+    if (m->answer[CHAFFWHEEL_RULE] != 1 || m->answer[CHAFFWHEEL_FUNCTION] != 0)
+        wrong++, printf("line %d: rule %" PRIu64 " function %" PRIu64 "\n", __LINE__, m->answer[0], m->answer[1]);
+#undef CHECK
+}
+
 /* one word of the machine is changed, the calls are made, and it is put back */
 #define DAMAGED(place, word, ...) do { __typeof__(place) kept = (place); (place) = (word); __VA_ARGS__; (place) = kept; } while (0)
 
@@ -154,6 +186,7 @@ int main(void)
         MUST(3, chaffwheel_disassemble(VM, LEND(functions), LEND(text), LEND(main_code), LEND(other_code), out, sizeof out, SHORT));
     });
     loading(m);
+    checking(m);
     machine_free(m);
     printf("%d calls, %d wrong\n", calls, wrong);
     return wrong != 0;

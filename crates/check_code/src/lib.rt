@@ -88,7 +88,7 @@ fn is_carried(b: u8) -> bool
 }
 
 // Is the instruction at i carried, and all there?
-fn whole_at(code: &[u8], i: usize) -> bool
+pub fn whole_at(code: &[u8], i: usize) -> bool
     requires { ⌜ i < length (now code) ⌝ }
     ensures { λ r. ⌜ r ≡ wholeAt (now (code .entry)) i ⌝ }
 {
@@ -129,7 +129,7 @@ fn in_range(kind: Names, x: usize, constants: usize, structs: usize, functions: 
 }
 
 // Are the numbers that the instruction at i names in range?
-fn numbers_at(code: &[u8], i: usize, constants: usize, structs: usize, functions: usize) -> bool
+pub fn numbers_at(code: &[u8], i: usize, constants: usize, structs: usize, functions: usize) -> bool
     requires { ⌜ i < length (now code) ⌝ }
     ensures { λ r. ⌜ NumbersOne constants structs functions (now (code .entry)) i r ⌝ }
 {
@@ -162,7 +162,7 @@ pub fn numbers(code: &[u8], constants: usize, structs: usize, functions: usize) 
 // ---- 3 no CallCallable and no Call of function 0
 
 // Is the instruction at i neither CallCallable nor a Call of function 0?
-fn call_at(code: &[u8], i: usize) -> bool
+pub fn call_at(code: &[u8], i: usize) -> bool
     requires { ⌜ i < length (now code) ⌝ }
     ensures { λ r. ⌜ r ≡ callAt (now (code .entry)) i ⌝ }
 {
@@ -250,7 +250,7 @@ pub fn clear(n: usize, marks: &mut [u32])
 }
 
 // Marks where the instructions begin, and no other position of the code.
-fn mark(code: &[u8], marks: &mut [u32])
+pub fn mark(code: &[u8], marks: &mut [u32])
     requires { ⌜ length (now code) ≤ length (now marks) ⌝ }
     ensures { λ r. ⌜ Marked (now (code .entry)) (now (marks .exit)) ⌝ }
 {
@@ -289,7 +289,7 @@ fn is_jump(b: u8) -> bool
 }
 
 // Does the instruction at i land, if it is a jump?
-fn jump_at(main: bool, code: &[u8], i: usize, marks: &[u32]) -> bool
+pub fn jump_at(main: bool, code: &[u8], i: usize, marks: &[u32]) -> bool
     requires { ⌜ (i < length (now code)) × (length (now code) ≤ length (now marks)) × (Marked (now code) (now marks)) ⌝ }
     ensures { λ r. ⌜ r ≡ jumpAt main (now (code .entry)) i ⌝ }
 {

@@ -3,7 +3,7 @@ use mathlib.Core.Path.{_≡_, refl, _∙_}
 use mathlib.Core.List.{List}
 use Prim.Native.Nat.{ℕ, _+_, _*_, _≤_, _<_, _^_}
 use native.Mathlib.Omega.{arith}
-use lib.ListN.{length, replicate, length-replicate}
+use lib.ListN.{length, take, replicate, length-replicate}
 use Rattle.model.specs.Stores.{Stores}
 use Rattle.model.specs.Emission.{written}
 use Rattle.model.specs.Loading.{countsFor}
@@ -13,8 +13,11 @@ use Rattle.check_rules.specs.declared.Checked.{Checked}
 use Rattle.check_rules.specs.Checks.{CheckAs, not-an-image, no-place, past-a-limit, no-room, breaks, passes}
 use Rattle.printing.specs.Links.{Put}
 use Rattle.printing.proofs.Puts.{within}
-use Rattle.check_report.specs.Texts.{factsText}
-use Rattle.check_report.specs.Links.{Inside, Tellable, Answers, too-long, checked, Facts}
+use Rattle.report.specs.Links.{printed}
+use Rattle.check_report.specs.Details.{details}
+use Rattle.check_report.specs.Texts.{factsText, checkedText}
+use Rattle.check_report.specs.Links.{Inside, Tellable, Answers, too-long, checked, Checks, Facts}
+use Rattle.check_report.proofs.Saying.{said-taken, said-length}
 
 module _ {image heights : List ℕ} {s : Stores} where
   inside-check : {a : Checked} {hs : List ℕ} {s' : Stores} → CheckAs image heights s a hs s' → Inside a (length hs)
@@ -53,3 +56,14 @@ module _ {image hs : List ℕ} {a : Checked} (h : Answers image (replicate 256 0
 
   pub facts-put : {out out' : List ℕ} {r : ℕ} → Put (96 + 64 * length hs) (factsText a hs) out 0 out' r → Facts image out r out'
   facts-put p = let e = places-256 in record { answer = a; heights = hs; answers = h; put = within p 16480 (omega arith) }
+
+  -- what is said besides, in its 128 places
+  module _ {s : List ℕ} {n : ℕ} (p : Put 128 (details image a) (replicate 128 0) 0 s n) where
+    pub said-there : n ≡ length (take n s)
+    said-there = said-length p (length-replicate {A = ℕ} 128 0)
+
+    pub said-fits : length (take n s) ≤ 128
+    said-fits = let e = said-there in let m = p .near in omega arith
+
+    pub image-checked : {out out' : List ℕ} {r : ℕ} → record { count = r; out = out' } ≡ printed (checkedText a (take n s) hs) out → Checks image out r out'
+    image-checked e = record { answer = a; heights = hs; answers = h; text = rw (said-taken p (length-replicate {A = ℕ} 128 0)) at e }

@@ -40,10 +40,10 @@ module _ {s₀ s₁ s₂ : List ℕ} {i₀ i₁ i₂ : ℕ} where
   unfolding brokenWords
   broken-words i a b = within (is (both a b) (simp append-assoc)) 128 (omega arith)
 
-  pub breach-words : (q : Rule) (f : ℕ) {s₃ : List ℕ} {i₃ : ℕ} → Put 29 (ascii "function " ++ decimal f) s₀ i₀ s₁ i₁
-      → Put 2 (ascii ": ") s₁ i₁ s₂ i₂ → Put 96 (ruleWords q) s₂ i₂ s₃ i₃ → Put 128 (breachWords q f) s₀ i₀ s₃ i₃
+  pub breach-words : (q : Rule) (f : ℕ) (said : List ℕ) {s₃ s₄ : List ℕ} {i₃ i₄ : ℕ} → Put 29 (ascii "function " ++ decimal f) s₀ i₀ s₁ i₁
+      → Put (length said) said s₁ i₁ s₂ i₂ → Put 2 (ascii ": ") s₂ i₂ s₃ i₃ → Put 96 (ruleWords q) s₃ i₃ s₄ i₄ → Put (128 + length said) (breachWords q f said) s₀ i₀ s₄ i₄
   unfolding breachWords
-  breach-words q f a b d = within (is (both (both a b) d) (simp append-assoc)) 128 (omega arith)
+  breach-words q f said a b d e = within (is (both (both (both a b) d) e) (simp append-assoc)) (128 + length said) (omega arith)
 
 -- ---- the heights
 
@@ -106,29 +106,30 @@ module _ {s s' : List ℕ} {i r : ℕ} where
   pub rule-is : {k : ℕ} {q w : Rule} → q ≡ w → k ≤ 96 → Put k (ruleWords w) s i s' r → Put 96 (ruleWords q) s i s' r
   rule-is e h p = rw e (within p 96 h)
 
-  pub broken-told : {a : Checked} {o : ℕ} → a ≡ c.Broken o → Put 128 (brokenWords o) s i s' r → Put 128 (wordsText a) s i s' r
-  unfolding wordsText
-  broken-told e p = rw e p
+  module _ {a : Checked} (said : List ℕ) where
+    pub broken-told : {o : ℕ} → a ≡ c.Broken o → Put 128 (brokenWords o) s i s' r → Put (128 + length said) (wordsText a said) s i s' r
+    unfolding wordsText
+    broken-told e p = rw e (within p (128 + length said) (omega arith))
 
-  pub refused-told : {a : Checked} {n : ℕ} → a ≡ c.Refused n → Put 128 (refusedWords n) s i s' r → Put 128 (wordsText a) s i s' r
-  unfolding wordsText
-  refused-told e p = rw e p
+    pub refused-told : {n : ℕ} → a ≡ c.Refused n → Put 128 (refusedWords n) s i s' r → Put (128 + length said) (wordsText a said) s i s' r
+    unfolding wordsText
+    refused-told e p = rw e (within p (128 + length said) (omega arith))
 
-  pub breach-told : {a : Checked} {q : Rule} {f : ℕ} → a ≡ c.Breaks q f → Put 128 (breachWords q f) s i s' r → Put 128 (wordsText a) s i s' r
-  unfolding wordsText
-  breach-told e p = rw e p
+    pub breach-told : {q : Rule} {f : ℕ} → a ≡ c.Breaks q f → Put (128 + length said) (breachWords q f said) s i s' r → Put (128 + length said) (wordsText a said) s i s' r
+    unfolding wordsText
+    breach-told e p = rw e p
 
-pub checked-is : (a : Checked) (hs : List ℕ) {s₀ s₁ s₂ : List ℕ} {i₁ i₂ : ℕ} → Put (96 + 64 * length hs) (factsText a hs) s₀ 0 s₁ i₁
-    → Put 128 (wordsText a) s₁ i₁ s₂ i₂ → Put (224 + 64 * length hs) (checkedText a hs) s₀ 0 s₂ i₂
+pub checked-is : (a : Checked) (said hs : List ℕ) {s₀ s₁ s₂ : List ℕ} {i₁ i₂ : ℕ} → Put (96 + 64 * length hs) (factsText a hs) s₀ 0 s₁ i₁
+    → Put (128 + length said) (wordsText a said) s₁ i₁ s₂ i₂ → length said ≤ 128 → Put (352 + 64 * length hs) (checkedText a said hs) s₀ 0 s₂ i₂
 unfolding checkedText
-checked-is a hs p q = within (both p q) (224 + 64 * length hs) (omega arith)
+checked-is a said hs p q h = within (both p q) (352 + 64 * length hs) (omega arith)
 
-pub passed-told : (s : List ℕ) (i : ℕ) (a : Checked) → OneOf (0 ∷ []) (tagOf the-type a) → Put 128 (wordsText a) s i s i
+pub passed-told : (s : List ℕ) (i : ℕ) (a : Checked) (said : List ℕ) → OneOf (0 ∷ []) (tagOf the-type a) → Put (128 + length said) (wordsText a said) s i s i
 unfolding wordsText
-passed-told s i (c.Passed k) d = within (nothing s i) 128 (omega arith)
-passed-told s i (c.Broken o) d = absurd (miss (0 ∷ []) 1 tt d)
-passed-told s i (c.Refused n) d = absurd (miss (0 ∷ []) 2 tt d)
-passed-told s i (c.Breaks q f) d = absurd (miss (0 ∷ []) 3 tt d)
+passed-told s i (c.Passed k) said d = within (nothing s i) (128 + length said) (omega arith)
+passed-told s i (c.Broken o) said d = absurd (miss (0 ∷ []) 1 tt d)
+passed-told s i (c.Refused n) said d = absurd (miss (0 ∷ []) 2 tt d)
+passed-told s i (c.Breaks q f) said d = absurd (miss (0 ∷ []) 3 tt d)
 
 module _ {n : ℕ} {s s' : List ℕ} {i r : ℕ} where
   pub few-places : n ≡ 17 → Put 45 (ascii "the store for the heights has too few places\n") s i s' r → Put 128 (refusedWords n) s i s' r

@@ -4,12 +4,16 @@ use mathlib.Core.List.{List}
 use Prim.Native.Nat.{ℕ, _≤_, _<_, _^_}
 use lib.ListN.{length, replicate}
 use Rattle.model.specs.Reports.{emptyStores}
-use Rattle.model.specs.Stores.{Stores}
+use Rattle.model.specs.declared.Counts.{Counts}
+use Rattle.model.specs.declared.Loaded.{Loaded}
+use Rattle.model.specs.Stores.{Stores, storesOf, programIn}
 use Rattle.report.specs.Links.{printed}
 use Rattle.printing.specs.Links.{Put}
+use Rattle.check_rules.specs.declared.Rule.{Rule}
 use Rattle.check_rules.specs.declared.Checked.{Checked}
 use Rattle.check_rules.specs.declared.Checked.the-variants as c
 use Rattle.check_rules.specs.Checks.{CheckAs}
+use Rattle.check_report.specs.Details.{functionWords, loadedWords, details}
 use Rattle.check_report.specs.Texts.{factsText, checkedText}
 
 -- the heights that an answer speaks of are in their store
@@ -35,7 +39,7 @@ pub record Checks (image out : List ℕ) (r : ℕ) (out' : List ℕ) : Type 0 wh
   pub answer : Checked
   pub heights : List ℕ
   pub answers : Answers image (replicate 256 0) answer heights
-  pub text : record { count = r; out = out' } ≡ printed (checkedText answer heights) out
+  pub text : record { count = r; out = out' } ≡ printed (checkedText answer (details image answer) heights) out
 
 -- the facts of what is answered were put, 16,480 bytes at most
 pub record Facts (image out : List ℕ) (r : ℕ) (out' : List ℕ) : Type 0 where
@@ -43,3 +47,13 @@ pub record Facts (image out : List ℕ) (r : ℕ) (out' : List ℕ) : Type 0 whe
   pub heights : List ℕ
   pub answers : Answers image (replicate 256 0) answer heights
   pub put : Put 16480 (factsText answer heights) out 0 out' r
+
+-- ---- what is said of a function that breaks a rule, of whatever else the program's stores hold
+
+pub record FunctionPost (k : Counts) (functions text main other : List ℕ) (q : Rule) (f : ℕ) (out out' : List ℕ) (r : ℕ) : Type 0 where
+  pub says : (constants structs mainPlaces otherPlaces : List ℕ)
+      → Put 128 (functionWords (programIn k (storesOf constants structs functions text main mainPlaces other otherPlaces)) q f) out 0 out' r
+
+pub record LoadedPost (a : Loaded) (functions text main other : List ℕ) (q : Rule) (f : ℕ) (out out' : List ℕ) (r : ℕ) : Type 0 where
+  pub says : (constants structs mainPlaces otherPlaces : List ℕ)
+      → Put 128 (loadedWords a (storesOf constants structs functions text main mainPlaces other otherPlaces) q f) out 0 out' r

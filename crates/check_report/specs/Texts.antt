@@ -53,16 +53,17 @@ ruleWords r.Counts = ascii "is called with different numbers of arguments\n"
 ruleWords r.Jumps = ascii "a jump that does not land on an instruction\n"
 ruleWords r.Heights = ascii "no one height at each place that is reached, too few values, or the end is passed\n"
 
-unfoldable pub breachWords : Rule → (f : ℕ) → List ℕ
-breachWords q f = ascii "function " ++ decimal f ++ ascii ": " ++ ruleWords q
+-- `said` is what is said of the function besides (`details`)
+unfoldable pub breachWords : Rule → (f : ℕ) → (said : List ℕ) → List ℕ
+breachWords q f said = ascii "function " ++ decimal f ++ said ++ ascii ": " ++ ruleWords q
 
-unfoldable pub wordsText : Checked → List ℕ
-wordsText (c.Passed k) = []
-wordsText (c.Broken i) = brokenWords i
-wordsText (c.Refused n) = refusedWords n
-wordsText (c.Breaks q f) = breachWords q f
+unfoldable pub wordsText : Checked → (said : List ℕ) → List ℕ
+wordsText (c.Passed k) said = []
+wordsText (c.Broken i) said = brokenWords i
+wordsText (c.Refused n) said = refusedWords n
+wordsText (c.Breaks q f) said = breachWords q f said
 
 -- ---- both
 
-unfoldable pub checkedText : Checked → (heights : List ℕ) → List ℕ
-checkedText a hs = factsText a hs ++ wordsText a
+unfoldable pub checkedText : Checked → (said heights : List ℕ) → List ℕ
+checkedText a said hs = factsText a hs ++ wordsText a said

@@ -1,13 +1,12 @@
 // What the check answered, as lines that a program can read.
 use check_rules::Checked;
 use check_rules::Rule;
+use check_words::rule_number;
 use printing::put_count;
 use printing::put_line;
 use printing::put_text;
-ghost use mathlib.Core.Path.{_≡_};
 ghost use Prim.Native.Nat.{_+_, _*_, _≤_, _<_, _^_};
 ghost use lib.ListN.{length};
-ghost use Rattle.check_rules.specs.Rules.{ruleNumber};
 ghost use Rattle.printing.specs.Links.{Put};
 ghost use Rattle.check_report.specs.Texts.{heightLine, heightLines, breachLine, factsText};
 ghost use Rattle.check_report.specs.Links.{Tellable};
@@ -33,20 +32,6 @@ fn put_heights(n: usize, heights: &[u32], out: &mut [u8], at: usize) -> usize
         f += 1;
     }
     next
-}
-
-// A rule's number, 1 to 6.
-fn rule_number(q: Rule) -> usize
-    ensures { λ r. ⌜ r ≡ ruleNumber q ⌝ }
-{
-    match q {
-        Rule::Instructions => 1,
-        Rule::Numbers => 2,
-        Rule::Calls => 3,
-        Rule::Counts => 4,
-        Rule::Jumps => 5,
-        Rule::Heights => 6,
-    }
 }
 
 // Which rule is broken, and by which function.

@@ -1,14 +1,16 @@
 // What the checker prints, as bytes in a lent store: the facts for a program to read, and behind a refusal a line in plain words.
+mod details; // details.rt: the function that breaks a rule
 mod facts; // facts.rt: the lines of facts
 mod words; // words.rt: the line in plain words
 
+use crate::details::put_details;
 use crate::facts::put_facts;
 use crate::words::put_words;
 use check_image::check;
 use check_rules::Checked;
 use layout::reads::room;
 ghost use mathlib.Core.Path.{_≡_};
-ghost use Prim.Native.Nat.{_+_, _*_};
+ghost use Prim.Native.Nat.{_+_, _*_, _≤_};
 ghost use lib.ListN.{length, replicate};
 ghost use Rattle.report.specs.Links.{printed};
 ghost use Rattle.printing.specs.Links.{Put};
@@ -16,25 +18,25 @@ ghost use Rattle.check_report.specs.Texts.{checkedText};
 ghost use Rattle.check_report.specs.Links.{Tellable, Answers, Checks, Facts};
 
 // The facts, and the words behind them.
-fn put_checked(answer: Checked, heights: &[u32], out: &mut [u8]) -> usize
-    requires { ⌜ Tellable answer (now heights) ⌝ }
-    ensures { λ r. ⌜ Put (224 + 64 * length (now (heights .entry))) (checkedText answer (now (heights .entry))) (now (out .entry)) 0 (now (out .exit)) r ⌝ }
+fn put_checked(answer: Checked, said: &[u8], heights: &[u32], out: &mut [u8]) -> usize
+    requires { ⌜ (Tellable answer (now heights)) × (length (now said) ≤ 128) ⌝ }
+    ensures { λ r. ⌜ Put (352 + 64 * length (now (heights .entry))) (checkedText answer (now (said .entry)) (now (heights .entry))) (now (out .entry)) 0 (now (out .exit)) r ⌝ }
 {
     let next = put_facts(answer, heights, out);
-    put_words(answer, out, next)
+    put_words(answer, said, out, next)
 }
 
 // An answer's text. It is measured first, with no room to write into.
-fn print_checked(answer: Checked, heights: &[u32], out: &mut [u8]) -> usize
-    requires { ⌜ Tellable answer (now heights) ⌝ }
-    ensures { λ r. ⌜ record { count = r; out = now (out .exit) } ≡ printed (checkedText answer (now (heights .entry))) (now (out .entry)) ⌝ }
+fn print_checked(answer: Checked, said: &[u8], heights: &[u32], out: &mut [u8]) -> usize
+    requires { ⌜ (Tellable answer (now heights)) × (length (now said) ≤ 128) ⌝ }
+    ensures { λ r. ⌜ record { count = r; out = now (out .exit) } ≡ printed (checkedText answer (now (said .entry)) (now (heights .entry))) (now (out .entry)) ⌝ }
 {
     let none = 0;
-    let len = put_checked(answer, heights, &mut out[..none]);
+    let len = put_checked(answer, said, heights, &mut out[..none]);
     if room(out.len(), 1) < len {
         return 0;
     }
-    put_checked(answer, heights, out)
+    put_checked(answer, said, heights, out)
 }
 
 // An image of at most 16,384 bytes, checked in stores of its own.
@@ -72,7 +74,9 @@ pub fn check_image(image: &[u8], out: &mut [u8]) -> usize
 {
     let mut heights = [0u32; 256];
     let answer = check_alone(image, &mut heights);
-    print_checked(answer, &heights, out)
+    let mut said = [0u8; 128];
+    let n = put_details(answer, image, &mut said);
+    print_checked(answer, &said[..n], &heights, out)
 }
 
 // The facts alone, as far as there is room.

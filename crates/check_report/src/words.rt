@@ -4,6 +4,7 @@ use check_rules::Rule;
 use printing::put_count;
 use printing::put_text;
 ghost use Prim.Native.Nat.{_+_, _<_, _^_};
+ghost use lib.ListN.{length};
 ghost use Rattle.printing.specs.Links.{Put};
 ghost use Rattle.check_report.specs.Texts.{brokenWords, refusedWords, ruleWords, breachWords, wordsText};
 
@@ -58,25 +59,26 @@ fn put_broken_words(i: usize, out: &mut [u8], at: usize) -> usize
     put_text(b" breaks a rule\n", out, next)
 }
 
-// Which function breaks a rule, and how.
-fn put_breach_words(q: Rule, f: usize, out: &mut [u8], at: usize) -> usize
-    requires { ⌜ at + 128 < 2 ^ 64 ⌝ }
-    ensures { λ r. ⌜ Put 128 (breachWords q f) (now (out .entry)) at (now (out .exit)) r ⌝ }
+// Which function breaks a rule, what is said of it besides, and how.
+fn put_breach_words(q: Rule, f: usize, said: &[u8], out: &mut [u8], at: usize) -> usize
+    requires { ⌜ at + (128 + length (now said)) < 2 ^ 64 ⌝ }
+    ensures { λ r. ⌜ Put (128 + length (now (said .entry))) (breachWords q f (now (said .entry))) (now (out .entry)) at (now (out .exit)) r ⌝ }
 {
-    let next = put_count(b"function ", f, out, at);
+    let number = put_count(b"function ", f, out, at);
+    let next = put_text(said, out, number);
     let rule = put_text(b": ", out, next);
     put_rule(q, out, rule)
 }
 
 // A refusal in plain words; of what passed there is nothing to say.
-pub fn put_words(answer: Checked, out: &mut [u8], at: usize) -> usize
-    requires { ⌜ at + 128 < 2 ^ 64 ⌝ }
-    ensures { λ r. ⌜ Put 128 (wordsText answer) (now (out .entry)) at (now (out .exit)) r ⌝ }
+pub fn put_words(answer: Checked, said: &[u8], out: &mut [u8], at: usize) -> usize
+    requires { ⌜ at + (128 + length (now said)) < 2 ^ 64 ⌝ }
+    ensures { λ r. ⌜ Put (128 + length (now (said .entry))) (wordsText answer (now (said .entry))) (now (out .entry)) at (now (out .exit)) r ⌝ }
 {
     match answer {
         Checked::Passed(_) => at,
         Checked::Broken(i) => put_broken_words(i, out, at),
         Checked::Refused(n) => put_refused_words(n, out, at),
-        Checked::Breaks(q, f) => put_breach_words(q, f, out, at),
+        Checked::Breaks(q, f) => put_breach_words(q, f, said, out, at),
     }
 }

@@ -25,8 +25,13 @@ use Rattle.demands.proofs.Refusing.{refuses}
 use Rattle.demands.proofs.Written.{steps-within, run-written}
 use Rattle.demands.proofs.Orderly.{new-in-order, load-in-order, chain-kept, run-in-order}
 use Rattle.check_rules.proofs.One.{check-one}
-use Rattle.laws_check.proofs.Rows.{a-step-keeps-its-row}
+use Rattle.check_heights.proofs.Answers.{heights-one-answer}
+use Rattle.check_words.proofs.One.{check-through-one}
+use Rattle.laws_check.proofs.Rows.{a-step-keeps-its-row, the-row-counts-the-values}
 use Rattle.laws_check.proofs.Theorems.{passed-never-faults-so, passed-asks-in-range, passed-runs-so, passed-runs-ask-in-range, passed-frames-fit}
+use Rattle.laws_installed.proofs.Entries.{checked-runs-so, loaded-runs-so, checked-stays-within, host-runs-so, host-stays-within}
+use Rattle.noted_listing.proofs.Walking.{notes-show-the-walk}
+use Rattle.noted_report.proofs.Fits.{noter-fits}
 use Rattle.laws_code.proofs.Numbers.{listing-numbers}
 use Rattle.laws_code.proofs.Walks.{step-takes-the-walk, listing-shows-the-walk}
 use Rattle.demands.proofs.Paying.{step-cost, fault-fee, path-units}
@@ -105,9 +110,19 @@ kept = record {
   passed-runs-ask-in-range = passed-runs-ask-in-range;
   passed-frames-fit = passed-frames-fit;
   a-step-keeps-its-row = a-step-keeps-its-row;
+  the-row-counts-the-values = the-row-counts-the-values;
+  checked-runs-so = λ image heights s s' k hs b p e e' f u x q. checked-runs-so image heights s b p e f u x e' q;
+  loaded-runs-so = λ image p b j o s s' fs fs' m g e e' f u x q. loaded-runs-so image s b p j o fs g e f u x e' q;
+  checked-stays-within = λ image heights s s' k hs b p e f u. checked-stays-within image heights s b p e f u;
+  notes-show-the-walk = notes-show-the-walk;
+  noter-fits = noter-fits;
+  host-runs-so = λ image w a heights s s' fs fs' x hs b p z e e' f u o y q. host-runs-so image w a heights s fs b p z e f u o y e' q;
+  host-stays-within = λ image w a heights s s' fs fs' x hs b p z e f u. host-stays-within image w a heights s fs b p z e f u;
   record-back = λ h w o t n. record-back w (h .vm) n (order-fine h o t);
   run-one = λ m s e u x y e' k' p q. run-one m s e u p q;
   check-one = λ image heights s x y hs ks t u a b. check-one image heights s a b;
+  check-through-one = λ image w a heights s fs x y hs ks t u gs rs p q. check-through-one image w a heights s fs p q;
+  heights-one-answer = λ main count code x y p q. heights-one-answer x y p q;
   ask-one = λ q h h' k' a b p r. ask-one q h p r;
   examples-hold = examples-hold;
   mistakes-show = mistakes-show;

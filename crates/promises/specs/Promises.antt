@@ -12,6 +12,7 @@ use Rattle.model.specs.declared.Decoded.the-variants as d
 use Rattle.model.specs.declared.Counts.{Counts}
 use Rattle.model.specs.declared.Vm.{Vm}
 use Rattle.model.specs.declared.Fault.{Fault}
+use Rattle.model.specs.declared.Frame.{Frame}
 use Rattle.model.specs.declared.Tally.{Tally}
 use Rattle.model.specs.declared.Started.the-variants as st
 use Rattle.model.specs.declared.Loaded.the-variants as l
@@ -26,18 +27,26 @@ use Rattle.model.specs.Images.{imageOf, fine, judge, Sound}
 use Rattle.model.specs.Stores.{Stores, programIn}
 use Rattle.model.specs.Orders.{programOk}
 use Rattle.model.specs.Loading.{roomFor, loadOf, saveOf, putOut}
-use Rattle.model.specs.Steps.{World, State, position, codeOf, faulted, execOf, stepOf}
+use Rattle.model.specs.Steps.{World, State, position, codeOf, went, faulted, execOf, stepOf}
 use Rattle.model.specs.Listings.{text, unlisted, listingOf}
-use Rattle.model.specs.Runs.{Machine, Progress, Ran, begin, over, endOf, runOf}
-use Rattle.model.specs.Machines.{Lent, RunPost, answerIn, ran, entriesIn}
+use Rattle.model.specs.Runs.{Machine, Progress, Ran, begin, over, endOf, root, runOf}
+use Rattle.model.specs.Machines.{Lent, innermost, RunPost, answerIn, ran, entriesIn, fresh, loadMachineOf}
 use Rattle.model.specs.Examples.{Example, examples}
 use Rattle.model.specs.Mistakes.{Row, mistakes}
 use Rattle.model.specs.Opcodes.{opcodeAt}
 use Rattle.check_rules.specs.declared.Checked.{Checked}
+use Rattle.check_rules.specs.declared.Checked.the-variants as c
 use Rattle.check_rules.specs.Rules.{Passed}
 use Rattle.check_rules.specs.Checks.{CheckAs}
 use Rattle.check_rules.proofs.One.{SameCheck}
-use Rattle.laws_check.specs.Row.{Tied}
+use Rattle.check_heights.specs.declared.Height.{Height}
+use Rattle.check_heights.specs.Answer.{HeightsPost}
+use Rattle.check_words.specs.Words.{CheckThrough}
+use Rattle.check_words.proofs.One.{SameThrough}
+use Rattle.laws_installed.specs.Installed.{FaultsSo, StaysWithin}
+use Rattle.notes.specs.Notes.{knownOf, notedListing, noterText}
+use Rattle.noted_listing.specs.Walk.{notedWalk}
+use Rattle.laws_check.specs.Row.{Tied, callsOrReturns, Counted}
 use Rattle.laws_check.specs.Passed.{NeverFaultsSo, AsksInRange, RunsSo, RunsAskInRange, FramesWithin}
 use Rattle.laws_checks.specs.Table.{checksOf, firstFailed, Keeps}
 use Rattle.laws_code.specs.Walk.{shownFrom, walked}
@@ -59,7 +68,7 @@ use Rattle.demands.specs.Recovery.{SetUp, Demand3}
 use Rattle.demands.specs.Agree.{Rooms, Agree}
 use Rattle.demands.specs.Relent.{Relent, StandsFor}
 use Rattle.demands.specs.One.{SameRun}
-use Rattle.embed_words.specs.Coding.{vmWords, TypedLast, RecordOf}
+use Rattle.embed_words.specs.Coding.{Coded, vmIn, vmWords, TypedLast, RecordOf, RunThrough}
 
 pub record Promises : Type 0 where
   -- ---- DEMAND 1: no code, image or lent store makes it misbehave or run on
@@ -147,16 +156,43 @@ pub record Promises : Type 0 where
   pub passed-frames-fit : (p : Program) → Passed p → FramesWithin p
   -- what an opcode's row says that it pops, pushes and names is what its step does
   pub a-step-keeps-its-row : (k : ℕ) (p : Op) → opcodeAt k .what ≡ d.Carried p → (a b : ℕ) (w : World) (s : State) → Tied k a b w s (execOf w p a b s)
+  -- in short: where it neither calls nor returns, it pops and pushes as many values as the row says
+  pub the-row-counts-the-values : (k : ℕ) (p : Op) → opcodeAt k .what ≡ d.Carried p → callsOrReturns k ≡ false → (a b : ℕ) (w : World) (s t : State)
+      → execOf w p a b s ≡ went t → Counted k a b s t
+  -- through the entries: what the check passed and loaded, with one frame at the start of main, run by the run entry on any lent stores; and what loading
+  -- leaves of an image whose program keeps the rules
+  pub checked-runs-so : (image heights : List ℕ) (s s' : Stores) (k : Counts) (hs : List ℕ) → Bytes image → CheckAs image heights s (c.Passed k) hs s'
+      → (e e' : Lent) → innermost 1 (e .frames) ≡ root 0 → (u : ℕ) (x : RunResult) → RunPost (fresh k) s' e u x e' → FaultsSo (fresh k) s' e u e' x
+  pub loaded-runs-so : (image : List ℕ) (p : Program) → Bytes image → judge image ≡ fine p → Passed p → (s s' : Stores) (fs fs' : List Frame) (m : Vm)
+      → loadMachineOf image s fs ≡ record { answer = st.Done m; stores = s'; frames = fs' }
+      → (e e' : Lent) → e .frames ≡ fs' → (u : ℕ) (x : RunResult) → RunPost m s' e u x e' → FaultsSo m s' e u e' x
+  -- and in every state of such a run no frame's part of the stack exceeds what the check told of its function, nor the stack what it told of the functions
+  -- that are being called, together
+  pub checked-stays-within : (image heights : List ℕ) (s s' : Stores) (k : Counts) (hs : List ℕ) → Bytes image → CheckAs image heights s (c.Passed k) hs s'
+      → (e : Lent) → innermost 1 (e .frames) ≡ root 0 → (u : ℕ) → StaysWithin (fresh k) s' e u hs
+  -- ---- THE LISTING WITH NOTES: it shows a line for each place where the walk over instructions stands, and the text of every image fits its store
+
+  pub notes-show-the-walk : (p : Program) (t : List ℕ) → notedListing p ≡ text t → t ≡ notedWalk (knownOf p) 0 (p .functions)
+  pub noter-fits : (image : List ℕ) → Bytes image → length (noterText image) ≤ 1048576
   -- ---- A HOST IN C: it hands back the machine by handing back the record
 
   -- a record of ten words or more, in which a machine in good order was written, as calls leave it, is taken and read back as that machine
   -- (`TypedLast`: if its last result is a scalar, it is a float of 64 bits, as its type says)
   pub record-back : (h : Held) (w : List ℕ) → InOrder h → TypedLast (h .vm .last) → 10 ≤ length w → RecordOf (h .vm) (written w 0 (vmWords (h .vm)))
+  -- what `chaffwheel_check` passed (0), run by `chaffwheel_run` over the record, the stores and the frames that it left
+  pub host-runs-so : (image w a heights : List ℕ) (s s' : Stores) (fs fs' : List Frame) (x : Coded) (hs : List ℕ) → Bytes image
+      → CheckThrough image w a heights s fs x hs s' fs' → x .number ≡ 0 → (e e' : Lent) → e .frames ≡ fs' → (u : ℕ) (b : List ℕ) (y : Coded)
+      → (run : RunThrough (x .vm) b s' e u y e') → FaultsSo (vmIn (x .vm)) s' e u e' (run .result)
+  pub host-stays-within : (image w a heights : List ℕ) (s s' : Stores) (fs fs' : List Frame) (x : Coded) (hs : List ℕ) → Bytes image
+      → CheckThrough image w a heights s fs x hs s' fs' → x .number ≡ 0 → (e : Lent) → e .frames ≡ fs' → (u : ℕ) → StaysWithin (vmIn (x .vm)) s' e u hs
   -- ---- NO SECOND ANSWER fits a contract
 
   pub run-one : (m : Vm) (s : Stores) (e : Lent) (u : ℕ) (x y : RunResult) (e' k' : Lent) → RunPost m s e u x e' → RunPost m s e u y k' → SameRun m x y e' k'
   pub check-one : (image heights : List ℕ) (s : Stores) (x y : Checked) (hs ks : List ℕ) (t u : Stores) → CheckAs image heights s x hs t → CheckAs image heights s y ks u
       → SameCheck x y hs ks t u
+  pub check-through-one : (image w a heights : List ℕ) (s : Stores) (fs : List Frame) (x y : Coded) (hs ks : List ℕ) (t u : Stores) (gs rs : List Frame)
+      → CheckThrough image w a heights s fs x hs t gs → CheckThrough image w a heights s fs y ks u rs → SameThrough x y hs ks t u gs rs
+  pub heights-one-answer : (main : Bool) (count : ℕ) (code : List ℕ) (x y : Height) → HeightsPost main count code x → HeightsPost main count code y → x ≡ y
   pub ask-one : (q : Ask) (h h' k' : Held) (a b : Answer) → After (ask q) h a h' → After (ask q) h b k' → (a ≡ b) × (h' ≡ k')
   -- ---- THE EXAMPLES, and the mistakes that invite themselves
 

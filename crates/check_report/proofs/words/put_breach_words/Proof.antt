@@ -1,4 +1,4 @@
--- `put_breach_words`: the function, and how it breaks the rule.
+-- `put_breach_words`: the function, what is said of it, and how it breaks the rule.
 use borrow.Author.Needs.{needs}
 use Rattle.model.specs.Basics.{ascii}
 use Rattle.check_report.proofs.Lines.{breach-words}
@@ -11,11 +11,14 @@ slice-aggregate-put-count c = search needs
 put-count-requires : tie.Need-put-count-requires
 put-count-requires c κs = search needs
 
+put-text-requires : tie.Need-put-text-requires
+put-text-requires c κs = search needs
+
 slice-aggregate-put-text : tie.Need-slice-aggregate-put-text
 slice-aggregate-put-text c = search needs
 
-put-text-requires : tie.Need-put-text-requires
-put-text-requires c κs = search needs
+put-text-requires-2 : tie.Need-put-text-requires-2
+put-text-requires-2 c κs = search needs
 
 put-rule-requires : tie.Need-put-rule-requires
 put-rule-requires c κs = search needs
@@ -33,8 +36,9 @@ put-breach-words-spec =
     (tie.spec
     slice-aggregate-put-count
     put-count-requires
-    slice-aggregate-put-text
     put-text-requires
+    slice-aggregate-put-text
+    put-text-requires-2
     put-rule-requires
     same-length
     returns)

@@ -1,8 +1,8 @@
 -- `rule_number`: by the rule.
 use borrow.Author.Needs.{needs}
 use Rattle.check_rules.specs.Rules.{ruleNumber}
-use Rattle.check_report.proofs.facts.rule_number.Statement.{statement}
-use Rattle.check_report.proofs.facts.rule_number.Tie as tie
+use Rattle.check_words.proofs.rule_number.Statement.{statement}
+use Rattle.check_words.proofs.rule_number.Tie as tie
 
 enum-told : tie.Need-enum-told
 enum-told c = search needs

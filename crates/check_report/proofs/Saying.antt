@@ -1,0 +1,185 @@
+-- What is said of the function that breaks a rule, put piece by piece.
+use mathlib.Core.Path.{_≡_, refl, sym, ap, subst, _∙_}
+use mathlib.Core.Bool.{Bool, true, false}
+use mathlib.Core.List.{List, [], _∷_, _++_, append-assoc}
+use Prim.Native.Nat.{ℕ, zero, suc, _+_, _≤_, _<_, _^_}
+use native.Mathlib.Nat.{min-le-right}
+use native.Mathlib.Omega.{arith}
+use lib.Dec.{eqb, ltb}
+use lib.ListN.{length, getD, take, drop, length-take, length-drop}
+use lib.Seq.{take-at}
+use borrow.Author.Tests.{eq-eqb, ne-eqb, lt-ltb, le-ltb}
+use Rattle.model.specs.declared.Counts.{Counts}
+use Rattle.model.specs.declared.Loaded.{Loaded}
+use Rattle.model.specs.declared.Loaded.the-variants as l
+use Rattle.model.specs.Basics.{if_then_else_, ascii}
+use Rattle.model.specs.Values.{textAt}
+use Rattle.model.specs.Programs.{Function, Program, functionAt}
+use Rattle.model.specs.Listings.{decimal}
+use Rattle.model.specs.Stores.{Stores, storesOf, start, size, part, codeWord, constantsFrom, structsFrom, functionIn, functionsFrom, programIn}
+use Rattle.model.specs.Loading.{LoadRes, loadOf}
+use Rattle.model.specs.Reports.{emptyStores}
+use Rattle.laws_names.proofs.Standing.{length-structs}
+use Rattle.laws_images.proofs.Held.{written-front}
+use Rattle.laws_runs.proofs.Programs.{length-functions, function-at}
+use Rattle.listing.specs.Links.{lent}
+use Rattle.printing.specs.Links.{Put}
+use Rattle.printing.proofs.Puts.{is, within, both, nothing}
+use Rattle.notes.specs.Notes.{Known, knownOf, nameAt}
+use Rattle.notes.specs.Links.{programLent, knownIn}
+use Rattle.noted_listing.proofs.Lent.{known-is}
+use Rattle.check_rules.specs.declared.Rule.{Rule}
+use Rattle.check_rules.specs.declared.Checked.{Checked}
+use Rattle.check_rules.specs.declared.Checked.the-variants as c
+use Rattle.check_rules.specs.Rules.{firstAt, codeOf, isMain, ruleNumber}
+use Rattle.check_code.specs.Links.{Sized}
+use Rattle.check_places.specs.Places.{placeIn, placeOf, PlacePost}
+use Rattle.check_report.specs.Details.{operandWords, foundWords, functionWords, loadedWords, details}
+use Rattle.check_report.specs.Links.{FunctionPost, LoadedPost}
+
+-- ---- an instruction
+
+module _ (q : Rule) (code : List ℕ) (i : ℕ) {n : ℕ} (e : n ≡ ruleNumber q) {s : List ℕ} {at : ℕ} where
+  pub operand-none : n ≡ 1 → Put 30 (operandWords q code i) s at s at
+  unfolding operandWords
+  operand-none z = rw (← e, eq-eqb n 1 z) (within (nothing s at) 30 (omega arith))
+
+  pub operand-put : (n ≡ 1 → ⊥) → {k : ℕ} → (k ≡ firstAt code i) × (k < 0x1_0000) → {s' : List ℕ} {r : ℕ} → Put 30 (ascii ", operand " ++ decimal k) s at s' r
+      → Put 30 (operandWords q code i) s at s' r
+  unfolding operandWords
+  operand-put z f p = rw (← e, ne-eqb n 1 z, ← f .0) p
+
+module _ (q : Rule) (code : List ℕ) (i : ℕ) where
+  pub found-none : length code ≤ i → (s : List ℕ) (at : ℕ) → Put 81 (foundWords q code i) s at s at
+  unfolding foundWords
+  found-none h s at = rw (le-ltb _ _ h) (within (nothing s at) 81 (omega arith))
+
+  pub found-put : i < length code → {b : ℕ} → b ≡ getD code i 0 → {s₀ s₁ s₂ s₃ : List ℕ} {i₀ i₁ i₂ i₃ : ℕ} → Put 24 (ascii " at " ++ decimal i) s₀ i₀ s₁ i₁
+      → Put 27 (ascii ", byte " ++ decimal b) s₁ i₁ s₂ i₂ → Put 30 (operandWords q code i) s₂ i₂ s₃ i₃ → Put 81 (foundWords q code i) s₀ i₀ s₃ i₃
+  unfolding foundWords
+  found-put h e x y z = rw (lt-ltb _ _ h, ← e) (within (is (both (both x y) z) (simp append-assoc)) 81 (omega arith))
+
+-- ---- a function in its stores
+
+length-constants : (n i : ℕ) (cs t : List ℕ) → length (constantsFrom n i cs t) ≡ n
+unfolding constantsFrom
+length-constants zero i cs t = refl
+length-constants (suc n) i cs t = ap suc (length-constants n (suc i) cs t)
+
+sized : (k : Counts) (s : Stores) → Sized (k .constants) (k .structs) (k .functions) (programIn k s)
+unfolding programIn
+sized k s = record {
+  of-constants = length-constants (k .constants) 0 (s .constants) (s .text);
+  of-structs = length-structs (k .structs) 0 (s .structs) (s .text);
+  of-functions = length-functions s (k .functions) 0;
+}
+
+part-short : (s : List ℕ) (w : ℕ) → length (part s w) ≤ length s
+unfolding part textAt
+part-short s w =
+    let taken = length-take (size w) (drop (start w) s) in
+    let dropped = length-drop (start w) s in
+    let most = min-le-right (size w) (length (drop (start w) s)) in
+    omega arith
+
+one-store : (b : Bool) (main other : List ℕ) (w : ℕ) {n : ℕ} → length main ≤ n → length other ≤ n → length (part (if b then main else other) w) ≤ n
+one-store true main other w g h = let z = part-short main w in omega arith
+one-store false main other w g h = let z = part-short other w in omega arith
+
+module _ (k : Counts) (functions text main other : List ℕ) (f : ℕ) where
+  -- the stores, whatever else they hold
+  module _ (constants structs mainPlaces otherPlaces : List ℕ) where
+    abbrev stores : Stores
+    stores = storesOf constants structs functions text main mainPlaces other otherPlaces
+
+    named : knownOf (programIn k stores) .functions ≡ structsFrom (k .functions) 0 functions text
+    unfolding programLent knownIn
+    named = ap (λ (x : Known). x .functions) (known-is k constants structs functions text main mainPlaces other otherPlaces)
+
+    coded : f < k .functions → codeOf (programIn k stores) f ≡ functionIn stores f .code
+    unfolding programIn
+    coded h = let z : 0 + f ≡ f = omega arith in rw z at (ap (λ (x : Function). x .code) (function-at stores (k .functions) 0 f h))
+
+  pub code-fits : {code : List ℕ} → ((rest : Stores) (t : List ℕ) → code ≡ functionIn (lent rest functions t main other) f .code) × (length code < 2 ^ 32) → {n : ℕ} → length main ≤ n → length other ≤ n → length code ≤ n
+  unfolding functionIn lent
+  code-fits e g h = rw (e .0 (storesOf [] [] [] [] [] [] [] []) text) (one-store (eqb f 0) main other (codeWord functions f) g h)
+
+  module _ {q : Rule} {s₀ : List ℕ} where
+    pub function-none : k .functions ≤ f → FunctionPost k functions text main other q f s₀ s₀ 0
+    unfolding functionWords programIn
+    function-none h = record {
+      says = λ cs ss mp op. let n = length-functions (stores cs ss mp op) (k .functions) 0 in rw (n, le-ltb _ _ h) (within (nothing s₀ 0) 128 (omega arith));
+    }
+
+    pub function-put : f < k .functions → {code : List ℕ} → ((rest : Stores) (t : List ℕ) → code ≡ functionIn (lent rest functions t main other) f .code) × (length code < 2 ^ 32) → {i : ℕ}
+        → PlacePost (k .constants) (k .structs) (k .functions) q (eqb f 0) code i → {s₁ s₂ s₃ s₄ : List ℕ} {i₁ i₂ i₃ i₄ : ℕ} → Put 2 (ascii " (") s₀ 0 s₁ i₁
+        → Put 26 (nameAt (structsFrom (k .functions) 0 functions text) f []) s₁ i₁ s₂ i₂ → Put 1 (ascii ")") s₂ i₂ s₃ i₃ → Put 81 (foundWords q code i) s₃ i₃ s₄ i₄
+        → FunctionPost k functions text main other q f s₀ s₄ i₄
+    unfolding functionWords programIn placeOf lent
+    function-put h {code} e {i} place a b d g = record {
+      says = λ cs ss mp op.
+          let p = programIn k (stores cs ss mp op) in
+          let n = length-functions (stores cs ss mp op) (k .functions) 0 in
+          let own : code ≡ codeOf p f = e .0 (stores cs ss mp op) text ∙ sym (coded cs ss mp op h) in
+          let there : i ≡ placeIn p q (isMain f) (codeOf p f) = place .means p (sized k (stores cs ss mp op)) ∙ ap (placeIn p q (isMain f)) own in
+          let found : Put 81 (foundWords q (codeOf p f) (placeIn p q (isMain f) (codeOf p f))) _ _ _ _ = rw (own, there) at g in
+          let name = rw (← named cs ss mp op) at b in
+          rw (n, lt-ltb _ _ h) (within (is (both (both (both a name) d) found) (simp append-assoc)) 128 (omega arith));
+    }
+
+-- ---- what was loaded
+
+module _ {functions text main other : List ℕ} {q : Rule} {f : ℕ} {a : Loaded} {s s' : List ℕ} {r : ℕ} where
+  pub loaded-put : {k : Counts} → a ≡ l.Done k → FunctionPost k functions text main other q f s s' r → LoadedPost a functions text main other q f s s' r
+  unfolding loadedWords
+  loaded-put e h = record { says = λ cs ss mp op. rw e (h .says cs ss mp op) }
+
+module _ {functions text main other : List ℕ} {q : Rule} {f : ℕ} {a : Loaded} (s : List ℕ) where
+  pub broken-unput : {i : ℕ} → a ≡ l.Broken i → LoadedPost a functions text main other q f s s 0
+  unfolding loadedWords
+  broken-unput e = record { says = λ cs ss mp op. rw e (within (nothing s 0) 128 (omega arith)) }
+
+  pub refused-unput : {n : ℕ} → a ≡ l.Refused n → LoadedPost a functions text main other q f s s 0
+  unfolding loadedWords
+  refused-unput e = record { says = λ cs ss mp op. rw e (within (nothing s 0) 128 (omega arith)) }
+
+-- ---- of an image
+
+module _ (image : List ℕ) where
+  pub image-put : {a : Loaded} {constants structs functions text main mainPlaces other otherPlaces : List ℕ}
+      → record { answer = a; stores = storesOf constants structs functions text main mainPlaces other otherPlaces } ≡ loadOf image emptyStores → {q : Rule} {f : ℕ} {s s' : List ℕ} {r : ℕ}
+      → LoadedPost a functions text main other q f s s' r → Put 128 (details image (c.Breaks q f)) s 0 s' r
+  unfolding details
+  image-put {constants = constants} {structs = structs} {mainPlaces = mainPlaces} {otherPlaces = otherPlaces} e h = rw (← e) (h .says constants structs mainPlaces otherPlaces)
+
+  module _ {x : Checked} (s : List ℕ) where
+    pub passed-plain : {k : Counts} → x ≡ c.Passed k → Put 128 (details image x) s 0 s 0
+    unfolding details
+    passed-plain e = rw e (within (nothing s 0) 128 (omega arith))
+
+    pub broken-plain : {i : ℕ} → x ≡ c.Broken i → Put 128 (details image x) s 0 s 0
+    unfolding details
+    broken-plain e = rw e (within (nothing s 0) 128 (omega arith))
+
+    pub refused-plain : {n : ℕ} → x ≡ c.Refused n → Put 128 (details image x) s 0 s 0
+    unfolding details
+    refused-plain e = rw e (within (nothing s 0) 128 (omega arith))
+
+  pub breach-put : {x : Checked} {q : Rule} {f : ℕ} → x ≡ c.Breaks q f → {s s' : List ℕ} {r : ℕ} → Put 128 (details image (c.Breaks q f)) s 0 s' r → Put 128 (details image x) s 0 s' r
+  breach-put e p = rw e p
+
+-- ---- what was said, as a slice
+
+module _ {said s s' : List ℕ} {n : ℕ} (p : Put 128 said s 0 s' n) where
+  pub said-short : n ≤ 128
+  said-short = p .near
+
+  pub said-taken : length s ≡ 128 → take n s' ≡ said
+  said-taken h =
+      let e : length said ≡ n = (let z = p .next in omega arith) in
+      let m = p .near in
+      let all : s' ≡ said ++ drop (length said) s = p .stored ∙ written-front s said (omega arith) in
+      rw all (take-at said (drop (length said) s) n e)
+
+  pub said-length : length s ≡ 128 → n ≡ length (take n s')
+  said-length h = let e = p .next in let same = ap length (said-taken h) in omega arith

@@ -1,0 +1,68 @@
+-- `put_function`: the name, and where the rule is broken.
+use borrow.Author.Needs.{needs}
+use Rattle.model.specs.Basics.{ascii}
+use Rattle.check_report.proofs.Saying.{code-fits, function-none, function-put}
+use Rattle.check_report.proofs.details.put_function.Statement.{statement}
+use Rattle.check_report.proofs.details.put_function.Tie as tie
+
+slice-aggregate-put-text : tie.Need-slice-aggregate-put-text
+slice-aggregate-put-text c = search needs
+
+put-text-requires : tie.Need-put-text-requires
+put-text-requires c κs = search needs
+
+slice-aggregate-put-name-at : tie.Need-slice-aggregate-put-name-at
+slice-aggregate-put-name-at c = search needs
+
+put-name-at-requires : tie.Need-put-name-at-requires
+put-name-at-requires c κs = search needs
+
+slice-aggregate-put-text-2 : tie.Need-slice-aggregate-put-text-2
+slice-aggregate-put-text-2 c = search needs
+
+put-text-requires-2 : tie.Need-put-text-requires-2
+put-text-requires-2 c κs = search needs
+
+code-of-requires : tie.Need-code-of-requires
+code-of-requires c κs = search needs
+
+first-place-requires : tie.Need-first-place-requires
+first-place-requires c κs =
+    let at-start = c .before .before .before .before .before .before .before .before .before .before .before .before .before
+    .before .before .before .before .before .before .before .before .before .before .before .before in
+    code-fits (at-start .args .c) (at-start .args .functions .now) (at-start .args .text .now) _ _ (at-start .args .f)
+    (c .before .code-of .ensures) (at-start .pre .0) (at-start .pre .1)
+
+put-found-requires : tie.Need-put-found-requires
+put-found-requires c κs = search needs
+
+same-length : tie.Need-same-length
+same-length c = search needs
+
+same-length-2 : tie.Need-same-length-2
+same-length-2 c = search needs
+
+returns : tie.Need-returns
+unfolding ascii
+returns c = search function-put
+
+returns-2 : tie.Need-returns-2
+returns-2 c = search function-none
+
+pub put-function-spec : {M : Type 1} → statement M
+put-function-spec =
+    tie.close
+    (tie.spec
+    slice-aggregate-put-text
+    put-text-requires
+    slice-aggregate-put-name-at
+    put-name-at-requires
+    slice-aggregate-put-text-2
+    put-text-requires-2
+    code-of-requires
+    first-place-requires
+    put-found-requires
+    same-length
+    same-length-2
+    returns
+    returns-2)
