@@ -9,13 +9,16 @@ use Rattle.model.specs.Examples.{examples-hold}
 use Rattle.model.specs.Mistakes.{mistakes-show}
 use Rattle.laws_checks.proofs.Keeping.{keeps-the-table}
 use Rattle.laws_runs.proofs.Paths.{returns-counted}
+use Rattle.laws_runs.proofs.More.{more-units}
+use Rattle.laws_runs.proofs.Parts.{dealt-as-one, parts-are-one-run}
+use Rattle.laws_meaning.proofs.Runs.{begin-alike, continue-alike, abandon-alike}
 use Rattle.laws_runs.proofs.Programs.{parts-of, length-functions}
 use Rattle.laws_runs.proofs.Ordered.{order-world, order-sane}
 use Rattle.laws_programs.proofs.Known.{limited}
 use Rattle.laws_rust.specs.Same.{rustOf}
 use Rattle.laws_rust.proofs.Turns.{step-same}
 use Rattle.laws_rust.proofs.Loop.{run-same}
-use Rattle.laws_rust.proofs.Back.{rust-same, ok-same}
+use Rattle.laws_rust.proofs.Back.{more-turns, rust-same, ok-same}
 use Rattle.image.proofs.Trip.{image-back, image-only, one-program-one-image, load-then-save, save-then-load, saved-loads}
 use Rattle.demands.specs.Host.{Held}
 use Rattle.demands.specs.Kept.{InOrder}
@@ -34,11 +37,11 @@ use Rattle.noted_listing.proofs.Walking.{notes-show-the-walk}
 use Rattle.noted_report.proofs.Fits.{noter-fits}
 use Rattle.laws_code.proofs.Numbers.{listing-numbers}
 use Rattle.laws_code.proofs.Walks.{step-takes-the-walk, listing-shows-the-walk}
-use Rattle.demands.proofs.Paying.{step-cost, fault-fee, path-units}
+use Rattle.demands.proofs.Paying.{step-cost, fault-cost, path-units}
 use Rattle.demands.proofs.Growing.{as-trees}
 use Rattle.demands.proofs.Bytes.{fine-kept}
 use Rattle.demands.proofs.Recovering.{fault-recovers, set-up-alike}
-use Rattle.demands.proofs.MeantChains.{chain-alike}
+use Rattle.demands.proofs.MeantChains.{chain-alike, self-alike}
 use Rattle.demands.proofs.Chains.{past-counts-unseen, ask-one}
 use Rattle.demands.proofs.OneRun.{run-one}
 use Rattle.demands.proofs.Relending.{values-anew, functions-anew, relent-stands, relent-alike}
@@ -81,11 +84,15 @@ kept = record {
   as-the-rust = λ h f u turns. run-same (worldIn h) (order-world _ _ _ (f .order .machine) (f .code)) (few h f) _ u (order-sane _ _ _ (f .order .machine) u) turns;
   from-the-rust = λ h f u turns l. rust-same (worldIn h) (order-world _ _ _ (f .order .machine) (f .code)) (few h f) _ u (order-sane _ _ _ (f .order .machine) u) l turns;
   ok-same = ok-same;
+  more-turns = more-turns;
   step-same = step-same;
   run-written = λ m s e u q e' p c x a. run-written m s e u p a;
   returns-counted = λ w n m k s t p. returns-counted w p;
   step-cost = λ w s. step-cost w s;
-  fault-fee = λ w s n t e. fault-fee w s e;
+  fault-cost = λ w s n t e. fault-cost w s e;
+  dealt-as-one = dealt-as-one;
+  parts-are-one-run = parts-are-one-run;
+  more-units = more-units;
   path-units = λ w n m k s t p. path-units p;
   keeps-the-table = keeps-the-table;
   step-takes-the-walk = step-takes-the-walk;
@@ -99,6 +106,10 @@ kept = record {
   saved-loads = saved-loads;
   fault-recovers = λ h h' u n did j p q. fault-recovers u p q;
   chain-alike = λ again cs h d e f xs ys a n t p q. chain-alike a n t p q;
+  begin-alike = begin-alike;
+  continue-alike = continue-alike;
+  abandon-alike = abandon-alike;
+  self-alike = λ again h d o p c s r m. self-alike again o p c s r m;
   set-up-alike = λ again x h k d a b o p. set-up-alike again a b o p;
   past-counts-unseen = λ calls h k e f xs ys a p q. past-counts-unseen a p q;
   relent-stands = λ h k o g. relent-stands o g;

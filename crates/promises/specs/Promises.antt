@@ -29,7 +29,7 @@ use Rattle.model.specs.Orders.{programOk}
 use Rattle.model.specs.Loading.{roomFor, loadOf, saveOf, putOut}
 use Rattle.model.specs.Steps.{World, State, position, codeOf, went, faulted, execOf, stepOf}
 use Rattle.model.specs.Listings.{text, unlisted, listingOf}
-use Rattle.model.specs.Runs.{Machine, Progress, Ran, begin, over, endOf, root, runOf}
+use Rattle.model.specs.Runs.{Machine, Progress, Entry, fault, Ran, begin, over, endOf, root, Under, partOf, beginOf, continueOf, abandonOf, dealt, givenUp, runOf}
 use Rattle.model.specs.Machines.{Lent, innermost, RunPost, answerIn, ran, entriesIn, fresh, loadMachineOf}
 use Rattle.model.specs.Examples.{Example, examples}
 use Rattle.model.specs.Mistakes.{Row, mistakes}
@@ -53,8 +53,11 @@ use Rattle.laws_code.specs.Walk.{shownFrom, walked}
 use Rattle.laws_runs.specs.Sane.{SaneWorld, Sane}
 use Rattle.laws_runs.specs.Ordered.{CodeBytes}
 use Rattle.laws_runs.specs.Paths.{Steps, rootReturns}
+use Rattle.laws_runs.specs.Parts.{SaneUnder, sumOf}
+use Rattle.laws_meaning.specs.Alike.{Layout, laidOut, AlikeConstants, AlikeMachine, AlikeUnder}
+use Rattle.laws_meaning.specs.Answers.{AlikeRan, AlikePart}
 use Rattle.laws_rust.specs.Vm as rust
-use Rattle.laws_rust.specs.Same.{rustOf, rustAt, Agrees, RunAs, Unlimited, AnswersAs, Means}
+use Rattle.laws_rust.specs.Same.{rustOf, rustAt, Agrees, RunAs, Ends, Unlimited, AnswersAs, Means}
 use Rattle.image.specs.Loads.{LoadsAs}
 use Rattle.image.proofs.Sounds.{Below}
 use Rattle.demands.specs.Host.{Held, Ask, Call, run, ask, new, load, Answer, started, After, RanBy, Chain}
@@ -62,7 +65,7 @@ use Rattle.demands.specs.Refusals.{Demand1, refusedBy}
 use Rattle.demands.specs.Kept.{InOrder}
 use Rattle.demands.specs.Jobs.{AllTyped, anew}
 use Rattle.demands.specs.Meant.{Fine, worldIn, machineOf, AsLong, AlikeHeld, AlikeChains}
-use Rattle.demands.specs.Units.{Demand2, Costs, pairsAt, Fee, spentOn}
+use Rattle.demands.specs.Units.{Demand2, Costs, pairsAt, spentOn}
 use Rattle.demands.specs.Trees.{AsTrees}
 use Rattle.demands.specs.Recovery.{SetUp, Demand3}
 use Rattle.demands.specs.Agree.{Rooms, Agree}
@@ -100,14 +103,21 @@ pub record Promises : Type 0 where
   pub ok-same : (w : World) → SaneWorld w → length (w .functions) ≤ 65536 → (m : Machine) (u : ℕ) → Sane w (begin m u) → Unlimited (endOf w (begin m u))
       → (turns : ℕ) (x : Option Tree) (vm : rust.Vm) → rust.run turns (rustOf w m) ≡ rust.ok x vm
       → Means w (runOf w m u .machine) (runOf w m u .reply) x × (vm ≡ rustOf w (runOf w m u .machine))
+  -- more turns change nothing of what the Rust has come to
+  pub more-turns : (n k : ℕ) (vm : rust.Vm) → Ends (rust.run n vm) → rust.run (n + k) vm ≡ rust.run n vm
   -- step for step: a step of the rules does what a turn of the Rust's loop does
   pub step-same : (w : World) → SaneWorld w → length (w .functions) ≤ 65536 → (s : State) → Sane w s → over w s ≡ false → Agrees w (stepOf w s) (rust.turn (rustAt w s))
   -- what the code answers is a path of written steps, with their units and root Returns
   pub run-written : (m : Vm) (s : Stores) (e : Lent) (u : ℕ) (q : RunResult) (e' : Lent) → RunPost m s e u q e' → (c : Counts) (x : Ran) → answerIn e' q ≡ ran c x → Demand2 m s e u c x
   pub returns-counted : (w : World) (n : ℕ) (m k : Progress) (s t : State) (p : Steps w n m s k t) → k .returns ≡ m .returns + rootReturns p
   pub step-cost : (w : World) (s : State) → Costs (suc (pairsAt w s)) s (stepOf w s)
-  pub fault-fee : (w : World) (s : State) (n : Fault) (t : State) → stepOf w s ≡ faulted n t → Fee s n t
+  pub fault-cost : (w : World) (s : State) (n : Fault) (t : State) → stepOf w s ≡ faulted n t → s .units ≡ t .units + 1
   pub path-units : (w : World) (n : ℕ) (m k : Progress) (s t : State) (p : Steps w n m s k t) → s .units ≡ t .units + spentOn p
+  -- however units are dealt out, zero among them, a run comes to what it comes to with their sum at once; abandoned where it is paused it is one run
+  pub dealt-as-one : (w : World) (m : Machine) (u : ℕ) (us : List ℕ) → dealt w (beginOf w m) (u ∷ us) ≡ partOf w (m .stack) (sumOf (u ∷ us)) (endOf w (begin m (sumOf (u ∷ us))))
+  pub parts-are-one-run : (w : World) (m : Machine) (us : List ℕ) → givenUp w (dealt w (beginOf w m) us) ≡ runOf w m (sumOf us)
+  -- more units change nothing of a run that does not end in 13
+  pub more-units : (w : World) (d : ℕ) (m : Machine) (u : ℕ) → ((did : Tally) (trace : List Entry) → runOf w m u .reply ≡ fault 13 did trace → ⊥) → runOf w m (u + d) ≡ runOf w m u
   -- an instruction faults exactly if a check of its row fails, and by the number of the first that does
   pub keeps-the-table : (w : World) (op : Op) (a b : ℕ) (s : State) → Keeps (firstFailed w s (checksOf op (s .frame .base) a b)) (execOf w op a b s)
   -- a step of an opcode goes on from where the walk over instructions stands next, and a listing shows a line for each place where that walk stands
@@ -134,6 +144,16 @@ pub record Promises : Type 0 where
       → Demand3 u h n did (entriesIn j 0 (h' .lent .backtrace)) h'
   pub chain-alike : (again : Bool) (cs : List Call) (h d e f : Held) (xs ys : List Answer) → AlikeHeld again h d → (anew cs ≡ true → again ≡ true) → AllTyped cs
       → (p : Chain cs h xs e) (q : Chain cs d ys f) → AlikeChains again p q
+  -- runs of machines that mean the same, wherever their texts and cells lie: begun, continued and abandoned they come to the same by meaning
+  pub begin-alike : (w : World) (o : Layout) → SaneWorld w → SaneWorld (laidOut o w) → AlikeConstants w o → (m m' : Machine) → Sane w (begin m 0) → Sane (laidOut o w) (begin m' 0)
+      → AlikeMachine w o m m' → AlikePart w o (beginOf w m) (beginOf (laidOut o w) m')
+  pub continue-alike : (w : World) (o : Layout) → SaneWorld w → SaneWorld (laidOut o w) → AlikeConstants w o → (r r' : Under) → SaneUnder w r → SaneUnder (laidOut o w) r'
+      → AlikeUnder w o r r' → (u : ℕ) → AlikePart w o (continueOf w r u) (continueOf (laidOut o w) r' u)
+  pub abandon-alike : (w : World) (o : Layout) → SaneWorld w → SaneWorld (laidOut o w) → AlikeConstants w o → (r r' : Under) → SaneUnder w r → SaneUnder (laidOut o w) r'
+      → AlikeUnder w o r r' → AlikeRan w o (abandonOf w r) (abandonOf (laidOut o w) r')
+  -- a machine in another place means the same as itself
+  pub self-alike : (again : Bool) (h d : Held) → Fine h → Fine d → d .vm .program ≡ h .vm .program → d .stores ≡ h .stores → Rooms (d .lent) (h .lent)
+      → machineOf d ≡ machineOf h → AlikeHeld again h d
   -- two machines set up in one state mean the same
   pub set-up-alike : (again : Bool) (x : Machine) (h k d : Held) → SetUp x h k → SetUp x h d → Fine k → Fine d → AlikeHeld again k d
   pub past-counts-unseen : (calls : List Call) (h k e f : Held) (xs ys : List Answer) → Agree h k → Chain calls h xs e → Chain calls k ys f → xs ≡ ys
