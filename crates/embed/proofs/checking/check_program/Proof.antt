@@ -1,7 +1,7 @@
 -- `check_program`: the check, over what it is lent of the heights and of the functions.
 use borrow.Author.Needs.{needs}
 use Rattle.check_words.proofs.Crossing.{rows-fit, rows-taken, check-crosses}
-use Rattle.embed.proofs.Through.{room-fits, room-taken}
+use Rattle.laws_embed.proofs.Through.{room-fits, room-taken}
 use Rattle.embed.proofs.checking.check_program.Statement.{statement}
 use Rattle.embed.proofs.checking.check_program.Tie as tie
 
