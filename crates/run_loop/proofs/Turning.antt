@@ -111,7 +111,7 @@ module _ (k : Fixed) (n : ℕ) (constants functions text main other : List ℕ) 
   abbrev pub Ways : Bool → Going → List ℕ → List ℕ → List Frame → Course → List ℕ → List ℕ → List Frame → Type 0
   Ways b g s x frames c s' x' frames' = (w : World) → Under w k g n constants functions text main other s x frames → Way b w g s x frames c s' x' frames'
 
-  -- a run that goes on is not yet to come to what the rules say: its loop takes another turn
+  -- a run that goes on takes another turn: if it did not, it would have to stand where the rules end it
   pub a-run-goes-on : {g : Going} {s x : List ℕ} {frames : List Frame} {h : Going} {s' x' : List ℕ} {frames' : List Frame}
       → Ways true g s x frames (goesOn h) s' x' frames' → Ways (goesOn h .on) g s x frames (goesOn h) s' x' frames'
   a-run-goes-on ways = ways
