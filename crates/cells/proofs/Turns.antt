@@ -27,7 +27,7 @@ use Rattle.cells.proofs.Stands.{length-heap, item-is, header-is, header
 
 pub said-verdict : (b : Bool) (l : ℕ) → verdict l (said b) ≡ Done b l
 unfolding verdict
-said-verdict b l = let z : l - 0 ≡ l = omega arith in rw (le-leb 0 l (omega arith), z)
+said-verdict b l = rw (le-leb 0 l (omega arith)) (ap (Done b) (omega arith))
 
 none-left : (o m : Same) → verdict 0 (andNext o m) ≡ Out
 unfolding verdict andNext

@@ -20,13 +20,12 @@ use Rattle.model.specs.declared.Fault.the-variants as f
 use Rattle.model.specs.declared.Frame.{Frame}
 use Rattle.model.specs.declared.Tally.{Tally}
 use Rattle.model.specs.declared.RunResult.{RunResult}
-use Rattle.model.specs.declared.RunResult.the-variants as r
 use Rattle.model.specs.Basics.{written}
-use Rattle.model.specs.Values.{faultNumber, places}
+use Rattle.model.specs.Values.{faultNumber, places, vals}
 use Rattle.model.specs.Programs.{functionAt}
-use Rattle.model.specs.Runs.{Machine, begin, machineOf, Ended, ended, endOf, root, Entry, traceOf, traceable, recovered, Ran, answered, fault, partOf, cutAt, abandonOf, givenUp, runOf}
+use Rattle.model.specs.Runs.{begin, machineOf, Ended, ended, endOf, root, traceOf, traceable, recovered, Ran, answered, fault, partOf, cutAt, abandonOf, givenUp, runOf}
 use Rattle.model.specs.Stores.{Stores, size, codeWord, functionsFrom, worldIn}
-use Rattle.model.specs.Machines.{Lent, frameRoom, machineIn, worldOf, runOrder, ran, runAnswer, copyAfter, entryWords, traceOfReply, traceAfter, entriesIn, ranAs, SameRooms, Left, RunPost}
+use Rattle.model.specs.Machines.{Lent, frameRoom, innermost, callersIn, machineIn, worldOf, runOrder, ran, runAnswer, copyAfter, entryWords, traceOfReply, traceAfter, entriesIn, SameRooms, Left, RunPost}
 use Rattle.model.specs.Machines as mc
 use Rattle.cells.proofs.Stands.{exact-cut}
 use Rattle.laws_runs.specs.Ordered.{Exact}
@@ -41,6 +40,7 @@ use Rattle.run_steps.specs.Links.{answerIn, progressIn}
 use Rattle.run_loop.specs.declared.Course.{Course}
 use Rattle.run_loop.specs.Links.{Ends, over, pause, stop, TurnsPost}
 use Rattle.run_ends.specs.Links.{vmEnded, resultBy, tallyOf, endedWith, vmFaulted, faultedWith}
+use Rattle.run_ends.proofs.Ruled.{an-end-leaves-the-machine-as-it-stands, an-end-answers-by-the-rules, a-fault-leaves-the-recovered-machine, a-fault-answers-by-the-rules}
 use Rattle.machine.specs.Links.{runLent, Granted}
 use Rattle.frames.proofs.Callers.{innermost-is, callers-are, callers-kept, length-callers}
 use Rattle.machine.proofs.Copies.{restored-at, same-kind, same-payload, same-vals}
@@ -57,22 +57,10 @@ pub record Came (m : Vm) (s : Stores) (l : Lent) (u : ℕ) (k : Fixed) (g : Goin
 
 -- ---- answers
 
--- the answer of a run that has ended, in stores l
-result-is : (l : Lent) (a : Last) (m : Vm) (n : Tally) → mc.answerIn l (resultBy a m n) ≡ ranAs m l (answered a n)
-unfolding mc.answerIn resultBy answered
-result-is l Nothing m n = refl
-result-is l (Is x) m n = refl
-
 result-left : (s : Stores) (l l' : Lent) (a : Last) (m : Vm) (n : Tally) → runOrder m s l' ≡ true → Left s l (resultBy a m n) l'
 unfolding resultBy
 result-left s l l' Nothing m n e = e
 result-left s l l' (Is x) m n e = e
-
--- the answer of a run that has stopped
-fault-is : (l : Lent) (m : Vm) {n i : ℕ} (did : Tally) (j : ℕ) {es : List Entry} {x : Machine} → n ≡ i → entriesIn j 0 (l .backtrace) ≡ es → machineIn m l ≡ x
-    → mc.answerIn l (r.Fault m n did j) ≡ ran (m .program) (record { reply = fault i did es; machine = x })
-unfolding mc.answerIn
-fault-is l m did j e t q = rw (e, t, q)
 
 -- a run that has ended writes no backtrace
 no-trace : (a : Last) (n : Tally) → entryWords (traceOfReply (answered a n)) ≡ []
@@ -175,17 +163,21 @@ module _ (m : Vm) (s : Stores) (l : Lent) (u : ℕ) (k : Fixed) (g : Going) (c :
     abbrev lentEnded : Lent
     lentEnded = runLent stack cells framesEnded copied (l .backtrace)
 
-    machine-ended : machineIn (vmEnded m now) lentEnded ≡ machineOf (stateOf now stack cells callers)
-    unfolding machineIn vmEnded runLent
-    machine-ended =
+    one-less : suc (now .callers) - 1 ≡ now .callers
+    one-less = omega arith
+
+    current-put : innermost (suc (now .callers)) framesEnded ≡ frameIn now
+    current-put = innermost-is (suc (now .callers)) framesEnded one-less ∙ getD-set-same frames (now .callers) (frameIn now) noFrame callers-there
+
+    callers-stay : callersIn (suc (now .callers)) framesEnded ≡ callers
+    callers-stay =
         let there = callers-there in
-        let n : suc (now .callers) - 1 ≡ now .callers = omega arith in
-        rw (
-          innermost-is (suc (now .callers)) framesEnded n,
-          getD-set-same frames (now .callers) (frameIn now) noFrame there,
-          callers-are (suc (now .callers)) framesEnded n (omega (arith, length-set frames (now .callers) (frameIn now))),
-          callers-kept (now .callers) (now .callers) frames (frameIn now) (omega arith),
-        )
+        callers-are (suc (now .callers)) framesEnded one-less (omega (arith, length-set frames (now .callers) (frameIn now)))
+        ∙ callers-kept (now .callers) (now .callers) frames (frameIn now) (omega arith)
+
+    machine-ended : machineIn (vmEnded m now) lentEnded ≡ machineOf (stateOf now stack cells callers)
+    unfolding runLent
+    machine-ended = an-end-leaves-the-machine-as-it-stands m u now lentEnded current-put callers-stay
 
     rooms-ended : SameRooms l lentEnded
     unfolding runLent
@@ -203,7 +195,7 @@ module _ (m : Vm) (s : Stores) (l : Lent) (u : ℕ) (k : Fixed) (g : Going) (c :
     run-ended =
         let q = run-is m s l u (ended (progressIn now cells) (stateOf now stack cells callers)) (h .begins .granted) (is-ended ends) in
         posted m s l u _ (endedWith m u now) lentEnded q
-        (result-is lentEnded (answerIn now) (vmEnded m now) (tallyOf u now) ∙ unfold partOf givenUp vmEnded in rw machine-ended)
+        (unfold runLent endedWith in an-end-answers-by-the-rules m u now lentEnded current-put callers-stay (worldOf m s l) (machineIn m l .stack))
         (unfold runLent in refl)
         (unfold partOf givenUp runLent written in rw (no-trace (answerIn now) (tallyOf u now)))
         rooms-ended
@@ -262,19 +254,23 @@ module _ (m : Vm) (s : Stores) (l : Lent) (u : ℕ) (k : Fixed) (g : Going) (c :
     main-length : length (functionAt (functionsFrom (m .program .functions) 0 s) 0 .code) ≡ size (codeWord (s .functions) 0)
     main-length = code-size (m .program) s parts 0 (has-main (m .program) s parts)
 
-    machine-stopped : machineIn (vmFaulted m now) lentStopped ≡ recovered (worldOf m s l) (machineIn m l .stack) (progressIn now cells)
-    unfolding machineIn vmFaulted runLent recovered worldOf worldIn
-    machine-stopped =
+    stack-put-back : vals (m .stack) stackStopped ≡ machineIn m l .stack
+    unfolding machineIn
+    stack-put-back = same-vals (m .stack) stackStopped (l .stack) same-words
+
+    main-put : innermost 1 framesStopped ≡ root (length (functionAt (worldOf m s l .functions) 0 .code))
+    unfolding worldOf worldIn
+    main-put =
         let there : 0 < length frames = let z = callers-there in omega arith in
-        let n : 1 - 1 ≡ 0 = omega arith in
-        rw (
-          innermost-is 1 framesStopped n,
-          getD-set-same frames 0 (root (size (codeWord (s .functions) 0))) noFrame there,
-          callers-are 1 framesStopped n (omega arith),
-          same-vals (m .stack) stackStopped (l .stack) same-words,
-          main-length,
-        )
-        (unfold callersOf in refl)
+        innermost-is 1 framesStopped (omega arith) ∙ getD-set-same frames 0 (root (size (codeWord (s .functions) 0))) noFrame there ∙ ap root (sym main-length)
+
+    no-callers : callersIn 1 framesStopped ≡ []
+    unfolding callersOf
+    no-callers = let z : 1 - 1 ≡ 0 = omega arith in callers-are 1 framesStopped z (omega arith)
+
+    machine-stopped : machineIn (vmFaulted m now) lentStopped ≡ recovered (worldOf m s l) (machineIn m l .stack) (progressIn now cells)
+    unfolding runLent
+    machine-stopped = a-fault-leaves-the-recovered-machine m u now lentStopped (worldOf m s l) stack-put-back main-put no-callers
 
     rooms-stopped : SameRooms l lentStopped
     unfolding runLent written
@@ -315,7 +311,7 @@ module _ (m : Vm) (s : Stores) (l : Lent) (u : ℕ) (k : Fixed) (g : Going) (c :
     run-faulted =
         let q = run-is m s l u ranEnd (h .begins .granted) refl ∙ ap (ran (m .program)) (stops .settles) in
         posted m s l u _ (faultedWith m u now (c .fault)) lentStopped q
-        (unfold faultedWith vmFaulted runLent in fault-is lentStopped (vmFaulted m now) (tallyOf u now) (suc (now .callers)) refl told-entries machine-stopped)
+        (unfold runLent in a-fault-answers-by-the-rules m u now lentStopped (worldOf m s l) stack-put-back main-put no-callers (c .fault) told-entries)
         (unfold runLent in refl)
         (unfold runLent traceOfReply in rw told-words)
         rooms-stopped

@@ -2,3 +2,5 @@
 pub mod Judging
 pub mod Starting
 pub mod Answering
+-- and in the words of the rules
+pub mod Ruled

@@ -54,6 +54,10 @@ taken-count n text h = let z = length-take n text in omega arith
 
 -- ---- what the run comes to
 
+-- a frame that is called, or gone back to, is the rules' frame: its function, its position and its own base
+pub a-frame-is-entered-whole : (g : Going) (n : ℕ) (f : Frame) (s x : List ℕ) (cs : List Frame) → stateOf (inFrame g n f) s x cs ≡ withFrames f cs (stateOf g s x cs)
+a-frame-is-entered-whole g n f s x cs = refl
+
 -- where there is a caller, a Back goes on in it
 back-means : {w : World} {cs : List Frame} {k : Fixed} {g : Going} {s x : List ℕ} {m : Going} {s' x' : List ℕ} (c : Frame) (ds : List Frame) → cs ≡ c ∷ ds → ExecPost w cs k g s x (Back m) s' x'
     → endFrom w (progressIn g x) (stateOf g s x cs) ≡ endFrom w (progressIn m x') (withFrames c ds (stateOf m s' x' ds))
@@ -106,6 +110,11 @@ module _ (k : Fixed) (n : ℕ) (constants functions text main other : List ℕ) 
   -- the same in every world that the stores fit
   abbrev pub Ways : Bool → Going → List ℕ → List ℕ → List Frame → Course → List ℕ → List ℕ → List Frame → Type 0
   Ways b g s x frames c s' x' frames' = (w : World) → Under w k g n constants functions text main other s x frames → Way b w g s x frames c s' x' frames'
+
+  -- a run that goes on takes another turn: if it did not, it would have to stand where the rules end it
+  pub a-run-goes-on : {g : Going} {s x : List ℕ} {frames : List Frame} {h : Going} {s' x' : List ℕ} {frames' : List Frame}
+      → Ways true g s x frames (goesOn h) s' x' frames' → Ways (goesOn h .on) g s x frames (goesOn h) s' x' frames'
+  a-run-goes-on ways = ways
 
   abbrev pub Said : Going → List ℕ → List ℕ → Event → List ℕ → List ℕ → Type 0
   Said g s x e s' x' = (w : World) (cs : List Frame) → Ready w cs k g (codeIn functions main other (g .function)) constants functions (take n text) s x → ExecPost w cs k g s x e s' x'
@@ -275,14 +284,15 @@ module _ (k : Fixed) (n : ℕ) (constants functions text main other : List ℕ) 
             → Ways (r .on) g₀ s₀ x₀ frames₀ r s' x' rows
         call-on {m} {i} {b} {f} {rows} said here put is =
             subst (λ (r : Course). Ways (r .on) g₀ s₀ x₀ frames₀ r s' x' rows) (sym is)
+            (a-run-goes-on
             (subst (λ (rows : List Frame). Ways true g₀ s₀ x₀ frames₀ (goesOn (inFrame m (m .callers + 1) (entered i b))) s' x' rows) (sym (put ∙ ap (set frames (m .callers)) here))
-            (λ w at. let z = ways w at in gone-on z (enters (z .under) e (said w _ (ready (z .under))))))
+            (λ w at. let z = ways w at in gone-on z (enters (z .under) e (said w _ (ready (z .under)))))))
 
         pub back-on : {m : Going} {j : ℕ} {f : Frame} → Said (c .going) s x (Back m) s' x' → m .callers ≡ j + 1 → f ≡ getD frames j noFrame → r ≡ goesOn (inFrame m j f)
             → Ways (r .on) g₀ s₀ x₀ frames₀ r s' x' frames
         back-on {m} {j} {f} said some here is =
             subst (λ (r : Course). Ways (r .on) g₀ s₀ x₀ frames₀ r s' x' frames) (sym (is ∙ ap (λ (f : Frame). goesOn (inFrame m j f)) here))
-            (λ w at. let z = ways w at in gone-on z (resumes (z .under) e j some (said w _ (ready (z .under)))))
+            (a-run-goes-on (λ w at. let z = ways w at in gone-on z (resumes (z .under) e j some (said w _ (ready (z .under))))))
 
       module _ {w : World} (at : Under w k g₀ n constants functions text main other s₀ x₀ frames₀) {s' x' : List ℕ} where
         -- the frames have room for one that is called from, and a caller stands in them

@@ -35,7 +35,7 @@ use Rattle.frames.proofs.push_frame.Symbol.{name as #write}
 use Rattle.frames.proofs.push_frame.Met as write-thm
 use Rattle.run_loop.specs.declared.Course.{Course}
 use Rattle.run_loop.specs.Links.{codeIn, goesOn, isOver, isStopped, isGivenUp, inFrame, Under}
-use Rattle.run_loop.proofs.Turning.{Ways, Said, weight, over-less, stopped-less, paused-less, gone-none, goes, ends-so, asks, roomy, over-on, stopped-on, paused-on, call-on, back-on, within, some-back, fetchable, call-less, back-less}
+use Rattle.run_loop.proofs.Turning.{Ways, Said, weight, over-less, stopped-less, paused-less, a-run-goes-on, gone-none, goes, ends-so, asks, roomy, over-on, stopped-on, paused-on, call-on, back-on, within, some-back, fetchable, call-less, back-less}
 use Rattle.run_loop.proofs.Course as TC
 use Rattle.run_loop.proofs.Course.Laws as TC′
 use Rattle.run_loop.proofs.begun as begun
@@ -582,7 +582,7 @@ module _ {M : Type 1} (𝓤 : URA M) (H : Heap 𝓤) (A : Atoms 𝓤) (W : Given
             refl,
             refl,
             subst (λ (r : Course). Came (r .on) r stack₀ cells₀ frames₀) (sym ec)
-                (λ w at. gone-none k n constants functions text main other at),
+                (a-run-goes-on k n constants functions text main other (λ w at. gone-none k n constants functions text main other at)),
           ),
         )))))
 
