@@ -1,5 +1,5 @@
 -- The theorems. Demand 1: `refuses`, `steps-within`, `new-in-order`, `load-in-order`, `chain-kept`, `run-in-order`.
--- Demand 2: `run-written`, with `step-cost`, `fault-fee`, `path-units`, `run-is-steps` and `as-trees`.
+-- Demand 2: `run-written`, with `step-cost`, `fault-cost`, `path-units`, `run-is-steps` and `as-trees`.
 -- Demand 3: `fault-recovers`, with `fault-leaves`, `chain-alike`, `chains-agree` and `past-counts-unseen`. Demand 4: `run-one`, `ask-one`.
 
 -- lent stores that are the same below the counts; a machine in good order fixes its words
@@ -13,7 +13,7 @@ pub mod Asks
 pub mod Chains
 -- a run that was not refused is the rules' run
 pub mod Went
--- `step-cost`, `fault-fee`, `path-units`, `run-is-steps`, `as-trees`, `run-written`, `steps-within`
+-- `step-cost`, `fault-cost`, `path-units`, `run-is-steps`, `as-trees`, `run-written`, `steps-within`
 pub mod Paying
 pub mod Growing
 pub mod Written
@@ -36,3 +36,5 @@ pub mod Example
 pub mod Recovering
 -- `relent-stands`, `relent-alike`
 pub mod Relending
+-- `relent-chain-says`
+pub mod AnewChains

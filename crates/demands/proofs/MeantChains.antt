@@ -21,13 +21,13 @@ use Rattle.demands.proofs.Bytes.{fine-kept}
 use Rattle.demands.proofs.MeantRuns.{AlikeCall, same-world, run-said}
 use Rattle.demands.proofs.MeantAsks.{ask-said}
 
-call-alike : {r : Bool} (c : Call) {h d h' d' : Held} {x y : Answer} → AlikeHeld r h d → (anew (c ∷ []) ≡ true → r ≡ true) → AllTyped (c ∷ []) → After c h x h'
+pub call-alike : {r : Bool} (c : Call) {h d h' d' : Held} {x y : Answer} → AlikeHeld r h d → (anew (c ∷ []) ≡ true → r ≡ true) → AllTyped (c ∷ []) → After c h x h'
     → After c d y d' → AlikeCall r c x h' y d'
 unfolding anew AllTyped
 call-alike (run u) {x = x} {y = y} a n t p q = run-said a u (fine-kept (run u) x t p (a .fine)) (fine-kept (run u) y t q (a .beside)) p q
 call-alike (ask i) a n t p q = rw (p, q) at (ask-said a i (t .0) (λ e. n (rw e)))
 
-anew-first : (c : Call) (cs : List Call) → anew (c ∷ []) ≡ true → anew (c ∷ cs) ≡ true
+pub anew-first : (c : Call) (cs : List Call) → anew (c ∷ []) ≡ true → anew (c ∷ cs) ≡ true
 unfolding anew
 anew-first (run u) cs e = absurd (let z : _≡_ {A = ℕ} 0 1 = cc in let y : ⊥ = omega arith in y)
 anew-first (ask q) cs e = first (isMakes (jobOf q)) (anew cs) e
@@ -36,7 +36,7 @@ anew-first (ask q) cs e = first (isMakes (jobOf q)) (anew cs) e
     first true z e = refl
     first false z e = absurd (let q : _≡_ {A = ℕ} 0 1 = cc in let y : ⊥ = omega arith in y)
 
-anew-rest : (c : Call) (cs : List Call) → anew cs ≡ true → anew (c ∷ cs) ≡ true
+pub anew-rest : (c : Call) (cs : List Call) → anew cs ≡ true → anew (c ∷ cs) ≡ true
 unfolding anew
 anew-rest (run u) cs e = e
 anew-rest (ask q) cs e = rest (isMakes (jobOf q)) (anew cs) e

@@ -290,7 +290,7 @@ module _ {h k : Held} (o : InOrder h) (g : Relent h k) where
   -- ---- and as long as before
 
   -- a world knows of the lent stores their rooms alone
-  world-same : Rooms (k .lent) (h .lent) → worldIn k ≡ worldIn h
+  pub world-same : Rooms (k .lent) (h .lent) → worldIn k ≡ worldIn h
   unfolding worldOf frameRoom
   world-same l =
       rw (g .vm, places-alike (k .lent .stack) (h .lent .stack) (l .stack) 2, l .frames, places-alike (k .lent .cells) (h .lent .cells) (l .cells) 2)

@@ -1,15 +1,16 @@
 -- Stores lent anew: between two calls a host may lend other stores, elsewhere or longer, with what stands below the counts the same.
 use mathlib.Core.Path.{_≡_}
-use mathlib.Core.List.{List}
+use mathlib.Core.List.{List, [], _∷_}
 use Prim.Native.Nat.{ℕ, _*_, _≤_}
 use lib.ListN.{length}
 use Rattle.model.specs.declared.Counts.{Counts}
 use Rattle.model.specs.Stores.{Stores, programIn}
 use Rattle.model.specs.Orders.{mainTaken, otherTaken}
-use Rattle.demands.specs.Host.{Held}
+use Rattle.laws_runs.specs.Ordered.{CodeBytes}
+use Rattle.demands.specs.Host.{Held, Call, Answer, After}
 use Rattle.demands.specs.Kept.{InOrder}
-use Rattle.demands.specs.Agree.{Front}
-use Rattle.demands.specs.Meant.{machineOf}
+use Rattle.demands.specs.Agree.{Front, Rooms}
+use Rattle.demands.specs.Meant.{machineOf, AsLong, Said, says}
 
 -- b is lent for a: the first n entries are the same, and it is no shorter
 pub record Anew {A : Type 0} (n : ℕ) (a b : List A) : Type 0 where
@@ -40,3 +41,23 @@ pub record StandsFor (h k : Held) : Type 0 where
   pub order : InOrder k
   pub program : programIn (k .vm .program) (k .stores) ≡ programIn (h .vm .program) (h .stores)
   pub machine : machineOf k ≡ machineOf h
+
+-- ---- calls one after another, where the host lends other stores in between
+
+-- k holds the machine of h in other stores that are as long
+pub record Elsewhere (h k : Held) : Type 0 where
+  pub relent : Relent h k
+  pub long : AsLong (k .stores) (h .stores)
+  pub rooms : Rooms (k .lent) (h .lent)
+  pub code : CodeBytes (k .stores)
+
+pub data ChainAnew : List Call → Held → List Answer → Held → Type 0 where
+  none : {h : Held} → ChainAnew [] h [] h
+  more : {c : Call} {cs : List Call} {h h' k : Held} {a : Answer} {as′ : List Answer} → After c h a h' → ChainAnew cs h' as′ k → ChainAnew (c ∷ cs) h (a ∷ as′) k
+  anew : {cs : List Call} {h h' k : Held} {as′ : List Answer} → Elsewhere h h' → ChainAnew cs h' as′ k → ChainAnew cs h as′ k
+
+-- what such calls say
+unfoldable pub saidAnew : {cs : List Call} {h k : Held} {xs : List Answer} → ChainAnew cs h xs k → List Said
+saidAnew none = []
+saidAnew (more {c = c} {h' = h'} {a = a} p ps) = says c h' a ∷ saidAnew ps
+saidAnew (anew l ps) = saidAnew ps

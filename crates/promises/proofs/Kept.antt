@@ -45,6 +45,7 @@ use Rattle.demands.proofs.MeantChains.{chain-alike, self-alike}
 use Rattle.demands.proofs.Chains.{past-counts-unseen, ask-one}
 use Rattle.demands.proofs.OneRun.{run-one}
 use Rattle.demands.proofs.Relending.{values-anew, functions-anew, relent-stands, relent-alike}
+use Rattle.demands.proofs.AnewChains.{relent-chain-says}
 use Rattle.embed_words.proofs.Back.{record-back}
 use Rattle.promises.specs.Promises.{Promises}
 use Rattle.promises.proofs.Records.{order-fine}
@@ -115,6 +116,7 @@ kept = record {
   relent-stands = λ h k o g. relent-stands o g;
   relent-rust = same-rust;
   relent-alike = λ again h k f c g s l. relent-alike again f c g s l;
+  relent-chain-says = λ again cs h d e f xs ys a n t p q. relent-chain-says a n t p q;
   passed-never-faults-so = passed-never-faults-so;
   passed-asks-in-range = passed-asks-in-range;
   passed-runs-so = passed-runs-so;

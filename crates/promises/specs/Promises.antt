@@ -64,12 +64,12 @@ use Rattle.demands.specs.Host.{Held, Ask, Call, run, ask, new, load, Answer, st
 use Rattle.demands.specs.Refusals.{Demand1, refusedBy}
 use Rattle.demands.specs.Kept.{InOrder}
 use Rattle.demands.specs.Jobs.{AllTyped, anew}
-use Rattle.demands.specs.Meant.{Fine, worldIn, machineOf, AsLong, AlikeHeld, AlikeChains}
+use Rattle.demands.specs.Meant.{Fine, worldIn, machineOf, AsLong, AlikeHeld, AlikeChains, said}
 use Rattle.demands.specs.Units.{Demand2, Costs, pairsAt, spentOn}
 use Rattle.demands.specs.Trees.{AsTrees}
 use Rattle.demands.specs.Recovery.{SetUp, Demand3}
 use Rattle.demands.specs.Agree.{Rooms, Agree}
-use Rattle.demands.specs.Relent.{Relent, StandsFor}
+use Rattle.demands.specs.Relent.{Relent, StandsFor, ChainAnew, saidAnew}
 use Rattle.demands.specs.One.{SameRun}
 use Rattle.embed_words.specs.Coding.{Coded, vmIn, vmWords, TypedLast, RecordOf, RunThrough}
 
@@ -165,6 +165,9 @@ pub record Promises : Type 0 where
   pub relent-rust : (h k : Held) → InOrder h → Relent h k → rustOf (worldIn k) (machineOf k) ≡ rustOf (worldIn h) (machineOf h)
   -- stores as long: the machines mean the same, so that by `chain-alike` every later call says the same
   pub relent-alike : (again : Bool) (h k : Held) → Fine h → CodeBytes (k .stores) → Relent h k → AsLong (k .stores) (h .stores) → Rooms (k .lent) (h .lent) → AlikeHeld again h k
+  -- and a host that lends other stores as long, before any call and as often as it likes, hears the same as one that never does
+  pub relent-chain-says : (again : Bool) (cs : List Call) (h d e f : Held) (xs ys : List Answer) → AlikeHeld again h d → (anew cs ≡ true → again ≡ true) → AllTyped cs
+      → (p : Chain cs h xs e) (q : ChainAnew cs d ys f) → said p ≡ saidAnew q
   -- ---- THE CHECK of a rule before it is installed: what a program that keeps the six rules never does, on a freshly loaded machine and with any units
 
   -- faults 1 to 4 and 14 never come, and 6 only from GetUpvalue or a field: of the next step, and of a whole run
