@@ -1,7 +1,7 @@
--- `put_function`: the name, and where the rule is broken.
-use borrow.Author.Needs.{needs}
+-- `put_function`: the name, where the rule is broken, and what the heights came upon.
 use Rattle.model.specs.Basics.{ascii}
 use Rattle.check_report.proofs.Saying.{code-fits, function-none, function-put}
+use borrow.Author.Needs.{needs}
 use Rattle.check_report.proofs.details.put_function.Statement.{statement}
 use Rattle.check_report.proofs.details.put_function.Tie as tie
 
@@ -27,14 +27,13 @@ code-of-requires : tie.Need-code-of-requires
 code-of-requires c κs = search needs
 
 first-place-requires : tie.Need-first-place-requires
-first-place-requires c κs =
-    let at-start = c .before .before .before .before .before .before .before .before .before .before .before .before .before
-    .before .before .before .before .before .before .before .before .before .before .before .before in
-    code-fits (at-start .args .c) (at-start .args .functions .now) (at-start .args .text .now) _ _ (at-start .args .f)
-    (c .before .code-of .ensures) (at-start .pre .0) (at-start .pre .1)
+first-place-requires c κs = code-fits (c .before .before .before .before .before .before .before .before .before .before .before .before .before .before .before .before .before .before .before .before .before .before .before .before .before .args .c) (c .before .before .before .before .before .before .before .before .before .before .before .before .before .before .before .before .before .before .before .before .before .before .before .before .before .args .functions .now) (c .before .before .before .before .before .before .before .before .before .before .before .before .before .before .before .before .before .before .before .before .before .before .before .before .before .args .text .now) _ _ (c .before .before .before .before .before .before .before .before .before .before .before .before .before .before .before .before .before .before .before .before .before .before .before .before .before .args .f) (c .before .code-of .ensures) (c .before .before .before .before .before .before .before .before .before .before .before .before .before .before .before .before .before .before .before .before .before .before .before .before .before .pre .0) (c .before .before .before .before .before .before .before .before .before .before .before .before .before .before .before .before .before .before .before .before .before .before .before .before .before .pre .1)
 
 put-found-requires : tie.Need-put-found-requires
 put-found-requires c κs = search needs
+
+put-flaw-requires : tie.Need-put-flaw-requires
+put-flaw-requires c κs = search needs
 
 same-length : tie.Need-same-length
 same-length c = search needs
@@ -44,7 +43,7 @@ same-length-2 c = search needs
 
 returns : tie.Need-returns
 unfolding ascii
-returns c = search function-put
+returns c = function-put _ _ _ _ _ _ (c .before .before .before .before .before .before .before .before .before .before .before .before .before .before .before .before .before .before .before .before .before .before .before .before .before .before .before .before .if1 .taken) (c .before .before .before .before .before .before .before .before .before .before .before .before .code-of .ensures) (c .before .before .before .before .before .before .before .before .before .before .first-place .ensures) (c .before .before .before .before .before .before .before .before .before .before .before .before .before .before .before .before .before .before .before .before .before .before .before .before .before .put-text .ensures) (c .before .before .before .before .before .before .before .before .before .before .before .before .before .before .before .before .before .before .before .before .put-name-at .ensures) (c .before .before .before .before .before .before .before .before .before .before .before .before .before .before .before .put-text2 .ensures) (c .before .before .before .before .before .before .put-found .ensures) (c .before .before .put-flaw .ensures)
 
 returns-2 : tie.Need-returns-2
 returns-2 c = search function-none
@@ -62,6 +61,7 @@ put-function-spec =
     code-of-requires
     first-place-requires
     put-found-requires
+    put-flaw-requires
     same-length
     same-length-2
     returns
