@@ -9,12 +9,12 @@ use native.Mathlib.Omega.{arith, max-cases}
 use lib.ListN.{length}
 use Rattle.model.specs.Opcodes.{operands}
 use Rattle.model.specs.Programs.{opcodeIn, nextIn}
-use Rattle.check_rules.specs.Rules.{isJump, targetAt, heightAfter, leadsOn, Path, starts, goes, leaps, Heights}
+use Rattle.check_rules.specs.Rules.{isJump, targetAt, heightAfter, leadsOn, Path, starts, goes, leaps}
 use Rattle.check_heights.specs.declared.Flaw.{Flaw}
 use Rattle.check_heights.specs.Answer.{BreaksAt, lacks, differs}
 use Rattle.check_heights.specs.Links.{Known, Unknown, From, old, new, Sent, clash, Entered, Barred, on-clash, jump-clash}
 use Rattle.check_heights.specs.Links.{Visited, Stuck, lacks as falls-short, barred, Turned, passes, sees, Broke, Done, Half, prepared}
-use Rattle.check_heights.proofs.Walks.{not-both, behind-is}
+use Rattle.check_heights.proofs.Walks.{behind-is}
 use Rattle.check_heights.proofs.Tables.{known-one, known-or-not, prepared-start, prepared-rest}
 
 -- what holds of the old entries and of the new one holds of all

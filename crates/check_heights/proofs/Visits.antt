@@ -8,13 +8,13 @@ use denote.Enum.Declared.{tagOf}
 use types.Run.{OneOf, miss}
 use lib.ListN.{length, getD}
 use Rattle.model.specs.Programs.{nextIn}
-use Rattle.check_rules.specs.Rules.{isJump, targetAt, suffices, heightAfter, leadsOn}
+use Rattle.check_rules.specs.Rules.{isJump, targetAt, suffices, leadsOn}
 use Rattle.check_heights.specs.declared.Flaw.{Flaw}
 use Rattle.check_heights.specs.declared.Flaw.the-variants as w
 use Rattle.check_heights.specs.declared.Seen.the-variants as s
 use Rattle.check_heights.specs.Answer.{Told}
 use Rattle.check_heights.specs.Links.{AfterPre, AfterPost, Sent, Clash, SendPre, SendPost, Entered, Barred, on-clash, jump-clash, EnterPre, EnterPost}
-use Rattle.check_heights.specs.Links.{Visited, Stuck, lacks, barred, VisitPre, VisitPost, passes, sees, TurnPre, TurnPost}
+use Rattle.check_heights.specs.Links.{lacks, barred, VisitPre, VisitPost, passes, sees, TurnPre, TurnPost}
 use Rattle.check_heights.proofs.Flaw.{the-type}
 use Rattle.check_heights.proofs.Tables.{known-at}
 

@@ -1,8 +1,8 @@
 -- [checker] What breaks rule 6 in a function of an image, as the check comes upon it.
 use mathlib.Core.Path.{_≡_}
-use mathlib.Core.Bool.{Bool, true, false}
+use mathlib.Core.Bool.{Bool, false}
 use mathlib.Core.List.{List}
-use Prim.Native.Nat.{ℕ, _-_, _≤_, _<_}
+use Prim.Native.Nat.{ℕ, _-_, _≤_}
 use lib.ListN.{length}
 use Rattle.model.specs.Programs.{Program, stands, withinLimits}
 use Rattle.model.specs.Images.{fine, broken, judge}

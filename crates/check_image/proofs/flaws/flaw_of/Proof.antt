@@ -27,13 +27,23 @@ taken-with-requires : tie.Need-taken-with-requires
 taken-with-requires c κs = search needs
 
 flaw-in-requires : tie.Need-flaw-in-requires
-flaw-in-requires c κs = may-be-asked (c .before .before .before .before .before .before .before .before .before .before .before .before .args .table .now) _ (c .before .before .before .before .before .before .before .before .whole .ensures) (c .before .before .before .before .before .before .before .if2 .left) (c .before .before .before .before .before .jumps .ensures) (c .before .before .if3 .left) (c .before .before .before .before .before .before .before .before .before .before .before .before .pre .0) (c .before .before .before .before .before .before .before .before .before .before .before .before .pre .1) (c .before .before .before .before .before .before .before .before .before .before .before .before .pre .2) (c .before .taken-with .ensures) (c .before .before .before .before .before .jumps .kept .1 .1 .0)
+flaw-in-requires c κs =
+    let at-jumps = c .before .before .before .before .before in
+    let at-if2 = at-jumps .before .before in
+    let at-whole = at-if2 .before in
+    let at-start = at-whole .before .before .before .before in
+    may-be-asked (at-start .args .table .now) _ (at-whole .whole .ensures) (at-if2 .if2 .left) (at-jumps .jumps .ensures)
+    (c .before .before .if3 .left) (at-start .pre .0) (at-start .pre .1) (at-start .pre .2) (c .before .taken-with .ensures)
+    (at-jumps .jumps .kept .1 .1 .0)
 
 same-length-2 : tie.Need-same-length-2
 same-length-2 c = search needs
 
 returns-4 : tie.Need-returns-4
-returns-4 c = it-answers (c .before .before .before .before .before .before .before .before .before .before .before .before .if1 .left) (c .before .before .before .before .taken-with .ensures) (c .before .before .flaw-in .ensures)
+returns-4 c =
+    let at-taken-with = c .before .before .before .before in
+    let at-if1 = at-taken-with .before .before .before .before .before .before .before .before in
+    it-answers (at-if1 .if1 .left) (at-taken-with .taken-with .ensures) (c .before .before .flaw-in .ensures)
 
 pub flaw-of-spec : {M : Type 1} → statement M
 flaw-of-spec =

@@ -27,7 +27,11 @@ code-of-requires : tie.Need-code-of-requires
 code-of-requires c κs = search needs
 
 first-place-requires : tie.Need-first-place-requires
-first-place-requires c κs = code-fits (c .before .before .before .before .before .before .before .before .before .before .before .before .before .before .before .before .before .before .before .before .before .before .before .before .before .args .c) (c .before .before .before .before .before .before .before .before .before .before .before .before .before .before .before .before .before .before .before .before .before .before .before .before .before .args .functions .now) (c .before .before .before .before .before .before .before .before .before .before .before .before .before .before .before .before .before .before .before .before .before .before .before .before .before .args .text .now) _ _ (c .before .before .before .before .before .before .before .before .before .before .before .before .before .before .before .before .before .before .before .before .before .before .before .before .before .args .f) (c .before .code-of .ensures) (c .before .before .before .before .before .before .before .before .before .before .before .before .before .before .before .before .before .before .before .before .before .before .before .before .before .pre .0) (c .before .before .before .before .before .before .before .before .before .before .before .before .before .before .before .before .before .before .before .before .before .before .before .before .before .pre .1)
+first-place-requires c κs =
+    let at-start = c .before .before .before .before .before .before .before .before .before .before .before .before .before
+    .before .before .before .before .before .before .before .before .before .before .before .before in
+    code-fits (at-start .args .c) (at-start .args .functions .now) (at-start .args .text .now) _ _ (at-start .args .f)
+    (c .before .code-of .ensures) (at-start .pre .0) (at-start .pre .1)
 
 put-found-requires : tie.Need-put-found-requires
 put-found-requires c κs = search needs
@@ -43,7 +47,17 @@ same-length-2 c = search needs
 
 returns : tie.Need-returns
 unfolding ascii
-returns c = function-put _ _ _ _ _ _ (c .before .before .before .before .before .before .before .before .before .before .before .before .before .before .before .before .before .before .before .before .before .before .before .before .before .before .before .before .if1 .taken) (c .before .before .before .before .before .before .before .before .before .before .before .before .code-of .ensures) (c .before .before .before .before .before .before .before .before .before .before .first-place .ensures) (c .before .before .before .before .before .before .before .before .before .before .before .before .before .before .before .before .before .before .before .before .before .before .before .before .before .put-text .ensures) (c .before .before .before .before .before .before .before .before .before .before .before .before .before .before .before .before .before .before .before .before .put-name-at .ensures) (c .before .before .before .before .before .before .before .before .before .before .before .before .before .before .before .put-text2 .ensures) (c .before .before .before .before .before .before .put-found .ensures) (c .before .before .put-flaw .ensures)
+returns c =
+    let at-put-found = c .before .before .before .before .before .before in
+    let at-first-place = at-put-found .before .before .before .before in
+    let at-code-of = at-first-place .before .before in
+    let at-put-text2 = at-code-of .before .before .before in
+    let at-put-name-at = at-put-text2 .before .before .before .before .before in
+    let at-put-text = at-put-name-at .before .before .before .before .before in
+    let at-if1 = at-put-text .before .before .before in
+    function-put _ _ _ _ _ _ (at-if1 .if1 .taken) (at-code-of .code-of .ensures) (at-first-place .first-place .ensures)
+    (at-put-text .put-text .ensures) (at-put-name-at .put-name-at .ensures) (at-put-text2 .put-text2 .ensures)
+    (at-put-found .put-found .ensures) (c .before .before .put-flaw .ensures)
 
 returns-2 : tie.Need-returns-2
 returns-2 c = search function-none

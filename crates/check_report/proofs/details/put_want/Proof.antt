@@ -42,7 +42,13 @@ same-length-2 c = search needs
 
 returns-2 : tie.Need-returns-2
 unfolding ascii
-returns-2 c = pops-put _ _ refl (c .before .before .before .before .before .before .before .before .first-at .ensures) (c .before .before .before .before .before .before .before .if1 .left) (c .before .before .before .before .before .before .second-at .ensures) (c .before .before .before .before .before .popped .ensures) (c .before .before .put-count2 .ensures)
+returns-2 c =
+    let at-popped = c .before .before .before .before .before in
+    let at-second-at = at-popped .before in
+    let at-if1 = at-second-at .before in
+    let at-first-at = at-if1 .before in
+    pops-put _ _ refl (at-first-at .first-at .ensures) (at-if1 .if1 .left) (at-second-at .second-at .ensures)
+    (at-popped .popped .ensures) (c .before .before .put-count2 .ensures)
 
 pub put-want-spec : {M : Type 1} → statement M
 put-want-spec =
