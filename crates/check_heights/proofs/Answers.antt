@@ -10,27 +10,31 @@ use lib.ListN.{length, getD, take, length-take}
 use Rattle.check_rules.specs.Rules.{Path, starts, goes, leaps, Heights, Greatest}
 use Rattle.check_heights.specs.declared.Height.{Height}
 use Rattle.check_heights.specs.declared.Height.the-variants as a
-use Rattle.check_heights.specs.Answer.{HeightsPre, HeightsMeans, HeightsPost}
-use Rattle.check_heights.specs.Links.{Known, Unknown, Half, ScanMeans, ScanPost, finished}
+use Rattle.check_heights.specs.declared.Flaw.{Flaw}
+use Rattle.check_heights.specs.declared.Flaw.the-variants as w
+use Rattle.check_heights.specs.declared.Seen.{Seen}
+use Rattle.check_heights.specs.declared.Seen.the-variants as n
+use Rattle.check_heights.specs.Answer.{HeightsPre, HeightsPost, BreaksAt, lacks, differs, ends as reaches-end, FlawPost}
+use Rattle.check_heights.specs.Links.{Known, Unknown, Half, ScanMeans, ScanPost, finished, PassMeans, PassPost}
 use Rattle.check_heights.proofs.Walks.{not-both, path-within}
 use Rattle.check_heights.proofs.Tables.{known-one, known-or-not}
 use Rattle.check_heights.proofs.Halves.{greater-attained}
 
 -- ---- `finish`
 
-pub not-reached : (main : Bool) (top : ℕ) {last : ℕ} → last ≡ 0 → a.Greatest top ≡ finished main top last
+pub not-reached : (main : Bool) (top : ℕ) {last : ℕ} → last ≡ 0 → n.Greatest top ≡ finished main top last
 unfolding finished
 not-reached main top e = rw e
 
-pub reached-in-main : {main : Bool} (top last : ℕ) → (last ≡ 0 → ⊥) → main ≡ true → {m : ℕ} → m ≡ max top (last - 1) → a.Greatest m ≡ finished main top last
+pub reached-in-main : {main : Bool} (top last : ℕ) → (last ≡ 0 → ⊥) → main ≡ true → {m : ℕ} → m ≡ max top (last - 1) → n.Greatest m ≡ finished main top last
 unfolding finished
-reached-in-main top zero n e q = absurd (n refl)
-reached-in-main top (suc h) n e q = rw (e, q) (ap (λ (x : ℕ). a.Greatest (max top x)) (omega arith))
+reached-in-main top zero z e q = absurd (z refl)
+reached-in-main top (suc h) z e q = rw (e, q) (ap (λ (x : ℕ). n.Greatest (max top x)) (omega arith))
 
-pub reached-elsewhere : {main : Bool} (top last : ℕ) → (last ≡ 0 → ⊥) → main ≡ false → a.Broken ≡ finished main top last
+pub reached-elsewhere : {main : Bool} (top last : ℕ) → (last ≡ 0 → ⊥) → main ≡ false → n.Flawed (w.Ends (last - 1)) ≡ finished main top last
 unfolding finished
-reached-elsewhere top zero n e = absurd (n refl)
-reached-elsewhere top (suc h) n e = rw e
+reached-elsewhere top zero z e = absurd (z refl)
+reached-elsewhere top (suc h) z e = rw e (ap (λ (x : ℕ). n.Flawed (w.Ends x)) (omega arith))
 
 -- ---- `pass`
 
@@ -76,23 +80,23 @@ module _ (main : Bool) (count : ℕ) (code t₀ : List ℕ) (pre : HeightsPre ma
           },
         )
 
-    ends-elsewhere : main ≡ false → Heights main count code → ⊥
-    ends-elsewhere m hs = let y = hs .inside (s .paths z) m in omega arith
+    ends-elsewhere : main ≡ false → BreaksAt main count code (w.Ends x)
+    ends-elsewhere m = reaches-end m (s .paths z)
 
-  ends : (b : Bool) → main ≡ b → (last : ℕ) → getD t (length code) 0 ≡ last → HeightsMeans (finished b top last) main count code
+  ends : (b : Bool) → main ≡ b → (last : ℕ) → getD t (length code) 0 ≡ last → PassMeans (finished b top last) main count code
   unfolding finished
   ends b m zero e = ends-unreached (record { is = e })
   ends true m (suc x) e = ends-in-main (record { is = omega arith }) m
   ends false m (suc x) e = ends-elsewhere {x = x} (record { is = omega arith }) m
 
-module _ (main : Bool) (count : ℕ) (code t₀ : List ℕ) (pre : HeightsPre main count code t₀) {r : Height} {t : List ℕ} (p : ScanPost main count code r t) where
-  pub scan-ends : {top : ℕ} → r ≡ a.Greatest top → {f : Height} → f ≡ finished main top (getD t (length code) 0) → HeightsPost main count code f
+module _ (main : Bool) (count : ℕ) (code t₀ : List ℕ) (pre : HeightsPre main count code t₀) {r : Seen} {t : List ℕ} (p : ScanPost main count code r t) where
+  pub scan-ends : {top : ℕ} → r ≡ n.Greatest top → {f : Seen} → f ≡ finished main top (getD t (length code) 0) → PassPost main count code f
   scan-ends {top} e q =
-      let s : Half main count code (length code) top t = subst (λ (x : Height). ScanMeans x main count code t) e (p .means) in
+      let s : Half main count code (length code) top t = subst (λ (x : Seen). ScanMeans x main count code t) e (p .means) in
       record { means = rw q (ends main count code t₀ pre s main refl _ refl) }
 
-  pub scan-breaks : r ≡ a.Broken → HeightsPost main count code a.Broken
-  scan-breaks e = record { means = subst (λ (x : Height). ScanMeans x main count code t) e (p .means) }
+  pub scan-breaks : {x : Flaw} → r ≡ n.Flawed x → PassPost main count code r
+  scan-breaks {x} e = let b : BreaksAt main count code x = subst (λ (y : Seen). ScanMeans y main count code t) e (p .means) in record { means = rw e b }
 
 -- ---- `heights`
 
@@ -108,6 +112,38 @@ part-ready {code = code} {t} g = record {
   codes = g .codes;
   room = omega (arith, part-length code t (g .room));
 }
+
+-- THE LAW: what is told to break the rule does
+pub a-flaw-breaks : {main : Bool} {count : ℕ} {code : List ℕ} {x : Flaw} → BreaksAt main count code x → Heights main count code → ⊥
+a-flaw-breaks (lacks p l e) hs = not-both (hs .enough p l) e
+a-flaw-breaks (differs p q d) hs = d (hs .one p q)
+a-flaw-breaks (reaches-end m p) hs = let y = hs .inside p m in omega arith
+
+told-of : {main : Bool} {count : ℕ} {code : List ℕ} (x : Flaw) → BreaksAt main count code x → FlawPost main count code x
+told-of (w.Lacks i h) b = record { means = b }
+told-of (w.Differs i h k) b = record { means = b }
+told-of (w.Ends h) b = record { means = b }
+
+module _ {main : Bool} {count : ℕ} {code : List ℕ} {r : Seen} (p : PassPost main count code r) where
+  module _ {m : ℕ} (e : r ≡ n.Greatest m) where
+    measured : Heights main count code × Greatest main count code m
+    measured = subst (λ (y : Seen). PassMeans y main count code) e (p .means)
+
+    pub pass-measures : HeightsPost main count code (a.Greatest m)
+    pass-measures = record { means = measured }
+
+    pub no-flaw : FlawPost main count code w.Nothing
+    no-flaw = record { means = measured .0 }
+
+  module _ {x : Flaw} (e : r ≡ n.Flawed x) where
+    flawed : BreaksAt main count code x
+    flawed = subst (λ (y : Seen). PassMeans y main count code) e (p .means)
+
+    pub pass-breaks : HeightsPost main count code a.Broken
+    pass-breaks = record { means = a-flaw-breaks flawed }
+
+    pub flaw-told : FlawPost main count code x
+    flaw-told = told-of x flawed
 
 -- ---- no second answer fits
 

@@ -9,10 +9,12 @@ use native.Mathlib.Omega.{arith, max-cases}
 use lib.ListN.{length}
 use Rattle.model.specs.Opcodes.{operands}
 use Rattle.model.specs.Programs.{opcodeIn, nextIn}
-use Rattle.check_rules.specs.Rules.{isJump, targetAt, heightAfter, leadsOn, Path, starts, goes, leaps, Heights}
-use Rattle.check_heights.specs.Links.{Known, Unknown, From, old, new, Sent, Entered, Barred, on-clash, jump-clash}
-use Rattle.check_heights.specs.Links.{Visited, Stuck, lacks, barred, Turned, passes, sees, Broke, Done, Half, prepared}
-use Rattle.check_heights.proofs.Walks.{not-both, behind-is}
+use Rattle.check_rules.specs.Rules.{isJump, targetAt, heightAfter, leadsOn, Path, starts, goes, leaps}
+use Rattle.check_heights.specs.declared.Flaw.{Flaw}
+use Rattle.check_heights.specs.Answer.{BreaksAt, lacks, differs}
+use Rattle.check_heights.specs.Links.{Known, Unknown, From, old, new, Sent, clash, Entered, Barred, on-clash, jump-clash}
+use Rattle.check_heights.specs.Links.{Visited, Stuck, lacks as falls-short, barred, Turned, passes, sees, Broke, Done, Half, prepared}
+use Rattle.check_heights.proofs.Walks.{behind-is}
 use Rattle.check_heights.proofs.Tables.{known-one, known-or-not, prepared-start, prepared-rest}
 
 -- what holds of the old entries and of the new one holds of all
@@ -83,13 +85,13 @@ module _ (main : Bool) (count : ℕ) (code : List ℕ) where
       mid-paths : {mid : List ℕ} → Sent (leadsOn main code i) (nextIn code i) (heightAfter code i h) t mid → {k x : ℕ} → Known mid k x → Path main count code k x
       mid-paths d y = from-all (Path main count code) (λ k x q. s .paths q) path-on (d .made y)
 
-      barred-breaks : Barred main code i (heightAfter code i h) t → Heights main count code → ⊥
-      barred-breaks (on-clash c) hs = c .differs (hs .one (s .paths (c .known)) (path-on (c .went)))
-      barred-breaks (jump-clash mid d c) hs = c .differs (hs .one (mid-paths d (c .known)) (path-jumps (c .went)))
+      barred-breaks : {x : Flaw} → Barred main code i (heightAfter code i h) t x → BreaksAt main count code x
+      barred-breaks (on-clash (clash went known n)) = differs (s .paths known) (path-on went) n
+      barred-breaks (jump-clash mid d (clash went known n)) = differs (mid-paths d known) (path-jumps went) n
 
-      stuck-breaks : Stuck main code i h t → Heights main count code → ⊥
-      stuck-breaks (lacks e) hs = not-both (hs .enough (s .paths z) lt) e
-      stuck-breaks (barred b) hs = barred-breaks b hs
+      stuck-breaks : {x : Flaw} → Stuck main code i h t x → BreaksAt main count code x
+      stuck-breaks (falls-short e) = lacks (s .paths z) lt e
+      stuck-breaks (barred b) = barred-breaks b
 
       module _ {t' : List ℕ} (v : Visited main code i h t t') where
         abbrev way : Entered main code i (heightAfter code i h) t t'
@@ -130,5 +132,5 @@ module _ (main : Bool) (count : ℕ) (code : List ℕ) where
     half-turned lt (passes u) = half-passes u
     half-turned lt (sees z v) = half-sees z lt v
 
-    pub half-broke : i < length code → Broke main code i t → Heights main count code → ⊥
+    pub half-broke : i < length code → {x : Flaw} → Broke main code i t x → BreaksAt main count code x
     half-broke lt b = stuck-breaks (b .known) lt (b .stuck)

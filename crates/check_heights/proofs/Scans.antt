@@ -6,8 +6,9 @@ use Prim.Native.Nat.{ℕ, _+_, _≤_, _<_}
 use native.Mathlib.Omega.{arith}
 use lib.ListN.{length}
 use Rattle.check_rules.specs.Rules.{leaps}
-use Rattle.check_heights.specs.declared.Height.{Height}
-use Rattle.check_heights.specs.declared.Height.the-variants as a
+use Rattle.check_heights.specs.declared.Flaw.{Flaw}
+use Rattle.check_heights.specs.declared.Seen.{Seen}
+use Rattle.check_heights.specs.declared.Seen.the-variants as s
 use Rattle.check_heights.specs.Answer.{HeightsPre}
 use Rattle.check_heights.specs.Links.{Known, VisitPre, Broke, TurnMeans, TurnPre, TurnPost, Half, prepared, ScanPre, ScanPost}
 use Rattle.check_heights.proofs.Walks.{path-within, path-whole}
@@ -40,36 +41,36 @@ module _ (main : Bool) (count : ℕ) (code : List ℕ) where
           within = omega arith;
         }
 
-    module _ {i top : ℕ} {t : List ℕ} (s : Looping t₀ i top t) where
+    module _ {i top : ℕ} {t : List ℕ} (l : Looping t₀ i top t) where
       reached-ready : i < length code → {h : ℕ} → Known t i h → VisitPre code i h t
       reached-ready lt z =
           let g = pre .given in
-          let p = s .half .paths z in
+          let p = l .half .paths z in
           let low = path-low p in
           record {
             here = record { inside = lt; whole = path-whole main code (g .whole) (g .landing) p lt; codes = g .codes };
             lands = λ q. path-within main code (g .whole) (g .landing) (leaps p lt q);
-            room = omega (arith, g .room, s .same);
+            room = omega (arith, g .room, l .same);
             low = omega (arith, g .few, g .codes);
           }
 
       pub turn-ready : i < length code → TurnPre code i t
-      turn-ready lt = record { inside = omega (arith, pre .given .room, s .same); ready = reached-ready lt }
+      turn-ready lt = record { inside = omega (arith, pre .given .room, l .same); ready = reached-ready lt }
 
-      pub loop-goes : i < length code → {r : Height} {t' : List ℕ} → TurnPost main code i top t r t' → {m : ℕ} → r ≡ a.Greatest m → length t' ≡ length t
+      pub loop-goes : i < length code → {r : Seen} {t' : List ℕ} → TurnPost main code i top t r t' → {m : ℕ} → r ≡ s.Greatest m → length t' ≡ length t
           → Looping t₀ (i + 1) m t'
-      loop-goes lt {t' = t'} p e l = record {
-        half = half-turned main count code (s .half) lt (subst (λ (x : Height). TurnMeans x main code i top t t') e (p .means));
-        same = l ∙ s .same;
+      loop-goes lt {t' = t'} p e n = record {
+        half = half-turned main count code (l .half) lt (subst (λ (x : Seen). TurnMeans x main code i top t t') e (p .means));
+        same = n ∙ l .same;
         within = omega arith;
       }
 
-      pub loop-breaks : i < length code → {r : Height} {t' : List ℕ} → TurnPost main code i top t r t' → r ≡ a.Broken → {t'' : List ℕ} → ScanPost main count code a.Broken t''
-      loop-breaks lt {t' = t'} p e =
-          let b : Broke main code i t = subst (λ (x : Height). TurnMeans x main code i top t t') e (p .means) in
-          record { means = half-broke main count code (s .half) lt b }
+      pub loop-breaks : i < length code → {r : Seen} {t' : List ℕ} → TurnPost main code i top t r t' → {x : Flaw} → r ≡ s.Flawed x → {t'' : List ℕ} → ScanPost main count code r t''
+      loop-breaks lt {t' = t'} p {x} e =
+          let b : Broke main code i t x = subst (λ (y : Seen). TurnMeans y main code i top t t') e (p .means) in
+          record { means = rw e (half-broke main count code (l .half) lt b) }
 
-      pub loop-ends : length code ≤ i → ScanPost main count code (a.Greatest top) t
+      pub loop-ends : length code ≤ i → ScanPost main count code (s.Greatest top) t
       loop-ends g =
-          let e : i ≡ length code = omega (arith, s .within) in
-          record { means = rw e at (s .half) }
+          let e : i ≡ length code = omega (arith, l .within) in
+          record { means = rw e at (l .half) }

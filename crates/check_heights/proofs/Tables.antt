@@ -5,11 +5,11 @@ use mathlib.Core.List.{List}
 use Prim.Native.Nat.{ℕ, zero, suc, _+_, _-_, _≤_, _<_}
 use native.Mathlib.Omega.{arith}
 use native.Mathlib.Decide.{ℕ-discrete}
-use borrow.Author.Tests.{eqb-true, eqb-false}
-use lib.Dec.{eqb}
 use lib.ListN.{length, getD, set, replicate, length-set, length-replicate, getD-replicate}
 use lib.Seq.{getD-set-same, getD-set-other, ext-getD}
-use Rattle.check_heights.specs.Links.{Known, Unknown, From, old, new, SendMeans, SendPost, prepared}
+use Rattle.check_heights.specs.declared.Flaw.{Flaw}
+use Rattle.check_heights.specs.declared.Flaw.the-variants as w
+use Rattle.check_heights.specs.Links.{Known, Unknown, From, old, new, clash, SendPost, prepared}
 use Rattle.check_heights.proofs.Walks.{not-both}
 
 pub known-one : {t : List ℕ} {k x y : ℕ} → Known t k x → Known t k y → x ≡ y
@@ -38,7 +38,7 @@ module _ (j g : ℕ) (t : List ℕ) where
     put-keeps {k} z (no e) = record { is = getD-set-other t j k (g + 1) 0 e ∙ z .is }
 
     -- where no height is known
-    pub put-new : SendPost true j g t true (set t j (g + 1))
+    pub put-new : SendPost true j g t w.Nothing (set t j (g + 1))
     put-new = record {
       means = record {
         done = λ q. record { is = getD-set-same t j (g + 1) 0 l };
@@ -47,26 +47,23 @@ module _ (j g : ℕ) (t : List ℕ) where
       };
     }
 
-  -- where one is, it is this one or another
-  same-or-not : (getD t j 0 ≡ 0 → ⊥) → (r : Bool) → r ≡ eqb (getD t j 0) (g + 1) → SendMeans r true j g t t
-  same-or-not u true e = record {
-    done = λ q. record { is = eqb-true _ _ (sym e) };
-    keeps = λ {k} {x} z. z;
-    made = λ {k} {x} z. old z;
-  }
-  same-or-not u false e = record {
-    went = refl;
-    other = getD t j 0 - 1;
-    known = known-at t j u;
-    differs = λ q. eqb-false (getD t j 0) (g + 1) (sym e) (omega arith);
+  -- where it is this one
+  pub put-old : getD t j 0 ≡ g + 1 → SendPost true j g t w.Nothing t
+  put-old e = record {
+    means = record {
+      done = λ q. record { is = e };
+      keeps = λ {k} {x} z. z;
+      made = λ {k} {x} z. old z;
+    };
   }
 
-  pub put-old : (getD t j 0 ≡ 0 → ⊥) → SendPost true j g t (eqb (getD t j 0) (g + 1)) t
-  put-old u = record { means = same-or-not u _ refl }
+  -- where it is another
+  pub put-other : (getD t j 0 ≡ 0 → ⊥) → (getD t j 0 ≡ g + 1 → ⊥) → SendPost true j g t (w.Differs j (getD t j 0 - 1) g) t
+  put-other u n = record { means = clash refl (known-at t j u) (λ q. n (omega arith)) }
 
   -- ---- a height is sent, if go
 
-  pub not-sent : {go : Bool} → go ≡ false → SendPost go j g t true t
+  pub not-sent : {go : Bool} → go ≡ false → SendPost go j g t w.Nothing t
   not-sent e = record {
     means = record {
       done = λ q. absurd (not-both q e);
@@ -75,7 +72,7 @@ module _ (j g : ℕ) (t : List ℕ) where
     };
   }
 
-  pub is-sent : {go r : Bool} {t' : List ℕ} → go ≡ true → SendPost true j g t r t' → SendPost go j g t r t'
+  pub is-sent : {go : Bool} {x : Flaw} {t' : List ℕ} → go ≡ true → SendPost true j g t x t' → SendPost go j g t x t'
   is-sent e p = rw e p
 
 -- ---- the table is cleared

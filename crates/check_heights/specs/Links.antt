@@ -6,10 +6,12 @@ use Prim.Native.Nat.{ℕ, zero, suc, _+_, _≤_, _<_, max}
 use lib.ListN.{length, getD, set, replicate}
 use Rattle.model.specs.Opcodes.{popped}
 use Rattle.model.specs.Programs.{opcodeIn, nextIn}
-use Rattle.check_rules.specs.Rules.{firstAt, secondAt, suffices, heightAfter, leadsOn, isJump, targetAt, Path, Heights}
-use Rattle.check_heights.specs.declared.Height.{Height}
-use Rattle.check_heights.specs.declared.Height.the-variants as a
-use Rattle.check_heights.specs.Answer.{HeightsPre}
+use Rattle.check_rules.specs.Rules.{firstAt, secondAt, suffices, heightAfter, leadsOn, isJump, targetAt, Path, Heights, Greatest}
+use Rattle.check_heights.specs.declared.Flaw.{Flaw}
+use Rattle.check_heights.specs.declared.Flaw.the-variants as w
+use Rattle.check_heights.specs.declared.Seen.{Seen}
+use Rattle.check_heights.specs.declared.Seen.the-variants as s
+use Rattle.check_heights.specs.Answer.{HeightsPre, BreaksAt, Told}
 
 -- ---- an instruction
 
@@ -54,22 +56,15 @@ pub record Sent (go : Bool) (j g : ℕ) (t t' : List ℕ) : Type 0 where
   pub made : {k x : ℕ} → Known t' k x → From go j g t k x
 
 -- another height is known there
-pub record Clash (go : Bool) (j g : ℕ) (t : List ℕ) : Type 0 where
-  pub went : go ≡ true
-  pub other : ℕ
-  pub known : Known t j other
-  pub differs : other ≡ g → ⊥
-
-abbrev pub SendMeans : (r : Bool) (go : Bool) (j g : ℕ) (t t' : List ℕ) → Type 0
-SendMeans true go j g t t' = Sent go j g t t'
-SendMeans false go j g t t' = Clash go j g t
+pub data Clash (go : Bool) (j g : ℕ) (t : List ℕ) : Flaw → Type 0 where
+  clash : go ≡ true → {other : ℕ} → Known t j other → (other ≡ g → ⊥) → Clash go j g t (w.Differs j other g)
 
 pub record SendPre (go : Bool) (j g : ℕ) (t : List ℕ) : Type 0 where
   pub room : go ≡ true → j < length t
   pub low : g ≤ suc heightLimit
 
-pub record SendPost (go : Bool) (j g : ℕ) (t : List ℕ) (r : Bool) (t' : List ℕ) : Type 0 where
-  pub means : SendMeans r go j g t t'
+pub record SendPost (go : Bool) (j g : ℕ) (t : List ℕ) (x : Flaw) (t' : List ℕ) : Type 0 where
+  pub means : Told (Sent go j g t t') (Clash go j g t) x
 
 -- ---- the two ways on from an instruction, both with height g
 
@@ -78,13 +73,9 @@ pub record Entered (main : Bool) (code : List ℕ) (i g : ℕ) (t t' : List ℕ)
   pub on : Sent (leadsOn main code i) (nextIn code i) g t mid
   pub jumps : Sent (isJump code i) (targetAt code i) g mid t'
 
-pub data Barred (main : Bool) (code : List ℕ) (i g : ℕ) (t : List ℕ) : Type 0 where
-  on-clash : Clash (leadsOn main code i) (nextIn code i) g t → Barred main code i g t
-  jump-clash : (mid : List ℕ) → Sent (leadsOn main code i) (nextIn code i) g t mid → Clash (isJump code i) (targetAt code i) g mid → Barred main code i g t
-
-abbrev pub EnterMeans : (r : Bool) (main : Bool) (code : List ℕ) (i g : ℕ) (t t' : List ℕ) → Type 0
-EnterMeans true main code i g t t' = Entered main code i g t t'
-EnterMeans false main code i g t t' = Barred main code i g t
+pub data Barred (main : Bool) (code : List ℕ) (i g : ℕ) (t : List ℕ) : Flaw → Type 0 where
+  on-clash : {x : Flaw} → Clash (leadsOn main code i) (nextIn code i) g t x → Barred main code i g t x
+  jump-clash : {x : Flaw} (mid : List ℕ) → Sent (leadsOn main code i) (nextIn code i) g t mid → Clash (isJump code i) (targetAt code i) g mid x → Barred main code i g t x
 
 pub record EnterPre (code : List ℕ) (i g : ℕ) (t : List ℕ) : Type 0 where
   pub here : Whole code i
@@ -92,8 +83,8 @@ pub record EnterPre (code : List ℕ) (i g : ℕ) (t : List ℕ) : Type 0 where
   pub room : length code < length t
   pub low : g ≤ suc heightLimit
 
-pub record EnterPost (main : Bool) (code : List ℕ) (i g : ℕ) (t : List ℕ) (r : Bool) (t' : List ℕ) : Type 0 where
-  pub means : EnterMeans r main code i g t t'
+pub record EnterPost (main : Bool) (code : List ℕ) (i g : ℕ) (t : List ℕ) (x : Flaw) (t' : List ℕ) : Type 0 where
+  pub means : Told (Entered main code i g t t') (Barred main code i g t) x
 
 -- ---- an instruction that is reached with height h
 
@@ -101,13 +92,9 @@ pub record Visited (main : Bool) (code : List ℕ) (i h : ℕ) (t t' : List ℕ)
   pub enough : suffices code i h ≡ true
   pub entered : Entered main code i (heightAfter code i h) t t'
 
-pub data Stuck (main : Bool) (code : List ℕ) (i h : ℕ) (t : List ℕ) : Type 0 where
-  lacks : suffices code i h ≡ false → Stuck main code i h t
-  barred : Barred main code i (heightAfter code i h) t → Stuck main code i h t
-
-abbrev pub VisitMeans : (r : Bool) (main : Bool) (code : List ℕ) (i h : ℕ) (t t' : List ℕ) → Type 0
-VisitMeans true main code i h t t' = Visited main code i h t t'
-VisitMeans false main code i h t t' = Stuck main code i h t
+pub data Stuck (main : Bool) (code : List ℕ) (i h : ℕ) (t : List ℕ) : Flaw → Type 0 where
+  lacks : suffices code i h ≡ false → Stuck main code i h t (w.Lacks i h)
+  barred : {x : Flaw} → Barred main code i (heightAfter code i h) t x → Stuck main code i h t x
 
 pub record VisitPre (code : List ℕ) (i h : ℕ) (t : List ℕ) : Type 0 where
   pub here : Whole code i
@@ -115,8 +102,8 @@ pub record VisitPre (code : List ℕ) (i h : ℕ) (t : List ℕ) : Type 0 where
   pub room : length code < length t
   pub low : h ≤ heightLimit
 
-pub record VisitPost (main : Bool) (code : List ℕ) (i h : ℕ) (t : List ℕ) (r : Bool) (t' : List ℕ) : Type 0 where
-  pub means : VisitMeans r main code i h t t'
+pub record VisitPost (main : Bool) (code : List ℕ) (i h : ℕ) (t : List ℕ) (x : Flaw) (t' : List ℕ) : Type 0 where
+  pub means : Told (Visited main code i h t t') (Stuck main code i h t) x
 
 -- ---- a position, reached or not
 
@@ -129,16 +116,16 @@ pub data Turned (main : Bool) (code : List ℕ) (i top : ℕ) (t : List ℕ) : (
   passes : Unknown t i → Turned main code i top t top t
   sees : {t' : List ℕ} {h : ℕ} → Known t i h → Visited main code i h t t' → Turned main code i top t (max top h) t'
 
-pub record Broke (main : Bool) (code : List ℕ) (i : ℕ) (t : List ℕ) : Type 0 where
+pub record Broke (main : Bool) (code : List ℕ) (i : ℕ) (t : List ℕ) (x : Flaw) : Type 0 where
   pub height : ℕ
   pub known : Known t i height
-  pub stuck : Stuck main code i height t
+  pub stuck : Stuck main code i height t x
 
-abbrev pub TurnMeans : (r : Height) (main : Bool) (code : List ℕ) (i top : ℕ) (t t' : List ℕ) → Type 0
-TurnMeans (a.Greatest m) main code i top t t' = Turned main code i top t m t'
-TurnMeans a.Broken main code i top t t' = Broke main code i t
+abbrev pub TurnMeans : (r : Seen) (main : Bool) (code : List ℕ) (i top : ℕ) (t t' : List ℕ) → Type 0
+TurnMeans (s.Greatest m) main code i top t t' = Turned main code i top t m t'
+TurnMeans (s.Flawed x) main code i top t t' = Broke main code i t x
 
-pub record TurnPost (main : Bool) (code : List ℕ) (i top : ℕ) (t : List ℕ) (r : Height) (t' : List ℕ) : Type 0 where
+pub record TurnPost (main : Bool) (code : List ℕ) (i top : ℕ) (t : List ℕ) (r : Seen) (t' : List ℕ) : Type 0 where
   pub means : TurnMeans r main code i top t t'
 
 -- ---- the scan
@@ -162,19 +149,28 @@ pub record Half (main : Bool) (count : ℕ) (code : List ℕ) (i top : ℕ) (t :
 unfoldable pub prepared : (count n : ℕ) → List ℕ
 prepared count n = set (replicate n 0) 0 (count + 1)
 
-abbrev pub ScanMeans : (r : Height) (main : Bool) (count : ℕ) (code t' : List ℕ) → Type 0
-ScanMeans (a.Greatest m) main count code t' = Half main count code (length code) m t'
-ScanMeans a.Broken main count code t' = Heights main count code → ⊥
+abbrev pub ScanMeans : (r : Seen) (main : Bool) (count : ℕ) (code t' : List ℕ) → Type 0
+ScanMeans (s.Greatest m) main count code t' = Half main count code (length code) m t'
+ScanMeans (s.Flawed x) main count code t' = BreaksAt main count code x
 
 pub record ScanPre (main : Bool) (count : ℕ) (code t : List ℕ) : Type 0 where
   pub given : HeightsPre main count code t
   pub fresh : t ≡ prepared count (length t)
 
-pub record ScanPost (main : Bool) (count : ℕ) (code : List ℕ) (r : Height) (t' : List ℕ) : Type 0 where
+pub record ScanPost (main : Bool) (count : ℕ) (code : List ℕ) (r : Seen) (t' : List ℕ) : Type 0 where
   pub means : ScanMeans r main count code t'
 
 -- ---- the end, by its entry: not reached, or reached, which main alone may be
-unfoldable pub finished : (main : Bool) (top last : ℕ) → Height
-finished main top zero = a.Greatest top
-finished true top (suc h) = a.Greatest (max top h)
-finished false top (suc h) = a.Broken
+unfoldable pub finished : (main : Bool) (top last : ℕ) → Seen
+finished main top zero = s.Greatest top
+finished true top (suc h) = s.Greatest (max top h)
+finished false top (suc h) = s.Flawed (w.Ends h)
+
+-- ---- the pass
+
+abbrev pub PassMeans : (r : Seen) (main : Bool) (count : ℕ) (code : List ℕ) → Type 0
+PassMeans (s.Greatest m) main count code = Heights main count code × Greatest main count code m
+PassMeans (s.Flawed x) main count code = BreaksAt main count code x
+
+pub record PassPost (main : Bool) (count : ℕ) (code : List ℕ) (r : Seen) : Type 0 where
+  pub means : PassMeans r main count code

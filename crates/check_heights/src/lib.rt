@@ -11,14 +11,29 @@ ghost use Prim.Native.Nat.{suc, _≤_, _<_, max};
 ghost use lib.ListN.{length, getD, replicate};
 ghost use Rattle.model.specs.Programs.{nextIn};
 ghost use Rattle.check_rules.specs.Rules.{suffices, leadsOn, isJump, targetAt};
-ghost use Rattle.check_heights.specs.Answer.{HeightsPre, HeightsPost};
+ghost use Rattle.check_heights.specs.Answer.{HeightsPre, HeightsPost, FlawPost};
 ghost use Rattle.check_heights.specs.Links.{Whole, poppedAt, heightLimit, AfterPre, AfterPost};
-ghost use Rattle.check_heights.specs.Links.{SendPre, SendPost, EnterPre, EnterPost, VisitPre, VisitPost, TurnPre, TurnPost, prepared, ScanPre, ScanPost, finished};
+ghost use Rattle.check_heights.specs.Links.{SendPre, SendPost, EnterPre, EnterPost, VisitPre, VisitPost, TurnPre, TurnPost, prepared, ScanPre, ScanPost, finished, PassPost};
 
 // The greatest height of a function, or that it breaks the rule.
 pub enum Height {
     Greatest(u32),
     Broken,
+}
+
+// What breaks the rule: an instruction at a position that is reached with a height that does not suffice; a position that is reached with two heights; or
+// the end of a function other than main, reached with a height.
+pub enum Flaw {
+    Nothing,
+    Lacks(usize, u32),
+    Differs(usize, u32, u32),
+    Ends(u32),
+}
+
+// The greatest height that was seen, or what breaks the rule.
+enum Seen {
+    Greatest(u32),
+    Flawed(Flaw),
 }
 
 // The opcodes that the rule names.
@@ -93,48 +108,51 @@ fn target_at(code: &[u8], i: usize) -> usize
     next + offset
 }
 
-// Height g is put at position j: true, unless another is known there.
-fn put(j: usize, g: u32, table: &mut [u32]) -> bool
+// Height g is put at position j, unless another is known there.
+fn put(j: usize, g: u32, table: &mut [u32]) -> Flaw
     requires { ⌜ (j < length (now table)) × (g ≤ suc heightLimit) ⌝ }
     ensures { λ r. ⌜ SendPost true j g (now (table .entry)) r (now (table .exit)) ⌝ }
 {
     let held = table[j];
     if held == 0 {
         table[j] = g + 1;
-        return true;
+        return Flaw::Nothing;
     }
-    held == g + 1
+    if held == g + 1 {
+        return Flaw::Nothing;
+    }
+    Flaw::Differs(j, held - 1, g)
 }
 
 // The same, if go.
-fn send(go: bool, j: usize, g: u32, table: &mut [u32]) -> bool
+fn send(go: bool, j: usize, g: u32, table: &mut [u32]) -> Flaw
     requires { ⌜ SendPre go j g (now table) ⌝ }
     ensures { λ r. ⌜ SendPost go j g (now (table .entry)) r (now (table .exit)) ⌝ }
 {
     if go {
         return put(j, g, table);
     }
-    true
+    Flaw::Nothing
 }
 
-// Height g is put wherever the instruction at i goes: true, unless another is known at one of these positions.
-fn enter(main: bool, code: &[u8], i: usize, g: u32, table: &mut [u32]) -> bool
+// Height g is put wherever the instruction at i goes, unless another is known at one of these positions.
+fn enter(main: bool, code: &[u8], i: usize, g: u32, table: &mut [u32]) -> Flaw
     requires { ⌜ EnterPre (now code) i g (now table) ⌝ }
     ensures { λ r. ⌜ EnterPost main (now (code .entry)) i g (now (table .entry)) r (now (table .exit)) ⌝ }
 {
     let on = leads_on(main, code, i);
     let next = next_at(code, i);
     let went = send(on, next, g, table);
-    if went {
+    if let Flaw::Nothing = went {
         let jumps = is_jump(code, i);
         let target = target_at(code, i);
         return send(jumps, target, g, table);
     }
-    false
+    went
 }
 
-// The instruction at i, reached with height h: false if that is not enough, or if it brings a second height to a position.
-fn visit(main: bool, code: &[u8], i: usize, h: u32, table: &mut [u32]) -> bool
+// The instruction at i, reached with height h, which may not be enough, or bring a second height to a position.
+fn visit(main: bool, code: &[u8], i: usize, h: u32, table: &mut [u32]) -> Flaw
     requires { ⌜ VisitPre (now code) i h (now table) ⌝ }
     ensures { λ r. ⌜ VisitPost main (now (code .entry)) i h (now (table .entry)) r (now (table .exit)) ⌝ }
 {
@@ -143,7 +161,7 @@ fn visit(main: bool, code: &[u8], i: usize, h: u32, table: &mut [u32]) -> bool
         let g = height_after(code, i, h);
         return enter(main, code, i, g, table);
     }
-    false
+    Flaw::Lacks(i, h)
 }
 
 fn larger_of(a: u32, b: u32) -> u32
@@ -156,36 +174,38 @@ fn larger_of(a: u32, b: u32) -> u32
 }
 
 // Position i: it is visited if a path has come to it. The greatest height so far is top.
-fn turn(main: bool, code: &[u8], i: usize, top: u32, table: &mut [u32]) -> Height
+fn turn(main: bool, code: &[u8], i: usize, top: u32, table: &mut [u32]) -> Seen
     requires { ⌜ TurnPre (now code) i (now table) ⌝ }
     ensures { λ r. ⌜ TurnPost main (now (code .entry)) i top (now (table .entry)) r (now (table .exit)) ⌝ }
 {
     let known = table[i];
     if known == 0 {
-        return Height::Greatest(top);
+        return Seen::Greatest(top);
     }
     let h = known - 1;
-    if visit(main, code, i, h, table) {
-        return Height::Greatest(larger_of(top, h));
+    let flaw = visit(main, code, i, h, table);
+    if let Flaw::Nothing = flaw {
+        return Seen::Greatest(larger_of(top, h));
     }
-    Height::Broken
+    Seen::Flawed(flaw)
 }
 
 // The positions in order. Paths lead forwards alone, so that at its turn all heights of a position are known.
-fn scan(main: bool, count: u32, code: &[u8], table: &mut [u32]) -> Height
+fn scan(main: bool, count: u32, code: &[u8], table: &mut [u32]) -> Seen
     requires { ⌜ ScanPre main count (now code) (now table) ⌝ }
     ensures { λ r. ⌜ ScanPost main count (now (code .entry)) r (now (table .exit)) ⌝ }
 {
     let mut top = count;
     let mut i = 0;
     while i < code.len() {
-        let Height::Greatest(next) = turn(main, code, i, top, table) else {
-            return Height::Broken;
+        let seen = turn(main, code, i, top, table);
+        let Seen::Greatest(next) = seen else {
+            return seen;
         };
         top = next;
         i += 1;
     }
-    Height::Greatest(top)
+    Seen::Greatest(top)
 }
 
 fn clear(table: &mut [u32])
@@ -208,28 +228,29 @@ fn prepare(count: u32, table: &mut [u32])
 }
 
 // The end, at position n: a path may come to it in main alone.
-fn finish(main: bool, top: u32, n: usize, table: &[u32]) -> Height
+fn finish(main: bool, top: u32, n: usize, table: &[u32]) -> Seen
     requires { ⌜ n < length (now table) ⌝ }
     ensures { λ r. ⌜ r ≡ finished main top (getD (now (table .entry)) n 0) ⌝ }
 {
     let last = table[n];
     if last == 0 {
-        return Height::Greatest(top);
+        return Seen::Greatest(top);
     }
     if main {
-        return Height::Greatest(larger_of(top, last - 1));
+        return Seen::Greatest(larger_of(top, last - 1));
     }
-    Height::Broken
+    Seen::Flawed(Flaw::Ends(last - 1))
 }
 
 // The pass over a table of which every word is cleared.
-fn pass(main: bool, count: u32, code: &[u8], table: &mut [u32]) -> Height
+fn pass(main: bool, count: u32, code: &[u8], table: &mut [u32]) -> Seen
     requires { ⌜ HeightsPre main count (now code) (now table) ⌝ }
-    ensures { λ r. ⌜ HeightsPost main count (now (code .entry)) r ⌝ }
+    ensures { λ r. ⌜ PassPost main count (now (code .entry)) r ⌝ }
 {
     prepare(count, table);
-    let Height::Greatest(top) = scan(main, count, code, table) else {
-        return Height::Broken;
+    let seen = scan(main, count, code, table);
+    let Seen::Greatest(top) = seen else {
+        return seen;
     };
     finish(main, top, code.len(), table)
 }
@@ -241,5 +262,20 @@ pub fn heights(main: bool, count: u32, code: &[u8], table: &mut [u32]) -> Height
     ensures { λ r. ⌜ HeightsPost main count (now (code .entry)) r ⌝ }
 {
     let n = code.len() + 1;
-    pass(main, count, code, &mut table[..n])
+    match pass(main, count, code, &mut table[..n]) {
+        Seen::Greatest(m) => Height::Greatest(m),
+        Seen::Flawed(_) => Height::Broken,
+    }
+}
+
+// What breaks the rule in such a function, if anything does.
+pub fn flaw_in(main: bool, count: u32, code: &[u8], table: &mut [u32]) -> Flaw
+    requires { ⌜ HeightsPre main count (now code) (now table) ⌝ }
+    ensures { λ r. ⌜ FlawPost main count (now (code .entry)) r ⌝ }
+{
+    let n = code.len() + 1;
+    match pass(main, count, code, &mut table[..n]) {
+        Seen::Greatest(_) => Flaw::Nothing,
+        Seen::Flawed(x) => x,
+    }
 }

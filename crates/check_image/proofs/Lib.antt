@@ -7,3 +7,5 @@ pub mod Measures
 pub mod Findings
 pub mod Putting
 pub mod Entries
+-- what breaks the rule of heights
+pub mod Seeking

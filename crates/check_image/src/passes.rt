@@ -57,7 +57,7 @@ fn lowest(pass: Pass, image: &[u8], z: Sizes, marks: &mut [u32]) -> usize
 }
 
 // All Calls entered into the tally.
-fn tally_all(image: &[u8], z: Sizes, counts: &mut [u32])
+pub fn tally_all(image: &[u8], z: Sizes, counts: &mut [u32])
     requires { ⌜ (Ready (now image) z) × (now counts ≡ replicate 65536 0) ⌝ }
     ensures { λ _. ⌜ TalliedPost (now (image .entry)) (now (counts .exit)) ⌝ }
 {
@@ -89,7 +89,7 @@ fn lowest_count(n: usize, counts: &[u32]) -> usize
 }
 
 // How many arguments a function is taken with, by its entry of the tally.
-fn taken_with(entry: u32) -> u32
+pub fn taken_with(entry: u32) -> u32
     ensures { λ r. ⌜ r ≡ entry - 2 ⌝ }
 {
     if entry < 2 {

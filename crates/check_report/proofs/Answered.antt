@@ -9,14 +9,18 @@ use Rattle.model.specs.Emission.{written}
 use Rattle.model.specs.Loading.{countsFor}
 use Rattle.layout.proofs.Writing.{length-written}
 use Rattle.image_load.proofs.Loads.{one-word}
+use Rattle.check_rules.specs.declared.Rule.the-variants as r
 use Rattle.check_rules.specs.declared.Checked.{Checked}
+use Rattle.check_rules.specs.declared.Checked.the-variants as c
 use Rattle.check_rules.specs.Checks.{CheckAs, not-an-image, no-place, past-a-limit, no-room, breaks, passes}
 use Rattle.printing.specs.Links.{Put}
 use Rattle.printing.proofs.Puts.{within}
 use Rattle.report.specs.Links.{printed}
-use Rattle.check_report.specs.Details.{details}
+use Rattle.check_heights.specs.declared.Flaw.{Flaw}
+use Rattle.check_image.specs.Flaws.{FlawIn}
+use Rattle.check_image.proofs.Seeking.{a-flaw-is-told}
 use Rattle.check_report.specs.Texts.{factsText, checkedText}
-use Rattle.check_report.specs.Links.{Inside, Tellable, Answers, too-long, checked, Checks, Facts}
+use Rattle.check_report.specs.Links.{Inside, Tellable, Answers, too-long, checked, FlawTold, breaks-it, not-heights, Checks, Facts, FlawAsked, asked, not-asked, Said}
 use Rattle.check_report.proofs.Saying.{said-taken, said-length}
 
 module _ {image heights : List ℕ} {s : Stores} where
@@ -46,6 +50,15 @@ module _ {image heights : List ℕ} where
   inside (too-long h) = tt
   inside (checked h k) = inside-check k
 
+-- what was asked of the heights is true of the function that the check named
+told-broken : {image heights : List ℕ} {s : Stores} {f : ℕ} {hs : List ℕ} {s' : Stores} → CheckAs image heights s (c.Breaks r.Heights f) hs s' → {x : Flaw} → FlawIn image f x
+    → FlawTold image (c.Breaks r.Heights f) x
+told-broken (breaks e h n o b) y = breaks-it e (a-flaw-is-told e n b y)
+
+flaw-true : {image heights hs : List ℕ} {a : Checked} {x : Flaw} → Answers image heights a hs → FlawAsked image a x → FlawTold image a x
+flaw-true (checked h k) (asked y) = told-broken k y
+flaw-true h (not-asked n) = not-heights n
+
 -- with a place for the heights of 256 functions
 module _ {image hs : List ℕ} {a : Checked} (h : Answers image (replicate 256 0) a hs) where
   places-256 : length hs ≡ 256
@@ -57,13 +70,20 @@ module _ {image hs : List ℕ} {a : Checked} (h : Answers image (replicate 256 0
   pub facts-put : {out out' : List ℕ} {r : ℕ} → Put (96 + 64 * length hs) (factsText a hs) out 0 out' r → Facts image out r out'
   facts-put p = let e = places-256 in record { answer = a; heights = hs; answers = h; put = within p 16480 (omega arith) }
 
-  -- what is said besides, in its 128 places
-  module _ {s : List ℕ} {n : ℕ} (p : Put 128 (details image a) (replicate 128 0) 0 s n) where
+  -- what is said besides, in its 192 places
+  module _ {s : List ℕ} {n : ℕ} (p : Said image a (replicate 192 0) s n) where
     pub said-there : n ≡ length (take n s)
-    said-there = said-length p (length-replicate {A = ℕ} 128 0)
+    said-there = said-length (p .put) (length-replicate {A = ℕ} 192 0)
 
-    pub said-fits : length (take n s) ≤ 128
-    said-fits = let e = said-there in let m = p .near in omega arith
+    pub said-fits : length (take n s) ≤ 192
+    said-fits = let e = said-there in let m = p .put .near in omega arith
 
     pub image-checked : {out out' : List ℕ} {r : ℕ} → record { count = r; out = out' } ≡ printed (checkedText a (take n s) hs) out → Checks image out r out'
-    image-checked e = record { answer = a; heights = hs; answers = h; text = rw (said-taken p (length-replicate {A = ℕ} 128 0)) at e }
+    image-checked e = record {
+      answer = a;
+      heights = hs;
+      answers = h;
+      flaw = p .flaw;
+      told = flaw-true h (p .finds);
+      text = rw (said-taken (p .put) (length-replicate {A = ℕ} 192 0)) at e;
+    }

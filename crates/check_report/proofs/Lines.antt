@@ -120,9 +120,9 @@ module _ {s s' : List ℕ} {i r : ℕ} where
     breach-told e p = rw e p
 
 pub checked-is : (a : Checked) (said hs : List ℕ) {s₀ s₁ s₂ : List ℕ} {i₁ i₂ : ℕ} → Put (96 + 64 * length hs) (factsText a hs) s₀ 0 s₁ i₁
-    → Put (128 + length said) (wordsText a said) s₁ i₁ s₂ i₂ → length said ≤ 128 → Put (352 + 64 * length hs) (checkedText a said hs) s₀ 0 s₂ i₂
+    → Put (128 + length said) (wordsText a said) s₁ i₁ s₂ i₂ → length said ≤ 192 → Put (416 + 64 * length hs) (checkedText a said hs) s₀ 0 s₂ i₂
 unfolding checkedText
-checked-is a said hs p q h = within (both p q) (352 + 64 * length hs) (omega arith)
+checked-is a said hs p q h = within (both p q) (416 + 64 * length hs) (omega arith)
 
 pub passed-told : (s : List ℕ) (i : ℕ) (a : Checked) (said : List ℕ) → OneOf (0 ∷ []) (tagOf the-type a) → Put (128 + length said) (wordsText a said) s i s i
 unfolding wordsText

@@ -8,12 +8,15 @@ use native.Mathlib.Omega.{arith}
 use lib.Dec.{eqb, ltb}
 use lib.ListN.{length, getD, take, drop, length-take, length-drop}
 use lib.Seq.{take-at}
+use denote.Enum.Declared.{tagOf}
+use types.Run.{OneOf, miss}
 use borrow.Author.Tests.{eq-eqb, ne-eqb, lt-ltb, le-ltb}
 use Rattle.model.specs.declared.Counts.{Counts}
 use Rattle.model.specs.declared.Loaded.{Loaded}
 use Rattle.model.specs.declared.Loaded.the-variants as l
 use Rattle.model.specs.Basics.{if_then_else_, ascii}
 use Rattle.model.specs.Values.{textAt}
+use Rattle.model.specs.Opcodes.{popped, opcodeAt}
 use Rattle.model.specs.Programs.{Function, Program, functionAt}
 use Rattle.model.specs.Listings.{decimal}
 use Rattle.model.specs.Stores.{Stores, storesOf, start, size, part, codeWord, constantsFrom, structsFrom, functionIn, functionsFrom, programIn}
@@ -29,13 +32,18 @@ use Rattle.notes.specs.Notes.{Known, knownOf, nameAt}
 use Rattle.notes.specs.Links.{programLent, knownIn}
 use Rattle.noted_listing.proofs.Lent.{known-is}
 use Rattle.check_rules.specs.declared.Rule.{Rule}
+use Rattle.check_rules.specs.declared.Rule.the-variants as r
+use Rattle.check_rules.proofs.Rule.{the-type as the-rule}
 use Rattle.check_rules.specs.declared.Checked.{Checked}
 use Rattle.check_rules.specs.declared.Checked.the-variants as c
-use Rattle.check_rules.specs.Rules.{firstAt, codeOf, isMain, ruleNumber}
+use Rattle.check_rules.specs.Rules.{getLocal, firstAt, secondAt, codeOf, isMain, ruleNumber}
+use Rattle.check_heights.specs.declared.Flaw.{Flaw}
+use Rattle.check_heights.specs.declared.Flaw.the-variants as w
+use Rattle.check_image.specs.Flaws.{FlawIn}
 use Rattle.check_code.specs.Links.{Sized}
 use Rattle.check_places.specs.Places.{placeIn, placeOf, PlacePost}
-use Rattle.check_report.specs.Details.{operandWords, foundWords, functionWords, loadedWords, details}
-use Rattle.check_report.specs.Links.{FunctionPost, LoadedPost}
+use Rattle.check_report.specs.Details.{operandWords, foundWords, wantWords, lacksWords, flawWords, functionWords, loadedWords, details}
+use Rattle.check_report.specs.Links.{FunctionPost, LoadedPost, ofHeights, FlawAsked, asked, not-asked, Said}
 
 -- ---- an instruction
 
@@ -58,6 +66,54 @@ module _ (q : Rule) (code : List ℕ) (i : ℕ) where
       → Put 27 (ascii ", byte " ++ decimal b) s₁ i₁ s₂ i₂ → Put 30 (operandWords q code i) s₂ i₂ s₃ i₃ → Put 81 (foundWords q code i) s₀ i₀ s₃ i₃
   unfolding foundWords
   found-put h e x y z = rw (lt-ltb _ _ h, ← e) (within (is (both (both x y) z) (simp append-assoc)) 81 (omega arith))
+
+-- ---- what the heights came upon
+
+module _ (code : List ℕ) (i : ℕ) {b first : ℕ} (e : b ≡ getD code i 0) (f : (first ≡ firstAt code i) × (first < 0x1_0000)) {s s' : List ℕ} {at r : ℕ} where
+  pub slot-put : b ≡ getLocal → Put 27 (ascii ", slot " ++ decimal first) s at s' r → Put 27 (wantWords code i) s at s' r
+  unfolding wantWords
+  slot-put z p = rw (← e, eq-eqb b getLocal z, ← f .0) p
+
+  pub pops-put : (b ≡ getLocal → ⊥) → {second : ℕ} → (second ≡ secondAt code i) × (second < 0x1_0000) → {takes : ℕ} → (takes ≡ popped (opcodeAt b) first second) × (takes < 131076)
+      → Put 27 (ascii ", pops " ++ decimal takes) s at s' r → Put 27 (wantWords code i) s at s' r
+  unfolding wantWords
+  pops-put z g t p = rw (← e, ne-eqb b getLocal z, ← f .0, ← g .0, ← t .0) p
+
+module _ (code : List ℕ) (i h : ℕ) where
+  pub lacks-none : length code ≤ i → (s : List ℕ) (at : ℕ) → Put 80 (lacksWords code i h) s at s at
+  unfolding lacksWords
+  lacks-none l s at = rw (le-ltb _ _ l) (within (nothing s at) 80 (omega arith))
+
+  pub lacks-put : i < length code → {s₀ s₁ s₂ s₃ : List ℕ} {i₀ i₁ i₂ i₃ : ℕ} → Put 24 (ascii " at " ++ decimal i) s₀ i₀ s₁ i₁
+      → Put 29 (ascii ", height " ++ decimal h) s₁ i₁ s₂ i₂ → Put 27 (wantWords code i) s₂ i₂ s₃ i₃ → Put 80 (lacksWords code i h) s₀ i₀ s₃ i₃
+  unfolding lacksWords
+  lacks-put l x y z = rw (lt-ltb _ _ l) (is (both (both x y) z) (simp append-assoc))
+
+pub differs-put : (i h k : ℕ) {s₀ s₁ s₂ s₃ : List ℕ} {i₀ i₁ i₂ i₃ : ℕ} → Put 24 (ascii " at " ++ decimal i) s₀ i₀ s₁ i₁ → Put 30 (ascii ", heights " ++ decimal h) s₁ i₁ s₂ i₂
+    → Put 25 (ascii " and " ++ decimal k) s₂ i₂ s₃ i₃ → Put 80 (ascii " at " ++ decimal i ++ ascii ", heights " ++ decimal h ++ ascii " and " ++ decimal k) s₀ i₀ s₃ i₃
+differs-put i h k x y z = within (is (both (both x y) z) (simp append-assoc)) 80 (omega arith)
+
+pub ends-put : (n h : ℕ) {s₀ s₁ s₂ : List ℕ} {i₀ i₁ i₂ : ℕ} → Put 24 (ascii " at " ++ decimal n) s₀ i₀ s₁ i₁ → Put 38 (ascii ", the end, height " ++ decimal h) s₁ i₁ s₂ i₂
+    → Put 80 (ascii " at " ++ decimal n ++ ascii ", the end, height " ++ decimal h) s₀ i₀ s₂ i₂
+ends-put n h x y = within (is (both x y) (simp append-assoc)) 80 (omega arith)
+
+module _ (code : List ℕ) {x : Flaw} {s s' : List ℕ} {at r : ℕ} where
+  pub lacks-said : {i h : ℕ} → x ≡ w.Lacks i h → Put 80 (lacksWords code i h) s at s' r → Put 80 (flawWords x code) s at s' r
+  unfolding flawWords
+  lacks-said e p = rw e p
+
+  pub differs-said : {i h k : ℕ} → x ≡ w.Differs i h k → Put 80 (ascii " at " ++ decimal i ++ ascii ", heights " ++ decimal h ++ ascii " and " ++ decimal k) s at s' r
+      → Put 80 (flawWords x code) s at s' r
+  unfolding flawWords
+  differs-said e p = rw e p
+
+  pub ends-said : {h : ℕ} → x ≡ w.Ends h → Put 80 (ascii " at " ++ decimal (length code) ++ ascii ", the end, height " ++ decimal h) s at s' r → Put 80 (flawWords x code) s at s' r
+  unfolding flawWords
+  ends-said e p = rw e p
+
+pub nothing-said : (code s : List ℕ) (at : ℕ) {x : Flaw} → x ≡ w.Nothing → Put 80 (flawWords x code) s at s at
+unfolding flawWords
+nothing-said code s at e = rw e (within (nothing s at) 80 (omega arith))
 
 -- ---- a function in its stores
 
@@ -104,82 +160,96 @@ module _ (k : Counts) (functions text main other : List ℕ) (f : ℕ) where
   unfolding functionIn lent
   code-fits e g h = rw (e .0 (storesOf [] [] [] [] [] [] [] []) text) (one-store (eqb f 0) main other (codeWord functions f) g h)
 
-  module _ {q : Rule} {s₀ : List ℕ} where
-    pub function-none : k .functions ≤ f → FunctionPost k functions text main other q f s₀ s₀ 0
+  module _ {q : Rule} {x : Flaw} {s₀ : List ℕ} where
+    pub function-none : k .functions ≤ f → FunctionPost k functions text main other q f x s₀ s₀ 0
     unfolding functionWords programIn
     function-none h = record {
-      says = λ cs ss mp op. let n = length-functions (stores cs ss mp op) (k .functions) 0 in rw (n, le-ltb _ _ h) (within (nothing s₀ 0) 128 (omega arith));
+      says = λ cs ss mp op. let n = length-functions (stores cs ss mp op) (k .functions) 0 in rw (n, le-ltb _ _ h) (within (nothing s₀ 0) 192 (omega arith));
     }
 
     pub function-put : f < k .functions → {code : List ℕ} → ((rest : Stores) (t : List ℕ) → code ≡ functionIn (lent rest functions t main other) f .code) × (length code < 2 ^ 32) → {i : ℕ}
-        → PlacePost (k .constants) (k .structs) (k .functions) q (eqb f 0) code i → {s₁ s₂ s₃ s₄ : List ℕ} {i₁ i₂ i₃ i₄ : ℕ} → Put 2 (ascii " (") s₀ 0 s₁ i₁
+        → PlacePost (k .constants) (k .structs) (k .functions) q (eqb f 0) code i → {s₁ s₂ s₃ s₄ s₅ : List ℕ} {i₁ i₂ i₃ i₄ i₅ : ℕ} → Put 2 (ascii " (") s₀ 0 s₁ i₁
         → Put 26 (nameAt (structsFrom (k .functions) 0 functions text) f []) s₁ i₁ s₂ i₂ → Put 1 (ascii ")") s₂ i₂ s₃ i₃ → Put 81 (foundWords q code i) s₃ i₃ s₄ i₄
-        → FunctionPost k functions text main other q f s₀ s₄ i₄
+        → Put 80 (flawWords x code) s₄ i₄ s₅ i₅ → FunctionPost k functions text main other q f x s₀ s₅ i₅
     unfolding functionWords programIn placeOf lent
-    function-put h {code} e {i} place a b d g = record {
+    function-put h {code} e {i} place a b d g y = record {
       says = λ cs ss mp op.
           let p = programIn k (stores cs ss mp op) in
           let n = length-functions (stores cs ss mp op) (k .functions) 0 in
           let own : code ≡ codeOf p f = e .0 (stores cs ss mp op) text ∙ sym (coded cs ss mp op h) in
           let there : i ≡ placeIn p q (isMain f) (codeOf p f) = place .means p (sized k (stores cs ss mp op)) ∙ ap (placeIn p q (isMain f)) own in
           let found : Put 81 (foundWords q (codeOf p f) (placeIn p q (isMain f) (codeOf p f))) _ _ _ _ = rw (own, there) at g in
+          let flaw : Put 80 (flawWords x (codeOf p f)) _ _ _ _ = rw own at y in
           let name = rw (← named cs ss mp op) at b in
-          rw (n, lt-ltb _ _ h) (within (is (both (both (both a name) d) found) (simp append-assoc)) 128 (omega arith));
+          rw (n, lt-ltb _ _ h) (within (is (both (both (both (both a name) d) found) flaw) (simp append-assoc)) 192 (omega arith));
     }
 
 -- ---- what was loaded
 
-module _ {functions text main other : List ℕ} {q : Rule} {f : ℕ} {a : Loaded} {s s' : List ℕ} {r : ℕ} where
-  pub loaded-put : {k : Counts} → a ≡ l.Done k → FunctionPost k functions text main other q f s s' r → LoadedPost a functions text main other q f s s' r
+module _ {functions text main other : List ℕ} {q : Rule} {f : ℕ} {x : Flaw} {a : Loaded} {s s' : List ℕ} {r : ℕ} where
+  pub loaded-put : {k : Counts} → a ≡ l.Done k → FunctionPost k functions text main other q f x s s' r → LoadedPost a functions text main other q f x s s' r
   unfolding loadedWords
   loaded-put e h = record { says = λ cs ss mp op. rw e (h .says cs ss mp op) }
 
-module _ {functions text main other : List ℕ} {q : Rule} {f : ℕ} {a : Loaded} (s : List ℕ) where
-  pub broken-unput : {i : ℕ} → a ≡ l.Broken i → LoadedPost a functions text main other q f s s 0
+module _ {functions text main other : List ℕ} {q : Rule} {f : ℕ} {x : Flaw} {a : Loaded} (s : List ℕ) where
+  pub broken-unput : {i : ℕ} → a ≡ l.Broken i → LoadedPost a functions text main other q f x s s 0
   unfolding loadedWords
-  broken-unput e = record { says = λ cs ss mp op. rw e (within (nothing s 0) 128 (omega arith)) }
+  broken-unput e = record { says = λ cs ss mp op. rw e (within (nothing s 0) 192 (omega arith)) }
 
-  pub refused-unput : {n : ℕ} → a ≡ l.Refused n → LoadedPost a functions text main other q f s s 0
+  pub refused-unput : {n : ℕ} → a ≡ l.Refused n → LoadedPost a functions text main other q f x s s 0
   unfolding loadedWords
-  refused-unput e = record { says = λ cs ss mp op. rw e (within (nothing s 0) 128 (omega arith)) }
+  refused-unput e = record { says = λ cs ss mp op. rw e (within (nothing s 0) 192 (omega arith)) }
 
 -- ---- of an image
 
 module _ (image : List ℕ) where
+  pub flaw-asked : {q : Rule} {f : ℕ} {x : Flaw} → q ≡ r.Heights → FlawIn image f x → FlawAsked image (c.Breaks q f) x
+  flaw-asked e h = rw e (asked h)
+
+  pub flaw-unasked : (q : Rule) {f : ℕ} → OneOf (0 ∷ 1 ∷ 2 ∷ 3 ∷ 4 ∷ []) (tagOf the-rule q) → FlawAsked image (c.Breaks q f) w.Nothing
+  unfolding ofHeights ruleNumber
+  flaw-unasked r.Instructions n = not-asked refl
+  flaw-unasked r.Numbers n = not-asked refl
+  flaw-unasked r.Calls n = not-asked refl
+  flaw-unasked r.Counts n = not-asked refl
+  flaw-unasked r.Jumps n = not-asked refl
+  flaw-unasked r.Heights n = absurd (miss (0 ∷ 1 ∷ 2 ∷ 3 ∷ 4 ∷ []) 5 tt n)
+
   pub image-put : {a : Loaded} {constants structs functions text main mainPlaces other otherPlaces : List ℕ}
-      → record { answer = a; stores = storesOf constants structs functions text main mainPlaces other otherPlaces } ≡ loadOf image emptyStores → {q : Rule} {f : ℕ} {s s' : List ℕ} {r : ℕ}
-      → LoadedPost a functions text main other q f s s' r → Put 128 (details image (c.Breaks q f)) s 0 s' r
+      → record { answer = a; stores = storesOf constants structs functions text main mainPlaces other otherPlaces } ≡ loadOf image emptyStores → {q : Rule} {f : ℕ} {x : Flaw}
+      → FlawAsked image (c.Breaks q f) x → {s s' : List ℕ} {n : ℕ} → LoadedPost a functions text main other q f x s s' n → Said image (c.Breaks q f) s s' n
   unfolding details
-  image-put {constants = constants} {structs = structs} {mainPlaces = mainPlaces} {otherPlaces = otherPlaces} e h = rw (← e) (h .says constants structs mainPlaces otherPlaces)
+  image-put {constants = constants} {structs = structs} {mainPlaces = mainPlaces} {otherPlaces = otherPlaces} e {x = x} k h =
+      record { flaw = x; finds = k; put = rw (← e) (h .says constants structs mainPlaces otherPlaces) }
 
   module _ {x : Checked} (s : List ℕ) where
-    pub passed-plain : {k : Counts} → x ≡ c.Passed k → Put 128 (details image x) s 0 s 0
-    unfolding details
-    passed-plain e = rw e (within (nothing s 0) 128 (omega arith))
+    pub passed-plain : {k : Counts} → x ≡ c.Passed k → Said image x s s 0
+    unfolding details ofHeights
+    passed-plain e = record { flaw = w.Nothing; finds = rw e (not-asked refl); put = rw e (within (nothing s 0) 192 (omega arith)) }
 
-    pub broken-plain : {i : ℕ} → x ≡ c.Broken i → Put 128 (details image x) s 0 s 0
-    unfolding details
-    broken-plain e = rw e (within (nothing s 0) 128 (omega arith))
+    pub broken-plain : {i : ℕ} → x ≡ c.Broken i → Said image x s s 0
+    unfolding details ofHeights
+    broken-plain e = record { flaw = w.Nothing; finds = rw e (not-asked refl); put = rw e (within (nothing s 0) 192 (omega arith)) }
 
-    pub refused-plain : {n : ℕ} → x ≡ c.Refused n → Put 128 (details image x) s 0 s 0
-    unfolding details
-    refused-plain e = rw e (within (nothing s 0) 128 (omega arith))
+    pub refused-plain : {n : ℕ} → x ≡ c.Refused n → Said image x s s 0
+    unfolding details ofHeights
+    refused-plain e = record { flaw = w.Nothing; finds = rw e (not-asked refl); put = rw e (within (nothing s 0) 192 (omega arith)) }
 
-  pub breach-put : {x : Checked} {q : Rule} {f : ℕ} → x ≡ c.Breaks q f → {s s' : List ℕ} {r : ℕ} → Put 128 (details image (c.Breaks q f)) s 0 s' r → Put 128 (details image x) s 0 s' r
+  pub breach-put : {x : Checked} {q : Rule} {f : ℕ} → x ≡ c.Breaks q f → {s s' : List ℕ} {n : ℕ} → Said image (c.Breaks q f) s s' n → Said image x s s' n
   breach-put e p = rw e p
 
 -- ---- what was said, as a slice
 
-module _ {said s s' : List ℕ} {n : ℕ} (p : Put 128 said s 0 s' n) where
-  pub said-short : n ≤ 128
+module _ {said s s' : List ℕ} {n : ℕ} (p : Put 192 said s 0 s' n) where
+  pub said-short : n ≤ 192
   said-short = p .near
 
-  pub said-taken : length s ≡ 128 → take n s' ≡ said
+  pub said-taken : length s ≡ 192 → take n s' ≡ said
   said-taken h =
       let e : length said ≡ n = (let z = p .next in omega arith) in
       let m = p .near in
       let all : s' ≡ said ++ drop (length said) s = p .stored ∙ written-front s said (omega arith) in
       rw all (take-at said (drop (length said) s) n e)
 
-  pub said-length : length s ≡ 128 → n ≡ length (take n s')
+  pub said-length : length s ≡ 192 → n ≡ length (take n s')
   said-length h = let e = p .next in let same = ap length (said-taken h) in omega arith

@@ -1,5 +1,8 @@
-// What is said of the function that breaks a rule: its name, and the first instruction that breaks it.
+// What is said of the function that breaks a rule: its name, and the first instruction that breaks it, or what its heights came upon.
 use check_code::first_at;
+use check_code::second_at;
+use check_heights::Flaw;
+use check_image::flaws::height_flaw;
 use check_places::first_place;
 use check_rules::Checked;
 use check_rules::Rule;
@@ -9,14 +12,18 @@ use listing::code_of;
 use model::Counts;
 use model::Loaded;
 use notes::put_name_at;
+use opcode::popped;
 use printing::put_count;
 use printing::put_text;
+ghost use mathlib.Core.List.{_++_};
 ghost use Prim.Native.Nat.{_+_, _≤_, _<_, _^_};
 ghost use lib.ListN.{length};
+ghost use Rattle.model.specs.Basics.{ascii};
+ghost use Rattle.model.specs.Listings.{decimal};
 ghost use Rattle.check_rules.specs.declared.Checked.the-variants.{Breaks};
 ghost use Rattle.printing.specs.Links.{Put};
-ghost use Rattle.check_report.specs.Details.{operandWords, foundWords, details};
-ghost use Rattle.check_report.specs.Links.{FunctionPost, LoadedPost};
+ghost use Rattle.check_report.specs.Details.{operandWords, foundWords, wantWords, lacksWords, flawWords};
+ghost use Rattle.check_report.specs.Links.{FunctionPost, LoadedPost, FlawAsked, Said};
 
 // The operand of the instruction at i; behind rule 1 alone it is there.
 fn put_operand(q: Rule, code: &[u8], i: usize, out: &mut [u8], at: usize) -> usize
@@ -44,10 +51,74 @@ fn put_found(q: Rule, code: &[u8], i: usize, out: &mut [u8], at: usize) -> usize
     at
 }
 
+// The opcode whose first operand is a slot.
+const GET_LOCAL: u8 = 3;
+
+// What the instruction at i asks of a height.
+fn put_want(code: &[u8], i: usize, out: &mut [u8], at: usize) -> usize
+    requires { ⌜ (i < length (now code)) × (at + 27 < 2 ^ 64) ⌝ }
+    ensures { λ r. ⌜ Put 27 (wantWords (now (code .entry)) i) (now (out .entry)) at (now (out .exit)) r ⌝ }
+{
+    let b = code[i];
+    let first = first_at(code, i);
+    if b == GET_LOCAL {
+        return put_count(b", slot ", first, out, at);
+    }
+    let second = second_at(code, i);
+    let takes = popped(b, first, second);
+    put_count(b", pops ", takes, out, at)
+}
+
+// The instruction at i, reached with height h.
+fn put_lacks(code: &[u8], i: usize, h: u32, out: &mut [u8], at: usize) -> usize
+    requires { ⌜ at + 80 < 2 ^ 64 ⌝ }
+    ensures { λ r. ⌜ Put 80 (lacksWords (now (code .entry)) i h) (now (out .entry)) at (now (out .exit)) r ⌝ }
+{
+    if i < code.len() {
+        let place = put_count(b" at ", i, out, at);
+        let height = put_count(b", height ", h as usize, out, place);
+        return put_want(code, i, out, height);
+    }
+    at
+}
+
+// Position i, reached with two heights.
+fn put_differs(i: usize, h: u32, k: u32, out: &mut [u8], at: usize) -> usize
+    requires { ⌜ at + 80 < 2 ^ 64 ⌝ }
+    ensures { λ r. ⌜ Put 80 (ascii " at " ++ decimal i ++ ascii ", heights " ++ decimal h ++ ascii " and " ++ decimal k) (now (out .entry)) at (now (out .exit)) r ⌝ }
+{
+    let place = put_count(b" at ", i, out, at);
+    let first = put_count(b", heights ", h as usize, out, place);
+    put_count(b" and ", k as usize, out, first)
+}
+
+// The end, at position n, reached with height h.
+fn put_ends(n: usize, h: u32, out: &mut [u8], at: usize) -> usize
+    requires { ⌜ at + 80 < 2 ^ 64 ⌝ }
+    ensures { λ r. ⌜ Put 80 (ascii " at " ++ decimal n ++ ascii ", the end, height " ++ decimal h) (now (out .entry)) at (now (out .exit)) r ⌝ }
+{
+    let place = put_count(b" at ", n, out, at);
+    put_count(b", the end, height ", h as usize, out, place)
+}
+
+// What the heights came upon.
+fn put_flaw(x: Flaw, code: &[u8], out: &mut [u8], at: usize) -> usize
+    requires { ⌜ at + 80 < 2 ^ 64 ⌝ }
+    ensures { λ r. ⌜ Put 80 (flawWords x (now (code .entry))) (now (out .entry)) at (now (out .exit)) r ⌝ }
+{
+    match x {
+        Flaw::Nothing => at,
+        Flaw::Lacks(i, h) => put_lacks(code, i, h, out, at),
+        Flaw::Differs(i, h, k) => put_differs(i, h, k, out, at),
+        Flaw::Ends(h) => put_ends(code.len(), h, out, at),
+    }
+}
+
 // Function f of a program: its name, and where it breaks the rule.
 fn put_function<'a>(
     q: Rule,
     f: usize,
+    x: Flaw,
     c: Counts,
     functions: &[u64],
     text: &[u8],
@@ -57,7 +128,7 @@ fn put_function<'a>(
     out: &mut [u8],
 ) -> usize
     requires { ⌜ (length (now main) ≤ length (now marks)) × (length (now other) ≤ length (now marks)) ⌝ }
-    ensures { λ r. ⌜ FunctionPost c (now (functions .entry)) (now (text .entry)) (now (main .entry)) (now (other .entry)) q f (now (out .entry)) (now (out .exit)) r ⌝ }
+    ensures { λ r. ⌜ FunctionPost c (now (functions .entry)) (now (text .entry)) (now (main .entry)) (now (other .entry)) q f x (now (out .entry)) (now (out .exit)) r ⌝ }
 {
     if f < c.functions {
         let open = put_text(b" (", out, 0);
@@ -65,7 +136,8 @@ fn put_function<'a>(
         let close = put_text(b")", out, name);
         let code = code_of(functions, main, other, f);
         let i = first_place(q, f == 0, code, c, marks);
-        return put_found(q, code, i, out, close);
+        let found = put_found(q, code, i, out, close);
+        return put_flaw(x, code, out, found);
     }
     0
 }
@@ -75,6 +147,7 @@ fn put_loaded<'a>(
     loaded: Loaded,
     q: Rule,
     f: usize,
+    x: Flaw,
     functions: &[u64],
     text: &[u8],
     main: &'a [u8],
@@ -83,18 +156,28 @@ fn put_loaded<'a>(
     out: &mut [u8],
 ) -> usize
     requires { ⌜ (length (now main) ≤ length (now marks)) × (length (now other) ≤ length (now marks)) ⌝ }
-    ensures { λ r. ⌜ LoadedPost loaded (now (functions .entry)) (now (text .entry)) (now (main .entry)) (now (other .entry)) q f (now (out .entry)) (now (out .exit)) r ⌝ }
+    ensures { λ r. ⌜ LoadedPost loaded (now (functions .entry)) (now (text .entry)) (now (main .entry)) (now (other .entry)) q f x (now (out .entry)) (now (out .exit)) r ⌝ }
 {
     match loaded {
-        Loaded::Done(c) => put_function(q, f, c, functions, text, main, other, marks, out),
+        Loaded::Done(c) => put_function(q, f, x, c, functions, text, main, other, marks, out),
         Loaded::Broken(i) => 0,
         Loaded::Refused(n) => 0,
     }
 }
 
+// What is asked of the heights: of rule 6 what breaks it.
+fn flaw_for(q: Rule, f: usize, image: &[u8]) -> Flaw
+    ensures { λ r. ⌜ FlawAsked (now (image .entry)) (Breaks q f) r ⌝ }
+{
+    match q {
+        Rule::Heights => height_flaw(image, f),
+        _ => Flaw::Nothing,
+    }
+}
+
 // The function that breaks a rule. The image is loaded for it, in stores of its own: the check that refused it has written none.
 fn put_breaking(q: Rule, f: usize, image: &[u8], out: &mut [u8]) -> usize
-    ensures { λ r. ⌜ Put 128 (details (now (image .entry)) (Breaks q f)) (now (out .entry)) 0 (now (out .exit)) r ⌝ }
+    ensures { λ r. ⌜ Said (now (image .entry)) (Breaks q f) (now (out .entry)) (now (out .exit)) r ⌝ }
 {
     let mut constants = [0u64; 512];
     let mut structs = [0u64; 512];
@@ -105,6 +188,7 @@ fn put_breaking(q: Rule, f: usize, image: &[u8], out: &mut [u8]) -> usize
     let mut other = [0u8; 8192];
     let mut other_places = [0u32; 8192];
     let mut marks = [0u32; 8192];
+    let x = flaw_for(q, f, image);
     let loaded = load(
         image,
         &mut constants,
@@ -120,6 +204,7 @@ fn put_breaking(q: Rule, f: usize, image: &[u8], out: &mut [u8]) -> usize
         loaded,
         q,
         f,
+        x,
         &functions,
         &text,
         &main,
@@ -131,7 +216,7 @@ fn put_breaking(q: Rule, f: usize, image: &[u8], out: &mut [u8]) -> usize
 
 // What is said besides the rule; only of a function that breaks one there is more to say.
 pub fn put_details(answer: Checked, image: &[u8], out: &mut [u8]) -> usize
-    ensures { λ r. ⌜ Put 128 (details (now (image .entry)) answer) (now (out .entry)) 0 (now (out .exit)) r ⌝ }
+    ensures { λ r. ⌜ Said (now (image .entry)) answer (now (out .entry)) (now (out .exit)) r ⌝ }
 {
     match answer {
         Checked::Passed(c) => 0,

@@ -19,8 +19,8 @@ ghost use Rattle.check_report.specs.Links.{Tellable, Answers, Checks, Fa
 
 // The facts, and the words behind them.
 fn put_checked(answer: Checked, said: &[u8], heights: &[u32], out: &mut [u8]) -> usize
-    requires { ⌜ (Tellable answer (now heights)) × (length (now said) ≤ 128) ⌝ }
-    ensures { λ r. ⌜ Put (352 + 64 * length (now (heights .entry))) (checkedText answer (now (said .entry)) (now (heights .entry))) (now (out .entry)) 0 (now (out .exit)) r ⌝ }
+    requires { ⌜ (Tellable answer (now heights)) × (length (now said) ≤ 192) ⌝ }
+    ensures { λ r. ⌜ Put (416 + 64 * length (now (heights .entry))) (checkedText answer (now (said .entry)) (now (heights .entry))) (now (out .entry)) 0 (now (out .exit)) r ⌝ }
 {
     let next = put_facts(answer, heights, out);
     put_words(answer, said, out, next)
@@ -28,7 +28,7 @@ fn put_checked(answer: Checked, said: &[u8], heights: &[u32], out: &mut [u8]) ->
 
 // An answer's text. It is measured first, with no room to write into.
 fn print_checked(answer: Checked, said: &[u8], heights: &[u32], out: &mut [u8]) -> usize
-    requires { ⌜ (Tellable answer (now heights)) × (length (now said) ≤ 128) ⌝ }
+    requires { ⌜ (Tellable answer (now heights)) × (length (now said) ≤ 192) ⌝ }
     ensures { λ r. ⌜ record { count = r; out = now (out .exit) } ≡ printed (checkedText answer (now (said .entry)) (now (heights .entry))) (now (out .entry)) ⌝ }
 {
     let none = 0;
@@ -74,7 +74,7 @@ pub fn check_image(image: &[u8], out: &mut [u8]) -> usize
 {
     let mut heights = [0u32; 256];
     let answer = check_alone(image, &mut heights);
-    let mut said = [0u8; 128];
+    let mut said = [0u8; 192];
     let n = put_details(answer, image, &mut said);
     print_checked(answer, &said[..n], &heights, out)
 }

@@ -13,6 +13,9 @@ next-at-requires c κs = search needs
 send-requires : tie.Need-send-requires
 send-requires c κs = search needs
 
+enum-told : tie.Need-enum-told
+enum-told c = search needs
+
 is-jump-requires : tie.Need-is-jump-requires
 is-jump-requires c κs = search needs
 
@@ -41,6 +44,7 @@ enter-spec =
     leads-on-requires
     next-at-requires
     send-requires
+    enum-told
     is-jump-requires
     target-at-requires
     send-requires-2

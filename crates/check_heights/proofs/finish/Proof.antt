@@ -22,6 +22,9 @@ larger-of-requires c κs = search needs
 returns-2 : tie.Need-returns-2
 returns-2 c = search reached-in-main
 
+sub-t8 : tie.Need-sub-t8
+sub-t8 c = search needs
+
 returns-3 : tie.Need-returns-3
 returns-3 c = search reached-elsewhere
 
@@ -35,4 +38,5 @@ finish-spec =
     sub-larger-of
     larger-of-requires
     returns-2
+    sub-t8
     returns-3)

@@ -11,8 +11,8 @@ prepare-requires c κs = search needs
 scan-requires : tie.Need-scan-requires
 scan-requires c κs = search scan-ready
 
-enum-known-top : tie.Need-enum-known-top
-enum-known-top c = search needs
+enum-known-seen : tie.Need-enum-known-seen
+enum-known-seen c = search needs
 
 enum-told : tie.Need-enum-told
 enum-told c = search needs
@@ -38,7 +38,7 @@ pass-spec =
     (tie.spec
     prepare-requires
     scan-requires
-    enum-known-top
+    enum-known-seen
     enum-told
     same-length
     returns

@@ -1,5 +1,5 @@
 -- `put`: where no height is known, and where one is.
-use Rattle.check_heights.proofs.Tables.{put-new, put-old}
+use Rattle.check_heights.proofs.Tables.{put-new, put-old, put-other}
 use borrow.Author.Needs.{needs}
 use Rattle.check_heights.proofs.put.Statement.{statement}
 use Rattle.check_heights.proofs.put.Tie as tie
@@ -25,11 +25,17 @@ same-length c = search needs
 returns : tie.Need-returns
 returns c = search put-new
 
-add-result : tie.Need-add-result
-add-result c = search needs
+add-if2 : tie.Need-add-if2
+add-if2 c = search needs
 
 returns-2 : tie.Need-returns-2
 returns-2 c = search put-old
+
+sub-t7 : tie.Need-sub-t7
+sub-t7 c = search needs
+
+returns-3 : tie.Need-returns-3
+returns-3 c = search put-other
 
 pub put-spec : {M : Type 1} → statement M
 put-spec =
@@ -42,5 +48,7 @@ put-spec =
     slice-write-table
     same-length
     returns
-    add-result
-    returns-2)
+    add-if2
+    returns-2
+    sub-t7
+    returns-3)

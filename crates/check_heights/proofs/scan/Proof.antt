@@ -18,8 +18,8 @@ loop-holds c = search loop-starts
 turn-requires : tie.Need-turn-requires Inv-loop μ-loop
 turn-requires c κs = search turn-ready
 
-enum-known-next : tie.Need-enum-known-next Inv-loop μ-loop
-enum-known-next c = search
+enum-known-seen : tie.Need-enum-known-seen Inv-loop μ-loop
+enum-known-seen c = search
 
 enum-told : tie.Need-enum-told Inv-loop μ-loop
 enum-told c = search
@@ -53,7 +53,7 @@ scan-spec =
     μ-loop
     loop-holds
     turn-requires
-    enum-known-next
+    enum-known-seen
     enum-told
     same-length
     returns

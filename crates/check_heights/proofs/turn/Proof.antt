@@ -19,6 +19,9 @@ sub-h c = search needs
 visit-requires : tie.Need-visit-requires
 visit-requires c κs = search visit-ready
 
+enum-told : tie.Need-enum-told
+enum-told c = search needs
+
 larger-of-requires : tie.Need-larger-of-requires
 larger-of-requires c κs = search needs
 
@@ -43,6 +46,7 @@ turn-spec =
     returns
     sub-h
     visit-requires
+    enum-told
     larger-of-requires
     same-length
     returns-2

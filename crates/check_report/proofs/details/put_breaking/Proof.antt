@@ -5,6 +5,9 @@ use Rattle.check_report.proofs.Saying.{image-put}
 use Rattle.check_report.proofs.details.put_breaking.Statement.{statement}
 use Rattle.check_report.proofs.details.put_breaking.Tie as tie
 
+flaw-for-requires : tie.Need-flaw-for-requires
+flaw-for-requires c κs = search needs
+
 slice-aggregate-load : tie.Need-slice-aggregate-load
 slice-aggregate-load c = search needs
 
@@ -61,6 +64,7 @@ pub put-breaking-spec : {M : Type 1} → statement M
 put-breaking-spec =
     tie.close
     (tie.spec
+    flaw-for-requires
     slice-aggregate-load
     slice-aggregate-load-2
     slice-aggregate-load-3

@@ -1,7 +1,7 @@
--- `put_function`: the name, and where the rule is broken.
-use borrow.Author.Needs.{needs}
+-- `put_function`: the name, where the rule is broken, and what the heights came upon.
 use Rattle.model.specs.Basics.{ascii}
 use Rattle.check_report.proofs.Saying.{code-fits, function-none, function-put}
+use borrow.Author.Needs.{needs}
 use Rattle.check_report.proofs.details.put_function.Statement.{statement}
 use Rattle.check_report.proofs.details.put_function.Tie as tie
 
@@ -36,6 +36,9 @@ first-place-requires c κs =
 put-found-requires : tie.Need-put-found-requires
 put-found-requires c κs = search needs
 
+put-flaw-requires : tie.Need-put-flaw-requires
+put-flaw-requires c κs = search needs
+
 same-length : tie.Need-same-length
 same-length c = search needs
 
@@ -44,7 +47,17 @@ same-length-2 c = search needs
 
 returns : tie.Need-returns
 unfolding ascii
-returns c = search function-put
+returns c =
+    let at-put-found = c .before .before .before .before .before .before in
+    let at-first-place = at-put-found .before .before .before .before in
+    let at-code-of = at-first-place .before .before in
+    let at-put-text2 = at-code-of .before .before .before in
+    let at-put-name-at = at-put-text2 .before .before .before .before .before in
+    let at-put-text = at-put-name-at .before .before .before .before .before in
+    let at-if1 = at-put-text .before .before .before in
+    function-put _ _ _ _ _ _ (at-if1 .if1 .taken) (at-code-of .code-of .ensures) (at-first-place .first-place .ensures)
+    (at-put-text .put-text .ensures) (at-put-name-at .put-name-at .ensures) (at-put-text2 .put-text2 .ensures)
+    (at-put-found .put-found .ensures) (c .before .before .put-flaw .ensures)
 
 returns-2 : tie.Need-returns-2
 returns-2 c = search function-none
@@ -62,6 +75,7 @@ put-function-spec =
     code-of-requires
     first-place-requires
     put-found-requires
+    put-flaw-requires
     same-length
     same-length-2
     returns

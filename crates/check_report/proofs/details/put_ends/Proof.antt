@@ -1,0 +1,36 @@
+-- `put_ends`: the end and the height.
+use Rattle.model.specs.Basics.{ascii}
+use Rattle.check_report.proofs.Saying.{ends-put}
+use borrow.Author.Needs.{needs}
+use Rattle.check_report.proofs.details.put_ends.Statement.{statement}
+use Rattle.check_report.proofs.details.put_ends.Tie as tie
+
+slice-aggregate-put-count : tie.Need-slice-aggregate-put-count
+slice-aggregate-put-count c = search needs
+
+put-count-requires : tie.Need-put-count-requires
+put-count-requires c κs = search needs
+
+slice-aggregate-put-count-2 : tie.Need-slice-aggregate-put-count-2
+slice-aggregate-put-count-2 c = search needs
+
+put-count-requires-2 : tie.Need-put-count-requires-2
+put-count-requires-2 c κs = search needs
+
+same-length : tie.Need-same-length
+same-length c = search needs
+
+returns : tie.Need-returns
+unfolding ascii
+returns c = search ends-put
+
+pub put-ends-spec : {M : Type 1} → statement M
+put-ends-spec =
+    tie.close
+    (tie.spec
+    slice-aggregate-put-count
+    put-count-requires
+    slice-aggregate-put-count-2
+    put-count-requires-2
+    same-length
+    returns)
