@@ -28,7 +28,7 @@ use Rattle.demands.proofs.Refusing.{refuses}
 use Rattle.demands.proofs.Written.{steps-within, run-written}
 use Rattle.demands.proofs.Orderly.{new-in-order, load-in-order, chain-kept, run-in-order}
 use Rattle.check_rules.proofs.One.{check-one}
-use Rattle.check_heights.proofs.Answers.{heights-one-answer}
+use Rattle.check_heights.proofs.Answers.{heights-one-answer, a-flaw-breaks}
 use Rattle.check_words.proofs.One.{check-through-one}
 use Rattle.laws_check.proofs.Rows.{a-step-keeps-its-row, the-row-counts-the-values}
 use Rattle.laws_check.proofs.Theorems.{passed-never-faults-so, passed-asks-in-range, passed-runs-so, passed-runs-ask-in-range, passed-frames-fit}
@@ -136,6 +136,7 @@ kept = record {
   check-one = λ image heights s x y hs ks t u a b. check-one image heights s a b;
   check-through-one = λ image w a heights s fs x y hs ks t u gs rs p q. check-through-one image w a heights s fs p q;
   heights-one-answer = λ main count code x y p q. heights-one-answer x y p q;
+  a-flaw-breaks = λ main count code x b k. a-flaw-breaks b k;
   ask-one = λ q h h' k' a b p r. ask-one q h p r;
   examples-hold = examples-hold;
   mistakes-show = mistakes-show;

@@ -36,11 +36,12 @@ use Rattle.model.specs.Mistakes.{Row, mistakes}
 use Rattle.model.specs.Opcodes.{opcodeAt}
 use Rattle.check_rules.specs.declared.Checked.{Checked}
 use Rattle.check_rules.specs.declared.Checked.the-variants as c
-use Rattle.check_rules.specs.Rules.{Passed}
+use Rattle.check_rules.specs.Rules.{Heights, Passed}
 use Rattle.check_rules.specs.Checks.{CheckAs}
 use Rattle.check_rules.proofs.One.{SameCheck}
 use Rattle.check_heights.specs.declared.Height.{Height}
-use Rattle.check_heights.specs.Answer.{HeightsPost}
+use Rattle.check_heights.specs.declared.Flaw.{Flaw}
+use Rattle.check_heights.specs.Answer.{HeightsPost, BreaksAt}
 use Rattle.check_words.specs.Words.{CheckThrough}
 use Rattle.check_words.proofs.One.{SameThrough}
 use Rattle.laws_installed.specs.Installed.{FaultsSo, StaysWithin}
@@ -216,6 +217,8 @@ pub record Promises : Type 0 where
   pub check-through-one : (image w a heights : List ℕ) (s : Stores) (fs : List Frame) (x y : Coded) (hs ks : List ℕ) (t u : Stores) (gs rs : List Frame)
       → CheckThrough image w a heights s fs x hs t gs → CheckThrough image w a heights s fs y ks u rs → SameThrough x y hs ks t u gs rs
   pub heights-one-answer : (main : Bool) (count : ℕ) (code : List ℕ) (x y : Height) → HeightsPost main count code x → HeightsPost main count code y → x ≡ y
+  -- and what is told to break its rule does
+  pub a-flaw-breaks : (main : Bool) (count : ℕ) (code : List ℕ) (x : Flaw) → BreaksAt main count code x → Heights main count code → ⊥
   pub ask-one : (q : Ask) (h h' k' : Held) (a b : Answer) → After (ask q) h a h' → After (ask q) h b k' → (a ≡ b) × (h' ≡ k')
   -- ---- THE EXAMPLES, and the mistakes that invite themselves
 
