@@ -12,6 +12,7 @@ use Rattle.laws_runs.proofs.Paths.{returns-counted}
 use Rattle.laws_runs.proofs.More.{more-units}
 use Rattle.laws_runs.proofs.Parts.{dealt-as-one, parts-are-one-run}
 use Rattle.laws_meaning.proofs.Runs.{begin-alike, continue-alike, abandon-alike}
+use Rattle.laws_meaning.proofs.Blocks.{lists-alike, structs-alike, strings-alike, references-alike}
 use Rattle.laws_runs.proofs.Programs.{parts-of, length-functions}
 use Rattle.laws_runs.proofs.Ordered.{order-world, order-sane}
 use Rattle.laws_programs.proofs.Known.{limited}
@@ -110,6 +111,10 @@ kept = record {
   begin-alike = begin-alike;
   continue-alike = continue-alike;
   abandon-alike = abandon-alike;
+  lists-alike = lists-alike;
+  structs-alike = structs-alike;
+  strings-alike = λ t t' H H' o n o' n' b. strings-alike t t' H H' b;
+  references-alike = λ t t' H H' o n o' n' b. references-alike t t' H H' b;
   self-alike = λ again h d o p c s r m. self-alike again o p c s r m;
   set-up-alike = λ again x h k d a b o p. set-up-alike again a b o p;
   past-counts-unseen = λ calls h k e f xs ys a p q. past-counts-unseen a p q;

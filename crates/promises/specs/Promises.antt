@@ -19,8 +19,11 @@ use Rattle.model.specs.declared.Loaded.the-variants as l
 use Rattle.model.specs.declared.Told.the-variants as t
 use Rattle.model.specs.declared.RunResult.{RunResult}
 use Rattle.model.specs.declared.RunResult.the-variants as r
+use Rattle.model.specs.declared.Value.the-variants as v
 use Rattle.model.specs.Basics.{written}
 use Rattle.model.specs.Numbers.{Bytes}
+use Rattle.model.specs.Values.{textAt}
+use Rattle.model.specs.Heap.{Cell, heapOk}
 use Rattle.model.specs.Trees.{Tree}
 use Rattle.model.specs.Programs.{Program, opcodeIn, nextIn}
 use Rattle.model.specs.Images.{imageOf, fine, judge, Sound}
@@ -55,7 +58,8 @@ use Rattle.laws_runs.specs.Sane.{SaneWorld, Sane}
 use Rattle.laws_runs.specs.Ordered.{CodeBytes}
 use Rattle.laws_runs.specs.Paths.{Steps, rootReturns}
 use Rattle.laws_runs.specs.Parts.{SaneUnder, sumOf}
-use Rattle.laws_meaning.specs.Alike.{Layout, laidOut, AlikeConstants, AlikeMachine, AlikeUnder}
+use Rattle.laws_meaning.specs.Alike.{Layout, laidOut, Both, AlikeConstants, AlikeMachine, AlikeUnder}
+use Rattle.laws_meaning.specs.Blocks.{AlikeBlock}
 use Rattle.laws_meaning.specs.Answers.{AlikeRan, AlikePart}
 use Rattle.laws_rust.specs.Vm as rust
 use Rattle.laws_rust.specs.Same.{rustOf, rustAt, Agrees, RunAs, Ends, Unlimited, AnswersAs, Means}
@@ -152,6 +156,14 @@ pub record Promises : Type 0 where
       → AlikeUnder w o r r' → (u : ℕ) → AlikePart w o (continueOf w r u) (continueOf (laidOut o w) r' u)
   pub abandon-alike : (w : World) (o : Layout) → SaneWorld w → SaneWorld (laidOut o w) → AlikeConstants w o → (r r' : Under) → SaneUnder w r → SaneUnder (laidOut o w) r'
       → AlikeUnder w o r r' → AlikeRan w o (abandonOf w r) (abandonOf (laidOut o w) r')
+  -- of two values that mean the same a host reads the same: one header and elements that mean the same, the same bytes
+  pub lists-alike : (t t' : List ℕ) (H H' : List Cell) → heapOk (length t) H ≡ true → heapOk (length t') H' ≡ true → (p p' : ℕ)
+      → Both t t' H H' (v.List p) (v.List p') → AlikeBlock t t' H H' p p'
+  pub structs-alike : (t t' : List ℕ) (H H' : List Cell) → heapOk (length t) H ≡ true → heapOk (length t') H' ≡ true → (p p' : ℕ)
+      → Both t t' H H' (v.StructInstance p) (v.StructInstance p') → AlikeBlock t t' H H' p p'
+  pub strings-alike : (t t' : List ℕ) (H H' : List Cell) (o n o' n' : ℕ) → Both t t' H H' (v.String o n) (v.String o' n') → textAt t o n ≡ textAt t' o' n'
+  pub references-alike : (t t' : List ℕ) (H H' : List Cell) (o n o' n' : ℕ) → Both t t' H H' (v.FunctionReference o n) (v.FunctionReference o' n')
+      → textAt t o n ≡ textAt t' o' n'
   -- a machine in another place means the same as itself
   pub self-alike : (again : Bool) (h d : Held) → Fine h → Fine d → d .vm .program ≡ h .vm .program → d .stores ≡ h .stores → Rooms (d .lent) (h .lent)
       → machineOf d ≡ machineOf h → AlikeHeld again h d
