@@ -45,7 +45,7 @@ static __attribute__((noinline)) size_t below(int filled)
     return DEEP - i;
 }
 
-static uint32_t call_run(void) { return cw_run(&m, 1000000); }
+static uint32_t call_run(void) { return cw_whole_run(&m, 1000000); }
 static uint32_t call_load(void) { return cw_load(&m, image, image_len); }
 static uint32_t call_check(void) { return cw_check(&m, image, image_len); }
 static uint32_t call_new(void) { return cw_new(&m); }

@@ -26,7 +26,7 @@ static void must(uint32_t refused, const char *what)
 static void run(struct chaffwheel_stores *m, const char *what, size_t of, const char *things, size_t turns)
 {
     double start = seconds();
-    must(cw_run(m, UINT64_MAX), "the run");
+    must(cw_whole_run(m, UINT64_MAX), "the run");
     double took = seconds() - start;
     if (m->answer[0] == 3)
         fprintf(stderr, "unit: fault %" PRIu64 "\n", m->answer[3]), exit(1);

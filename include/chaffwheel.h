@@ -2,16 +2,19 @@
  *
  * The functions are those of crates/embed; each is proved to meet its contract there. docs/EMBEDDING.md shows how a broker uses them, and what
  * this boundary assumes. The library allocates nothing, keeps nothing between calls, and holds no pointer after a call has returned: all
- * stores are the host's. chaffwheel_stores.h gathers them in a struct and lends them, so that a call is `cw_run(m, units)`.
+ * stores are the host's. chaffwheel_stores.h gathers them in a struct and lends them, so that a call is `cw_continue(m, units)`.
+ *
+ * A rule is run in parts: chaffwheel_begin copies the stack, chaffwheel_continue gives units and goes on, as often as the host likes, and
+ * chaffwheel_abandon ends a run that nobody will wait for. While a run is under way its program stays as it is: what would change it is refused 25.
  *
  * Each function returns CHAFFWHEEL_OK, or the number of its refusal (the names are below). A refusal changes no store; only 20 writes its offset
  * to answer[0], and 40 the rule and the function to answer[0] and answer[1].
  *
- * Their order, at all but chaffwheel_new, chaffwheel_load and chaffwheel_check: 19 where vm has fewer than 10 words, its last result is not exactly the words of a
- * value or of none, or a value that is handed in is not exactly the words of a value; then the function's own 19; then 17 where answer has fewer
- * words than the function tells; then the other refusals that stand at the function, in order. At chaffwheel_disassemble 1 or 3 come before that 17
- * too. The library judges what it is lent, in time linear in what is taken, the bytes of struct names counted once for each name
- * (docs/EMBEDDING.md, "What it costs"); a reader judges what it reads and nothing else.
+ * Their order, at all but chaffwheel_new, chaffwheel_load and chaffwheel_check: 19 where vm has fewer than 16 words, its last result is not exactly the words of a
+ * value or of none, its word CHAFFWHEEL_RUN_ON is neither 0 nor 1, or a value that is handed in is not exactly the words of a value; then the function's
+ * own 19; then 18 or 25, at the functions that tell them; then 17 where answer has fewer words than the function tells; then the other refusals that
+ * stand at the function, in order. At chaffwheel_disassemble 1 or 3 come before that 17 too. The library judges what it is lent, in time linear in what is
+ * taken, the bytes of struct names counted once for each name (docs/EMBEDDING.md, "What it costs"); a reader judges what it reads and nothing else.
  */
 #ifndef CHAFFWHEEL_H
 #define CHAFFWHEEL_H
@@ -26,7 +29,7 @@ extern "C" {
 
 /* The version: the last of the three moves with each change, the first where a host has to be changed. */
 #define CHAFFWHEEL_VERSION_MAJOR 0
-#define CHAFFWHEEL_VERSION_MINOR 3
+#define CHAFFWHEEL_VERSION_MINOR 4
 #define CHAFFWHEEL_VERSION_PATCH 0
 #define CHAFFWHEEL_VERSION (CHAFFWHEEL_VERSION_MAJOR * 10000 + CHAFFWHEEL_VERSION_MINOR * 100 + CHAFFWHEEL_VERSION_PATCH)
 
@@ -40,7 +43,9 @@ typedef struct chaffwheel_frame {
     uint64_t base;
 } chaffwheel_frame;
 
-/* A machine's record, in words: how much of each store is taken, and the last result. The host keeps it between calls. */
+/* A machine's record, in words: how much of each store is taken, the last result, and the run that is under way. The host keeps it between calls.
+ * BEFORE ITS FIRST USE IT IS ALL ZEROS: chaffwheel_new, chaffwheel_load and chaffwheel_check look whether a run is under way in it (25). Where none is,
+ * the words of the run are all 0. */
 enum {
     CHAFFWHEEL_CONSTANTS = 0,
     CHAFFWHEEL_STRUCTS = 1,
@@ -52,7 +57,13 @@ enum {
     CHAFFWHEEL_CELLS = 7,
     CHAFFWHEEL_LAST_KIND = 8,    /* CHAFFWHEEL_NONE: no last result */
     CHAFFWHEEL_LAST_PAYLOAD = 9,
-    CHAFFWHEEL_VM = 10           /* words of a record */
+    CHAFFWHEEL_RUN_ON = 10,      /* 1: a run is under way; else 0 */
+    CHAFFWHEEL_RUN_GIVEN = 11,   /* the units that it was given in all */
+    CHAFFWHEEL_RUN_SPENT = 12,   /* those that it has spent: at most as many */
+    CHAFFWHEEL_RUN_RETURNS = 13, /* the root Returns that it has completed */
+    CHAFFWHEEL_RUN_MARK = 14,    /* the cells that were taken at the last of them, or at its start */
+    CHAFFWHEEL_RUN_SAVED = 15,   /* the values that stand in the copy of its starting stack */
+    CHAFFWHEEL_VM = 16           /* words of a record */
 };
 
 /* The kind of a value, and what its payload is. */
@@ -66,12 +77,12 @@ enum {
     CHAFFWHEEL_NONE = 7          /* of a last result: there is none; the payload is 0 */
 };
 
-/* What a run answers, in words. */
+/* What a part of a run answers, in words: beginning, continuing and abandoning alike. */
 enum {
-    CHAFFWHEEL_OUTCOME = 0,      /* one of the three below */
-    CHAFFWHEEL_SPENT = 1,        /* units */
-    CHAFFWHEEL_RETURNS = 2,      /* root Returns that the run completed. 0: NOTHING HAS COUNTED */
-    /* with CHAFFWHEEL_VALUE; both are 0 with CHAFFWHEEL_CONTINUE */
+    CHAFFWHEEL_OUTCOME = 0,      /* one of the four below */
+    CHAFFWHEEL_SPENT = 1,        /* units, of the whole run; so far, with CHAFFWHEEL_PAUSED */
+    CHAFFWHEEL_RETURNS = 2,      /* root Returns that the run completed, likewise. 0: NOTHING HAS COUNTED */
+    /* with CHAFFWHEEL_VALUE; both are 0 with CHAFFWHEEL_CONTINUE and CHAFFWHEEL_PAUSED */
     CHAFFWHEEL_KIND = 3,
     CHAFFWHEEL_PAYLOAD = 4,
     /* with CHAFFWHEEL_FAULT: the same words */
@@ -79,7 +90,8 @@ enum {
     CHAFFWHEEL_TRACE_LENGTH = 4, /* the entries of its backtrace */
     CHAFFWHEEL_ANSWER = 5        /* words of an answer: enough for every function */
 };
-enum { CHAFFWHEEL_VALUE = 1, CHAFFWHEEL_CONTINUE = 2, CHAFFWHEEL_FAULT = 3 };
+/* The first three end the run. The fourth: its units do not reach, and it is under way; give it more, or abandon it. */
+enum { CHAFFWHEEL_VALUE = 1, CHAFFWHEEL_CONTINUE = 2, CHAFFWHEEL_FAULT = 3, CHAFFWHEEL_PAUSED = 4 };
 
 /* What the other functions answer, in words: a value that is shown; the header of a list or struct; and in the first word alone how many bytes or
  * entries were written, the number of what was emitted, or of a refusal 20 its offset. */
@@ -106,11 +118,13 @@ enum {
     CHAFFWHEEL_NO_FUNCTION = 14,
     CHAFFWHEEL_NO_PLACE = 16,
     CHAFFWHEEL_STORE_SHORT = 17,
+    CHAFFWHEEL_NO_RUN = 18,
     CHAFFWHEEL_NOT_IN_ORDER = 19,
     CHAFFWHEEL_BROKEN_IMAGE = 20,
     CHAFFWHEEL_NO_ROOM = 21,
     CHAFFWHEEL_LIMIT = 22,
     CHAFFWHEEL_PATCH_OUTSIDE = 23,
+    CHAFFWHEEL_UNDER_WAY = 25,
     CHAFFWHEEL_NOT_PASSED = 40
 };
 
@@ -135,11 +149,13 @@ static inline const char *chaffwheel_text_of_number(uint64_t number)
     case CHAFFWHEEL_NO_FUNCTION: return "no function has that name";
     case CHAFFWHEEL_NO_PLACE: return "a frame stands outside its code, so that it has no place";
     case CHAFFWHEEL_STORE_SHORT: return "a store that was lent for a result or a copy is too short";
+    case CHAFFWHEEL_NO_RUN: return "no run is under way that could be continued or abandoned";
     case CHAFFWHEEL_NOT_IN_ORDER: return "the machine's records are not in good order";
     case CHAFFWHEEL_BROKEN_IMAGE: return "the image breaks a rule of its format";
     case CHAFFWHEEL_NO_ROOM: return "a store has too little room for the program";
     case CHAFFWHEEL_LIMIT: return "a limit would be exceeded";
     case CHAFFWHEEL_PATCH_OUTSIDE: return "a patch lies outside the code of the current function";
+    case CHAFFWHEEL_UNDER_WAY: return "a run is under way, and until it is over the program stays and no other is begun";
     case CHAFFWHEEL_NOT_PASSED: return "the rule does not pass the check";
     default: return "a number that does not come back";
     }
@@ -190,16 +206,17 @@ enum {
 /* ---- making a machine, and running it */
 
 /* Makes a machine over a new program: function 0, <main>, with no code. Writes vm, functions, text, and frames[0].
- * Refused 17: vm has fewer than 10 words, or answer none. 21: the text store has fewer than 6 bytes, the function store no place, or the frame
- * store none. */
+ * Refused 25: vm has 16 words or more and a run is under way in it. 17: vm has fewer than 16 words, or answer none. 21: the text store has fewer than 6
+ * bytes, the function store no place, or the frame store none. */
 uint32_t chaffwheel_new(
     CHAFFWHEEL_SLICE(uint64_t, vm), CHAFFWHEEL_SLICE(uint64_t, functions), CHAFFWHEEL_SLICE(uint8_t, text),
     CHAFFWHEEL_SLICE(chaffwheel_frame, frames), CHAFFWHEEL_SLICE(uint64_t, answer));
 
-/* Makes a machine over the program of an image: an empty stack, no last result, one frame, at the start of main. Writes vm, the program's stores
- * and frames[0].
- * Refused 20: the image breaks a rule; answer[0], where there is one, is the offset of the first item that does. 17: vm has fewer than 10 words, or
- * answer none. 22: a limit. 21: a store is too small for the program, or the frame store has no place. */
+/* Makes a machine over the program of an image: an empty stack, no last result, one frame, at the start of main. Writes vm, the program's stores and
+ * frames[0].
+ * Refused 25, before all else: vm has 16 words or more and a run is under way in it. 20: the image breaks a rule; answer[0], where there is one, is the
+ * offset of the first item that does. 17: vm has fewer than 16 words, or answer none. 22: a limit. 21: a store is too small for the program, or the
+ * frame store has no place. */
 uint32_t chaffwheel_load(
     CHAFFWHEEL_SLICE(const uint8_t, image), CHAFFWHEEL_SLICE(uint64_t, vm),
     CHAFFWHEEL_SLICE(uint64_t, constants), CHAFFWHEEL_SLICE(uint64_t, structs), CHAFFWHEEL_SLICE(uint64_t, functions),
@@ -208,12 +225,14 @@ uint32_t chaffwheel_load(
     CHAFFWHEEL_SLICE(chaffwheel_frame, frames), CHAFFWHEEL_SLICE(uint64_t, answer));
 
 /* Checks an image before its rule is installed, and makes a machine over its program, as chaffwheel_load does, if it keeps the six rules of
- * docs/RULES.md ("The check"). Writes vm, the program's stores and frames[0], and to heights[f] the greatest height of each function f: so many values
- * a frame of it has on the stack at most. On that machine, whatever the units, faults 1 to 4 and 14 never come, and 6 only from GetUpvalue or a field.
- * Refused 20: the bytes are no image; answer[0], where there is one, is the offset of the first item that breaks a rule of the format. 17: vm has fewer
- * than 10 words, answer fewer than 2, or heights fewer than there are functions. 22: a limit. 21: a store is too small for the program, or the frame
- * store has no place. 40: a rule of the check is broken; answer[CHAFFWHEEL_RULE] is the first, 1 to 6, answer[CHAFFWHEEL_FUNCTION] the lowest function
- * that breaks it (of rule 4 the one that is called). A refused image leaves the machine that is there as it is. */
+ * docs/RULES.md ("The check"). Writes vm, the program's stores and frames[0], and to heights[f] the greatest height of each function f: so many
+ * values a frame of it has on the stack at most. On that machine, whatever the units, faults 1 to 4 and 14 never come, and 6 only from GetUpvalue or
+ * a field.
+ * Refused 25, before all else: vm has 16 words or more and a run is under way in it. 20: the bytes are no image; answer[0], where there is one, is the
+ * offset of the first item that breaks a rule of the format. 17: vm has fewer than 16 words, answer fewer than 2, or heights fewer than there are
+ * functions. 22: a limit. 21: a store is too small for the program, or the frame store has no place. 40: a rule of the check is broken;
+ * answer[CHAFFWHEEL_RULE] is the first, 1 to 6, answer[CHAFFWHEEL_FUNCTION] the lowest function that breaks it (of rule 4 the one that is called). A
+ * refused image leaves the machine that is there as it is. */
 enum { CHAFFWHEEL_RULE = 0, CHAFFWHEEL_FUNCTION = 1 };
 uint32_t chaffwheel_check(
     CHAFFWHEEL_SLICE(const uint8_t, image), CHAFFWHEEL_SLICE(uint64_t, vm),
@@ -222,22 +241,47 @@ uint32_t chaffwheel_check(
     CHAFFWHEEL_SLICE(uint8_t, other_code), CHAFFWHEEL_SLICE(uint32_t, other_places),
     CHAFFWHEEL_SLICE(chaffwheel_frame, frames), CHAFFWHEEL_SLICE(uint32_t, heights), CHAFFWHEEL_SLICE(uint64_t, answer));
 
-/* Runs the machine of vm, with at most this many units. It reads the program's stores; it writes stack, cells and frames, the starting stack
- * to the front of copy, after a fault the backtrace to the front of trace (two words to an entry, function and place, the innermost frame
- * first), the machine as it then is to vm, and the answer. After a fault vm is a machine that can go on: the stack of the start, one frame at
- * the end of main, and the last result of the last root Return that was completed. THE LAST RESULT IS NOT PUT BACK: docs/EMBEDDING.md.
- * Whether the run has counted is told by answer[CHAFFWHEEL_RETURNS] and by nothing else. A place of the backtrace cannot tell it: behind a jump it
- * is the place of code that was passed over.
- * answer has 5 words. Refused 19: the program or the machine is not in good order. 17: answer is shorter, copy has fewer places than stack, or trace
- * than frames.
- * Nothing has run then. */
-uint32_t chaffwheel_run(
+/* Begins a run of the machine of vm, where it stands. It reads the program's stores, stack, cells and frames, writes the starting stack to the front of
+ * copy, the machine as it then is to vm, and the answer, and takes no units. A run that stands at or past the end of its code is over at once:
+ * CHAFFWHEEL_CONTINUE, 0 units, and the last result stays. Every other is then under way, CHAFFWHEEL_PAUSED, and until it is over the host alters nothing
+ * that it lends, the copy among it, and hands back the record that it got last.
+ * answer has 5 words. Refused 19: the program or the machine is not in good order. 25: a run is under way. 17: answer is shorter, or copy has fewer
+ * places than stack. */
+uint32_t chaffwheel_begin(
+    CHAFFWHEEL_SLICE(uint64_t, vm),
+    CHAFFWHEEL_SLICE(const uint64_t, constants), CHAFFWHEEL_SLICE(const uint64_t, structs), CHAFFWHEEL_SLICE(const uint64_t, functions),
+    CHAFFWHEEL_SLICE(const uint8_t, text), CHAFFWHEEL_SLICE(const uint8_t, main_code), CHAFFWHEEL_SLICE(const uint32_t, main_places),
+    CHAFFWHEEL_SLICE(const uint8_t, other_code), CHAFFWHEEL_SLICE(const uint32_t, other_places),
+    CHAFFWHEEL_SLICE(const uint64_t, stack), CHAFFWHEEL_SLICE(const uint64_t, cells), CHAFFWHEEL_SLICE(const chaffwheel_frame, frames),
+    CHAFFWHEEL_SLICE(uint64_t, copy), CHAFFWHEEL_SLICE(uint64_t, answer));
+
+/* Gives the run under way so many units more and goes on with them and those that were left: to its end, to a fault, or to an instruction that cannot
+ * be paid for. There it is paused (CHAFFWHEEL_PAUSED) in front of that instruction, of which nothing is done or spent. It writes stack, cells and frames,
+ * after a fault the backtrace to the front of trace (two words to an entry, function and place, the innermost frame first), the machine as it then is to
+ * vm, and the answer. However the units are dealt out, the end is that of one run given their sum. After a fault vm is a machine that can go on: the stack
+ * of the start, one frame at the end of main, and the last result of the last root Return that was completed. THE LAST RESULT IS NOT PUT BACK:
+ * docs/EMBEDDING.md. Whether the run has counted is told by answer[CHAFFWHEEL_RETURNS] and by nothing else. A place of the backtrace cannot tell it: behind
+ * a jump it is the place of code that was passed over.
+ * answer has 5 words. Refused 19: the program, the machine or the run is not in good order. 18: no run is under way. 17: answer is shorter, or trace has
+ * fewer places than frames. 22: the units given in all would be above 64 bits. Nothing has run then, and a run that was under way still is. */
+uint32_t chaffwheel_continue(
     uint64_t units, CHAFFWHEEL_SLICE(uint64_t, vm),
     CHAFFWHEEL_SLICE(const uint64_t, constants), CHAFFWHEEL_SLICE(const uint64_t, structs), CHAFFWHEEL_SLICE(const uint64_t, functions),
     CHAFFWHEEL_SLICE(const uint8_t, text), CHAFFWHEEL_SLICE(const uint8_t, main_code), CHAFFWHEEL_SLICE(const uint32_t, main_places),
     CHAFFWHEEL_SLICE(const uint8_t, other_code), CHAFFWHEEL_SLICE(const uint32_t, other_places),
     CHAFFWHEEL_SLICE(uint64_t, stack), CHAFFWHEEL_SLICE(uint64_t, cells), CHAFFWHEEL_SLICE(chaffwheel_frame, frames),
-    CHAFFWHEEL_SLICE(uint64_t, copy), CHAFFWHEEL_SLICE(uint32_t, trace), CHAFFWHEEL_SLICE(uint64_t, answer));
+    CHAFFWHEEL_SLICE(const uint64_t, copy), CHAFFWHEEL_SLICE(uint32_t, trace), CHAFFWHEEL_SLICE(uint64_t, answer));
+
+/* Abandons the run under way: fault 13, with all the units that it was given as spent, the backtrace of one run given as many, and the machine that a
+ * fault leaves. Whether it has counted is told by answer[CHAFFWHEEL_RETURNS], as after any fault.
+ * answer has 5 words. Refused 19, 18, 17 as chaffwheel_continue is; the run is then still under way. */
+uint32_t chaffwheel_abandon(
+    CHAFFWHEEL_SLICE(uint64_t, vm),
+    CHAFFWHEEL_SLICE(const uint64_t, constants), CHAFFWHEEL_SLICE(const uint64_t, structs), CHAFFWHEEL_SLICE(const uint64_t, functions),
+    CHAFFWHEEL_SLICE(const uint8_t, text), CHAFFWHEEL_SLICE(const uint8_t, main_code), CHAFFWHEEL_SLICE(const uint32_t, main_places),
+    CHAFFWHEEL_SLICE(const uint8_t, other_code), CHAFFWHEEL_SLICE(const uint32_t, other_places),
+    CHAFFWHEEL_SLICE(uint64_t, stack), CHAFFWHEEL_SLICE(const uint64_t, cells), CHAFFWHEEL_SLICE(chaffwheel_frame, frames),
+    CHAFFWHEEL_SLICE(const uint64_t, copy), CHAFFWHEEL_SLICE(uint32_t, trace), CHAFFWHEEL_SLICE(uint64_t, answer));
 
 /* The backtrace of the machine's frames, as a fault's; answer[0] is how many entries it has. The stack store is lent for its length alone: a
  * frame's base may not lie past it.
@@ -298,9 +342,9 @@ uint32_t chaffwheel_text(
     CHAFFWHEEL_SLICE(const uint8_t, text), CHAFFWHEEL_SLICE(uint8_t, out), CHAFFWHEEL_SLICE(uint64_t, answer));
 
 /* ---- emission: a program is written, to the end of the current function. vm takes the new counts. A name or text is copied. Of each function answer
- * has one word; 17 where it has none. */
+ * has one word; 17 where it has none. While a run is under way each is refused 25, but for the two that only read. */
 
-/* Appends an opcode and its operands, each byte with the place. Refused 19, 17, 22, 21, 1. */
+/* Appends an opcode and its operands, each byte with the place. Refused 19, 25, 17, 22, 21, 1. */
 uint32_t chaffwheel_add_op(
     CHAFFWHEEL_SLICE(uint64_t, vm), uint8_t op, uint32_t place, CHAFFWHEEL_SLICE(uint64_t, functions),
     CHAFFWHEEL_SLICE(uint8_t, main_code), CHAFFWHEEL_SLICE(uint32_t, main_places),
@@ -322,13 +366,13 @@ uint32_t chaffwheel_add_op3(
 uint32_t chaffwheel_current_offset(
     CHAFFWHEEL_SLICE(const uint64_t, vm), CHAFFWHEEL_SLICE(const uint64_t, functions), CHAFFWHEEL_SLICE(uint64_t, answer));
 
-/* Overwrites two bytes of the current function's code, low byte first. Refused 19, 17, 23. */
+/* Overwrites two bytes of the current function's code, low byte first. Refused 19, 25, 17, 23. */
 uint32_t chaffwheel_patch_u16_value_at(
     CHAFFWHEEL_SLICE(uint64_t, vm), uint16_t offset, uint16_t arg, CHAFFWHEEL_SLICE(const uint64_t, functions),
     CHAFFWHEEL_SLICE(uint8_t, main_code), CHAFFWHEEL_SLICE(uint8_t, other_code), CHAFFWHEEL_SLICE(uint64_t, answer));
 
 /* Append a constant: a scalar's 64 bits (kept as they are), a boolean, a string, a function reference. answer[0] is its number.
- * Refused 19, 17, 22, 21. */
+ * Refused 19, 25, 17, 22, 21. */
 uint32_t chaffwheel_add_scalar(
     CHAFFWHEEL_SLICE(uint64_t, vm), uint64_t bits,
     CHAFFWHEEL_SLICE(uint64_t, constants), CHAFFWHEEL_SLICE(uint8_t, text), CHAFFWHEEL_SLICE(uint64_t, answer));
@@ -343,17 +387,17 @@ uint32_t chaffwheel_add_reference(
     CHAFFWHEEL_SLICE(uint64_t, constants), CHAFFWHEEL_SLICE(uint8_t, text), CHAFFWHEEL_SLICE(uint64_t, answer));
 
 /* answer[0] is the number of a struct name, which is added where it is not known. A place of the struct store has two words: the name, and a number
- * of the order of names. Refused 19, 17, 22, 21. */
+ * of the order of names. Refused 19, 25, 17, 22, 21. */
 uint32_t chaffwheel_add_struct_info(
     CHAFFWHEEL_SLICE(uint64_t, vm), CHAFFWHEEL_SLICE(const uint8_t, name),
     CHAFFWHEEL_SLICE(uint64_t, structs), CHAFFWHEEL_SLICE(uint8_t, text), CHAFFWHEEL_SLICE(uint64_t, answer));
 
-/* Begins a function without code, which is then current. answer[0] is its number. Refused 19, 17, 22, 21. */
+/* Begins a function without code, which is then current. answer[0] is its number. Refused 19, 25, 17, 22, 21. */
 uint32_t chaffwheel_begin_function(
     CHAFFWHEEL_SLICE(uint64_t, vm), CHAFFWHEEL_SLICE(const uint8_t, name),
     CHAFFWHEEL_SLICE(uint64_t, functions), CHAFFWHEEL_SLICE(uint8_t, text), CHAFFWHEEL_SLICE(uint64_t, answer));
 
-/* Makes main current. Refused 19, 17. */
+/* Makes main current. Refused 19, 25, 17. */
 uint32_t chaffwheel_end_function(CHAFFWHEEL_SLICE(uint64_t, vm), CHAFFWHEEL_SLICE(uint64_t, answer));
 
 /* answer[0] is the newest function of a name. Refused 19, 17, 14. */

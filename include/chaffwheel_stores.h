@@ -4,8 +4,8 @@
  *
  * cw_stores_from lays the stores into one block of memory of the host's. A host that wants other sizes starts from a struct of zeros, sets each
  * pointer to memory of its own that it has written, and each _len to the count of its elements (words, bytes or frames, not places):
- * docs/EMBEDDING.md, "What the host lends". Then cw_new, cw_load or cw_check makes the machine. heights
- * is lent to cw_check alone: a host that does not call it leaves it as it is. */
+ * docs/EMBEDDING.md, "What the host lends". Then cw_new, cw_load or cw_check makes the machine: they find
+ * the record all zeros, as it is to be before its first use. heights is lent to cw_check alone: a host that does not call it leaves it as it is. */
 #ifndef CHAFFWHEEL_STORES_H
 #define CHAFFWHEEL_STORES_H
 
@@ -83,6 +83,7 @@ static inline void cw_stores_from(struct chaffwheel_stores *m, void *block, size
 #define CW_VM m->vm, CHAFFWHEEL_VM
 #define CW_ANSWER m->answer, CHAFFWHEEL_ANSWER
 #define CW_CODE CW_LEND(main_code), CW_LEND(main_places), CW_LEND(other_code), CW_LEND(other_places)
+#define CW_PROGRAM CW_LEND(constants), CW_LEND(structs), CW_LEND(functions), CW_LEND(text), CW_CODE
 
 /* ---- making a machine, and running it */
 
@@ -93,29 +94,57 @@ static inline uint32_t cw_new(struct chaffwheel_stores *m)
 
 static inline uint32_t cw_load(struct chaffwheel_stores *m, CHAFFWHEEL_SLICE(const uint8_t, image))
 {
-    return chaffwheel_load(image, image_len, CW_VM, CW_LEND(constants), CW_LEND(structs), CW_LEND(functions), CW_LEND(text), CW_CODE,
-        CW_LEND(frames), CW_ANSWER);
+    return chaffwheel_load(image, image_len, CW_VM, CW_PROGRAM, CW_LEND(frames), CW_ANSWER);
 }
 
 static inline uint32_t cw_check(struct chaffwheel_stores *m, CHAFFWHEEL_SLICE(const uint8_t, image))
 {
-    return chaffwheel_check(image, image_len, CW_VM, CW_LEND(constants), CW_LEND(structs), CW_LEND(functions), CW_LEND(text), CW_CODE,
-        CW_LEND(frames), CW_LEND(heights), CW_ANSWER);
+    return chaffwheel_check(image, image_len, CW_VM, CW_PROGRAM, CW_LEND(frames), CW_LEND(heights), CW_ANSWER);
 }
 
-static inline uint32_t cw_run(struct chaffwheel_stores *m, uint64_t units)
+static inline uint32_t cw_begin(struct chaffwheel_stores *m)
 {
-    return chaffwheel_run(units, CW_VM, CW_LEND(constants), CW_LEND(structs), CW_LEND(functions), CW_LEND(text), CW_CODE, CW_LEND(stack),
-        CW_LEND(cells), CW_LEND(frames), CW_LEND(copy), CW_LEND(trace), CW_ANSWER);
+    return chaffwheel_begin(CW_VM, CW_PROGRAM, CW_LEND(stack), CW_LEND(cells), CW_LEND(frames), CW_LEND(copy), CW_ANSWER);
+}
+
+static inline uint32_t cw_continue(struct chaffwheel_stores *m, uint64_t units)
+{
+    return chaffwheel_continue(units, CW_VM, CW_PROGRAM, CW_LEND(stack), CW_LEND(cells), CW_LEND(frames), CW_LEND(copy), CW_LEND(trace), CW_ANSWER);
+}
+
+static inline uint32_t cw_abandon(struct chaffwheel_stores *m)
+{
+    return chaffwheel_abandon(CW_VM, CW_PROGRAM, CW_LEND(stack), CW_LEND(cells), CW_LEND(frames), CW_LEND(copy), CW_LEND(trace), CW_ANSWER);
+}
+
+/* Whether a run is under way: it is to be given more units, or abandoned. */
+static inline bool cw_is_under_way(const struct chaffwheel_stores *m)
+{
+    return m->vm[CHAFFWHEEL_RUN_ON] != 0;
+}
+
+/* A whole run, for a host that has nothing to do between its parts: begun, continued once with these units, and abandoned where it is then paused. The
+ * answer is the last call's. Refused as the first of the three that is; behind the beginning the run is then under way. */
+static inline uint32_t cw_whole_run(struct chaffwheel_stores *m, uint64_t units)
+{
+    uint32_t refused = cw_begin(m);
+    if (!refused && m->answer[CHAFFWHEEL_OUTCOME] == CHAFFWHEEL_PAUSED)
+        refused = cw_continue(m, units);
+    if (!refused && m->answer[CHAFFWHEEL_OUTCOME] == CHAFFWHEEL_PAUSED)
+        refused = cw_abandon(m);
+    return refused;
 }
 
 /* ---- the same rule for many readings: what a host may write between runs (docs/EMBEDDING.md, "Many readings"). These two are the host's own
- * writes, and no calls: the next run judges what it is lent, whatever was written. */
+ * writes, and no calls: the next run judges what it is lent, whatever was written. While a run is under way nothing that is lent may be altered: both
+ * are then false, and write nothing. */
 
 /* Puts the machine back to the start of main, with an empty stack. The last result stays: it is what the rule counted so far. The cells are free
  * again unless the last result is a list or struct, which lies in them. */
-static inline void cw_rewind(struct chaffwheel_stores *m)
+static inline bool cw_rewind(struct chaffwheel_stores *m)
 {
+    if (cw_is_under_way(m))
+        return false;
     m->vm[CHAFFWHEEL_STACK] = 0;
     m->vm[CHAFFWHEEL_FRAMES] = 1;
     m->frames[0].function = 0;
@@ -123,6 +152,7 @@ static inline void cw_rewind(struct chaffwheel_stores *m)
     m->frames[0].base = 0;
     if (m->vm[CHAFFWHEEL_LAST_KIND] != CHAFFWHEEL_LIST && m->vm[CHAFFWHEEL_LAST_KIND] != CHAFFWHEEL_STRUCT)
         m->vm[CHAFFWHEEL_CELLS] = 0;
+    return true;
 }
 
 /* A number as its 64 bits, and back. */
@@ -140,10 +170,10 @@ static inline double cw_number_of(uint64_t bits)
     return number;
 }
 
-/* Makes constant i the number of these 64 bits; false if the program has no such constant, and then nothing is written. */
+/* Makes constant i the number of these 64 bits; false too if the program has no such constant, and then nothing is written. */
 static inline bool cw_set_scalar(struct chaffwheel_stores *m, size_t i, uint64_t bits)
 {
-    if (i >= m->vm[CHAFFWHEEL_CONSTANTS] || i >= m->constants_len / 2)
+    if (cw_is_under_way(m) || i >= m->vm[CHAFFWHEEL_CONSTANTS] || i >= m->constants_len / 2)
         return false;
     m->constants[2 * i] = CHAFFWHEEL_SCALAR;
     m->constants[2 * i + 1] = bits;
@@ -158,7 +188,7 @@ static inline uint32_t cw_backtrace(struct chaffwheel_stores *m)
 
 static inline uint32_t cw_save(struct chaffwheel_stores *m, CHAFFWHEEL_SLICE(uint8_t, out))
 {
-    return chaffwheel_save(CW_VM, CW_LEND(constants), CW_LEND(structs), CW_LEND(functions), CW_LEND(text), CW_CODE, out, out_len, CW_ANSWER);
+    return chaffwheel_save(CW_VM, CW_PROGRAM, out, out_len, CW_ANSWER);
 }
 
 static inline uint32_t cw_disassemble(struct chaffwheel_stores *m, CHAFFWHEEL_SLICE(uint8_t, out))
@@ -269,5 +299,6 @@ static inline uint32_t cw_get_function_idx(struct chaffwheel_stores *m, CHAFFWHE
 #undef CW_VM
 #undef CW_ANSWER
 #undef CW_CODE
+#undef CW_PROGRAM
 
 #endif

@@ -1,6 +1,7 @@
 /* A broker that runs a rule over a reading, meets a fault behind the rule's Return, and counts the reading once: docs/EMBEDDING.md.
  * The rule is examples/story.rule: it adds 1 to the last result, returns that, then divides by a constant that is 0 by mistake.
  * It is checked before it is installed, and a rule that is broken is refused there: the one that was installed stays.
+ * The mended rule is also run in parts: the broker answers its operator between them, and gives more units or abandons it.
  * Then a rule that jumps over a Return, where the place of the fault would tell a lie and the number of root Returns does not.
  * At the end a rule that answers with a list, and what the broker reads of it. */
 #include <inttypes.h>
@@ -52,32 +53,66 @@ static double last_scalar(struct chaffwheel_stores *m, double otherwise)
     return !cw_last_result(m) && m->answer[0] == CHAFFWHEEL_SCALAR ? scalar_of(m->answer[1]) : otherwise;
 }
 
-/* Runs the machine as it stands; `before` is the last result that the rule is given. */
-static struct journal run(struct chaffwheel_stores *m, double before, uint64_t units)
+/* What the broker writes down of a run that is over; `before` is the last result that the rule was given. */
+static struct journal written(struct chaffwheel_stores *m, double before, uint32_t refused)
 {
-    struct journal j = { .before = before, .after = before };
-    j.refused = cw_run(m, units);
-    if (j.refused)
+    struct journal j = { .before = before, .after = before, .refused = refused };
+    if (refused)
         return j; /* nothing ran, no store changed */
     j.outcome = m->answer[CHAFFWHEEL_OUTCOME], j.spent = m->answer[CHAFFWHEEL_SPENT], j.returns = m->answer[CHAFFWHEEL_RETURNS];
     if (j.outcome == CHAFFWHEEL_FAULT) {
-        uint64_t entries = m->answer[CHAFFWHEEL_PAYLOAD];
-        j.fault = m->answer[CHAFFWHEEL_KIND], j.place = m->trace[2 * entries - 1];
+        uint64_t entries = m->answer[CHAFFWHEEL_TRACE_LENGTH];
+        j.fault = m->answer[CHAFFWHEEL_FAULT_NUMBER], j.place = m->trace[2 * entries - 1];
     }
     j.after = last_scalar(m, before); /* the answer is this value's from here on */
     return j;
+}
+
+/* Runs the machine as it stands, with all its units at once. */
+static struct journal run(struct chaffwheel_stores *m, double before, uint64_t units)
+{
+    return written(m, before, cw_whole_run(m, units));
+}
+
+/* The operator asks in a pause how far the rule is, and for another rule, which has to wait. Nothing of this disturbs the run. */
+static void answer_operator(struct chaffwheel_stores *m, const uint8_t *image, size_t len)
+{
+    uint64_t spent = m->answer[CHAFFWHEEL_SPENT], returns = m->answer[CHAFFWHEEL_RETURNS];
+    uint32_t place = cw_backtrace(m) ? 0 : m->trace[2 * m->answer[CHAFFWHEEL_TOLD] - 1];
+    uint32_t refused = cw_check(m, image, len);
+    printf("    paused, spent %" PRIu64 ", returns %" PRIu64 ", main at place %" PRIu32, spent, returns, place);
+    printf("; another rule is refused %" PRIu32 "\n", refused);
+}
+
+/* The same in parts of so many units, the operator answered before each; when as many as `most` are given and it is still paused it is abandoned. */
+static struct journal run_in_parts(struct chaffwheel_stores *m, double before, uint64_t part, uint64_t most, const uint8_t *image, size_t len)
+{
+    uint64_t given = 0;
+    uint32_t refused = cw_begin(m);
+    while (!refused && m->answer[CHAFFWHEEL_OUTCOME] == CHAFFWHEEL_PAUSED) {
+        answer_operator(m, image, len);
+        refused = given < most ? cw_continue(m, part) : cw_abandon(m);
+        given += part;
+    }
+    return written(m, before, refused);
 }
 
 /* The whole rule, on a machine that is newly loaded: it has no last result, so the broker brings the one to start from, as constant 0. The rule
  * begins by returning it (lines 9 and 10 of story.rule): that is the first root Return, and counts no reading. */
 static struct journal whole_rule(struct chaffwheel_stores *m, uint8_t *image, size_t len, double before, uint64_t units)
 {
-    struct journal j = { .before = before, .after = before };
     bring(image, 0, before);
-    j.refused = cw_check(m, image, len);
-    if (j.refused)
-        return j; /* nothing is installed: the machine is the one from before */
-    j = run(m, before, units);
+    uint32_t refused = cw_check(m, image, len); /* refused, nothing is installed: the machine is the one from before */
+    struct journal j = refused ? written(m, before, refused) : run(m, before, units);
+    j.brought = 1;
+    return j;
+}
+
+static struct journal whole_rule_in_parts(struct chaffwheel_stores *m, uint8_t *image, size_t len, double before, uint64_t part, uint64_t most)
+{
+    bring(image, 0, before);
+    uint32_t refused = cw_check(m, image, len);
+    struct journal j = refused ? written(m, before, refused) : run_in_parts(m, before, part, most, image, len);
     j.brought = 1;
     return j;
 }
@@ -192,7 +227,7 @@ static void show_value(struct chaffwheel_stores *m, uint64_t kind, uint64_t payl
 static uint32_t show_list_rule(struct chaffwheel_stores *m)
 {
     TRY(emit_list_rule(m));
-    TRY(cw_run(m, 100));
+    TRY(cw_whole_run(m, 100));
     printf("a rule that answers with a list, and leaves %" PRIu64 " value on the stack\n", m->vm[CHAFFWHEEL_STACK]);
     TRY(cw_last_result(m));
     printf("    last result ");
@@ -219,9 +254,8 @@ static void show_last(const char *when, double x)
         printf("%s %g", when, x);
 }
 
-static void show(const char *what, const struct journal *j)
+static void show_answer(const struct journal *j)
 {
-    printf("%s\n", what);
     if (j->refused)
         printf("    refused %" PRIu32 ": nothing ran\n", j->refused);
     else if (j->outcome == CHAFFWHEEL_FAULT)
@@ -231,6 +265,12 @@ static void show(const char *what, const struct journal *j)
     show_last("    last result before", j->before);
     show_last(", after", j->after);
     printf(": this run has%s counted\n", counted(j) ? "" : " not");
+}
+
+static void show(const char *what, const struct journal *j)
+{
+    printf("%s\n", what);
+    show_answer(j);
 }
 
 int main(int argc, char **argv)
@@ -266,6 +306,14 @@ int main(int argc, char **argv)
     struct journal again = whole_rule(&m, image, len, 41, 5);
     show("the mended rule with 5 units: its one Return is that of the number brought", &again);
 
+    printf("the mended rule in parts of 4 units, the operator answered between them\n");
+    struct journal parts = whole_rule_in_parts(&m, image, len, 41, 4, 12);
+    show_answer(&parts);
+
+    printf("the same, abandoned when 4 units were given\n");
+    struct journal given_up = whole_rule_in_parts(&m, image, len, 41, 4, 4);
+    show_answer(&given_up);
+
     struct journal passed = jump_rule(&m, 2);
     show("a rule that jumps, with 2 units: main is at the place of a Return that never ran", &passed);
 
@@ -277,6 +325,7 @@ int main(int argc, char **argv)
     machine_free(&m);
     int story = counted(&first) && first.after == 42 && !counted(&rest) && rest.after == 42 && counted(&once) && once.after == 42
         && counted(&twice) && twice.after == 43 && !counted(&again) && again.after == 41;
+    int dealt = counted(&parts) && parts.spent == once.spent && parts.after == 42 && !counted(&given_up) && given_up.fault == 13 && given_up.spent == 4;
     int jump = passed.place == 4 && passed.returns == 0 && !counted(&passed) && jumped.returns == 1 && counted(&jumped) && jumped.after == 1;
-    return !refused && by_day && story && jump ? 0 : 1;
+    return !refused && by_day && story && dealt && jump ? 0 : 1;
 }

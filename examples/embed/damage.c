@@ -1,6 +1,7 @@
-/* A host that makes programs by chance in stores of every small size, runs them, damages any word of any store or of the record, and calls every entry
- * again: a refusal changes nothing, a number is one that the entry may answer, a run ends within its units, what it leaves can be run on, and nothing
- * outside the stores that were lent is written. damage [ROUNDS [SEED]]; it says how often each number came, and stops at the first that is wrong. */
+/* A host that makes programs by chance in stores of every small size, runs them in parts, damages any word of any store or of the record, in pauses too,
+ * and calls every entry again: a refusal changes nothing, a number is one that the entry may answer, a run ends within its units and is then gone from the
+ * record, what it leaves can be run on, and nothing outside the stores that were lent is written. damage [ROUNDS [SEED]]; it says how often each number
+ * came, and stops at the first that is wrong. */
 #include <stdio.h>
 #include <stdlib.h>
 #include <string.h>
@@ -102,6 +103,13 @@ static void guarded(const char *entry, uint32_t n)
         guarded(entry, told); \
     } while (0)
 
+/* One call that is refused by this number. */
+#define REFUSED(number, entry, call) \
+    do { \
+        CALL(" " #number " ", entry, call); \
+        if (told != number) stop("it is not refused", entry, told); \
+    } while (0)
+
 static const char *numbered(uint32_t n)
 {
     static char text[16];
@@ -120,18 +128,18 @@ static void emit(void)
     size_t n = below(3);
     uint32_t place = (uint32_t)below(9);
     switch (below(12)) {
-    case 0: CALL(" 19 22 21 ", "add_scalar", cw_add_scalar(&m, below(4) ? 0x3FF0000000000000u : any())); break;
-    case 1: CALL(" 19 22 21 ", "add_boolean", cw_add_boolean(&m, any() & 1)); break;
-    case 2: CALL(" 19 22 21 ", "add_string", cw_add_string(&m, name, n)); break;
-    case 3: CALL(" 19 22 21 ", "add_reference", cw_add_reference(&m, name, n)); break;
-    case 4: CALL(" 19 22 21 ", "add_struct_info", cw_add_struct_info(&m, name, n)); break;
-    case 5: CALL(" 19 22 21 ", "begin_function", cw_begin_function(&m, name, n)); break;
-    case 6: CALL(" 19 ", "end_function", cw_end_function(&m)); break;
-    case 7: CALL(" 19 23 ", "patch_u16_value_at", cw_patch_u16_value_at(&m, a, b)); break;
+    case 0: CALL(" 19 25 22 21 ", "add_scalar", cw_add_scalar(&m, below(4) ? 0x3FF0000000000000u : any())); break;
+    case 1: CALL(" 19 25 22 21 ", "add_boolean", cw_add_boolean(&m, any() & 1)); break;
+    case 2: CALL(" 19 25 22 21 ", "add_string", cw_add_string(&m, name, n)); break;
+    case 3: CALL(" 19 25 22 21 ", "add_reference", cw_add_reference(&m, name, n)); break;
+    case 4: CALL(" 19 25 22 21 ", "add_struct_info", cw_add_struct_info(&m, name, n)); break;
+    case 5: CALL(" 19 25 22 21 ", "begin_function", cw_begin_function(&m, name, n)); break;
+    case 6: CALL(" 19 25 ", "end_function", cw_end_function(&m)); break;
+    case 7: CALL(" 19 25 23 ", "patch_u16_value_at", cw_patch_u16_value_at(&m, a, b)); break;
     default:
-        if (op == 28 || op == 31 || op == 34) CALL(" 19 22 21 1 ", "add_op2", cw_add_op2(&m, op, a, b, place));
-        else if (op == 0 || op == 3 || op == 4 || op == 26 || op == 27 || op == 35 || op == 36) CALL(" 19 22 21 1 ", "add_op1", cw_add_op1(&m, op, a, place));
-        else CALL(" 19 22 21 1 ", "add_op", cw_add_op(&m, op, place));
+        if (op == 28 || op == 31 || op == 34) CALL(" 19 25 22 21 1 ", "add_op2", cw_add_op2(&m, op, a, b, place));
+        else if (op == 0 || op == 3 || op == 4 || op == 26 || op == 27 || op == 35 || op == 36) CALL(" 19 25 22 21 1 ", "add_op1", cw_add_op1(&m, op, a, place));
+        else CALL(" 19 25 22 21 1 ", "add_op", cw_add_op(&m, op, place));
     }
 }
 
@@ -154,30 +162,93 @@ static void read_all(void)
     CALL(" 19 1 3 17 ", "disassemble", cw_disassemble(&m, out, sizeof out));
 }
 
-static void run(void)
+/* What an answer of a part says, against the units that the run was given. */
+static void within(uint64_t given, const char *entry)
 {
-    uint64_t units = below(60), stack = m.vm[CHAFFWHEEL_STACK], words[2 * PLACES];
-    size_t n = m.stack_len;
-    memcpy(words, m.stack, n * sizeof *words);
-    CALL(" 19 17 ", "run", cw_run(&m, units));
-    if (told != 0) return;
-    if (m.answer[CHAFFWHEEL_SPENT] > units) stop("more units spent than given", "run", told);
-    if (m.answer[CHAFFWHEEL_RETURNS] > m.answer[CHAFFWHEEL_SPENT]) stop("more root Returns than units", "run", told);
+    if (m.answer[CHAFFWHEEL_SPENT] > given) stop("more units spent than given", entry, told);
+    if (m.answer[CHAFFWHEEL_RETURNS] > m.answer[CHAFFWHEEL_SPENT]) stop("more root Returns than units", entry, told);
+    if (m.answer[CHAFFWHEEL_OUTCOME] != CHAFFWHEEL_PAUSED) return;
+    if (m.vm[CHAFFWHEEL_RUN_ON] != 1 || m.vm[CHAFFWHEEL_RUN_GIVEN] != given) stop("the record has another run", entry, told);
+    if (m.vm[CHAFFWHEEL_RUN_SPENT] != m.answer[CHAFFWHEEL_SPENT]) stop("the record has other units", entry, told);
+    if (m.vm[CHAFFWHEEL_RUN_RETURNS] != m.answer[CHAFFWHEEL_RETURNS]) stop("the record has other root Returns", entry, told);
+}
+
+/* What a run that is over has left: nothing of it in the record; after a fault the stack of its start. */
+static void over(const char *entry, uint64_t stack, const uint64_t *words)
+{
+    size_t i;
+    for (i = CHAFFWHEEL_RUN_ON; i < CHAFFWHEEL_VM; i++)
+        if (m.vm[i] != 0) stop("a run that is over is still in the record", entry, told);
     if (m.answer[CHAFFWHEEL_OUTCOME] == CHAFFWHEEL_FAULT) {
-        uint64_t fault = m.answer[CHAFFWHEEL_KIND];
-        if (fault < 1 || fault > 14) stop("no number of a fault", "run", (uint32_t)fault);
-        if (m.vm[CHAFFWHEEL_STACK] != stack || memcmp(words, m.stack, 2 * stack * sizeof *words)) stop("the stack is not that of the start", "run", told);
-        if (m.vm[CHAFFWHEEL_FRAMES] != 1) stop("not one frame", "run", told);
+        uint64_t fault = m.answer[CHAFFWHEEL_FAULT_NUMBER];
+        if (fault < 1 || fault > 14) stop("no number of a fault", entry, (uint32_t)fault);
+        if (m.vm[CHAFFWHEEL_STACK] != stack || memcmp(words, m.stack, 2 * stack * sizeof *words)) stop("the stack is not that of the start", entry, told);
+        if (m.vm[CHAFFWHEEL_FRAMES] != 1) stop("not one frame", entry, told);
         seen[64 + fault]++;
     }
-    CALL(" ", "run again", cw_run(&m, below(60)));
+    REFUSED(18, "continue without a run", cw_continue(&m, below(9)));
+    REFUSED(18, "abandon without a run", cw_abandon(&m));
+}
+
+/* What a host does in a pause: it looks, or tries what is refused. */
+static void pause_for(uint64_t given)
+{
+    switch (below(7)) {
+    case 0: read_all(); break;
+    case 1: REFUSED(25, "begin in a pause", cw_begin(&m)); break;
+    case 2: REFUSED(25, "new in a pause", cw_new(&m)); break;
+    case 3: REFUSED(25, "load in a pause", cw_load(&m, out, below(4))); break;
+    case 4:
+        emit();
+        if (told != 25) stop("a program is emitted in a pause", "emission", told);
+        break;
+    case 5:
+        if (given == 0) break;
+        CALL(" 17 22 ", "continue with too many units", cw_continue(&m, UINT64_MAX - given + 1));
+        if (told == 0) stop("more than 64 bits of units are taken", "continue", told);
+        break;
+    }
+}
+
+/* A run in parts, units dealt out by chance, none among them, or abandoned. Where the backtrace store is too short it stays under way. */
+static void run(void)
+{
+    uint64_t given = 0, stack = m.vm[CHAFFWHEEL_STACK], words[2 * PLACES];
+    memcpy(words, m.stack, m.stack_len * sizeof *words);
+    CALL(" 19 25 17 ", "begin", cw_begin(&m));
+    if (told != 0) return;
+    within(given, "begin");
+    while (m.answer[CHAFFWHEEL_OUTCOME] == CHAFFWHEEL_PAUSED) {
+        uint64_t units = below(2) ? below(4) : below(60);
+        pause_for(given);
+        if (below(8) == 0) {
+            CALL(" 17 ", "abandon", cw_abandon(&m));
+            if (told == 0 && (m.answer[CHAFFWHEEL_FAULT_NUMBER] != 13 || m.answer[CHAFFWHEEL_SPENT] != given)) stop("not abandoned so", "abandon", told);
+        } else {
+            CALL(" 17 ", "continue", cw_continue(&m, units));
+            given += told == 0 ? units : 0;
+        }
+        if (told != 0) return;
+        within(given, "a part");
+    }
+    over("a part", stack, words);
+    CALL(" ", "begin again", cw_begin(&m));
+    if (m.answer[CHAFFWHEEL_OUTCOME] == CHAFFWHEEL_PAUSED) CALL(" 17 ", "abandon", cw_abandon(&m));
+}
+
+/* The parts of a run on a machine that may be damaged, or have none under way. */
+static void parts(void)
+{
+    CALL(" 19 18 17 22 ", "continue, perhaps damaged", cw_continue(&m, below(60)));
+    CALL(" 19 25 17 ", "begin, perhaps damaged", cw_begin(&m));
+    CALL(" 19 18 17 ", "abandon, perhaps damaged", cw_abandon(&m));
 }
 
 /* Any word of the record, or any byte of any store. */
 static void damage(void)
 {
 #define HIT(name) if (m.name##_len && below(10) == 0) { ((unsigned char *)m.name)[below(m.name##_len * sizeof *m.name)] = (unsigned char)any(); return; }
-    HIT(constants) HIT(structs) HIT(functions) HIT(text) HIT(main_code) HIT(other_code) HIT(stack) HIT(cells) HIT(frames)
+    HIT(constants) HIT(structs) HIT(functions) HIT(text) HIT(main_code) HIT(other_code) HIT(stack) HIT(cells) HIT(frames) HIT(copy)
     m.vm[below(CHAFFWHEEL_VM)] = below(2) ? any() : below(PLACES);
 }
 
@@ -190,9 +261,15 @@ int main(int argc, char **argv)
         CALL(" 21 ", "new", cw_new(&m));
         for (j = below(60); j > 0; j--) emit();
         for (j = below(4); j > 0; j--) run();
+        if (below(2)) {
+            /* a run is under way when the damage is done */
+            for (j = below(9); j > 0; j--) emit();
+            CALL(" 19 25 17 ", "begin", cw_begin(&m));
+        }
         read_all();
         for (j = below(4); j > 0; j--) damage();
         read_all();
+        parts();
         run();
         emit();
     }

@@ -1,5 +1,5 @@
-/* The order of refusals at the boundary: short answers and short records, with machines in good order and damaged ones. Each line is a call and the
- * number that it must return; no call may change a store. Prints what is otherwise, and how many calls were made. */
+/* The order of refusals at the boundary: short answers and short records, with machines in good order and damaged ones, with a run under way and without.
+ * Each line is a call and the number that it must return; no call may change a store. Prints what is otherwise, and how many calls were made. */
 #include <inttypes.h>
 #include <stdio.h>
 #include "machine.h"
@@ -42,23 +42,53 @@ static uint64_t sum(const struct chaffwheel_stores *m)
 #define CODE LEND(main_code), LEND(main_places), LEND(other_code), LEND(other_places)
 #define PROGRAM LEND(constants), LEND(structs), LEND(functions), LEND(text), CODE
 
-/* every function with an answer that is too short, where each judges the program's functions */
-static void all_short(struct chaffwheel_stores *m, int want)
+/* The functions that judge the program's functions, each with an answer that is too short: those that write code, those that look, and those of a run. */
+static void emits_short(struct chaffwheel_stores *m, int want)
 {
     static const uint8_t name[] = { 'f' };
-    uint8_t out[4096];
     MUST(want, chaffwheel_add_op(VM, RETURN, 0, LEND(functions), CODE, SHORT));
     MUST(want, chaffwheel_add_op1(VM, LOAD_CONSTANT, 0, 0, LEND(functions), CODE, SHORT));
     MUST(want, chaffwheel_add_op2(VM, LOAD_CONSTANT, 0, 0, 0, LEND(functions), CODE, SHORT));
     MUST(want, chaffwheel_add_op3(VM, LOAD_CONSTANT, 0, 0, 0, 0, LEND(functions), CODE, SHORT));
     MUST(want, chaffwheel_patch_u16_value_at(VM, 0, 0, LEND(functions), LEND(main_code), LEND(other_code), SHORT));
-    MUST(want, chaffwheel_current_offset(VM, LEND(functions), SHORT));
     MUST(want, chaffwheel_begin_function(VM, name, 1, LEND(functions), LEND(text), SHORT));
+}
+
+static void looks_short(struct chaffwheel_stores *m, int want)
+{
+    static const uint8_t name[] = { 'f' };
+    uint8_t out[4096];
+    MUST(want, chaffwheel_current_offset(VM, LEND(functions), SHORT));
     MUST(want, chaffwheel_get_function_idx(VM, name, 1, LEND(functions), LEND(text), SHORT));
     MUST(want, chaffwheel_save(VM, PROGRAM, out, sizeof out, SHORT));
     MUST(want, chaffwheel_disassemble(VM, LEND(functions), LEND(text), LEND(main_code), LEND(other_code), out, sizeof out, SHORT));
-    MUST(want, chaffwheel_run(100, VM, PROGRAM, LEND(stack), LEND(cells), LEND(frames), LEND(copy), LEND(trace), m->answer, 4));
     MUST(want, chaffwheel_backtrace(VM, LEND(functions), LEND(text), CODE, LEND(stack), LEND(frames), LEND(trace), SHORT));
+}
+
+#define BEGIN(copy_len, answer_len) \
+    chaffwheel_begin(VM, PROGRAM, LEND(stack), LEND(cells), LEND(frames), m->copy, copy_len, m->answer, answer_len)
+#define CONTINUE(units, trace_len, answer_len) \
+    chaffwheel_continue(units, VM, PROGRAM, LEND(stack), LEND(cells), LEND(frames), LEND(copy), m->trace, trace_len, m->answer, answer_len)
+#define ABANDON(trace_len, answer_len) \
+    chaffwheel_abandon(VM, PROGRAM, LEND(stack), LEND(cells), LEND(frames), LEND(copy), m->trace, trace_len, m->answer, answer_len)
+
+/* Short are the answer, or the copy or backtrace store, or both; and the units may be too many. */
+static void runs_short(struct chaffwheel_stores *m, int begin, int go_on)
+{
+    MUST(begin, BEGIN(m->copy_len, 4));
+    MUST(begin, BEGIN(m->stack_len - 1, 5));
+    MUST(begin, BEGIN(2, 0));
+    MUST(go_on, CONTINUE(100, m->trace_len, 4));
+    MUST(go_on, CONTINUE(100, 2 * m->frames_len - 1, 5));
+    MUST(go_on, CONTINUE(UINT64_MAX, 0, 0));
+    MUST(go_on, ABANDON(m->trace_len, 4));
+    MUST(go_on, ABANDON(2 * m->frames_len - 1, 5));
+    MUST(go_on, ABANDON(0, 0));
+}
+
+static void all_short(struct chaffwheel_stores *m, int emits, int looks, int begin, int go_on)
+{
+    emits_short(m, emits), looks_short(m, looks), runs_short(m, begin, go_on);
 }
 
 /* the functions that do not judge the functions */
@@ -96,14 +126,14 @@ static uint32_t make(struct chaffwheel_stores *m)
         no = no ? no : cw_add_op1(m, LOAD_CONSTANT, 0, 0);
     no = no ? no : cw_add_op1(m, BUILD_LIST, 2, 0);
     no = no ? no : cw_add_op(m, RETURN, 0);
-    return no ? no : cw_run(m, 100);
+    return no ? no : cw_whole_run(m, 100);
 }
 
 /* 20 comes before 17, and its offset is written where there is a word for it */
 static void loading(struct chaffwheel_stores *m)
 {
     static const uint8_t good[] = { 0, 0, 1, 6, '<', 'm', 'a', 'i', 'n', '>', 0 }, broken[] = { 0, 0, 0 };
-    for (size_t words = 0; words < CHAFFWHEEL_VM; words += 9) {
+    for (size_t words = 0; words < CHAFFWHEEL_VM; words += 5) {
         MUST(17, chaffwheel_load(good, sizeof good, m->vm, words, PROGRAM, LEND(frames), ANSWER));
         m->answer[0] = 99;
         MUST(20, chaffwheel_load(broken, sizeof broken, m->vm, words, PROGRAM, LEND(frames), ANSWER));
@@ -116,6 +146,22 @@ static void loading(struct chaffwheel_stores *m)
     MUST(17, chaffwheel_new(VM, LEND(functions), m->text, 0, LEND(frames), SHORT));
 }
 
+/* With a run under way 25 comes before all else, where the record is long enough to say so; a shorter one is refused as if it were not there. */
+static void loading_in_a_run(struct chaffwheel_stores *m)
+{
+    static const uint8_t good[] = { 0, 0, 1, 6, '<', 'm', 'a', 'i', 'n', '>', 0 }, broken[] = { 0, 0, 0 };
+    MUST(25, chaffwheel_load(good, sizeof good, VM, PROGRAM, LEND(frames), ANSWER));
+    MUST(25, chaffwheel_load(broken, sizeof broken, VM, PROGRAM, m->frames, 0, SHORT));
+    MUST(25, chaffwheel_check(good, sizeof good, VM, PROGRAM, LEND(frames), LEND(heights), ANSWER));
+    MUST(25, chaffwheel_check(broken, sizeof broken, VM, PROGRAM, m->frames, 0, m->heights, 0, SHORT));
+    MUST(25, chaffwheel_new(VM, LEND(functions), LEND(text), LEND(frames), ANSWER));
+    MUST(25, chaffwheel_new(VM, LEND(functions), m->text, 0, m->frames, 0, SHORT));
+    MUST(20, chaffwheel_load(broken, sizeof broken, m->vm, CHAFFWHEEL_VM - 1, PROGRAM, LEND(frames), ANSWER));
+    MUST(17, chaffwheel_load(good, sizeof good, m->vm, CHAFFWHEEL_VM - 1, PROGRAM, LEND(frames), ANSWER));
+    MUST(20, chaffwheel_check(broken, sizeof broken, m->vm, CHAFFWHEEL_VM - 1, PROGRAM, LEND(frames), LEND(heights), ANSWER));
+    MUST(17, chaffwheel_new(m->vm, CHAFFWHEEL_VM - 1, LEND(functions), LEND(text), LEND(frames), ANSWER));
+}
+
 /* the check: 20, 17 (the record, the answer, the heights), 21 (the program's stores, the frames), 40, each before the next; 20 and 40 tell more */
 static void checking(struct chaffwheel_stores *m)
 {
@@ -124,7 +170,7 @@ static void checking(struct chaffwheel_stores *m)
     static const uint8_t cut[] = { 0, 0, 1, 6, '<', 'm', 'a', 'i', 'n', '>', 2, 99, RETURN, 2, 0 }, broken[] = { 0, 0, 0 };
 #define CHECK(image, words, frames_len, heights_len, answer_len) \
     chaffwheel_check(image, sizeof image, m->vm, words, PROGRAM, m->frames, frames_len, m->heights, heights_len, m->answer, answer_len)
-    for (size_t words = 0; words <= CHAFFWHEEL_VM; words += 9)
+    for (size_t words = 0; words < CHAFFWHEEL_VM; words += 5)
         for (size_t heights = 0; heights < 2; heights++)
             for (size_t told = 0; told < 3; told++) {
                 m->answer[0] = 99;
@@ -151,6 +197,38 @@ static void checking(struct chaffwheel_stores *m)
 /* one word of the machine is changed, the calls are made, and it is put back */
 #define DAMAGED(place, word, ...) do { __typeof__(place) kept = (place); (place) = (word); __VA_ARGS__; (place) = kept; } while (0)
 
+/* A run under way in good order: with short answers, and with each of its words damaged. An entry that emits looks whether a run is under way and at no other
+ * word of it; the parts of a run judge them all. */
+static void in_a_run(struct chaffwheel_stores *m, uint64_t list)
+{
+    uint64_t *run = m->vm;
+    all_short(m, 25, 17, 25, 17), others_short(m, 25, 25, 25), readers_short(m, list, 17, 17);
+    MUST(22, cw_continue(m, UINT64_MAX - run[CHAFFWHEEL_RUN_GIVEN] + 1));
+    MUST(22, cw_continue(m, UINT64_MAX));
+    MUST(25, cw_begin(m));
+    loading_in_a_run(m);
+    DAMAGED(run[CHAFFWHEEL_RUN_ON], 2, all_short(m, 19, 19, 19, 19), others_short(m, 19, 19, 19));
+    DAMAGED(run[CHAFFWHEEL_RUN_ON], 0, all_short(m, 17, 17, 19, 19), others_short(m, 17, 17, 17));
+    DAMAGED(run[CHAFFWHEEL_RUN_GIVEN], run[CHAFFWHEEL_RUN_SPENT] - 1, all_short(m, 25, 17, 19, 19), others_short(m, 25, 25, 25));
+    DAMAGED(run[CHAFFWHEEL_RUN_SPENT], run[CHAFFWHEEL_RUN_GIVEN] + 1, runs_short(m, 19, 19));
+    DAMAGED(run[CHAFFWHEEL_RUN_RETURNS], run[CHAFFWHEEL_RUN_SPENT] + 1, runs_short(m, 19, 19));
+    DAMAGED(run[CHAFFWHEEL_RUN_MARK], run[CHAFFWHEEL_CELLS] + 1, runs_short(m, 19, 19));
+    DAMAGED(run[CHAFFWHEEL_RUN_MARK], 0, runs_short(m, 19, 19)); /* the last result is a list, which lies in the mark's cells */
+    DAMAGED(run[CHAFFWHEEL_RUN_SAVED], m->stack_len / 2 + 1, runs_short(m, 19, 19));
+    DAMAGED(m->copy[0], 9, runs_short(m, 19, 19)); /* no kind of a value */
+    MUST(19, BEGIN(0, 5)); /* the copy of the run under way is not in what is lent */
+    DAMAGED(m->frames[0].position, 99, runs_short(m, 19, 19)); /* past the code */
+}
+
+/* Begins a run behind what has run and gives it one unit, of two that it needs. */
+static uint32_t make_run(struct chaffwheel_stores *m)
+{
+    uint32_t no = cw_add_op1(m, LOAD_CONSTANT, 0, 0);
+    no = no ? no : cw_add_op(m, RETURN, 0);
+    no = no ? no : cw_begin(m);
+    return no ? no : cw_continue(m, 1);
+}
+
 int main(void)
 {
     struct chaffwheel_stores stores, *m = &stores;
@@ -162,19 +240,24 @@ int main(void)
     }
     uint64_t list = m->vm[CHAFFWHEEL_LAST_PAYLOAD];
     uint8_t out[4096];
-    all_short(m, 17), others_short(m, 17, 17, 17), readers_short(m, list, 17, 17);
+    all_short(m, 17, 17, 17, 18), others_short(m, 17, 17, 17), readers_short(m, list, 17, 17);
+    MUST(18, cw_continue(m, UINT64_MAX));
+    MUST(18, cw_abandon(m));
     /* no machine's record */
-    DAMAGED(m->vm[CHAFFWHEEL_LAST_KIND], 6, all_short(m, 19), others_short(m, 19, 19, 19));
+    DAMAGED(m->vm[CHAFFWHEEL_LAST_KIND], 6, all_short(m, 19, 19, 19, 19), others_short(m, 19, 19, 19));
+    /* without a run its words are all 0 */
+    for (size_t i = CHAFFWHEEL_RUN_GIVEN; i < CHAFFWHEEL_VM; i++)
+        DAMAGED(m->vm[i], 1, all_short(m, 17, 17, 19, 19), others_short(m, 17, 17, 17));
     /* counts past their stores, and words that are no value's */
-    DAMAGED(m->vm[CHAFFWHEEL_FUNCTIONS], 257, all_short(m, 19), others_short(m, 17, 17, 17));
-    DAMAGED(m->vm[CHAFFWHEEL_FUNCTIONS], 0, all_short(m, 19), others_short(m, 19, 19, 19));
+    DAMAGED(m->vm[CHAFFWHEEL_FUNCTIONS], 257, all_short(m, 19, 19, 19, 19), others_short(m, 17, 17, 17));
+    DAMAGED(m->vm[CHAFFWHEEL_FUNCTIONS], 0, all_short(m, 19, 19, 19, 19), others_short(m, 19, 19, 19));
     DAMAGED(m->vm[CHAFFWHEEL_CONSTANTS], 257, others_short(m, 19, 17, 17));
     DAMAGED(m->structs[1], 1, others_short(m, 17, 19, 17));
     DAMAGED(m->vm[CHAFFWHEEL_CELLS], 2049, readers_short(m, list, 19, 17));
     DAMAGED(m->vm[CHAFFWHEEL_STACK], 1025, readers_short(m, list, 17, 19));
     DAMAGED(m->stack[0], 9, readers_short(m, list, 17, 19));
     DAMAGED(m->frames[0].base, 1, {
-        MUST(19, chaffwheel_run(100, VM, PROGRAM, LEND(stack), LEND(cells), LEND(frames), m->copy, 0, m->trace, 0, SHORT));
+        runs_short(m, 19, 19);
         MUST(19, chaffwheel_backtrace(VM, LEND(functions), LEND(text), CODE, LEND(stack), LEND(frames), m->trace, 0, SHORT));
     });
     /* the listing: 1 or 3 as met first */
@@ -187,6 +270,12 @@ int main(void)
     });
     loading(m);
     checking(m);
+    no = make_run(m);
+    if (no || m->answer[CHAFFWHEEL_OUTCOME] != CHAFFWHEEL_PAUSED) {
+        printf("no run is under way, refused %" PRIu32 "\n", no);
+        return 1;
+    }
+    in_a_run(m, list);
     machine_free(m);
     printf("%d calls, %d wrong\n", calls, wrong);
     return wrong != 0;

@@ -22,7 +22,7 @@ int main(int argc, char **argv)
         cw_rewind(&m);
         cw_set_scalar(&m, 0, cw_bits_of(readings[i]));
         cw_set_scalar(&m, 1, cw_bits_of(before));
-        refused = cw_run(&m, 1000);
+        refused = cw_whole_run(&m, 1000);
         if (refused)
             break;
         if (m.answer[CHAFFWHEEL_OUTCOME] == CHAFFWHEEL_FAULT)

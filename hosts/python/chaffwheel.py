@@ -1,9 +1,10 @@
 """Chaffwheel for a host in Python, over the shared object that `./chaffwheel install DIR` makes (x86-64 Linux).
 
     machine = Machine("DIR/lib/libchaffwheel.so", open("rule.img", "rb").read())
-    outcome = machine.run(1_000_000)
+    outcome = machine.whole_run(1_000_000)
 
-Only loading, running and the last result are here; include/chaffwheel.h has the other functions, and each is called the same way. The machine is
+or in parts, with something else done in the pauses: machine.begin(), then machine.continue_run(units) while the outcome is "paused", or
+machine.abandon(). Only loading, running and the last result are here; include/chaffwheel.h has the other functions, and each is called the same way. The machine is
 proved to keep its written rules; this page is not proved.
 """
 import ctypes
@@ -11,7 +12,9 @@ import struct
 from ctypes import c_size_t, c_uint8, c_uint32, c_uint64
 
 NUMBERS = {5: "a value has the wrong kind", 7: "there is no last result", 8: "a division by zero", 13: "the units are spent",
-           20: "the image breaks a rule of its format", 21: "a store has too little room for the program"}
+           18: "no run is under way that could be continued or abandoned",
+           20: "the image breaks a rule of its format", 21: "a store has too little room for the program",
+           25: "a run is under way, and until it is over the program stays and no other is begun"}
 
 
 class Refused(Exception):
@@ -23,11 +26,12 @@ class Refused(Exception):
 
 
 class Outcome:
-    """What a run answered: kind is "value", "continue" or "fault". Whether it has counted is told by returns alone (docs/RETRY.md)."""
+    """What a part of a run answered: kind is "value", "continue" or "fault", and the run is over; or "paused", and it is under way. spent and returns are the
+    whole run's, so far. Whether it has counted is told by returns alone (docs/RETRY.md)."""
 
     def __init__(self, answer):
         outcome, self.spent, self.returns, first, second = answer
-        self.kind = {1: "value", 2: "continue", 3: "fault"}[outcome]
+        self.kind = {1: "value", 2: "continue", 3: "fault", 4: "paused"}[outcome]
         self.value = value_of(first, second) if outcome == 1 else None
         self.fault = first if outcome == 3 else None
 
@@ -44,7 +48,7 @@ class Machine:
 
     def __init__(self, library, image):
         self.library = ctypes.CDLL(library)
-        self.vm, self.answer = (c_uint64 * 10)(), (c_uint64 * 5)()
+        self.vm, self.answer = (c_uint64 * 16)(), (c_uint64 * 5)()  # zeros: no run is under way
         self.program = [(c_uint64 * 512)(), (c_uint64 * 512)(), (c_uint64 * 512)(), (c_uint8 * 16384)(),
                         (c_uint8 * 8192)(), (c_uint32 * 8192)(), (c_uint8 * 8192)(), (c_uint32 * 8192)()]
         self.stack, self.cells, self.frames = (c_uint64 * 2048)(), (c_uint64 * 4096)(), (c_uint64 * 768)()
@@ -65,9 +69,28 @@ class Machine:
         if number:
             raise Refused(number)
 
-    def run(self, units):
-        self.call("run", c_uint64(units), self.vm, *self.program, self.stack, self.cells, self.framed(), self.copy, self.trace, self.answer)
+    def begin(self):
+        """Begins a run; it takes no units."""
+        return self.part("begin", self.vm, *self.program, self.stack, self.cells, self.framed(), self.copy, self.answer)
+
+    def continue_run(self, units):
+        """Gives the run under way so many units more."""
+        return self.part("continue", c_uint64(units), self.vm, *self.program, self.stack, self.cells, self.framed(), self.copy, self.trace, self.answer)
+
+    def abandon(self):
+        """Ends the run under way: fault 13."""
+        return self.part("abandon", self.vm, *self.program, self.stack, self.cells, self.framed(), self.copy, self.trace, self.answer)
+
+    def part(self, name, *arguments):
+        self.call(name, *arguments)
         return Outcome(list(self.answer))
+
+    def whole_run(self, units):
+        """Begun, continued once, and abandoned where it is then paused."""
+        outcome = self.begin()
+        if outcome.kind == "paused":
+            outcome = self.continue_run(units)
+        return self.abandon() if outcome.kind == "paused" else outcome
 
     def last_result(self):
         """None before the first root Return."""

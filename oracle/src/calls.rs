@@ -2,9 +2,11 @@
 //! short stories, each begun by `new` or `image`.
 
 mod between;
+mod dealing;
 mod emitting;
 mod filling;
 mod looking;
+mod parts;
 mod running;
 mod stories;
 pub mod tally;
@@ -19,8 +21,8 @@ const PATIENCE: usize = 20;
 /// A long story is told at the beginning of a script that has room for it.
 const LONG: usize = 40_000;
 /// One story of each sort but emitted programs comes first, then any.
-const SORTS: usize = 26;
-const ANY: usize = 36;
+const SORTS: usize = 31;
+const ANY: usize = 41;
 
 /// A script of at most `most` bytes.
 pub fn script(seed: u64, most: usize) -> String {
@@ -121,8 +123,15 @@ impl Story<'_> {
             23 => self.grown(),
             24 => self.framed(),
             25 => self.reloaded(),
+            26 => self.dealt(),
+            27 => self.abandoned(),
+            28 => self.paused(),
+            29 => self.begun_in_a_callee(),
+            30 => self.run_damaged(),
             _ => self.emitted(),
         }
+        // The next story begins with a machine of its own.
+        self.give_up();
     }
 
     /// A store filled exactly, and one over; another one for each of four

@@ -2,6 +2,7 @@
 
 use crate::image::Constant;
 use crate::limits::Frame;
+use crate::run_record::RunWord;
 use crate::script::{bytes, decimal, hex, numbers, word, words_from};
 
 /// A line. A room that a line does not tell is the whole store.
@@ -9,12 +10,18 @@ use crate::script::{bytes, decimal, hex, numbers, word, words_from};
 pub enum Command {
     New,
     Image(Vec<u8>),
-    Run(u64, usize),
+    /// The room of the copy store.
+    Start(usize),
+    /// The units, and the room of the backtrace store.
+    Continue(u64, usize),
+    /// The room of the backtrace store.
+    Abandon(usize),
     Trace(usize),
     Op(u8, Vec<u16>, u32),
     Patch(u16, u16),
     Constant(Constant),
     Struct(Vec<u8>),
+    /// Of a function.
     Begin(Vec<u8>),
     End,
     Offset,
@@ -24,6 +31,8 @@ pub enum Command {
     ShowFrame(usize),
     PutFrame(usize, Frame),
     CountFrames(usize),
+    /// A word of the run under way.
+    PutRun(RunWord, u64),
     Last,
     Stack(usize),
     Header(usize),
@@ -59,7 +68,9 @@ fn understood(line: &[u8]) -> Option<Command> {
         [b'#', ..] => Some(Command::Nothing),
         b"new" => alone(Command::New),
         b"image" => bytes(rest).map(Command::Image),
-        b"run" => run(line),
+        b"start" => room(line, 1).map(Command::Start),
+        b"continue" => continuing(line),
+        b"abandon" => room(line, 1).map(Command::Abandon),
         b"trace" => room(line, 1).map(Command::Trace),
         b"op" => numbers(line, 1, [0xFF, PLACE]).map(|[op, place]| code(op, &[], place)),
         b"op1" => numbers(line, 1, [0xFF, WORD, PLACE]).map(|[op, a, place]| code(op, &[a], place)),
@@ -117,9 +128,9 @@ fn room(line: &[u8], k: usize) -> Option<usize> {
     numbers(line, k, [ANY]).map(|[room]| room as usize)
 }
 
-fn run(line: &[u8]) -> Option<Command> {
+fn continuing(line: &[u8]) -> Option<Command> {
     let units = decimal(word(line, 1))?;
-    room(line, 2).map(|room| Command::Run(units, room))
+    room(line, 2).map(|room| Command::Continue(units, room))
 }
 
 /// `frame I` shows a frame, `frame I FUNCTION POSITION BASE` puts one.
@@ -140,8 +151,15 @@ fn frame(line: &[u8]) -> Option<Command> {
 
 fn count(line: &[u8]) -> Option<Command> {
     let [n] = numbers(line, 2, [RECORD])?;
+    let of_run = |word| Some(Command::PutRun(word, n));
     match word(line, 1) {
         b"frames" => Some(Command::CountFrames(n as usize)),
+        b"on" => of_run(RunWord::On),
+        b"given" => of_run(RunWord::Given),
+        b"spent" => of_run(RunWord::Spent),
+        b"returns" => of_run(RunWord::Returns),
+        b"mark" => of_run(RunWord::Mark),
+        b"saved" => of_run(RunWord::Saved),
         b"stack" | b"cells" | b"constants" | b"structs" | b"functions" | b"text" | b"current" => {
             Some(Command::OfWords)
         }
@@ -170,8 +188,12 @@ mod tests {
             (" new ", Command::New),
             ("image 01 0", Command::NotUnderstood),
             ("image 01 00", Command::Image(vec![1, 0])),
-            ("run 7", Command::Run(7, WHOLE)),
-            ("run 7 1024", Command::Run(7, 1_024)),
+            ("start", Command::Start(WHOLE)),
+            ("start 1024", Command::Start(1_024)),
+            ("continue 7", Command::Continue(7, WHOLE)),
+            ("continue 7 256", Command::Continue(7, 256)),
+            ("abandon", Command::Abandon(WHOLE)),
+            ("abandon 256", Command::Abandon(256)),
             ("trace", Command::Trace(WHOLE)),
             ("trace 2", Command::Trace(2)),
             ("op 37 4294967295", Command::Op(37, vec![], 4_294_967_295)),
@@ -197,6 +219,12 @@ mod tests {
             ("frame 5", Command::ShowFrame(5)),
             ("frame 0 1 2 3", Command::PutFrame(0, frame)),
             ("count frames 2", Command::CountFrames(2)),
+            ("count on 1", Command::PutRun(RunWord::On, 1)),
+            ("count given 2", Command::PutRun(RunWord::Given, 2)),
+            ("count spent 3", Command::PutRun(RunWord::Spent, 3)),
+            ("count returns 4", Command::PutRun(RunWord::Returns, 4)),
+            ("count mark 5", Command::PutRun(RunWord::Mark, 5)),
+            ("count saved 6", Command::PutRun(RunWord::Saved, 6)),
             ("last", Command::Last),
             ("stack 0", Command::Stack(0)),
             ("header 1", Command::Header(1)),
@@ -226,10 +254,16 @@ mod tests {
         for line in [
             "New",
             "new 1",
-            "run",
-            "run x",
-            "run 1 x",
-            "run 1 2 3",
+            "run 1",
+            "start x",
+            "start 1 2",
+            "continue",
+            "continue x",
+            "continue 1 x",
+            "continue 1 2 3",
+            "continue 18446744073709551616",
+            "abandon x",
+            "abandon 1 2",
             "trace x",
             "op 256 0",
             "op 1 4294967296",

@@ -2,9 +2,10 @@
 
 use crate::command::Command;
 use crate::frames::{in_order, FrameStore, NotFixed};
-use crate::limits::{Answer, Frame, Machine, Refused, Report, Stores};
+use crate::limits::{Answer, Machine, Part, Refused, Report, Run, Stores};
 use crate::print::{listing, value_text};
 use crate::readers::{block_header, element, last_result, stack_value, text_bytes};
+use crate::run_record::{OfWords, RunRecord};
 use crate::script::{in_hex, lines, SPACE};
 use crate::value::Value;
 
@@ -14,12 +15,14 @@ pub struct Console {
     /// None before one is made: then no program is in good order.
     machine: Option<Machine>,
     frames: FrameStore,
+    run: RunRecord,
 }
 
 /// Why a call has no answer, or why the oracle cannot tell it.
 enum Stop {
     Refused(Refused),
     NotFixed(NotFixed),
+    OfWords,
 }
 
 impl From<Refused> for Stop {
@@ -31,6 +34,12 @@ impl From<Refused> for Stop {
 impl From<NotFixed> for Stop {
     fn from(not_fixed: NotFixed) -> Stop {
         Stop::NotFixed(not_fixed)
+    }
+}
+
+impl From<OfWords> for Stop {
+    fn from(_: OfWords) -> Stop {
+        Stop::OfWords
     }
 }
 
@@ -52,34 +61,49 @@ impl Console {
         Console {
             machine: None,
             frames: FrameStore::new(Stores::RUNNER.frames),
+            run: RunRecord::default(),
         }
+    }
+
+    /// A console whose machine is this one.
+    pub fn of(machine: Machine) -> Console {
+        let mut console = Console::new();
+        console.left(machine);
+        console
     }
 
     pub fn machine(&self) -> Option<&Machine> {
         self.machine.as_ref()
     }
 
-    /// The machine as a run would find it, if the frames that the host lends
-    /// are in good order.
+    /// The machine as a part of a run would find it, if the frames and the run
+    /// that the host lends are in good order.
     pub fn as_lent(&self) -> Option<Machine> {
-        let mut console = self.clone();
-        let machine = console.with_frames();
-        machine.ok().cloned()
+        self.lent().ok()
+    }
+
+    /// The words of the run as the host holds them.
+    pub fn run_record(&self) -> RunRecord {
+        self.run
+    }
+
+    /// Whether the frames would be in good order but for the run under way.
+    pub fn stands_beyond(&self) -> bool {
+        self.run.on && self.framed(true).is_err() && self.framed(false).is_ok()
     }
 
     /// What a line is answered.
     pub fn obey(&mut self, number: u64, line: &[u8]) -> Result<Vec<u8>, String> {
         match Command::read(line) {
             Command::NotUnderstood => Ok(format!("? {number}\n").into_bytes()),
-            Command::OfWords => Err(format!(
-                "line {number} speaks of the words in stores; the oracle has values there"
-            )),
+            Command::OfWords => Err(of_words(number)),
             command => match self.call(command) {
                 Ok(said) => Ok(said),
                 Err(Stop::Refused(Refused::Image(at))) => Ok(format!("broken {at}\n").into_bytes()),
                 Err(Stop::Refused(refused)) => {
                     Ok(format!("refused {}\n", refused.number()).into_bytes())
                 }
+                Err(Stop::OfWords) => Err(of_words(number)),
                 Err(Stop::NotFixed(NotFixed(i))) => Err(format!(
                     "line {number} asks for frame {i}, past the frames that a call has left; \
                      the rules do not fix it"
@@ -90,39 +114,40 @@ impl Console {
 
     fn call(&mut self, command: Command) -> Said {
         match command {
-            Command::New => self.start(Machine::new(Stores::RUNNER)),
-            Command::Image(image) => self.start(Machine::load(&image, Stores::RUNNER)),
-            Command::Run(units, room) => self.run(units, room),
+            Command::New => self.made(|| Machine::new(Stores::RUNNER)),
+            Command::Image(image) => self.made(|| Machine::load(&image, Stores::RUNNER)),
+            Command::Start(room) => self.start(room),
+            Command::Continue(units, room) => self.go_on(units, room),
+            Command::Abandon(room) => self.abandon(room),
             Command::Trace(room) => self.trace(room),
             Command::Op(op, operands, place) => {
-                self.emitted()?.emit(op, &operands, place)?;
+                self.emit(|machine| machine.emit(op, &operands, place))?;
                 done(0)
             }
             Command::Patch(at, value) => {
-                self.emitted()?.patch_u16_value_at(at, value)?;
+                self.emit(|machine| machine.patch_u16_value_at(at, value))?;
                 done(0)
             }
             Command::Constant(constant) => {
-                let number = self.emitted()?.add_constant(constant)?;
+                let number = self.emit(|machine| machine.add_constant(constant))?;
                 done(number.into())
             }
-            Command::Struct(name) => done(self.emitted()?.add_struct_info(&name)?),
+            Command::Struct(name) => done(self.emit(|machine| machine.add_struct_info(&name))?),
             Command::Begin(name) => {
-                let machine = self.emitted()?;
-                machine.begin_function(&name)?;
-                done(machine.current)
+                self.emit(|machine| machine.begin_function(&name))?;
+                done(self.made_machine()?.current)
             }
             Command::End => {
-                self.emitted()?.end_function();
+                self.emit(Machine::end_function)?;
                 done(0)
             }
-            Command::Offset => told(self.emitted()?.current_offset()),
-            Command::Find(name) => told(self.emitted()?.get_function_idx(&name)?),
+            Command::Offset => told(self.made_machine()?.current_offset()),
+            Command::Find(name) => told(self.made_machine()?.get_function_idx(&name)?),
             Command::Save(room) => {
-                let image = fitting(self.emitted()?.save(), room)?;
+                let image = fitting(self.made_machine()?.save(), room)?;
                 say(format!("image {} {}\n", image.len(), in_hex(&image)))
             }
-            Command::List(room) => Ok(fitting(listing(&self.emitted()?.program)?, room)?),
+            Command::List(room) => Ok(fitting(listing(&self.made_machine()?.program)?, room)?),
             Command::ShowFrame(i) => {
                 let frame = self.frames.show(i)?;
                 say(format!(
@@ -136,6 +161,10 @@ impl Console {
             }
             Command::CountFrames(taken) => {
                 self.frames.count(taken);
+                Ok(vec![])
+            }
+            Command::PutRun(word, number) => {
+                self.run.put(word, number);
                 Ok(vec![])
             }
             Command::Last => match &self.machine {
@@ -161,17 +190,42 @@ impl Console {
         }
     }
 
-    /// A refusal leaves the machine that was.
-    fn start(&mut self, made: Result<Machine, Refused>) -> Said {
-        let machine = made?;
-        self.frames.leave(&machine.frames);
-        self.machine = Some(machine);
+    /// 25 comes first. A refusal leaves the machine that was.
+    fn made(&mut self, make: impl Fn() -> Result<Machine, Refused>) -> Said {
+        if self.run.on {
+            return Err(Refused::UnderWay.into());
+        }
+        self.left(make()?);
         say("done\n")
     }
 
+    /// A call has left this machine.
+    fn left(&mut self, machine: Machine) {
+        self.frames.leave(&machine.frames);
+        self.run = RunRecord::of(&machine);
+        self.machine = Some(machine);
+    }
+
     /// The machine whose program is emitted, saved or listed: 19 if none is.
-    fn emitted(&mut self) -> Result<&mut Machine, Refused> {
+    fn made_machine(&mut self) -> Result<&mut Machine, Refused> {
         self.machine.as_mut().ok_or(Refused::Order)
+    }
+
+    /// Emission asks whether a run is under way, and judges nothing else of
+    /// it.
+    fn emit<T>(
+        &mut self,
+        emit: impl FnOnce(&mut Machine) -> Result<T, Refused>,
+    ) -> Result<T, Refused> {
+        let on = self.run.on;
+        let machine = self.made_machine()?;
+        let run = machine.under_way.take();
+        if on {
+            machine.under_way = run.clone().or_else(|| Some(Run::begun(machine)));
+        }
+        let done = emit(machine);
+        machine.under_way = run;
+        done
     }
 
     /// The value at a place of the stack, which is empty before a machine is
@@ -183,31 +237,75 @@ impl Console {
 
     /// The machine with the frames that the host lends, if they are in good
     /// order; their bases are within the stack store.
-    fn with_frames(&mut self) -> Result<&mut Machine, Stop> {
-        let machine = self.machine.as_mut().ok_or(Refused::Order)?;
+    fn framed(&self, under_way: bool) -> Result<Machine, Stop> {
+        let mut machine = self.machine.clone().ok_or(Refused::Order)?;
         let frames = self.frames.taken()??;
-        if !in_order(&frames, &machine.program, Stores::RUNNER.values) {
+        if !in_order(&frames, &machine.program, machine.stores.values, under_way) {
             return Err(Refused::Order.into());
         }
         machine.frames = frames;
         Ok(machine)
     }
 
-    /// 19, then 17: the copy store has as many places as the stack store.
-    fn run(&mut self, units: u64, room: usize) -> Said {
-        let machine = self.with_frames()?;
+    /// The machine with the frames and the run that the host lends, if both are
+    /// in good order.
+    fn lent(&self) -> Result<Machine, Stop> {
+        let mut machine = self.framed(self.run.on)?;
+        self.run.take(&mut machine)??;
+        Ok(machine)
+    }
+
+    /// 19, 25, 17: the copy store has as many places as the stack store. The
+    /// copy of a run that is under way has to stand in it, else 19.
+    fn start(&mut self, room: usize) -> Said {
+        let mut machine = self.lent()?;
+        if self.run.saved > room as u64 {
+            return Err(Refused::Order.into());
+        }
+        machine.no_run_under_way()?;
         if room < machine.stores.values {
             return Err(Refused::ResultStore.into());
         }
-        let report = machine.run(units);
-        let (stack, frames) = (machine.stack.len(), machine.frames.clone());
-        self.frames.leave(&frames);
-        say(ran(&report, stack, &frames))
+        let part = machine.begin_run()?;
+        self.after(part, machine)
     }
 
-    /// 19, 17, then 16. A backtrace is lent the stack store for its length.
+    /// 19, 18, 17, 22.
+    fn go_on(&mut self, units: u64, room: usize) -> Said {
+        let mut machine = self.under_way(room)?;
+        let part = machine.continue_run(units)?;
+        self.after(part, machine)
+    }
+
+    /// 19, 18, 17.
+    fn abandon(&mut self, room: usize) -> Said {
+        let mut machine = self.under_way(room)?;
+        let report = machine.abandon_run()?;
+        self.after(Part::Over(report), machine)
+    }
+
+    /// The machine with a run under way, if the backtrace store has as many
+    /// places as the frame store.
+    fn under_way(&mut self, room: usize) -> Result<Machine, Stop> {
+        let machine = self.lent()?;
+        machine.a_run_under_way()?;
+        if room < machine.stores.frames {
+            return Err(Refused::ResultStore.into());
+        }
+        Ok(machine)
+    }
+
+    /// What a part has left is lent again for the next.
+    fn after(&mut self, part: Part, machine: Machine) -> Said {
+        let said = said_of(&part, machine.stack.len(), machine.frames.len());
+        self.left(machine);
+        say(said)
+    }
+
+    /// 19, 17, then 16. A backtrace is lent the stack store for its length, and
+    /// judges nothing of a run that is under way.
     fn trace(&mut self, room: usize) -> Said {
-        let machine = self.with_frames()?;
+        let machine = self.framed(false)?;
         if room < machine.frames.len() {
             return Err(Refused::ResultStore.into());
         }
@@ -219,6 +317,10 @@ impl Default for Console {
     fn default() -> Self {
         Console::new()
     }
+}
+
+fn of_words(number: u64) -> String {
+    format!("line {number} speaks of the words in stores; the oracle has values there")
 }
 
 fn say(text: impl Into<String>) -> Said {
@@ -255,17 +357,27 @@ fn entries(backtrace: &[(usize, u32)]) -> String {
     lines.collect()
 }
 
-fn ran(report: &Report, stack: usize, frames: &[Frame]) -> String {
-    let answer = match &report.answer {
+/// What a part answers, in a line and the backtrace.
+pub fn said_of(part: &Part, stack: usize, frames: usize) -> String {
+    let left = format!("stack {stack}, frames {frames}");
+    match part {
+        Part::Paused { spent, returns } => {
+            format!("paused, spent {spent}, returns {returns}, {left}\n")
+        }
+        Part::Over(report) => format!(
+            "{}, spent {}, returns {}, {left}\n{}",
+            ending(report),
+            report.spent,
+            report.returns,
+            entries(&report.backtrace)
+        ),
+    }
+}
+
+fn ending(report: &Report) -> String {
+    match &report.answer {
         Answer::Value(value) => format!("value {}", value_text(value)),
         Answer::Continue => "continue".to_owned(),
         Answer::Fault(number) => format!("fault {number}"),
-    };
-    format!(
-        "{answer}, spent {}, returns {}, stack {stack}, frames {}\n{}",
-        report.spent,
-        report.returns,
-        frames.len(),
-        entries(&report.backtrace)
-    )
+    }
 }

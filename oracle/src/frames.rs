@@ -75,8 +75,9 @@ fn zeros() -> Frame {
 
 /// The frames' good order: at least one; the first frame function 0, base 0;
 /// function numbers known; bases within the stack store; positions at most
-/// 131,070, and in all but the innermost frame from 1 to the code length.
-pub fn in_order(frames: &[Frame], program: &Program, values: usize) -> bool {
+/// 131,070, and in all but the innermost frame from 1 to the code length. With
+/// a run under way the innermost position is below its code length.
+pub fn in_order(frames: &[Frame], program: &Program, values: usize, under_way: bool) -> bool {
     let Some((innermost, callers)) = frames.split_last() else {
         return false;
     };
@@ -87,6 +88,6 @@ pub fn in_order(frames: &[Frame], program: &Program, values: usize) -> bool {
         && callers
             .iter()
             .all(|frame| code(frame).is_some_and(|length| (1..=length).contains(&frame.position)))
-        && code(innermost).is_some()
         && innermost.position <= MOST_POSITION
+        && code(innermost).is_some_and(|length| !under_way || innermost.position < length)
 }

@@ -17,13 +17,16 @@
 //! [`asm`] makes an image of a rule that a person wrote, [`source`] such a rule
 //! of an image.
 //!
+//! [`dealt`] runs generated images in parts and at once, and compares.
+//!
 //! [`check`] judges an image before it is installed (document 02, Wish 2),
 //! [`generate_checked`] makes images for it, and [`checked_runs`] runs those
 //! that pass, to see whether they keep what a pass promises.
 //!
 //! [`console`] makes a host's calls from a script and prints each answer:
 //! [`script`] and [`command`] read the lines, [`frames`] are the call frames as
-//! a host holds them, [`readers`] is what it reads. [`calls`] makes scripts.
+//! a host holds them, [`run_record`] is the run under way likewise, [`readers`]
+//! is what it reads. [`calls`] makes scripts.
 
 pub mod asm;
 pub mod calls;
@@ -32,6 +35,7 @@ pub mod checked_runs;
 pub mod command;
 pub mod console;
 pub mod damage;
+pub mod dealt;
 pub mod edges;
 pub mod frames;
 pub mod generate;
@@ -44,6 +48,7 @@ pub mod plain;
 pub mod print;
 pub mod published;
 pub mod readers;
+pub mod run_record;
 pub mod script;
 pub mod source;
 pub mod value;

@@ -1,5 +1,7 @@
 //! The machine of document 01: the steps of 000 with lent stores, units,
-//! cells and depth, and a number for every way to go wrong.
+//! cells and depth, and a number for every way to go wrong. Its run is that of
+//! document 02, Wish 4: begun, continued and perhaps abandoned ([`parts`]).
+//! [`one_run`] is the run that document 01 has, undivided, to measure by.
 //!
 //! Cells are counted here and not laid out: a list or struct of n elements
 //! takes n + 1, and none come back but after a fault. Nothing is lent here and
@@ -7,11 +9,15 @@
 //! machine: [`crate::console`] judges what a host may do to the frames, and
 //! how much it lends for an answer.
 
+mod one_run;
+mod parts;
+
 use std::collections::BTreeSet;
 
 use crate::image::{self, Constant, Function, Program};
 use crate::op::Op;
 use crate::value::{Elements, Value};
+pub use parts::{Part, Run};
 
 pub const MAX_DEPTH: usize = 64;
 pub const MAX_CODE: usize = 65_535;
@@ -67,6 +73,8 @@ pub enum Refused {
     Backtrace,
     /// 17: a result or copy store is too short.
     ResultStore,
+    /// 18: no run is under way.
+    NoRun,
     /// 19: the machine's records are not in good order.
     Order,
     /// 20, with the offset of the first item that breaks a rule.
@@ -77,6 +85,8 @@ pub enum Refused {
     Limit,
     /// 23: a patch not wholly inside the current function's code.
     Patch,
+    /// 25: a run is under way.
+    UnderWay,
 }
 
 impl Refused {
@@ -90,11 +100,13 @@ impl Refused {
             Refused::NoSuchFunction => 14,
             Refused::Backtrace => 16,
             Refused::ResultStore => 17,
+            Refused::NoRun => 18,
             Refused::Order => 19,
             Refused::Image(_) => 20,
             Refused::Store => 21,
             Refused::Limit => 22,
             Refused::Patch => 23,
+            Refused::UnderWay => 25,
         }
     }
 }
@@ -114,6 +126,7 @@ pub enum Answer {
     Fault(u32),
 }
 
+/// The end of a run, over all its parts.
 #[derive(Clone, Debug)]
 pub struct Report {
     pub answer: Answer,
@@ -147,6 +160,10 @@ pub struct Machine {
     pub frames: Vec<Frame>,
     pub cells_used: usize,
     pub last_result: Option<Value>,
+    /// The stack as it was when a run was last begun.
+    pub copy: Vec<Value>,
+    /// The run under way, if there is one.
+    pub under_way: Option<Run>,
 }
 
 /// What a step that did not fault has to say.
@@ -203,6 +220,8 @@ impl Machine {
             }],
             cells_used: 0,
             last_result: None,
+            copy: vec![],
+            under_way: None,
         })
     }
 
@@ -211,10 +230,11 @@ impl Machine {
         image::image(&self.program)
     }
 
-    // Emission. At each entry 22 comes before 21, and both before the rest.
+    // Emission. At each entry 25 comes first, then 22, then 21, then the rest.
 
     /// An instruction of any opcode at all, at the end of the current function.
     pub fn emit(&mut self, op: u8, operands: &[u16], place: u32) -> Result<(), Refused> {
+        self.no_run_under_way()?;
         let bytes = instruction(op, operands);
         let length = self.program.functions[self.current].code.len() + bytes.len();
         if length > MAX_CODE {
@@ -266,6 +286,7 @@ impl Machine {
     }
 
     pub fn patch_u16_value_at(&mut self, offset: u16, arg: u16) -> Result<(), Refused> {
+        self.no_run_under_way()?;
         let offset = offset as usize;
         let code = &mut self.program.functions[self.current].code;
         if offset + 2 > code.len() {
@@ -276,6 +297,7 @@ impl Machine {
     }
 
     pub fn add_constant(&mut self, constant: Constant) -> Result<u16, Refused> {
+        self.no_run_under_way()?;
         let number = self.program.constants.len();
         if number + 1 > MAX_CONSTANTS {
             return Err(Refused::Limit);
@@ -291,6 +313,7 @@ impl Machine {
 
     /// A name that is there already keeps its number and takes no room.
     pub fn add_struct_info(&mut self, name: &[u8]) -> Result<usize, Refused> {
+        self.no_run_under_way()?;
         if let Some(number) = self.program.structs.iter().position(|n| n == name) {
             return Ok(number);
         }
@@ -306,6 +329,7 @@ impl Machine {
     }
 
     pub fn begin_function(&mut self, name: &[u8]) -> Result<(), Refused> {
+        self.no_run_under_way()?;
         let number = self.program.functions.len();
         if number + 1 > MAX_FUNCTIONS {
             return Err(Refused::Limit);
@@ -322,8 +346,10 @@ impl Machine {
         Ok(())
     }
 
-    pub fn end_function(&mut self) {
+    pub fn end_function(&mut self) -> Result<(), Refused> {
+        self.no_run_under_way()?;
         self.current = 0;
+        Ok(())
     }
 
     pub fn get_function_idx(&self, name: &[u8]) -> Result<u16, Refused> {
@@ -364,59 +390,9 @@ impl Machine {
         frame.position >= self.program.functions[frame.function].code.len()
     }
 
-    /// Runs until the current frame's code is at its end, or a fault.
-    pub fn run(&mut self, units: u64) -> Report {
-        self.run_watched(units, |_| ())
-    }
-
-    /// The same run, shown to somebody before each step and at its end.
-    pub fn run_watched(&mut self, units: u64, mut watch: impl FnMut(&Machine)) -> Report {
-        let stack_at_start = self.stack.clone();
-        let mut cells_to_keep = self.cells_used;
-        let mut answer = Answer::Continue;
-        let mut spent = 0;
-        let mut returns = 0;
-        let mut most = Most::default();
-        let mut by_name = BTreeSet::new();
-
-        let fault = loop {
-            most = self.taken_since(most);
-            watch(self);
-            // The end comes before the units: a run that is over asks none.
-            if self.is_at_the_end() {
-                return Report {
-                    answer,
-                    spent,
-                    returns,
-                    backtrace: vec![],
-                    most,
-                    by_name,
-                };
-            }
-            if spent == units {
-                break 13;
-            }
-            spent += 1;
-            match self.step(units - spent) {
-                Ok(Step::Done(pairs)) => spent += pairs,
-                Ok(Step::CalledByName(function)) => {
-                    by_name.insert(function);
-                }
-                Ok(Step::RootReturn(value)) => {
-                    cells_to_keep = self.cells_used;
-                    returns += 1;
-                    answer = Answer::Value(value);
-                }
-                Err(fault) => break fault,
-            }
-        };
-
-        if fault == 13 {
-            spent = units;
-        }
-        let backtrace = self
-            .backtrace()
-            .expect("during a run every frame's place lies inside its code");
+    /// After a fault, or abandoned: the stack of the start, the cells up to the
+    /// last root Return, one frame at the end of main.
+    fn recover(&mut self, stack_at_start: Vec<Value>, cells_to_keep: usize) {
         // The last result is not put back.
         self.stack = stack_at_start;
         self.cells_used = cells_to_keep;
@@ -425,14 +401,6 @@ impl Machine {
             position: main_code(&self.program),
             base: 0,
         }];
-        Report {
-            answer: Answer::Fault(fault),
-            spent,
-            returns,
-            backtrace,
-            most,
-            by_name,
-        }
     }
 
     fn taken_since(&self, most: Most) -> Most {
@@ -446,7 +414,9 @@ impl Machine {
     /// One step, its own unit already spent and `units` left for comparing.
     /// The checks come in document 01's order: 1, 2, 3, number operands, pops
     /// from the top (4 before 5 at each), 7, field number, 14, argument
-    /// count, zero divisor, comparison units, 12, 11, frames, stack.
+    /// count, zero divisor, comparison units, 12, 11, frames, stack. A
+    /// comparison that cannot be paid for, fault 13, has popped nothing: of a
+    /// step at fault it alone leaves the stack as it was.
     fn step(&mut self, units: u64) -> Result<Step, u32> {
         let frame = self.frame().clone();
         let code = &self.program.functions[frame.function].code;
@@ -529,10 +499,12 @@ impl Machine {
                 self.push(Value::Boolean(result))?;
             }
             Op::Equal | Op::NotEqual => {
-                let right = self.pop()?;
-                let left = self.pop()?;
+                let [.., left, right] = self.stack.as_slice() else {
+                    return Err(4);
+                };
                 let mut pairs = 0;
-                let equal = left.compare(&right, units, &mut pairs).ok_or(13u32)?;
+                let equal = left.compare(right, units, &mut pairs).ok_or(13u32)?;
+                self.stack.truncate(self.stack.len() - 2);
                 self.push(Value::Boolean(equal == (op == Op::Equal)))?;
                 return Ok(Step::Done(pairs));
             }

@@ -10,8 +10,8 @@ use oracle::print::{self, value_text};
 use oracle::published::{self, Count, State};
 use oracle::vm::Bounds;
 use oracle::{
-    asm, calls, check, checked_runs, console, damage, edges, generate, generate_checked, image,
-    source,
+    asm, calls, check, checked_runs, console, damage, dealt, edges, generate, generate_checked,
+    image, script, source,
 };
 
 const HELP: &str = "\
@@ -69,6 +69,17 @@ over f64, the plain machine; and document 01's machine, written for itself
                                 with so many units (10,000): how many passed or
                                 were refused by each rule, how the runs ended,
                                 and each breach of what a pass promises
+  oracle dealt SEED COUNT       makes COUNT runs of generated images, each given its
+                                units in parts dealt out by chance, some of them
+                                of none, and compares with one run given the
+                                sum: answer, units, root Returns, backtrace,
+                                stack, frames, last result, cells; a count of
+                                what came up, and each difference
+  oracle dealt-script SEED      a script for the console of some hundreds of such
+                                runs, each begun by `start`
+  oracle dealt-answers SEED     what the console has to answer: of each part by the
+                                undivided run given the units of all parts so
+                                far, paused where that run ends in 13
   oracle console [LINE]         plays a script of host calls from standard input
                                 and prints what the console prints for it; LINE
                                 is the number of its first line (1)
@@ -81,15 +92,48 @@ A record is the lengths of four parts (each u32, low byte first) and then the
 parts: the image, what `load` prints, what the runner prints, what the lister
 prints. Records stand one behind the other up to the end.
 
-The console's commands are those at the head of crates/console/stdin.
-It stops where the oracle cannot tell the answer: at `sum`, `poke`, `result`
+The console's commands are those at the head of crates/console/stdin (`begin` begins
+a function). Those of a run, with what they are refused, in this order:
+
+  start, start ROOM             begins a run, and takes no units: 19, 25, and 17
+                                if ROOM, the places of the copy store, are
+                                fewer than the stack store's 1,024
+  continue UNITS, continue UNITS ROOM
+                                goes on with UNITS more: 19, 18, 17 if ROOM, the
+                                places of the backtrace store, are fewer than
+                                the frame store's 256, and 22 if the units
+                                given in all pass 64 bits
+  abandon, abandon ROOM         ends the run in fault 13: 19, 18, 17 as above
+
+Without ROOM the whole store is lent. The answer is a line
+
+  paused, spent N, returns N, stack N, frames N
+  value VALUE, spent N, returns N, stack N, frames N
+  continue, spent N, returns N, stack N, frames N
+  fault N, spent N, returns N, stack N, frames N
+  refused N
+
+and behind a fault `at FUNCTION PLACE` per frame, innermost first. `spent` and
+`returns`, the root Returns, are the whole run's, of a paused one those so far. While
+a run is under way each command of emission, `image` and `new` is refused 25.
+oracle/tests/parts.script has each of these, parts.answers what is answered.
+
+A host may damage the words of a run: `count on N` (0, or else 1: whether one is under
+way), `count given N`, `count spent N`, `count returns N`, `count mark N` (the cells
+taken at its last root Return, or at its start), `count saved N` (the values of
+the copy).
+
+The console stops where the oracle cannot tell the answer: at `sum`, `poke`, `result`
 and the counts of stores other than the frames', which speak of the words in
-stores, and at a frame past those that a call has left.
+stores, at a mark or at copied values that would take those words, and at a frame
+past those that a call has left.
 
 A script of `calls` has one story of each sort (each fault, the stores full and
 one over, frames damaged, patches, names, lines not understood, an image, a
 function defined anew, a struct added, a callee's code that grows, frames put over
-values, an image over a machine that has run), then any, emitted programs too.
+values, an image over a machine that has run, units dealt out among comparisons,
+runs abandoned, what is refused in a pause, a run begun in a callee, the words of
+a run damaged), then any, emitted programs too. The units of most runs come in parts, none now and then.
 From 40,000 bytes on it begins with a long one: the text store is filled for seeds
 0, 4, 8 .., main's code for 1, 5 .., the others' code for 2, 6 .., constants,
 structs and functions for 3, 7 ..
@@ -136,6 +180,11 @@ fn main() -> ExitCode {
         }
         ["checked-runs", seed, count, units] => numbers(seed, count)
             .and_then(|(s, c)| number(units).and_then(|units| checked_runs(s, c, units))),
+        ["dealt", seed, count] => numbers(seed, count).and_then(|(s, c)| dealt(s, c)),
+        ["dealt-script", seed] => number(seed).and_then(|s| put(dealt_script(s).script.as_bytes())),
+        ["dealt-answers", seed] => {
+            number(seed).and_then(|s| put(dealt_script(s).answers.as_bytes()))
+        }
         ["console"] => read("-").and_then(|script| console(&script, 1)),
         ["console", first] => {
             number(first).and_then(|first| read("-").and_then(|script| console(&script, first)))
@@ -453,8 +502,29 @@ fn put_all(parts: impl Iterator<Item = Vec<u8>>) -> Done {
     out.flush().map_err(|e| format!("standard output: {e}"))
 }
 
-/// How many breaches are shown; all are counted.
+/// How many breaches or differences are shown; all are counted.
 const BREACHES: usize = 20;
+
+fn dealt_script(seed: u64) -> dealt::scripts::Scripted {
+    dealt::scripts::scripted(seed, script::MAX_SCRIPT)
+}
+
+fn dealt(seed: u64, count: u64) -> Done {
+    let counted = dealt::runs(seed, count);
+    let mut out = String::new();
+    for ((_, seen), count) in &counted.seen {
+        out += &format!("{seen}: {count}\n");
+    }
+    for difference in counted.differences.iter().take(BREACHES) {
+        out += &format!("{difference}\n");
+    }
+    let differences = counted.differences.len();
+    put(format!("{out}{count} runs, {differences} differences\n").as_bytes())?;
+    if differences > 0 {
+        return Err("a run in parts and one given the sum differ".to_owned());
+    }
+    Ok(())
+}
 
 fn checked_runs(seed: u64, count: u64, units: u64) -> Done {
     let tally = checked_runs::tally(seed, count, units);

@@ -1,89 +1,69 @@
 //! The opcodes: the order of `Op` in 000 gives each its number.
 
-#[derive(Debug, Clone, Copy, PartialEq, Eq)]
-#[repr(u8)]
-pub enum Op {
-    LoadConstant,
-    ApplyPrefix,
-    SetUnitConstant,
-    GetLocal,
-    GetUpvalue,
-    GetLastResult,
-    Negate,
-    Factorial,
-    Add,
-    Subtract,
-    Multiply,
-    Divide,
-    Power,
-    ConvertTo,
-    LessThan,
-    GreaterThan,
-    LessOrEqual,
-    GreatorOrEqual,
-    Equal,
-    NotEqual,
-    LogicalAnd,
-    LogicalOr,
-    LogicalNeg,
-    AddToDateTime,
-    SubFromDateTime,
-    DiffDateTime,
-    JumpIfFalse,
-    Jump,
-    Call,
-    FFICallFunction,
-    FFICallProcedure,
-    CallCallable,
-    PrintString,
-    JoinString,
-    BuildStructInstance,
-    AccessStructField,
-    BuildList,
-    Return,
+/// The one table of opcodes: each at the index that is its number, with its
+/// name in a listing.
+macro_rules! opcodes {
+    ($($op:ident $name:literal,)*) => {
+        #[derive(Debug, Clone, Copy, PartialEq, Eq)]
+        #[repr(u8)]
+        pub enum Op {
+            $($op,)*
+        }
+
+        /// All opcodes, each at the index that is its number.
+        pub const OPS: [Op; 38] = [$(Op::$op,)*];
+
+        impl Op {
+            #[allow(clippy::inherent_to_string)]
+            pub fn to_string(self) -> &'static str {
+                match self {
+                    $(Op::$op => $name,)*
+                }
+            }
+        }
+    };
 }
 
-/// All opcodes, each at the index that is its number.
-pub const OPS: [Op; 38] = [
-    Op::LoadConstant,
-    Op::ApplyPrefix,
-    Op::SetUnitConstant,
-    Op::GetLocal,
-    Op::GetUpvalue,
-    Op::GetLastResult,
-    Op::Negate,
-    Op::Factorial,
-    Op::Add,
-    Op::Subtract,
-    Op::Multiply,
-    Op::Divide,
-    Op::Power,
-    Op::ConvertTo,
-    Op::LessThan,
-    Op::GreaterThan,
-    Op::LessOrEqual,
-    Op::GreatorOrEqual,
-    Op::Equal,
-    Op::NotEqual,
-    Op::LogicalAnd,
-    Op::LogicalOr,
-    Op::LogicalNeg,
-    Op::AddToDateTime,
-    Op::SubFromDateTime,
-    Op::DiffDateTime,
-    Op::JumpIfFalse,
-    Op::Jump,
-    Op::Call,
-    Op::FFICallFunction,
-    Op::FFICallProcedure,
-    Op::CallCallable,
-    Op::PrintString,
-    Op::JoinString,
-    Op::BuildStructInstance,
-    Op::AccessStructField,
-    Op::BuildList,
-    Op::Return,
-];
+opcodes! {
+    LoadConstant "LoadConstant",
+    ApplyPrefix "ApplyPrefix",
+    SetUnitConstant "SetUnitConstant",
+    GetLocal "GetLocal",
+    GetUpvalue "GetUpvalue",
+    GetLastResult "GetLastResult",
+    Negate "Negate",
+    Factorial "Factorial",
+    Add "Add",
+    Subtract "Subtract",
+    Multiply "Multiply",
+    Divide "Divide",
+    Power "Power",
+    ConvertTo "ConvertTo",
+    LessThan "LessThan",
+    GreaterThan "GreaterThan",
+    LessOrEqual "LessOrEqual",
+    GreatorOrEqual "GreatorOrEqual",
+    Equal "Equal",
+    NotEqual "NotEqual",
+    LogicalAnd "LogicalAnd",
+    LogicalOr "LogicalOr",
+    LogicalNeg "LogicalNeg",
+    AddToDateTime "AddDateTime",
+    SubFromDateTime "SubDateTime",
+    DiffDateTime "DiffDateTime",
+    JumpIfFalse "JumpIfFalse",
+    Jump "Jump",
+    Call "Call",
+    FFICallFunction "FFICallFunction",
+    FFICallProcedure "FFICallProcedure",
+    CallCallable "CallCallable",
+    PrintString "PrintString",
+    JoinString "JoinString",
+    BuildStructInstance "BuildStructInstance",
+    AccessStructField "AccessStructField",
+    BuildList "BuildList",
+    Return "Return",
+}
 
 impl Op {
     /// The opcode of a byte; none for 38 and above. 000 casts the byte
@@ -125,53 +105,9 @@ impl Op {
         }
     }
 
-    #[allow(clippy::inherent_to_string)]
-    pub fn to_string(self) -> &'static str {
-        match self {
-            Op::LoadConstant => "LoadConstant",
-            Op::ApplyPrefix => "ApplyPrefix",
-            Op::SetUnitConstant => "SetUnitConstant",
-            Op::GetLocal => "GetLocal",
-            Op::GetUpvalue => "GetUpvalue",
-            Op::GetLastResult => "GetLastResult",
-            Op::Negate => "Negate",
-            Op::Factorial => "Factorial",
-            Op::Add => "Add",
-            Op::AddToDateTime => "AddDateTime",
-            Op::Subtract => "Subtract",
-            Op::SubFromDateTime => "SubDateTime",
-            Op::DiffDateTime => "DiffDateTime",
-            Op::Multiply => "Multiply",
-            Op::Divide => "Divide",
-            Op::Power => "Power",
-            Op::ConvertTo => "ConvertTo",
-            Op::LessThan => "LessThan",
-            Op::GreaterThan => "GreaterThan",
-            Op::LessOrEqual => "LessOrEqual",
-            Op::GreatorOrEqual => "GreatorOrEqual",
-            Op::Equal => "Equal",
-            Op::NotEqual => "NotEqual",
-            Op::LogicalAnd => "LogicalAnd",
-            Op::LogicalOr => "LogicalOr",
-            Op::LogicalNeg => "LogicalNeg",
-            Op::JumpIfFalse => "JumpIfFalse",
-            Op::Jump => "Jump",
-            Op::Call => "Call",
-            Op::FFICallFunction => "FFICallFunction",
-            Op::FFICallProcedure => "FFICallProcedure",
-            Op::CallCallable => "CallCallable",
-            Op::PrintString => "PrintString",
-            Op::JoinString => "JoinString",
-            Op::Return => "Return",
-            Op::BuildStructInstance => "BuildStructInstance",
-            Op::AccessStructField => "AccessStructField",
-            Op::BuildList => "BuildList",
-        }
-    }
-
     /// The 26 opcodes that document 01 carries: all but these, which are known
     /// and not carried.
-    pub fn is_carried(self) -> bool {
+    pub const fn is_carried(self) -> bool {
         !matches!(
             self,
             Op::ApplyPrefix

@@ -46,8 +46,12 @@ fn every_command_comes_up() {
     for command in [
         "new 1",
         "image 2",
-        "run 2",
-        "run 3",
+        "start 1",
+        "start 2",
+        "continue 2",
+        "continue 3",
+        "abandon 1",
+        "abandon 2",
         "trace 1",
         "trace 2",
         "op 3",
@@ -92,7 +96,7 @@ fn every_fault_and_refusal_comes_up() {
     for fault in 1..=14 {
         assert!(has(&format!("fault {fault},")), "fault {fault}");
     }
-    for refused in [1, 3, 5, 6, 7, 14, 16, 17, 19, 21, 23] {
+    for refused in [1, 3, 5, 6, 7, 14, 16, 17, 18, 19, 21, 22, 23, 25] {
         let refused = format!("refused {refused}");
         assert!(answers.contains(&refused), "{refused}");
     }
@@ -102,6 +106,7 @@ fn every_fault_and_refusal_comes_up() {
         "value list",
         "value struct",
         "continue",
+        "paused",
         "broken",
         "? ",
         "shown scalar",
@@ -142,10 +147,13 @@ fn edges_are_counted_where_they_are() {
         let found = counted.into_iter().filter(|(_, count)| *count > 0);
         found.map(|(edge, _)| edge).collect()
     };
-    assert!(found("new\nscalar 0\nop1 0 0 1\nrun 9\nop 37 1\nrun 9\nlast").is_empty());
+    assert!(
+        found("new\nscalar 0\nop1 0 0 1\nstart\ncontinue 9\nop 37 1\nstart\ncontinue 9\nlast")
+            .is_empty()
+    );
     // The name is known before, but no run lies between.
     let anew = "begin 66\nop1 0 0 1\nop 37 2\nend";
-    let call = "op1 0 1 3\nop2 31 0 0 4\nop 37 5\nrun 99";
+    let call = "op1 0 1 3\nop2 31 0 0 4\nop 37 5\nstart\ncontinue 99";
     let start = "new\nscalar 0\nreference 66";
     assert!(found(&format!("{start}\n{anew}\n{anew}\n{call}")).is_empty());
     assert_eq!(
@@ -155,17 +163,26 @@ fn edges_are_counted_where_they_are() {
             "a function defined anew after a run, called by name"
         ]
     );
-    let built = "op2 34 0 0 1\nrun 9";
+    let built = "op2 34 0 0 1\nstart\ncontinue 9";
     assert!(found(&format!("new\nstruct 41\n{built}")).is_empty());
     assert_eq!(
         found(&format!("new\n{built}\nstruct 41\n{built}")),
         ["fault 6", "a struct added after a run, built"]
     );
     let callee = "new\nscalar 0\nop2 28 1 0 1\nbegin 66";
-    assert!(found(&format!("{callee}\nop1 0 0 2\nrun 9\nrun 9")).is_empty());
     assert_eq!(
         found(&format!(
-            "{callee}\nop1 27 1 2\nrun 9\nop1 0 0 3\nop 37 4\nrun 9"
+            "{callee}\nop1 0 0 2\nstart\ncontinue 9\nstart\ncontinue 9"
+        )),
+        [
+            "refused 18",
+            "a run over at once in a callee",
+            "refused 18, continuing"
+        ]
+    );
+    assert_eq!(
+        found(&format!(
+            "{callee}\nop1 27 1 2\nstart\ncontinue 9\nop1 0 0 3\nop 37 4\nstart\ncontinue 9"
         )),
         [
             "fault 6",
@@ -174,9 +191,14 @@ fn edges_are_counted_where_they_are() {
         ]
     );
     let image = "image 000001063C6D61696E3E00";
-    assert!(found(&format!("new\n{image}\nrun 9")).is_empty());
     assert_eq!(
-        found(&format!("new\nop1 36 0 1\nrun 9\nimage 00\n{image}")),
+        found(&format!("new\n{image}\nstart")),
+        ["a run over at once at the end of main"]
+    );
+    assert_eq!(
+        found(&format!(
+            "new\nop1 36 0 1\nstart\ncontinue 9\nimage 00\n{image}"
+        )),
         [
             "refused 20",
             "an image loaded over values on the stack",
@@ -197,4 +219,88 @@ fn stores_come_up_exactly_full() {
     for full in ["done 255", "number 8192"] {
         assert!(answers.contains(&full.to_owned()), "{full}");
     }
+}
+
+/// The edges of runs in parts: in each pause another.
+#[test]
+fn edges_of_parts_are_counted_where_they_are() {
+    let found = |story: &str| -> Vec<String> {
+        let counted = tally(std::iter::once(story.to_owned()));
+        let found = counted.into_iter().filter(|(_, count)| *count > 0);
+        found.map(|(edge, _)| edge).collect()
+    };
+    // Returns 1, then compares two lists of one element: 2 and 6 units.
+    let rule = "new\nscalar 0\nop1 0 0 1\nop 37 2
+op1 0 0 3\nop1 36 1 4\nop1 0 0 5\nop1 36 1 6\nop 18 7\nstart";
+    assert_eq!(
+        found(&format!("{rule}\ncontinue 0\ncontinue 8")),
+        [
+            "paused with no unit left",
+            "continued with no units, and paused again"
+        ]
+    );
+    assert_eq!(
+        found(&format!("{rule}\ncontinue 7\ncontinue 1")),
+        [
+            "paused with units left, before a comparison",
+            "a run that was paused came to its end",
+            "a value that an earlier part had returned"
+        ]
+    );
+    assert_eq!(
+        found(&format!("{rule}\ncontinue 7\nabandon\nstart")),
+        [
+            "fault 13",
+            "a fault behind a root Return",
+            "paused with units left, before a comparison",
+            "abandoned with units left",
+            "abandoned behind a root Return",
+            "a run over at once at the end of main",
+            "a run begun behind one that was abandoned"
+        ]
+    );
+    assert_eq!(
+        found(&format!(
+            "{rule}\nop 37 1\npatch 0 0\nend\nnew\nimage\nstart\nsave\nabandon"
+        )),
+        [
+            "fault 13",
+            "refused 25",
+            "abandoned with nothing given",
+            "a listing, an image or a backtrace in a pause",
+            "refused 25, emitting",
+            "refused 25, patching",
+            "refused 25, ending a function",
+            "refused 25, loading",
+            "refused 25, a new machine",
+            "refused 25, beginning a run"
+        ]
+    );
+    // Main is 17 bytes long: at 17 nothing is under way, at 16 a comparison is.
+    // A backtrace judges the frames, and not the run.
+    assert_eq!(
+        found(&format!(
+            "{rule}\nframe 0 0 17 0\nabandon\ntrace\nframe 0 0 16 0\ncontinue 9"
+        )),
+        [
+            "fault 4",
+            "refused 19",
+            "a run continued with frames put in a pause",
+            "refused 19, an end of code at which no run can be under way",
+            "a listing, an image or a backtrace in a pause"
+        ]
+    );
+    // More units are said to be spent than were given; then more to be given.
+    assert_eq!(
+        found(&format!(
+            "{rule}\ncontinue 1\ncount spent 2\ncontinue 7\ncount given 2\ncontinue 7"
+        )),
+        [
+            "refused 19",
+            "paused with no unit left",
+            "a run that was paused came to its end",
+            "refused 19, a damaged word of a run",
+            "a run continued with a word that was damaged in good order"
+        ]
+    );
 }

@@ -39,15 +39,14 @@ op2 34 1 2 6
 op1 0 1 7
 op1 0 2 8
 op1 0 0 9
-run 1000";
+start
+continue 1000";
 
+/// The sample of docs/EVIDENCE.md: every answer of a run in parts.
 #[test]
-fn the_committed_script_up_to_its_first_sum() {
-    let script = include_str!("../../crates/console/stdin");
-    let stdout = include_str!("../../crates/console/stdout");
-    let front = script.split("\nsum\n").next().unwrap();
-    assert!(stdout.starts_with(&said(front)));
-    assert!(said(front).contains("P9"));
+fn the_sample_of_a_run_in_parts() {
+    let script = include_str!("parts.script");
+    assert_eq!(said(script), include_str!("parts.answers"));
 }
 
 #[test]
@@ -69,8 +68,12 @@ fn a_part_of_a_script_keeps_its_line_numbers() {
 #[test]
 fn before_a_machine_is_made_nothing_is_in_good_order() {
     for line in [
-        "run 1",
-        "run 1 0",
+        "start",
+        "start 0",
+        "continue 1",
+        "continue 1 0",
+        "abandon",
+        "abandon 0",
         "trace",
         "op 0 0",
         "op 38 0",
@@ -170,7 +173,7 @@ fn values_are_shown() {
             "{VALUES}\nlast\nstack 0\nstack 1\nstack 2\nstack 3\nstack 4\nstack 5"
         ))
         .lines()
-        .skip(15)
+        .skip(16)
         .collect::<Vec<_>>(),
         [
             "continue, spent 9, returns 0, stack 5, frames 1",
@@ -214,10 +217,12 @@ fn results_need_their_room() {
     ends(p1, &format!("list {}", length - 1), "refused 17");
     ends(
         p1,
-        "run 9 1024",
+        "start 1024\ncontinue 9 256",
         "value scalar 0000000000000001, spent 2, returns 1, stack 0, frames 1",
     );
-    ends(p1, "run 9 1023", "refused 17");
+    ends(p1, "start 1023", "refused 17");
+    ends(p1, "start\ncontinue 9 255", "refused 17");
+    ends(p1, "start\nabandon 255", "refused 17");
     ends(p1, "trace 1", "at 0 1");
     ends(p1, "trace 0", "refused 17");
     // 16 comes behind 17, an opcode or a cut instruction before it.
@@ -235,12 +240,14 @@ fn results_need_their_room() {
 fn frames_are_shown_and_counted() {
     let callee = "new\nbegin 66\nop 37 7\nend\nop2 28 1 0 3";
     assert_eq!(
-        said(&format!("{callee}\npatch 1 1\nrun 1\nframe 0"))
-            .lines()
-            .last(),
+        said(&format!(
+            "{callee}\npatch 1 1\nstart\ncontinue 1\nabandon\nframe 0"
+        ))
+        .lines()
+        .last(),
         Some("frame 0 5 0")
     );
-    let empty = "new\nbegin 66\nend\nop2 28 1 0 3\nrun 9";
+    let empty = "new\nbegin 66\nend\nop2 28 1 0 3\nstart\ncontinue 9";
     ends(empty, "frame 1", "frame 1 0 0");
     ends(empty, "trace", "refused 16");
     ends(empty, "count frames 1\ntrace", "at 0 3");
@@ -249,9 +256,9 @@ fn frames_are_shown_and_counted() {
 #[test]
 fn damaged_frames_are_refused_by_runs_and_backtraces() {
     // Main of 3 bytes, function 1 of 1 byte; the machine has run to its end.
-    let made = "new\nscalar 0\nop1 0 0 7\nbegin 66\nop 37 8\nend\nrun 9";
+    let made = "new\nscalar 0\nop1 0 0 7\nbegin 66\nop 37 8\nend\nstart\ncontinue 9";
     let both = |damage: &str, run: &str, trace: &str| {
-        ends(made, &format!("{damage}\nrun 9 0"), run);
+        ends(made, &format!("{damage}\nstart 0"), run);
         ends(made, &format!("{damage}\ntrace 256"), trace);
     };
     let (bad, short) = ("refused 19", "refused 17");
@@ -276,21 +283,118 @@ fn damaged_frames_are_refused_by_runs_and_backtraces() {
     // A base above the stack: nothing to shorten, and the value is pushed.
     ends(
         made,
-        &format!("{}\nrun 9", two("0 3 0", "1 0 9")),
+        &format!("{}\nstart\ncontinue 9", two("0 3 0", "1 0 9")),
         "continue, spent 1, returns 0, stack 1, frames 1",
     );
     // Mended, it runs as it did.
     ends(
         made,
-        "count frames 0\nrun 9\ncount frames 1\nrun 9",
+        "count frames 0\nstart\ncount frames 1\nstart",
         "continue, spent 0, returns 0, stack 1, frames 1",
     );
+}
+
+/// Readings 6, 7 and 15: 18 and 25 stand right behind 19, loading's and a new
+/// machine's 25 before all else; then 17, then 22.
+#[test]
+fn the_order_of_the_refusals_of_a_part() {
+    let made = "new\nscalar 0\nop1 0 0 1\nop1 0 0 2";
+    let damaged = "count frames 0";
+    ends(made, &format!("{damaged}\ncontinue 1"), "refused 19");
+    ends(made, &format!("{damaged}\nabandon 0"), "refused 19");
+    ends(made, "continue 1 0", "refused 18");
+    ends(made, "continue 18446744073709551615", "refused 18");
+    ends(made, "abandon 0", "refused 18");
+    let under_way = &format!("{made}\nstart\ncontinue 1");
+    ends(under_way, &format!("{damaged}\nstart"), "refused 19");
+    ends(under_way, &format!("{damaged}\ncontinue 1 0"), "refused 19");
+    ends(under_way, &format!("{damaged}\nabandon"), "refused 19");
+    ends(under_way, "start 0", "refused 25");
+    for line in ["new", "image 80 00", "image 000001063C6D61696E3E00"] {
+        ends(under_way, line, "refused 25");
+        ends(under_way, &format!("{damaged}\n{line}"), "refused 25");
+    }
+    // Emission is not lent the frames.
+    for line in ["op 38 0", "patch 65535 0", "struct 41", "begin 66", "end"] {
+        ends(under_way, line, "refused 25");
+        ends(under_way, &format!("{damaged}\n{line}"), "refused 25");
+    }
+    ends(under_way, "continue 18446744073709551615 0", "refused 17");
+    ends(under_way, "continue 18446744073709551615", "refused 22");
+    let end = "continue, spent 2, returns 0, stack 2, frames 1";
+    ends(under_way, "continue 18446744073709551614", end);
+    // What was refused has changed nothing, and the run is under way.
+    ends(
+        under_way,
+        &format!("{damaged}\ncontinue 1\ncount frames 1\nstart\nnew\nend\nabandon 0\ncontinue 1"),
+        end,
+    );
+}
+
+/// With a run under way the innermost position is below its code length; in a
+/// callee too. Frames put in a pause are those with which the run goes on.
+#[test]
+fn frames_in_a_pause() {
+    // Main of 8 bytes, function 1 of 4.
+    let made = "new\nscalar 0\nop2 28 1 0 1\nop1 0 0 2\nbegin 66\nop1 0 0 3\nop 37 4\nend";
+    let in_callee = &format!("{made}\nstart\ncontinue 1");
+    ends(in_callee, "frame 1", "frame 1 0 0");
+    ends(in_callee, "trace 256", "at 0 1");
+    for (frame, answer) in [
+        (
+            "frame 1 1 3 0",
+            "paused, spent 1, returns 0, stack 0, frames 2",
+        ),
+        ("frame 1 1 4 0", "refused 19"),
+        ("frame 1 1 5 0", "refused 19"),
+        (
+            "count frames 1",
+            "paused, spent 1, returns 0, stack 0, frames 1",
+        ),
+        (
+            "count frames 1\nframe 0 0 7 0",
+            "paused, spent 1, returns 0, stack 0, frames 1",
+        ),
+        ("count frames 1\nframe 0 0 8 0", "refused 19"),
+        // A caller may be at its end.
+        (
+            "frame 0 0 8 0",
+            "paused, spent 1, returns 0, stack 0, frames 2",
+        ),
+    ] {
+        ends(in_callee, &format!("{frame}\ncontinue 0"), answer);
+    }
+    // No run under way: at the end, or past it, as ever.
+    ends(made, "frame 0 0 8 0\ntrace", "at 0 2");
+    ends(made, "frame 0 0 9 0\ntrace", "refused 16");
+    ends(
+        in_callee,
+        "count frames 1\ncontinue 9",
+        "continue, spent 2, returns 0, stack 1, frames 1",
+    );
+}
+
+/// A run that has completed a root Return has a last result.
+#[test]
+fn no_root_return_without_a_last_result() {
+    let made = "new\nscalar 0\nop1 0 0 1\nop 37 2\nop1 0 0 3\nop1 0 0 4";
+    let before = &format!("{made}\nstart\ncontinue 1");
+    ends(before, "count returns 1\ncontinue 0", "refused 19");
+    ends(before, "count returns 1\nabandon", "refused 19");
+    let behind = &format!("{made}\nstart\ncontinue 3");
+    for returns in ["1", "3"] {
+        ends(
+            behind,
+            &format!("count returns {returns}\ncontinue 0"),
+            &format!("paused, spent 3, returns {returns}, stack 1, frames 1"),
+        );
+    }
 }
 
 #[test]
 fn what_the_rules_do_not_fix_is_not_told() {
     assert!(stops("new\nframe 1").contains("line 2"));
-    assert!(stops("new\ncount frames 2\nrun 1").contains("frame 1"));
+    assert!(stops("new\ncount frames 2\nstart").contains("frame 1"));
     assert!(stops("new\nsum").contains("words"));
     for line in ["poke text 0 1", "result 0 0", "count cells 1"] {
         stops(line);
@@ -306,7 +410,8 @@ scalar 3FF0000000000000
 scalar 0
 op1 0 0 1
 op1 36 1 2
-run 9
+start
+continue 9
 op1 0 0 3
 op1 36 1 4
 op 37 5
@@ -314,23 +419,23 @@ op1 36 0 6
 op1 0 0 7
 op1 0 1 8
 op 11 9";
-    let faulted = &format!("{story}\nrun 99");
+    let faulted = &format!("{story}\nstart\ncontinue 99");
     assert!(said(faulted).ends_with("fault 8, spent 7, returns 1, stack 1, frames 1\nat 0 9\n"));
     ends(faulted, "last", "shown list 1");
     ends(faulted, "stack 0", "shown list 1");
     ends(faulted, "frame 0", "frame 0 23 0");
     ends(
         faulted,
-        "run 0",
+        "start",
         "continue, spent 0, returns 0, stack 1, frames 1",
     );
     // With units for the Return only, and for one less.
-    ends(story, "run 3\nlast", "shown list 1");
-    ends(story, "run 2\nlast", "refused 7");
+    ends(story, "start\ncontinue 3\nlast", "shown list 1");
+    ends(story, "start\ncontinue 2\nlast", "refused 7");
     for (units, returns) in [(3, 1), (2, 0)] {
         let told = format!("fault 13, spent {units}, returns {returns}, stack 1, frames 1\n");
         assert!(
-            said(&format!("{story}\nrun {units}")).contains(&told),
+            said(&format!("{story}\nstart\ncontinue {units}\nabandon")).contains(&told),
             "{units}"
         );
     }
@@ -347,7 +452,7 @@ fn cells_come_back_to_the_mark() {
         for _ in 0..3 {
             script += "op2 28 1 0 4\n";
             script += if returning { "op 37 5\n" } else { "" };
-            script += "op 38 6\nop 1 7\nrun 5000\n";
+            script += "op 38 6\nop 1 7\nstart\ncontinue 5000\n";
         }
         let out = said(&script);
         let faults: Vec<String> = out
@@ -363,7 +468,7 @@ fn cells_come_back_to_the_mark() {
 
 #[test]
 fn a_broken_image_leaves_the_machine() {
-    let made = "new\nscalar 0\nop1 0 0 7\nrun 9";
+    let made = "new\nscalar 0\nop1 0 0 7\nstart\ncontinue 9";
     ends(made, "image 00\nstack 0", "shown scalar 0000000000000000");
     ends(made, "image 000001063C6D61696E3E00\nstack 0", "refused 6");
     ends("new", &format!("image {}", "00".repeat(16_385)), "? 2");

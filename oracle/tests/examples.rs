@@ -360,7 +360,7 @@ fn emission_agrees_with_the_plain_machine_and_keeps_to_its_limits() {
     // 23: not wholly inside; 12 bytes of code take a patch at 10, not at 11.
     assert_eq!(machine.patch_u16_value_at(10, 7), Ok(()));
     assert_eq!(machine.patch_u16_value_at(11, 7), Err(Refused::Patch));
-    machine.end_function();
+    machine.end_function().unwrap();
     assert_eq!(machine.patch_u16_value_at(0, 7), Err(Refused::Patch));
 
     // 21: main has its own store.

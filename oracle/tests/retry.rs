@@ -4,7 +4,7 @@ mod common;
 
 use oracle::asm::assemble;
 use oracle::image::{image, Constant};
-use oracle::limits::{Answer, Frame, Machine, Report, Stores};
+use oracle::limits::{Answer, Frame, Machine, Part, Refused, Report, Stores};
 use oracle::op::Op;
 use oracle::value::Value;
 
@@ -153,23 +153,107 @@ fn a_rule_whose_return_comes_last_has_not_counted_when_it_faults() {
     assert_eq!((scalar(&report), report.spent), (42.0, 12));
 }
 
-/// With 6 units the run stops behind the Return of line 14, which has counted;
-/// with 5 before it. The place is that of the last instruction paid for.
+/// The story, begun and given so many units, of which it asks for more.
+fn paused(units: u64) -> (Machine, u64) {
+    let mut machine = story();
+    machine.begin_run().unwrap();
+    match machine.continue_run(units).unwrap() {
+        Part::Paused { spent, returns } => {
+            assert_eq!(spent, units);
+            (machine, returns)
+        }
+        Part::Over(report) => panic!("{report:?}"),
+    }
+}
+
+/// Given 6 units the run is paused behind the Return of line 14, which has
+/// counted; given 5 before it.
+const PAUSES: [(u64, u32, Option<f64>, u64); 5] = [
+    (0, 9, None, 0),
+    (2, 10, Some(41.0), 1),
+    (5, 13, Some(41.0), 1),
+    (6, 14, Some(42.0), 2),
+    (7, 15, Some(42.0), 2),
+];
+
 #[test]
-fn units_that_run_out_behind_a_return_have_counted() {
-    for (units, place, result, returns) in [(5, 13, 41.0, 1), (6, 14, 42.0, 2), (7, 15, 42.0, 2)] {
-        let mut machine = story();
-        let report = machine.run(units);
+fn a_paused_run_tells_what_has_counted_so_far() {
+    for (units, _, result, returns) in PAUSES {
+        let (machine, so_far) = paused(units);
+        assert_eq!((so_far, last(&machine)), (returns, result), "{units}");
+    }
+}
+
+/// Given more, it goes on: nothing is done twice, and the end is that of one
+/// run given the sum.
+#[test]
+fn more_units_go_on_from_the_pause() {
+    for (units, ..) in PAUSES {
+        for more in [9 - units, UNITS] {
+            let (mut machine, _) = paused(units);
+            let Part::Over(report) = machine.continue_run(more).unwrap() else {
+                panic!("it needs no more");
+            };
+            assert_eq!((fault(&report), report.spent, report.returns), (8, 9, 2));
+            assert_eq!(report.backtrace, [(0, 17)]);
+            assert_eq!(last(&machine), Some(42.0));
+        }
+    }
+}
+
+/// Abandoned, the number of root Returns decides, as after any fault. The
+/// place is that of the last instruction paid for.
+#[test]
+fn an_abandoned_run_has_counted_what_it_had_returned() {
+    for (units, place, result, returns) in PAUSES {
+        let (mut machine, _) = paused(units);
+        let report = machine.abandon_run().unwrap();
         assert_eq!((fault(&report), report.spent), (13, units));
         assert_eq!(report.returns, returns);
         assert_eq!(report.backtrace, [(0, place)]);
-        assert_eq!(last(&machine), Some(result));
+        assert_eq!(last(&machine), result);
+        assert!(machine.stack.is_empty());
+        // More units come too late: begun again it is over at once.
+        let again = machine.run(UNITS);
+        assert!(matches!(again.answer, Answer::Continue));
+        assert_eq!((again.spent, again.returns), (0, 0));
+        assert_eq!(last(&machine), result);
     }
-    let mut machine = story();
-    let report = machine.run(0);
-    assert_eq!((fault(&report), report.spent, report.returns), (13, 0, 0));
-    assert_eq!(report.backtrace, [(0, 9)]);
-    assert_eq!(last(&machine), None);
+}
+
+/// Abandoned with 6 units: the last result after it, and the rest, mended.
+#[test]
+fn after_abandoning_the_rest_counts_once() {
+    let (mut machine, _) = paused(6);
+    machine.abandon_run().unwrap();
+    mended_rest(&mut machine);
+    let report = machine.run(UNITS);
+    assert_eq!((report.spent, report.returns), (3, 0));
+    assert_eq!(last(&machine), Some(42.0));
+    // And with 5: nothing of the reading has counted, and the rest is all of it.
+    let (mut machine, _) = paused(5);
+    machine.abandon_run().unwrap();
+    machine.add_op(Op::GetLastResult, 0).unwrap();
+    machine.add_op1(Op::LoadConstant, 1, 0).unwrap();
+    machine.add_op(Op::Add, 0).unwrap();
+    machine.add_op(Op::Return, 0).unwrap();
+    mended_rest(&mut machine);
+    let report = machine.run(UNITS);
+    assert_eq!(
+        (scalar(&report), report.spent, report.returns),
+        (42.0, 7, 1)
+    );
+}
+
+/// In a pause the rule is not mended, and no other run is begun.
+#[test]
+fn a_paused_machine_is_given_more_or_abandoned_first() {
+    let (mut machine, _) = paused(5);
+    assert_eq!(machine.add_op(Op::Return, 0), Err(Refused::UnderWay));
+    assert_eq!(machine.patch_u16_value_at(1, 0), Err(Refused::UnderWay));
+    assert_eq!(machine.begin_run().err(), Some(Refused::UnderWay));
+    assert_eq!(machine.abandon_run().unwrap().returns, 1);
+    assert_eq!(machine.add_op(Op::Return, 0), Ok(()));
 }
 
 #[test]
@@ -190,8 +274,8 @@ fn a_last_result_that_looks_the_same_may_have_been_returned_again() {
     assert_eq!(report.returns, 1);
 }
 
-/// A jump leads over a Return, and the units run out behind the jump: the
-/// place is that of the Return, which never ran.
+/// A jump leads over a Return, the units run out behind the jump, and the run is
+/// abandoned: the place is that of the Return, which never ran.
 #[test]
 fn the_place_of_a_return_is_no_sign_that_it_ran() {
     let rule = common::program(

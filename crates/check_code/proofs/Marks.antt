@@ -81,7 +81,7 @@ module _ (code : List ℕ) (j : ℕ) (h : length code ≤ j) where
   not-from zero i = refl
   not-from (suc n) i = not-here i _ (not-from n (nextIn code i)) (ltb i (length code)) refl
 
-  nothing-begins-there : isIn j (stands code) ≡ false
+  pub nothing-begins-there : isIn j (stands code) ≡ false
   unfolding stands
   nothing-begins-there = not-from (length code) 0
 

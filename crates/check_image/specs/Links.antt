@@ -16,7 +16,7 @@ use Rattle.check_rules.specs.declared.Rule.{Rule}
 use Rattle.check_rules.specs.declared.Checked.{Checked}
 use Rattle.check_rules.specs.declared.Checked.the-variants as c
 use Rattle.check_rules.specs.declared.Rule.the-variants as r
-use Rattle.check_rules.specs.Rules.{callsIn, countOf, Greatest, codeOf, isMain, Keeps, KeptByAll, Passed, Broken}
+use Rattle.check_rules.specs.Rules.{callsIn, countOf, Greatest, codeOf, isMain, Keeps, ruleNumber, KeptByAll, Passed, Broken}
 use Rattle.check_rules.specs.Checks.{HeightsOf}
 use Rattle.check_code.specs.Tallies.{tallied}
 use Rattle.check_image.specs.declared.passes.Pass.{Pass}
@@ -86,6 +86,23 @@ pub record MeasuredPost (s hs : List ℕ) (f : ℕ) : Type 0 where
   pub measures : (p : Program) → judge s ≡ fine p → Measured p hs f
 
 -- ---- all rules
+
+-- the rules of lower numbers are kept by all
+pub record KeptBelow (p : Program) (k : ℕ) : Type 0 where
+  pub kept : (e : Rule) → ruleNumber e < k → KeptByAll p e
+
+-- the first broken rule; or none of a lower number than k is broken
+abbrev pub FoundBelow : ℕ → Program → Finding → Type 0
+FoundBelow k p f.Nothing = KeptBelow p k
+FoundBelow k p (f.Breaks q g) = Broken p q g
+
+pub record BelowPost (k : ℕ) (s : List ℕ) (x : Finding) : Type 0 where
+  pub finds : (p : Program) → judge s ≡ fine p → FoundBelow k p x
+
+-- and if none is, the heights can be measured by the tally
+pub record LinksPost (s : List ℕ) (z : Sizes) (x : Finding) (counts : List ℕ) : Type 0 where
+  pub found : BelowPost 6 s x
+  pub tally : x ≡ f.Nothing → Measurable s z counts
 
 pub record AllKept (p : Program) (hs : List ℕ) : Type 0 where
   pub passed : Passed p

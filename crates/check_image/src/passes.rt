@@ -13,7 +13,8 @@ ghost use mathlib.Core.Path.{_≡_};
 ghost use Prim.Native.Nat.{_-_, _≤_, _<_};
 ghost use lib.ListN.{length, replicate};
 ghost use Rattle.image_codes.specs.Links.{Ready};
-ghost use Rattle.check_image.specs.Links.{KeepsPost, LowestPost, TalliedPost, CountsPost, Measurable, MeasuredPost, FindingPost};
+ghost use Rattle.check_image.specs.declared.passes.Finding.the-variants.{Nothing};
+ghost use Rattle.check_image.specs.Links.{KeepsPost, LowestPost, TalliedPost, CountsPost, Measurable, MeasuredPost, BelowPost, LinksPost, FindingPost};
 
 // The rules that every instruction keeps or breaks by itself.
 pub enum Pass {
@@ -127,10 +128,10 @@ pub enum Finding {
     Breaks(Rule, usize),
 }
 
-// The first broken rule. If there is none, the greatest heights are left in `greatest`.
-pub fn first_broken(image: &[u8], z: Sizes, greatest: &mut [u32], table: &mut [u32]) -> Finding
-    requires { ⌜ (Ready (now image) z) × (now greatest ≡ replicate 65536 0) × (65536 ≤ length (now table)) ⌝ }
-    ensures { λ r. ⌜ FindingPost (now (image .entry)) r (now (greatest .exit)) ⌝ }
+// Rules 1 to 3, each of which an instruction keeps or breaks by itself.
+fn broken_code(image: &[u8], z: Sizes, table: &mut [u32]) -> Finding
+    requires { ⌜ (Ready (now image) z) × (65536 ≤ length (now table)) ⌝ }
+    ensures { λ r. ⌜ BelowPost 4 (now (image .entry)) r ⌝ }
 {
     let n = z.functions;
     let cut = lowest(Pass::Instructions, image, z, table);
@@ -145,8 +146,17 @@ pub fn first_broken(image: &[u8], z: Sizes, greatest: &mut [u32], table: &mut [u
     if calling < n {
         return Finding::Breaks(Rule::Calls, calling);
     }
-    tally_all(image, z, greatest);
-    let differing = lowest_count(n, greatest);
+    Finding::Nothing
+}
+
+// Rules 4 and 5, where those before them are kept. The tally is left in `counts`.
+fn broken_links(image: &[u8], z: Sizes, counts: &mut [u32], table: &mut [u32]) -> Finding
+    requires { ⌜ (Ready (now image) z) × (BelowPost 4 (now image) Nothing) × (now counts ≡ replicate 65536 0) × (65536 ≤ length (now table)) ⌝ }
+    ensures { λ r. ⌜ LinksPost (now (image .entry)) z r (now (counts .exit)) ⌝ }
+{
+    let n = z.functions;
+    tally_all(image, z, counts);
+    let differing = lowest_count(n, counts);
     if differing < n {
         return Finding::Breaks(Rule::Counts, differing);
     }
@@ -154,9 +164,33 @@ pub fn first_broken(image: &[u8], z: Sizes, greatest: &mut [u32], table: &mut [u
     if leaping < n {
         return Finding::Breaks(Rule::Jumps, leaping);
     }
-    let uneven = measure(image, z, greatest, table);
-    if uneven < n {
+    Finding::Nothing
+}
+
+// Rule 6, where those before it are kept. The greatest heights are left in the place of the tally.
+fn broken_heights(image: &[u8], z: Sizes, counts: &mut [u32], table: &mut [u32]) -> Finding
+    requires { ⌜ (LinksPost (now image) z Nothing (now counts)) × (65536 ≤ length (now table)) ⌝ }
+    ensures { λ r. ⌜ FindingPost (now (image .entry)) r (now (counts .exit)) ⌝ }
+{
+    let uneven = measure(image, z, counts, table);
+    if uneven < z.functions {
         return Finding::Breaks(Rule::Heights, uneven);
     }
     Finding::Nothing
+}
+
+// The first broken rule. If there is none, the greatest heights are left in `greatest`.
+pub fn first_broken(image: &[u8], z: Sizes, greatest: &mut [u32], table: &mut [u32]) -> Finding
+    requires { ⌜ (Ready (now image) z) × (now greatest ≡ replicate 65536 0) × (65536 ≤ length (now table)) ⌝ }
+    ensures { λ r. ⌜ FindingPost (now (image .entry)) r (now (greatest .exit)) ⌝ }
+{
+    let code = broken_code(image, z, table);
+    if let Finding::Breaks(_, _) = code {
+        return code;
+    }
+    let links = broken_links(image, z, greatest, table);
+    if let Finding::Breaks(_, _) = links {
+        return links;
+    }
+    broken_heights(image, z, greatest, table)
 }

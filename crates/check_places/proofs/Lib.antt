@@ -1,2 +1,4 @@
 pub mod Tests
 pub mod Turning
+pub mod Calling
+pub mod TwoCounts

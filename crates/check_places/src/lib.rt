@@ -1,16 +1,20 @@
 // Where a function's code breaks a rule of the check.
 use check_code::call_at;
+use check_code::first_at;
 use check_code::jump_at;
 use check_code::mark;
 use check_code::next_at;
 use check_code::numbers_at;
+use check_code::second_at;
 use check_code::whole_at;
 use check_rules::Rule;
 use model::Counts;
+ghost use mathlib.Core.Path.{_≡_};
 ghost use Prim.Native.Nat.{_≤_, _<_};
 ghost use lib.ListN.{length};
 ghost use Rattle.check_code.specs.Links.{Marked};
 ghost use Rattle.check_places.specs.Places.{KeepsOne, PlacePost};
+ghost use Rattle.check_places.specs.Calls.{callsOther, callIn, countTold};
 
 // Does the instruction at i keep the rule? Rules 4 and 6 are not broken by an instruction alone.
 fn keeps_at(q: Rule, main: bool, code: &[u8], i: usize, c: Counts, marks: &[u32]) -> bool
@@ -40,6 +44,55 @@ pub fn first_place(q: Rule, main: bool, code: &[u8], c: Counts, marks: &mut [u32
         } else {
             return i;
         }
+    }
+    code.len()
+}
+
+// ---- rule 4: a Call, and where one stands
+
+// A Call that was looked for: the function it stands in, its position there, and how many arguments it passes.
+pub enum Called {
+    At(usize, usize, usize),
+    Nowhere,
+}
+
+// How many arguments it passes.
+pub fn count_told(x: Called) -> usize
+    ensures { λ r. ⌜ r ≡ countTold x ⌝ }
+{
+    match x {
+        Called::At(_, _, n) => n,
+        Called::Nowhere => 0,
+    }
+}
+
+// The opcode of a Call.
+const CALL: u8 = 28;
+
+// Is the instruction at i a Call of f that passes something other than k? Any Call of f will do where `any` says so.
+fn calls_other(f: usize, any: bool, k: usize, code: &[u8], i: usize) -> bool
+    requires { ⌜ i < length (now code) ⌝ }
+    ensures { λ r. ⌜ r ≡ callsOther f any k (now (code .entry)) i ⌝ }
+{
+    let b = code[i];
+    if b == CALL {
+        let g = first_at(code, i);
+        let n = second_at(code, i);
+        return (g == f) & (any | (n != k));
+    }
+    false
+}
+
+// Where the first such Call stands, or the code's length.
+pub fn first_call(f: usize, any: bool, k: usize, code: &[u8]) -> usize
+    ensures { λ r. ⌜ r ≡ callIn f any k (now (code .entry)) ⌝ }
+{
+    let mut at = 0;
+    while at < code.len() {
+        if calls_other(f, any, k, code, at) {
+            return at;
+        }
+        at = next_at(code, at);
     }
     code.len()
 }

@@ -15,7 +15,7 @@ use Rattle.check_rules.specs.declared.Checked.the-variants as c
 use Rattle.check_rules.specs.Checks.{CheckAs, not-an-image, no-place, past-a-limit, no-room, breaks, passes}
 use Rattle.printing.specs.Links.{Put}
 use Rattle.printing.proofs.Puts.{within}
-use Rattle.report.specs.Links.{printed}
+use Rattle.report_lines.specs.Links.{printed}
 use Rattle.check_heights.specs.declared.Flaw.{Flaw}
 use Rattle.check_image.specs.Flaws.{FlawIn}
 use Rattle.check_image.proofs.Seeking.{a-flaw-is-told}
@@ -70,12 +70,12 @@ module _ {image hs : List ℕ} {a : Checked} (h : Answers image (replicate 256 0
   pub facts-put : {out out' : List ℕ} {r : ℕ} → Put (96 + 64 * length hs) (factsText a hs) out 0 out' r → Facts image out r out'
   facts-put p = let e = places-256 in record { answer = a; heights = hs; answers = h; put = within p 16480 (omega arith) }
 
-  -- what is said besides, in its 192 places
-  module _ {s : List ℕ} {n : ℕ} (p : Said image a (replicate 192 0) s n) where
+  -- what is said besides, in its 384 places
+  module _ {s : List ℕ} {n : ℕ} (p : Said image a (replicate 384 0) s n) where
     pub said-there : n ≡ length (take n s)
-    said-there = said-length (p .put) (length-replicate {A = ℕ} 192 0)
+    said-there = said-length (p .put) (let all = length-replicate {A = ℕ} 384 0 in omega arith)
 
-    pub said-fits : length (take n s) ≤ 192
+    pub said-fits : length (take n s) ≤ 384
     said-fits = let e = said-there in let m = p .put .near in omega arith
 
     pub image-checked : {out out' : List ℕ} {r : ℕ} → record { count = r; out = out' } ≡ printed (checkedText a (take n s) hs) out → Checks image out r out'
@@ -85,5 +85,5 @@ module _ {image hs : List ℕ} {a : Checked} (h : Answers image (replicate 256 0
       answers = h;
       flaw = p .flaw;
       told = flaw-true h (p .finds);
-      text = rw (said-taken (p .put) (length-replicate {A = ℕ} 192 0)) at e;
+      text = rw (said-taken (p .put) (let all = length-replicate {A = ℕ} 384 0 in omega arith)) at e;
     }

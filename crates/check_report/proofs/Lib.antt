@@ -1,3 +1,4 @@
 pub mod Lines
-pub mod Answered
+pub mod Calling
 pub mod Saying
+pub mod Answered

@@ -35,10 +35,11 @@ module _ {s₀ s₁ s₂ : List ℕ} {i₀ i₁ i₂ : ℕ} where
   unfolding breachLine ascii
   breach-is q f e a b = let d = rw e at a in is (both d b) (simp append-assoc)
 
-  pub broken-words : (i : ℕ) → Put 68 (ascii "the bytes are no rule image: the item at offset " ++ decimal i) s₀ i₀ s₁ i₁
-      → Put 15 (ascii " breaks a rule\n") s₁ i₁ s₂ i₂ → Put 128 (brokenWords i) s₀ i₀ s₂ i₂
+  pub broken-words : (i : ℕ) (said : List ℕ) {s₃ s₄ : List ℕ} {i₃ i₄ : ℕ} → Put 68 (ascii "the bytes are no rule image: the item at offset " ++ decimal i) s₀ i₀ s₁ i₁
+      → Put 14 (ascii " breaks a rule") s₁ i₁ s₂ i₂ → Put (length said) said s₂ i₂ s₃ i₃ → Put 1 (ascii "\n") s₃ i₃ s₄ i₄
+      → Put (128 + length said) (brokenWords i said) s₀ i₀ s₄ i₄
   unfolding brokenWords
-  broken-words i a b = within (is (both a b) (simp append-assoc)) 128 (omega arith)
+  broken-words i said a b d e = within (is (both (both (both a b) d) e) (simp append-assoc)) (128 + length said) (omega arith)
 
   pub breach-words : (q : Rule) (f : ℕ) (said : List ℕ) {s₃ s₄ : List ℕ} {i₃ i₄ : ℕ} → Put 29 (ascii "function " ++ decimal f) s₀ i₀ s₁ i₁
       → Put (length said) said s₁ i₁ s₂ i₂ → Put 2 (ascii ": ") s₂ i₂ s₃ i₃ → Put 96 (ruleWords q) s₃ i₃ s₄ i₄ → Put (128 + length said) (breachWords q f said) s₀ i₀ s₄ i₄
@@ -107,9 +108,9 @@ module _ {s s' : List ℕ} {i r : ℕ} where
   rule-is e h p = rw e (within p 96 h)
 
   module _ {a : Checked} (said : List ℕ) where
-    pub broken-told : {o : ℕ} → a ≡ c.Broken o → Put 128 (brokenWords o) s i s' r → Put (128 + length said) (wordsText a said) s i s' r
+    pub broken-told : {o : ℕ} → a ≡ c.Broken o → Put (128 + length said) (brokenWords o said) s i s' r → Put (128 + length said) (wordsText a said) s i s' r
     unfolding wordsText
-    broken-told e p = rw e (within p (128 + length said) (omega arith))
+    broken-told e p = rw e p
 
     pub refused-told : {n : ℕ} → a ≡ c.Refused n → Put 128 (refusedWords n) s i s' r → Put (128 + length said) (wordsText a said) s i s' r
     unfolding wordsText
@@ -120,9 +121,9 @@ module _ {s s' : List ℕ} {i r : ℕ} where
     breach-told e p = rw e p
 
 pub checked-is : (a : Checked) (said hs : List ℕ) {s₀ s₁ s₂ : List ℕ} {i₁ i₂ : ℕ} → Put (96 + 64 * length hs) (factsText a hs) s₀ 0 s₁ i₁
-    → Put (128 + length said) (wordsText a said) s₁ i₁ s₂ i₂ → length said ≤ 192 → Put (416 + 64 * length hs) (checkedText a said hs) s₀ 0 s₂ i₂
+    → Put (128 + length said) (wordsText a said) s₁ i₁ s₂ i₂ → length said ≤ 384 → Put (608 + 64 * length hs) (checkedText a said hs) s₀ 0 s₂ i₂
 unfolding checkedText
-checked-is a said hs p q h = within (both p q) (416 + 64 * length hs) (omega arith)
+checked-is a said hs p q h = within (both p q) (608 + 64 * length hs) (omega arith)
 
 pub passed-told : (s : List ℕ) (i : ℕ) (a : Checked) (said : List ℕ) → OneOf (0 ∷ []) (tagOf the-type a) → Put (128 + length said) (wordsText a said) s i s i
 unfolding wordsText
@@ -132,14 +133,14 @@ passed-told s i (c.Refused n) said d = absurd (miss (0 ∷ []) 2 tt d)
 passed-told s i (c.Breaks q f) said d = absurd (miss (0 ∷ []) 3 tt d)
 
 module _ {n : ℕ} {s s' : List ℕ} {i r : ℕ} where
-  pub few-places : n ≡ 17 → Put 45 (ascii "the store for the heights has too few places\n") s i s' r → Put 128 (refusedWords n) s i s' r
+  pub few-places : n ≡ 17 → Put 38 (ascii "the image has more than 256 functions\n") s i s' r → Put 128 (refusedWords n) s i s' r
   unfolding refusedWords
   few-places e p = rw e (within p 128 (omega arith))
 
-  pub too-short : n ≡ 21 → Put 40 (ascii "the stores are too short for this image\n") s i s' r → Put 128 (refusedWords n) s i s' r
+  pub too-short : n ≡ 21 → Put 89 (ascii "the image has more than the programs' stores hold; a host with larger stores may pass it\n") s i s' r → Put 128 (refusedWords n) s i s' r
   unfolding refusedWords
   too-short e p = rw e (within p 128 (omega arith))
 
-  pub past-limits : (n ≡ 17 → ⊥) → (n ≡ 21 → ⊥) → Put 41 (ascii "the image has more than the limits allow\n") s i s' r → Put 128 (refusedWords n) s i s' r
+  pub past-limits : (n ≡ 17 → ⊥) → (n ≡ 21 → ⊥) → Put 73 (ascii "the image is longer than 16,384 bytes, or has more than the limits allow\n") s i s' r → Put 128 (refusedWords n) s i s' r
   unfolding refusedWords
   past-limits d e p = rw (ne-eqb n 17 d, ne-eqb n 21 e) (within p 128 (omega arith))

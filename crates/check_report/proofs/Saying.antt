@@ -19,7 +19,7 @@ use Rattle.model.specs.Values.{textAt}
 use Rattle.model.specs.Opcodes.{popped, opcodeAt}
 use Rattle.model.specs.Programs.{Function, Program, functionAt}
 use Rattle.model.specs.Listings.{decimal}
-use Rattle.model.specs.Stores.{Stores, storesOf, start, size, part, codeWord, constantsFrom, structsFrom, functionIn, functionsFrom, programIn}
+use Rattle.model.specs.Stores.{Stores, storesOf, start, size, part as partIn, codeWord, constantsFrom, structsFrom, functionIn, functionsFrom, programIn}
 use Rattle.model.specs.Loading.{LoadRes, loadOf}
 use Rattle.model.specs.Reports.{emptyStores}
 use Rattle.laws_names.proofs.Standing.{length-structs}
@@ -40,10 +40,34 @@ use Rattle.check_rules.specs.Rules.{getLocal, firstAt, secondAt, codeOf, isMain
 use Rattle.check_heights.specs.declared.Flaw.{Flaw}
 use Rattle.check_heights.specs.declared.Flaw.the-variants as w
 use Rattle.check_image.specs.Flaws.{FlawIn}
+use Rattle.image_items.specs.declared.Row.{Row}
+use Rattle.image_items.specs.declared.Part.{Part}
+use Rattle.image_items.specs.declared.Part.the-variants as part
+use Rattle.image_items.specs.Parts.{partAt}
 use Rattle.check_code.specs.Links.{Sized}
 use Rattle.check_places.specs.Places.{placeIn, placeOf, PlacePost}
-use Rattle.check_report.specs.Details.{operandWords, foundWords, wantWords, lacksWords, flawWords, functionWords, loadedWords, details}
-use Rattle.check_report.specs.Links.{FunctionPost, LoadedPost, ofHeights, FlawAsked, asked, not-asked, Said}
+use Rattle.check_report.specs.Details.{rowWords, partWords, operandWords, foundWords, countsWords, wantWords, lacksWords, flawWords, functionWords, loadedWords, details}
+use Rattle.check_report.specs.Links.{CountsPost, FunctionPost, LoadedPost, ofHeights, FlawAsked, asked, not-asked, Said}
+
+-- ---- an item of an image
+
+module _ {s s' : List ℕ} {i r : ℕ} where
+  pub row-is : {k : ℕ} {x y : Row} → x ≡ y → k ≤ 96 → Put k (rowWords y) s i s' r → Put 96 (rowWords x) s i s' r
+  row-is e h p = rw e (within p 96 h)
+
+  pub part-is : {k : ℕ} {x y : Part} → x ≡ y → k ≤ 96 → Put k (partWords y) s i s' r → Put 96 (partWords x) s i s' r
+  part-is e h p = rw e (within p 96 h)
+
+  pub count-is : {x : Part} {y : Row} → x ≡ part.Count y → Put 96 (rowWords y) s i s' r → Put 96 (partWords x) s i s' r
+  unfolding partWords
+  count-is e p = rw e p
+
+pub nowhere-is : (s : List ℕ) (i : ℕ) {x : Part} → x ≡ part.Nowhere → Put 96 (partWords x) s i s i
+unfolding partWords
+nowhere-is s i e = rw e (within (nothing s i) 96 (omega arith))
+
+pub item-is : (image : List ℕ) (o : ℕ) {x : Part} → x ≡ partAt image o → {s s' : List ℕ} {at r : ℕ} → Put 96 (partWords x) s at s' r → Put 96 (partWords (partAt image o)) s at s' r
+item-is image o e p = rw e at p
 
 -- ---- an instruction
 
@@ -115,6 +139,10 @@ pub nothing-said : (code s : List ℕ) (at : ℕ) {x : Flaw} → x ≡ w.Nothing
 unfolding flawWords
 nothing-said code s at e = rw e (within (nothing s at) 80 (omega arith))
 
+pub place-put : (q : Rule) (i : ℕ) (x : Flaw) (code : List ℕ) {s s' s″ : List ℕ} {at r r′ : ℕ} → Put 81 (foundWords q code i) s at s' r → Put 80 (flawWords x code) s' r s″ r′
+    → Put 161 (foundWords q code i ++ flawWords x code) s at s″ r′
+place-put q i x code a b = both a b
+
 -- ---- a function in its stores
 
 length-constants : (n i : ℕ) (cs t : List ℕ) → length (constantsFrom n i cs t) ≡ n
@@ -130,15 +158,15 @@ sized k s = record {
   of-functions = length-functions s (k .functions) 0;
 }
 
-part-short : (s : List ℕ) (w : ℕ) → length (part s w) ≤ length s
-unfolding part textAt
+part-short : (s : List ℕ) (w : ℕ) → length (partIn s w) ≤ length s
+unfolding partIn textAt
 part-short s w =
     let taken = length-take (size w) (drop (start w) s) in
     let dropped = length-drop (start w) s in
     let most = min-le-right (size w) (length (drop (start w) s)) in
     omega arith
 
-one-store : (b : Bool) (main other : List ℕ) (w : ℕ) {n : ℕ} → length main ≤ n → length other ≤ n → length (part (if b then main else other) w) ≤ n
+one-store : (b : Bool) (main other : List ℕ) (w : ℕ) {n : ℕ} → length main ≤ n → length other ≤ n → length (partIn (if b then main else other) w) ≤ n
 one-store true main other w g h = let z = part-short main w in omega arith
 one-store false main other w g h = let z = part-short other w in omega arith
 
@@ -156,7 +184,8 @@ module _ (k : Counts) (functions text main other : List ℕ) (f : ℕ) where
     unfolding programIn
     coded h = let z : 0 + f ≡ f = omega arith in rw z at (ap (λ (x : Function). x .code) (function-at stores (k .functions) 0 f h))
 
-  pub code-fits : {code : List ℕ} → ((rest : Stores) (t : List ℕ) → code ≡ functionIn (lent rest functions t main other) f .code) × (length code < 2 ^ 32) → {n : ℕ} → length main ≤ n → length other ≤ n → length code ≤ n
+  pub code-fits : {code : List ℕ} → ((rest : Stores) (t : List ℕ) → code ≡ functionIn (lent rest functions t main other) f .code) × (length code < 2 ^ 32)
+      → {n : ℕ} → length main ≤ n → length other ≤ n → length code ≤ n
   unfolding functionIn lent
   code-fits e g h = rw (e .0 (storesOf [] [] [] [] [] [] [] []) text) (one-store (eqb f 0) main other (codeWord functions f) g h)
 
@@ -164,24 +193,24 @@ module _ (k : Counts) (functions text main other : List ℕ) (f : ℕ) where
     pub function-none : k .functions ≤ f → FunctionPost k functions text main other q f x s₀ s₀ 0
     unfolding functionWords programIn
     function-none h = record {
-      says = λ cs ss mp op. let n = length-functions (stores cs ss mp op) (k .functions) 0 in rw (n, le-ltb _ _ h) (within (nothing s₀ 0) 192 (omega arith));
+      says = λ cs ss mp op. let n = length-functions (stores cs ss mp op) (k .functions) 0 in rw (n, le-ltb _ _ h) (within (nothing s₀ 0) 384 (omega arith));
     }
 
     pub function-put : f < k .functions → {code : List ℕ} → ((rest : Stores) (t : List ℕ) → code ≡ functionIn (lent rest functions t main other) f .code) × (length code < 2 ^ 32) → {i : ℕ}
         → PlacePost (k .constants) (k .structs) (k .functions) q (eqb f 0) code i → {s₁ s₂ s₃ s₄ s₅ : List ℕ} {i₁ i₂ i₃ i₄ i₅ : ℕ} → Put 2 (ascii " (") s₀ 0 s₁ i₁
-        → Put 26 (nameAt (structsFrom (k .functions) 0 functions text) f []) s₁ i₁ s₂ i₂ → Put 1 (ascii ")") s₂ i₂ s₃ i₃ → Put 81 (foundWords q code i) s₃ i₃ s₄ i₄
-        → Put 80 (flawWords x code) s₄ i₄ s₅ i₅ → FunctionPost k functions text main other q f x s₀ s₅ i₅
+        → Put 26 (nameAt (structsFrom (k .functions) 0 functions text) f []) s₁ i₁ s₂ i₂ → Put 1 (ascii ")") s₂ i₂ s₃ i₃
+        → Put 161 (foundWords q code i ++ flawWords x code) s₃ i₃ s₄ i₄ → CountsPost k functions main other q f s₄ i₄ s₅ i₅ → FunctionPost k functions text main other q f x s₀ s₅ i₅
     unfolding functionWords programIn placeOf lent
-    function-put h {code} e {i} place a b d g y = record {
+    function-put h {code} e {i} place a b d g w = record {
       says = λ cs ss mp op.
           let p = programIn k (stores cs ss mp op) in
           let n = length-functions (stores cs ss mp op) (k .functions) 0 in
           let own : code ≡ codeOf p f = e .0 (stores cs ss mp op) text ∙ sym (coded cs ss mp op h) in
           let there : i ≡ placeIn p q (isMain f) (codeOf p f) = place .means p (sized k (stores cs ss mp op)) ∙ ap (placeIn p q (isMain f)) own in
-          let found : Put 81 (foundWords q (codeOf p f) (placeIn p q (isMain f) (codeOf p f))) _ _ _ _ = rw (own, there) at g in
-          let flaw : Put 80 (flawWords x (codeOf p f)) _ _ _ _ = rw own at y in
+          let found : Put 161 (foundWords q (codeOf p f) (placeIn p q (isMain f) (codeOf p f)) ++ flawWords x (codeOf p f)) _ _ _ _ = rw (own, there) at g in
           let name = rw (← named cs ss mp op) at b in
-          rw (n, lt-ltb _ _ h) (within (is (both (both (both (both a name) d) found) flaw) (simp append-assoc)) 192 (omega arith));
+          let counts : Put 168 (countsWords p q f) _ _ _ _ = w .says (stores cs ss mp op) text in
+          rw (n, lt-ltb _ _ h) (within (is (both (both (both (both a name) d) found) counts) (simp append-assoc)) 384 (omega arith));
     }
 
 -- ---- what was loaded
@@ -194,11 +223,11 @@ module _ {functions text main other : List ℕ} {q : Rule} {f : ℕ} {x : Flaw} 
 module _ {functions text main other : List ℕ} {q : Rule} {f : ℕ} {x : Flaw} {a : Loaded} (s : List ℕ) where
   pub broken-unput : {i : ℕ} → a ≡ l.Broken i → LoadedPost a functions text main other q f x s s 0
   unfolding loadedWords
-  broken-unput e = record { says = λ cs ss mp op. rw e (within (nothing s 0) 192 (omega arith)) }
+  broken-unput e = record { says = λ cs ss mp op. rw e (within (nothing s 0) 384 (omega arith)) }
 
   pub refused-unput : {n : ℕ} → a ≡ l.Refused n → LoadedPost a functions text main other q f x s s 0
   unfolding loadedWords
-  refused-unput e = record { says = λ cs ss mp op. rw e (within (nothing s 0) 192 (omega arith)) }
+  refused-unput e = record { says = λ cs ss mp op. rw e (within (nothing s 0) 384 (omega arith)) }
 
 -- ---- of an image
 
@@ -225,31 +254,31 @@ module _ (image : List ℕ) where
   module _ {x : Checked} (s : List ℕ) where
     pub passed-plain : {k : Counts} → x ≡ c.Passed k → Said image x s s 0
     unfolding details ofHeights
-    passed-plain e = record { flaw = w.Nothing; finds = rw e (not-asked refl); put = rw e (within (nothing s 0) 192 (omega arith)) }
-
-    pub broken-plain : {i : ℕ} → x ≡ c.Broken i → Said image x s s 0
-    unfolding details ofHeights
-    broken-plain e = record { flaw = w.Nothing; finds = rw e (not-asked refl); put = rw e (within (nothing s 0) 192 (omega arith)) }
+    passed-plain e = record { flaw = w.Nothing; finds = rw e (not-asked refl); put = rw e (within (nothing s 0) 384 (omega arith)) }
 
     pub refused-plain : {n : ℕ} → x ≡ c.Refused n → Said image x s s 0
     unfolding details ofHeights
-    refused-plain e = record { flaw = w.Nothing; finds = rw e (not-asked refl); put = rw e (within (nothing s 0) 192 (omega arith)) }
+    refused-plain e = record { flaw = w.Nothing; finds = rw e (not-asked refl); put = rw e (within (nothing s 0) 384 (omega arith)) }
+
+  pub item-put : {x : Checked} {o : ℕ} → x ≡ c.Broken o → {s s' : List ℕ} {n : ℕ} → Put 96 (partWords (partAt image o)) s 0 s' n → Said image x s s' n
+  unfolding details ofHeights
+  item-put e p = record { flaw = w.Nothing; finds = rw e (not-asked refl); put = rw e (within p 384 (omega arith)) }
 
   pub breach-put : {x : Checked} {q : Rule} {f : ℕ} → x ≡ c.Breaks q f → {s s' : List ℕ} {n : ℕ} → Said image (c.Breaks q f) s s' n → Said image x s s' n
   breach-put e p = rw e p
 
 -- ---- what was said, as a slice
 
-module _ {said s s' : List ℕ} {n : ℕ} (p : Put 192 said s 0 s' n) where
-  pub said-short : n ≤ 192
-  said-short = p .near
+module _ {k : ℕ} {said s s' : List ℕ} {n : ℕ} (p : Put k said s 0 s' n) where
+  pub said-short : n ≤ k
+  said-short = let z = p .near in omega arith
 
-  pub said-taken : length s ≡ 192 → take n s' ≡ said
+  pub said-taken : k ≤ length s → take n s' ≡ said
   said-taken h =
       let e : length said ≡ n = (let z = p .next in omega arith) in
       let m = p .near in
       let all : s' ≡ said ++ drop (length said) s = p .stored ∙ written-front s said (omega arith) in
       rw all (take-at said (drop (length said) s) n e)
 
-  pub said-length : length s ≡ 192 → n ≡ length (take n s')
+  pub said-length : k ≤ length s → n ≡ length (take n s')
   said-length h = let e = p .next in let same = ap length (said-taken h) in omega arith

@@ -10,8 +10,9 @@ use Rattle.model.specs.Images.{fine, judge}
 use Rattle.model.specs.Reports.{emptyStores}
 use Rattle.model.specs.declared.Counts.{Counts}
 use Rattle.model.specs.declared.Loaded.{Loaded}
-use Rattle.model.specs.Stores.{Stores, storesOf, programIn}
-use Rattle.report.specs.Links.{printed}
+use Rattle.model.specs.Stores.{Stores, storesOf, functionsFrom, programIn}
+use Rattle.listing.specs.Links.{lent}
+use Rattle.report_lines.specs.Links.{printed}
 use Rattle.printing.specs.Links.{Put}
 use Rattle.check_rules.specs.declared.Rule.{Rule}
 use Rattle.check_rules.specs.declared.Checked.{Checked}
@@ -22,8 +23,10 @@ use Rattle.check_rules.specs.Checks.{CheckAs}
 use Rattle.check_heights.specs.declared.Flaw.{Flaw}
 use Rattle.check_heights.specs.declared.Flaw.the-variants as w
 use Rattle.check_heights.specs.Answer.{BreaksAt}
+use Rattle.check_places.specs.declared.Called.{Called}
+use Rattle.check_places.specs.Calls.{firstCall}
 use Rattle.check_image.specs.Flaws.{FlawIn}
-use Rattle.check_report.specs.Details.{functionWords, loadedWords, details}
+use Rattle.check_report.specs.Details.{countsWords, functionWords, loadedWords, details}
 use Rattle.check_report.specs.Texts.{factsText, checkedText}
 
 -- the heights that an answer speaks of are in their store
@@ -74,13 +77,20 @@ pub record Facts (image out : List ℕ) (r : ℕ) (out' : List ℕ) : Type 0 whe
 
 -- ---- what is said of a function that breaks a rule, of whatever else the program's stores hold
 
+-- a Call that was looked for in n functions
+pub record CalledPost (f : ℕ) (any : Bool) (k n : ℕ) (functions main other : List ℕ) (x : Called) : Type 0 where
+  pub means : (rest : Stores) (text : List ℕ) → x ≡ firstCall f any k 0 (functionsFrom n 0 (lent rest functions text main other))
+
+pub record CountsPost (k : Counts) (functions main other : List ℕ) (q : Rule) (f : ℕ) (out : List ℕ) (at : ℕ) (out' : List ℕ) (r : ℕ) : Type 0 where
+  pub says : (rest : Stores) (text : List ℕ) → Put 168 (countsWords (programIn k (lent rest functions text main other)) q f) out at out' r
+
 pub record FunctionPost (k : Counts) (functions text main other : List ℕ) (q : Rule) (f : ℕ) (x : Flaw) (out out' : List ℕ) (r : ℕ) : Type 0 where
   pub says : (constants structs mainPlaces otherPlaces : List ℕ)
-      → Put 192 (functionWords (programIn k (storesOf constants structs functions text main mainPlaces other otherPlaces)) q f x) out 0 out' r
+      → Put 384 (functionWords (programIn k (storesOf constants structs functions text main mainPlaces other otherPlaces)) q f x) out 0 out' r
 
 pub record LoadedPost (a : Loaded) (functions text main other : List ℕ) (q : Rule) (f : ℕ) (x : Flaw) (out out' : List ℕ) (r : ℕ) : Type 0 where
   pub says : (constants structs mainPlaces otherPlaces : List ℕ)
-      → Put 192 (loadedWords a (storesOf constants structs functions text main mainPlaces other otherPlaces) q f x) out 0 out' r
+      → Put 384 (loadedWords a (storesOf constants structs functions text main mainPlaces other otherPlaces) q f x) out 0 out' r
 
 -- ---- what is said of an answer, with the flaw that was asked for where rule 6 is told
 
@@ -91,4 +101,4 @@ pub data FlawAsked (image : List ℕ) : Checked → Flaw → Type 0 where
 pub record Said (image : List ℕ) (a : Checked) (out out' : List ℕ) (r : ℕ) : Type 0 where
   pub flaw : Flaw
   pub finds : FlawAsked image a flaw
-  pub put : Put 192 (details image a flaw) out 0 out' r
+  pub put : Put 384 (details image a flaw) out 0 out' r

@@ -36,14 +36,16 @@ factsText (c.Breaks q f) hs = breachLine q f
 
 -- ---- the words
 
-unfoldable pub brokenWords : (offset : ℕ) → List ℕ
-brokenWords i = ascii "the bytes are no rule image: the item at offset " ++ decimal i ++ ascii " breaks a rule\n"
+-- `said` is what is said besides (`details`): of the item, or of the function
+unfoldable pub brokenWords : (offset : ℕ) → (said : List ℕ) → List ℕ
+brokenWords i said = ascii "the bytes are no rule image: the item at offset " ++ decimal i ++ ascii " breaks a rule" ++ said ++ ascii "\n"
 
--- 17, 21, and 22
+-- 17, 21, and 22, of the checker's own stores
 unfoldable pub refusedWords : ℕ → List ℕ
 refusedWords n =
-    if eqb n 17 then ascii "the store for the heights has too few places\n"
-    else (if eqb n 21 then ascii "the stores are too short for this image\n" else ascii "the image has more than the limits allow\n")
+    if eqb n 17 then ascii "the image has more than 256 functions\n"
+    else (if eqb n 21 then ascii "the image has more than the programs' stores hold; a host with larger stores may pass it\n"
+    else ascii "the image is longer than 16,384 bytes, or has more than the limits allow\n")
 
 unfoldable pub ruleWords : Rule → List ℕ
 ruleWords r.Instructions = ascii "not a row of whole carried instructions\n"
@@ -53,13 +55,12 @@ ruleWords r.Counts = ascii "is called with different numbers of arguments\n"
 ruleWords r.Jumps = ascii "a jump that does not land on an instruction\n"
 ruleWords r.Heights = ascii "no one height at each place that is reached, too few values, or the end is passed\n"
 
--- `said` is what is said of the function besides (`details`)
 unfoldable pub breachWords : Rule → (f : ℕ) → (said : List ℕ) → List ℕ
 breachWords q f said = ascii "function " ++ decimal f ++ said ++ ascii ": " ++ ruleWords q
 
 unfoldable pub wordsText : Checked → (said : List ℕ) → List ℕ
 wordsText (c.Passed k) said = []
-wordsText (c.Broken i) said = brokenWords i
+wordsText (c.Broken i) said = brokenWords i said
 wordsText (c.Refused n) said = refusedWords n
 wordsText (c.Breaks q f) said = breachWords q f said
 

@@ -1,4 +1,6 @@
 // What is said of the function that breaks a rule: its name, and the first instruction that breaks it, or what its heights came upon.
+use crate::calls::put_counts;
+use crate::items::put_item;
 use check_code::first_at;
 use check_code::second_at;
 use check_heights::Flaw;
@@ -6,7 +8,7 @@ use check_image::flaws::height_flaw;
 use check_places::first_place;
 use check_rules::Checked;
 use check_rules::Rule;
-use check_words::rule_number;
+use check_rules::rule_number;
 use image_load::load;
 use listing::code_of;
 use model::Counts;
@@ -114,7 +116,16 @@ fn put_flaw(x: Flaw, code: &[u8], out: &mut [u8], at: usize) -> usize
     }
 }
 
-// Function f of a program: its name, and where it breaks the rule.
+// Where a code breaks the rule: the instruction at i, if there is one, or what the heights came upon.
+fn put_place(q: Rule, i: usize, x: Flaw, code: &[u8], out: &mut [u8], at: usize) -> usize
+    requires { ⌜ at + 161 < 2 ^ 64 ⌝ }
+    ensures { λ r. ⌜ Put 161 (foundWords q (now (code .entry)) i ++ flawWords x (now (code .entry))) (now (out .entry)) at (now (out .exit)) r ⌝ }
+{
+    let found = put_found(q, code, i, out, at);
+    put_flaw(x, code, out, found)
+}
+
+// Function f of a program: its name, where it breaks the rule, and of rule 4 the Calls that do.
 fn put_function<'a>(
     q: Rule,
     f: usize,
@@ -136,8 +147,8 @@ fn put_function<'a>(
         let close = put_text(b")", out, name);
         let code = code_of(functions, main, other, f);
         let i = first_place(q, f == 0, code, c, marks);
-        let found = put_found(q, code, i, out, close);
-        return put_flaw(x, code, out, found);
+        let place = put_place(q, i, x, code, out, close);
+        return put_counts(q, f, c, functions, main, other, out, place);
     }
     0
 }
@@ -214,13 +225,13 @@ fn put_breaking(q: Rule, f: usize, image: &[u8], out: &mut [u8]) -> usize
     )
 }
 
-// What is said besides the rule; only of a function that breaks one there is more to say.
+// What is said besides: of bytes that are no image the item that breaks a rule, and of a function that breaks one where it does.
 pub fn put_details(answer: Checked, image: &[u8], out: &mut [u8]) -> usize
     ensures { λ r. ⌜ Said (now (image .entry)) answer (now (out .entry)) (now (out .exit)) r ⌝ }
 {
     match answer {
         Checked::Passed(c) => 0,
-        Checked::Broken(i) => 0,
+        Checked::Broken(o) => put_item(o, image, out),
         Checked::Refused(n) => 0,
         Checked::Breaks(q, f) => put_breaking(q, f, image, out),
     }

@@ -1,7 +1,7 @@
 // What the check answered, as lines that a program can read.
 use check_rules::Checked;
 use check_rules::Rule;
-use check_words::rule_number;
+use check_rules::rule_number;
 use printing::put_count;
 use printing::put_line;
 use printing::put_text;

@@ -1,5 +1,7 @@
 // What the checker prints, as bytes in a lent store: the facts for a program to read, and behind a refusal a line in plain words.
-mod details; // details.rt: the function that breaks a rule
+mod calls; // calls.rt: two Calls of one function
+mod details; // details.rt: the item or the function that breaks a rule
+mod items; // items.rt: the item that breaks a rule of the image
 mod facts; // facts.rt: the lines of facts
 mod words; // words.rt: the line in plain words
 
@@ -12,15 +14,15 @@ use layout::reads::room;
 ghost use mathlib.Core.Path.{_≡_};
 ghost use Prim.Native.Nat.{_+_, _*_, _≤_};
 ghost use lib.ListN.{length, replicate};
-ghost use Rattle.report.specs.Links.{printed};
+ghost use Rattle.report_lines.specs.Links.{printed};
 ghost use Rattle.printing.specs.Links.{Put};
 ghost use Rattle.check_report.specs.Texts.{checkedText};
 ghost use Rattle.check_report.specs.Links.{Tellable, Answers, Checks, Facts};
 
 // The facts, and the words behind them.
 fn put_checked(answer: Checked, said: &[u8], heights: &[u32], out: &mut [u8]) -> usize
-    requires { ⌜ (Tellable answer (now heights)) × (length (now said) ≤ 192) ⌝ }
-    ensures { λ r. ⌜ Put (416 + 64 * length (now (heights .entry))) (checkedText answer (now (said .entry)) (now (heights .entry))) (now (out .entry)) 0 (now (out .exit)) r ⌝ }
+    requires { ⌜ (Tellable answer (now heights)) × (length (now said) ≤ 384) ⌝ }
+    ensures { λ r. ⌜ Put (608 + 64 * length (now (heights .entry))) (checkedText answer (now (said .entry)) (now (heights .entry))) (now (out .entry)) 0 (now (out .exit)) r ⌝ }
 {
     let next = put_facts(answer, heights, out);
     put_words(answer, said, out, next)
@@ -28,7 +30,7 @@ fn put_checked(answer: Checked, said: &[u8], heights: &[u32], out: &mut [u8]) ->
 
 // An answer's text. It is measured first, with no room to write into.
 fn print_checked(answer: Checked, said: &[u8], heights: &[u32], out: &mut [u8]) -> usize
-    requires { ⌜ (Tellable answer (now heights)) × (length (now said) ≤ 192) ⌝ }
+    requires { ⌜ (Tellable answer (now heights)) × (length (now said) ≤ 384) ⌝ }
     ensures { λ r. ⌜ record { count = r; out = now (out .exit) } ≡ printed (checkedText answer (now (said .entry)) (now (heights .entry))) (now (out .entry)) ⌝ }
 {
     let none = 0;
@@ -74,7 +76,7 @@ pub fn check_image(image: &[u8], out: &mut [u8]) -> usize
 {
     let mut heights = [0u32; 256];
     let answer = check_alone(image, &mut heights);
-    let mut said = [0u8; 192];
+    let mut said = [0u8; 384];
     let n = put_details(answer, image, &mut said);
     print_checked(answer, &said[..n], &heights, out)
 }

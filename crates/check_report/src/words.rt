@@ -14,12 +14,20 @@ fn put_refused_words(n: u8, out: &mut [u8], at: usize) -> usize
     ensures { λ r. ⌜ Put 128 (refusedWords n) (now (out .entry)) at (now (out .exit)) r ⌝ }
 {
     if n == 17 {
-        return put_text(b"the store for the heights has too few places\n", out, at);
+        return put_text(b"the image has more than 256 functions\n", out, at);
     }
     if n == 21 {
-        return put_text(b"the stores are too short for this image\n", out, at);
+        return put_text(
+            b"the image has more than the programs' stores hold; a host with larger stores may pass it\n",
+            out,
+            at,
+        );
     }
-    put_text(b"the image has more than the limits allow\n", out, at)
+    put_text(
+        b"the image is longer than 16,384 bytes, or has more than the limits allow\n",
+        out,
+        at,
+    )
 }
 
 // How a rule is broken.
@@ -45,18 +53,20 @@ fn put_rule(q: Rule, out: &mut [u8], at: usize) -> usize
     }
 }
 
-// Why the bytes are no image.
-fn put_broken_words(i: usize, out: &mut [u8], at: usize) -> usize
-    requires { ⌜ at + 128 < 2 ^ 64 ⌝ }
-    ensures { λ r. ⌜ Put 128 (brokenWords i) (now (out .entry)) at (now (out .exit)) r ⌝ }
+// Why the bytes are no image, and what is said of the item besides.
+fn put_broken_words(i: usize, said: &[u8], out: &mut [u8], at: usize) -> usize
+    requires { ⌜ at + (128 + length (now said)) < 2 ^ 64 ⌝ }
+    ensures { λ r. ⌜ Put (128 + length (now (said .entry))) (brokenWords i (now (said .entry))) (now (out .entry)) at (now (out .exit)) r ⌝ }
 {
-    let next = put_count(
+    let item = put_count(
         b"the bytes are no rule image: the item at offset ",
         i,
         out,
         at,
     );
-    put_text(b" breaks a rule\n", out, next)
+    let next = put_text(b" breaks a rule", out, item);
+    let end = put_text(said, out, next);
+    put_text(b"\n", out, end)
 }
 
 // Which function breaks a rule, what is said of it besides, and how.
@@ -77,7 +87,7 @@ pub fn put_words(answer: Checked, said: &[u8], out: &mut [u8], at: usize) -> usi
 {
     match answer {
         Checked::Passed(_) => at,
-        Checked::Broken(i) => put_broken_words(i, out, at),
+        Checked::Broken(i) => put_broken_words(i, said, out, at),
         Checked::Refused(n) => put_refused_words(n, out, at),
         Checked::Breaks(q, f) => put_breach_words(q, f, said, out, at),
     }

@@ -2,6 +2,7 @@
 -- it refuses 17; where no frame has a place it is lent no store of functions, so that it refuses 21.
 --     whole                      everything is lent
 --     placeless, frameless       nothing of the heights, nothing of the functions
+--     check-waits                a run is under way
 --     check-crosses              the entry, all but its frame
 --     frame-placed, frame-laid, frame-not      and the frame
 use mathlib.Core.Path.{_≡_, refl, sym, ap, subst, _∙_}
@@ -27,13 +28,14 @@ use Rattle.check_rules.specs.declared.Checked.{Checked}
 use Rattle.check_rules.specs.declared.Checked.the-variants as c
 use Rattle.check_rules.specs.Checks as k
 use Rattle.check_rules.specs.Checks.{CheckAs}
-use Rattle.embed_words.specs.Coding.{Coded, outRefusal}
-use Rattle.check_words.specs.Words.{checkedCoded, hasPlaces, hasRoom, CheckThrough, not-an-image, no-place, past-a-limit, no-room, breaks, passes, framesAfter, CheckBeside}
+use Rattle.embed_words.specs.Coding.{Coded, underWay, outRefusal}
+use Rattle.check_words.specs.Words.{checkedCoded, hasPlaces, hasRoom, CheckIdle, not-an-image, no-place, past-a-limit, no-room, breaks, passes}
+use Rattle.check_words.specs.Words.{CheckThrough, under-way, idle, framesAfter, CheckBeside}
 use Rattle.check_words.proofs.Judged.{an-image-has-main}
 
 -- the record and the answer are long enough
 abbrev pub long : (w a : List ℕ) → Bool
-long w a = leb 10 (length w) && leb 2 (length a)
+long w a = leb 16 (length w) && leb 2 (length a)
 
 module _ (p : Program) (w a heights : List ℕ) where
   has-places : long w a ≡ true → length (p .functions) ≤ places 1 heights → hasPlaces p w a heights ≡ true
@@ -68,7 +70,7 @@ module _ (p : Program) (s : Stores) (fs : List Frame) where
 module _ (image w a heights : List ℕ) (s : Stores) (fs : List Frame) where
   -- everything is lent
   whole : long w a ≡ true → leb 1 (length fs) ≡ true → {x : Checked} {hs : List ℕ} {t : Stores} → CheckAs image heights s x hs t
-      → CheckThrough image w a heights s fs (checkedCoded x w a) hs t (framesAfter (checkedCoded x w a .number) fs)
+      → CheckIdle image w a heights s fs (checkedCoded x w a) hs t (framesAfter (checkedCoded x w a .number) fs)
   unfolding checkedCoded framesAfter
   whole e f (k.not-an-image j) = not-an-image j
   whole e f (k.no-place {p} j l) = no-place j (has-few p w a heights e l)
@@ -79,7 +81,7 @@ module _ (image w a heights : List ℕ) (s : Stores) (fs : List Frame) where
 
   -- what a refusal leaves: the heights and stores that were lent, as they were
   record Refuses (lent : List ℕ) (t₀ : Stores) (x : Checked) (hs : List ℕ) (t : Stores) : Type 0 where
-    through : CheckThrough image w a heights s fs (checkedCoded x w a) heights s (framesAfter (checkedCoded x w a .number) fs)
+    through : CheckIdle image w a heights s fs (checkedCoded x w a) heights s (framesAfter (checkedCoded x w a .number) fs)
     heights-kept : hs ≡ lent
     stores-kept : t ≡ t₀
 
@@ -119,13 +121,33 @@ module _ (image w a heights : List ℕ) (s : Stores) (fs : List Frame) where
 
   -- what is left of the heights and of the stores is joined to what was not lent
   crosses-placeless : long w a ≡ false → (grow : Stores → Stores) (t₀ : Stores) → grow t₀ ≡ s → {x : Checked} {hs : List ℕ} {t : Stores} → CheckAs image [] t₀ x hs t
-      → CheckThrough image w a heights s fs (checkedCoded x w a) (hs ++ heights) (grow t) (framesAfter (checkedCoded x w a .number) fs)
+      → CheckIdle image w a heights s fs (checkedCoded x w a) (hs ++ heights) (grow t) (framesAfter (checkedCoded x w a .number) fs)
   crosses-placeless e grow t₀ g h = let r = placeless e h in rw (r .heights-kept, r .stores-kept, g) (r .through)
 
   crosses-frameless : long w a ≡ true → leb 1 (length fs) ≡ false → (grow : Stores → Stores) (t₀ : Stores) → t₀ .functions ≡ [] → grow t₀ ≡ s
       → {x : Checked} {hs : List ℕ} {t : Stores} → CheckAs image heights t₀ x hs t
-      → CheckThrough image w a heights s fs (checkedCoded x w a) (hs ++ []) (grow t) (framesAfter (checkedCoded x w a .number) fs)
+      → CheckIdle image w a heights s fs (checkedCoded x w a) (hs ++ []) (grow t) (framesAfter (checkedCoded x w a .number) fs)
   crosses-frameless e f grow t₀ n g h = let r = frameless e f n h in rw (r .heights-kept, append-nil heights, r .stores-kept, g) (r .through)
+
+-- ---- where a run is under way
+
+module _ (w a : List ℕ) where
+  -- 25 is told where a run is under way, and nowhere else
+  is-under-way : (y room : Bool) → underWay w ≡ y → long w a ≡ room → outRefusal w 2 a ≡ 25 → underWay w ≡ true
+  unfolding outRefusal
+  is-under-way true room e l f = e
+  is-under-way false true e l f = absurd (let z : ⊥ = omega (arith, (rw (e, l) at f)) in z)
+  is-under-way false false e l f = absurd (let z : ⊥ = omega (arith, (rw (e, l) at f)) in z)
+
+  is-idle : (y : Bool) → underWay w ≡ y → {why : ℕ} → why ≡ outRefusal w 2 a → (why ≡ 25 → ⊥) → underWay w ≡ false
+  unfolding outRefusal
+  is-idle true f e not = absurd (not (e ∙ rw f))
+  is-idle false f e not = f
+
+  pub check-waits : (image heights : List ℕ) (s : Stores) (n : ℕ) {why : ℕ} → why ≡ outRefusal w 2 a → why ≡ 25
+      → CheckBeside image w a heights s n (record { number = why; vm = w; answer = a }) heights s
+  unfolding framesAfter
+  check-waits image heights s n e z = rw z (record { through = λ fs l. under-way (is-under-way (underWay w) (long w a) refl refl (sym e ∙ z)) })
 
 -- ---- the entry, all but its frame: of the heights k places are lent, of the functions j
 
@@ -136,7 +158,7 @@ grown j s t = withFunctions (t .functions ++ drop j (s .functions)) t
 module _ (image w a heights : List ℕ) (s : Stores) (x : Checked) (hs : List ℕ) (t : Stores) where
   abbrev Through : List Frame → ℕ → ℕ → Type 0
   Through fs k j =
-      CheckThrough image w a heights s fs (checkedCoded x w a) (hs ++ drop k heights) (grown j s t) (framesAfter (checkedCoded x w a .number) fs)
+      CheckIdle image w a heights s fs (checkedCoded x w a) (hs ++ drop k heights) (grown j s t) (framesAfter (checkedCoded x w a .number) fs)
 
   abbrev Lent : ℕ → ℕ → Type 0
   Lent k j = CheckAs image (take k heights) (withFunctions (take j (s .functions)) s) x hs t
@@ -167,17 +189,17 @@ module _ (image w a heights : List ℕ) (s : Stores) (x : Checked) (hs : List �
       rw (ek, all) (all-are-lent e fs (le-leb 1 (length fs) (omega (arith, l))) (rw (ek, all) at h))
 
   -- the room that is asked for is that of the slices
-  room-by : (b : Bool) → long w a ≡ b → {why : ℕ} → why ≡ outRefusal w 2 a → (if eqb why 0 then length heights else 0) ≡ (if b then length heights else 0)
+  room-by : underWay w ≡ false → (b : Bool) → long w a ≡ b → {why : ℕ} → why ≡ outRefusal w 2 a → (if eqb why 0 then length heights else 0) ≡ (if b then length heights else 0)
   unfolding outRefusal
-  room-by true e f = rw (f, e)
-  room-by false e f = rw (f, e)
+  room-by i true e f = rw (f, i, e)
+  room-by i false e f = rw (f, i, e)
 
-  pub check-crosses : (n : ℕ) {why : ℕ} → why ≡ outRefusal w 2 a → {k : ℕ} → k ≡ (if eqb why 0 then length heights else 0)
+  pub check-crosses : (n : ℕ) {why : ℕ} → why ≡ outRefusal w 2 a → (why ≡ 25 → ⊥) → {k : ℕ} → k ≡ (if eqb why 0 then length heights else 0)
       → {j : ℕ} → j ≡ (if eqb n 0 then 0 else length (s .functions)) → Lent k j → {c : Coded} → c ≡ checkedCoded x w a
       → CheckBeside image w a heights s n c (hs ++ drop k heights) (grown j s t)
-  check-crosses n ew {k} ek {j} ej h ec = record {
-    through = λ fs l. rw ec (by-room (long w a) refl n fs l k (ek ∙ room-by (long w a) refl ew) j ej h);
-  }
+  check-crosses n ew not {k} ek {j} ej h ec =
+      let i = is-idle w a (underWay w) refl ew not in
+      record { through = λ fs l. rw ec (idle i (by-room (long w a) refl n fs l k (ek ∙ room-by i (long w a) refl ew) j ej h)) }
 
 -- how much of the functions is lent
 
@@ -195,7 +217,7 @@ rows-taken n l e = sym (length-take-le _ l (rows-fit n (length l) e))
 
 module _ {image w a heights : List ℕ} {s : Stores} {c : Coded} {hs : List ℕ} {t : Stores} (fs : List Frame) (h : CheckBeside image w a heights s (length fs) c hs t) where
   -- what passed has a place for its frame
-  placed : {d : Coded} {ks : List ℕ} {u : Stores} {gs : List Frame} → CheckThrough image w a heights s fs d ks u gs → d .number ≡ 0 → 0 < length fs
+  placed : {d : Coded} {ks : List ℕ} {u : Stores} {gs : List Frame} → CheckIdle image w a heights s fs d ks u gs → d .number ≡ 0 → 0 < length fs
   unfolding hasRoom
   placed (not-an-image j) z = absurd (let y : ⊥ = omega (arith, z) in y)
   placed (no-place j m) z = absurd (let y : ⊥ = omega (arith, z) in y)
@@ -204,8 +226,12 @@ module _ {image w a heights : List ℕ} {s : Stores} {c : Coded} {hs : List ℕ}
   placed (breaks j m b r d) z = absurd (let y : ⊥ = omega (arith, z) in y)
   placed (passes {p} j m b r d g) z = let l : 1 ≤ length fs = leb-true _ _ (and-right (roomFor p s) (leb 1 (length fs)) r) in omega arith
 
+  placed-through : {d : Coded} {ks : List ℕ} {u : Stores} {gs : List Frame} → CheckThrough image w a heights s fs d ks u gs → d .number ≡ 0 → 0 < length fs
+  placed-through (under-way e) z = absurd (let y : ⊥ = omega (arith, z) in y)
+  placed-through (idle i g) z = placed g z
+
   pub frame-placed : c .number ≡ 0 → 0 < length fs
-  frame-placed z = placed (h .through fs refl) z
+  frame-placed z = placed-through (h .through fs refl) z
 
   pub frame-laid : c .number ≡ 0 → {gs : List Frame} → gs ≡ set fs 0 (root 0) → CheckThrough image w a heights s fs c hs t gs
   unfolding framesAfter

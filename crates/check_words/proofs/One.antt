@@ -21,7 +21,7 @@ use Rattle.check_rules.specs.Checks as k
 use Rattle.check_rules.specs.Checks.{CheckAs}
 use Rattle.check_rules.proofs.One.{check-one}
 use Rattle.embed_words.specs.Coding.{Coded}
-use Rattle.check_words.specs.Words.{checkedCoded, hasPlaces, hasRoom, CheckThrough, not-an-image, no-place, past-a-limit, no-room, breaks, passes, framesAfter}
+use Rattle.check_words.specs.Words.{checkedCoded, hasPlaces, hasRoom, CheckIdle, not-an-image, no-place, past-a-limit, no-room, breaks, passes, CheckThrough, under-way, idle, framesAfter}
 use Rattle.check_words.proofs.Judged.{an-image-has-main}
 use Rattle.check_words.proofs.Crossing.{long, roomless}
 
@@ -87,7 +87,7 @@ module _ (image w a heights : List ℕ) (s : Stores) (fs : List Frame) where
   bare p false q j = q
 
   seen : (b f : Bool) → long w a ≡ b → leb 1 (length fs) ≡ f → {c : Coded} {hs : List ℕ} {t : Stores} {gs : List Frame}
-      → CheckThrough image w a heights s fs c hs t gs → Seen b f c hs t gs
+      → CheckIdle image w a heights s fs c hs t gs → Seen b f c hs t gs
   unfolding checkedCoded framesAfter
   seen b f e g (not-an-image j) = refuses (k.not-an-image j) refl refl
   seen true f e g (no-place {p} j m) = refuses (k.no-place j (few p e m)) refl refl
@@ -115,7 +115,14 @@ module _ (image w a heights : List ℕ) (s : Stores) (fs : List Frame) where
         frames = g₁ ∙ ap (λ (x : Coded). framesAfter (x .number) fs) coded ∙ sym g₂;
       }
 
+  idle-one : {c d : Coded} {hs ks : List ℕ} {t u : Stores} {gs rs : List Frame} → CheckIdle image w a heights s fs c hs t gs
+      → CheckIdle image w a heights s fs d ks u rs → SameThrough c d hs ks t u gs rs
+  idle-one x y = as-one (long w a) (leb 1 (length fs)) (seen _ _ refl refl x) (seen _ _ refl refl y)
+
   -- two answers of one image, and what they leave
   pub check-through-one : {c d : Coded} {hs ks : List ℕ} {t u : Stores} {gs rs : List Frame} → CheckThrough image w a heights s fs c hs t gs
       → CheckThrough image w a heights s fs d ks u rs → SameThrough c d hs ks t u gs rs
-  check-through-one x y = as-one (long w a) (leb 1 (length fs)) (seen _ _ refl refl x) (seen _ _ refl refl y)
+  check-through-one (under-way e) (under-way f) = record { coded = refl; heights = refl; stores = refl; frames = refl }
+  check-through-one (under-way e) (idle f y) = absurd (true≢false (sym e ∙ f))
+  check-through-one (idle e x) (under-way f) = absurd (true≢false (sym f ∙ e))
+  check-through-one (idle e x) (idle f y) = idle-one x y

@@ -1,5 +1,6 @@
 -- [check] The check of an image as an entry for a host in C: what it answers, in words, and what then stands in every slice that the host lent.
--- "Refusals: 40 with the first broken rule in the order given and the lowest function that breaks it .., after 20, 17, 22 and 21"
+-- "Refusals: 40 with the first broken rule in the order given and the lowest function that breaks it .., after 20, 17, 22 and 21"; what passes is loaded, and
+-- so "25 first"
 use mathlib.Core.Path.{_≡_}
 use mathlib.Core.Bool.{Bool, true, false, _&&_}
 use mathlib.Core.List.{List, [], _∷_}
@@ -20,7 +21,7 @@ use Rattle.check_rules.specs.declared.Checked.{Checked}
 use Rattle.check_rules.specs.declared.Checked.the-variants as c
 use Rattle.check_rules.specs.Rules.{Passed, Broken, ruleNumber}
 use Rattle.check_rules.specs.Checks.{HeightsOf}
-use Rattle.embed_words.specs.Coding.{Coded, refused, vmWords}
+use Rattle.embed_words.specs.Coding.{Coded, refused, vmWords, underWay}
 
 -- ---- an answer in words. w is the record's slice, a the answer's
 
@@ -41,28 +42,35 @@ checkedCoded (c.Breaks q f) w a = told 40 (ruleNumber q ∷ f ∷ []) w a
 
 -- ---- the entry
 
--- else 17: ten words for the record, two for the answer, and a place for the height of each function
+-- else 17: sixteen words for the record, two for the answer, and a place for the height of each function
 unfoldable pub hasPlaces : Program → (w a heights : List ℕ) → Bool
-hasPlaces p w a hs = (leb 10 (length w) && leb 2 (length a)) && leb (length (p .functions)) (places 1 hs)
+hasPlaces p w a hs = (leb 16 (length w) && leb 2 (length a)) && leb (length (p .functions)) (places 1 hs)
 
 -- else 21: room for the program, and a place for a frame
 unfoldable pub hasRoom : Program → Stores → List Frame → Bool
 hasRoom p s fs = roomFor p s && leb 1 (length fs)
 
--- an image checked with a record, an answer, a store for the heights, a program's stores and a frame store: what comes back, and what then stands in them.
--- A refusal changes no store, and of the answer only the words that tell more. What is passed is loaded, as a fresh machine with one frame.
-pub data CheckThrough (image w a heights : List ℕ) (s : Stores) (fs : List Frame) : Coded → (heights' : List ℕ) → Stores → List Frame → Type 0 where
-  not-an-image : {i : ℕ} → judge image ≡ broken i → CheckThrough image w a heights s fs (told 20 (i ∷ []) w a) heights s fs
-  no-place : {p : Program} → judge image ≡ fine p → hasPlaces p w a heights ≡ false → CheckThrough image w a heights s fs (refused 17 w a) heights s fs
+-- an image checked with a record, an answer, a store for the heights, a program's stores and a frame store: what comes back, and what then stands in them,
+-- where no run is under way in the record. A refusal changes no store, and of the answer only the words that tell more. What is passed is loaded, as a
+-- fresh machine with one frame.
+pub data CheckIdle (image w a heights : List ℕ) (s : Stores) (fs : List Frame) : Coded → (heights' : List ℕ) → Stores → List Frame → Type 0 where
+  not-an-image : {i : ℕ} → judge image ≡ broken i → CheckIdle image w a heights s fs (told 20 (i ∷ []) w a) heights s fs
+  no-place : {p : Program} → judge image ≡ fine p → hasPlaces p w a heights ≡ false → CheckIdle image w a heights s fs (refused 17 w a) heights s fs
   past-a-limit : {p : Program} → judge image ≡ fine p → hasPlaces p w a heights ≡ true → withinLimits p ≡ false
-      → CheckThrough image w a heights s fs (refused 22 w a) heights s fs
+      → CheckIdle image w a heights s fs (refused 22 w a) heights s fs
   no-room : {p : Program} → judge image ≡ fine p → hasPlaces p w a heights ≡ true → withinLimits p ≡ true → hasRoom p s fs ≡ false
-      → CheckThrough image w a heights s fs (refused 21 w a) heights s fs
+      → CheckIdle image w a heights s fs (refused 21 w a) heights s fs
   breaks : {p : Program} → judge image ≡ fine p → hasPlaces p w a heights ≡ true → withinLimits p ≡ true → hasRoom p s fs ≡ true
-      → {q : Rule} {f : ℕ} → Broken p q f → CheckThrough image w a heights s fs (told 40 (ruleNumber q ∷ f ∷ []) w a) heights s fs
+      → {q : Rule} {f : ℕ} → Broken p q f → CheckIdle image w a heights s fs (told 40 (ruleNumber q ∷ f ∷ []) w a) heights s fs
   passes : {p : Program} → judge image ≡ fine p → hasPlaces p w a heights ≡ true → withinLimits p ≡ true → hasRoom p s fs ≡ true
       → Passed p → {hs : List ℕ} → HeightsOf p hs
-      → CheckThrough image w a heights s fs (made p w a) (written heights 0 hs) (laid p s) (set fs 0 (root 0))
+      → CheckIdle image w a heights s fs (made p w a) (written heights 0 hs) (laid p s) (set fs 0 (root 0))
+
+-- and where one is, before all else
+pub data CheckThrough (image w a heights : List ℕ) (s : Stores) (fs : List Frame) : Coded → (heights' : List ℕ) → Stores → List Frame → Type 0 where
+  under-way : underWay w ≡ true → CheckThrough image w a heights s fs (refused 25 w a) heights s fs
+  idle : underWay w ≡ false → {x : Coded} {hs : List ℕ} {s' : Stores} {fs' : List Frame} → CheckIdle image w a heights s fs x hs s' fs'
+      → CheckThrough image w a heights s fs x hs s' fs'
 
 -- ---- all but the frame
 

@@ -1,6 +1,7 @@
 // What the check of an image answers, as words in lent slices: what crosses to a host in C.
 use check_rules::Checked;
 use check_rules::Rule;
+use check_rules::rule_number;
 use embed_answers::tell_started;
 use model::Started;
 use run_ends::fresh_vm;
@@ -11,20 +12,6 @@ ghost use lib.ListN.{set};
 ghost use Rattle.model.specs.Basics.{if_then_else_, written};
 ghost use Rattle.check_rules.specs.Rules.{ruleNumber};
 ghost use Rattle.check_words.specs.Words.{checkedCoded};
-
-// A rule's number, 1 to 6.
-pub fn rule_number(q: Rule) -> usize
-    ensures { λ r. ⌜ r ≡ ruleNumber q ⌝ }
-{
-    match q {
-        Rule::Instructions => 1,
-        Rule::Numbers => 2,
-        Rule::Calls => 3,
-        Rule::Counts => 4,
-        Rule::Jumps => 5,
-        Rule::Heights => 6,
-    }
-}
 
 // x for word i; past the end nothing is written.
 fn put(s: &mut [u64], i: usize, x: usize)

@@ -24,7 +24,7 @@ fn show(image: &mut [u8], out: &mut [u8])
     answer(input, image, out);
 }
 
-// One byte more than an image may have is read, so that a longer one is seen to be longer. A text has at most 16,608 bytes.
+// One byte more than an image may have is read, so that a longer one is seen to be longer. A text has at most 16,992 bytes.
 fn main() {
     let mut image = [0u8; 16385];
     let mut out = [0u8; 32768];

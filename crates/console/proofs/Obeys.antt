@@ -47,7 +47,7 @@ module _ (line : List ℕ) (m : Vm) {what : List ℕ} (w : what ≡ wordOf line 
   grouped s = rw (e, w)
 
   module _ (s : Held) where
-    pub emits : {kind : Kind} → group ≡ g.Emit kind → {x : Emitted} {p : Stores} → Is (emitAsked kind (m .program) line (s .program)) x p
+    pub emits : {kind : Kind} → group ≡ g.Emit kind → {x : Emitted} {p : Stores} → Is (emitAsked kind (m .run .on) (m .program) line (s .program)) x p
         → {r : Vm} → r ≡ afterEmitted m x
         → record { m = r; held = record { program = p; stack = s .stack; cells = s .cells; copy = s .copy; trace = s .trace; frames = s .frames } } ≡ obeyed line m s
     unfolding obeyedBy emitted

@@ -14,6 +14,7 @@ use Rattle.model.specs.Equality.{sameBytes}
 use Rattle.model.specs.declared.Told.the-variants as t
 use Rattle.model.specs.Loading.{OutRes}
 use Rattle.model.specs.Readers.{blockHeaderOf, elementOf, textBytesOf}
+use Rattle.console_frames.specs.declared.Call.{Call}
 use Rattle.console_frames.specs.declared.Call.the-variants as c
 use Rattle.console.specs.declared.commands.Lent.{Lent}
 use Rattle.console.specs.declared.commands.Asked.{Asked}
@@ -32,12 +33,15 @@ lentWhole n = record { image = n; copy = 4294967295; trace = 4294967295 }
 unfoldable pub askNew : List ℕ → Asked
 askNew line = if eqb (length (wordsFrom line 1)) 0 then q.Frames c.New (lentWhole 0) else q.Other
 
-unfoldable pub askTrace : List ℕ → Asked
-askTrace line = if roomOf line 1 .good then q.Frames c.Trace (record { image = 0; copy = 4294967295; trace = roomOf line 1 .is }) else q.Other
+unfoldable pub askStart : List ℕ → Asked
+askStart line = if roomOf line 1 .good then q.Frames c.Begin (record { image = 0; copy = roomOf line 1 .is; trace = 4294967295 }) else q.Other
 
-unfoldable pub askRun : List ℕ → Asked
-askRun line = if numberOf 10 (wordOf line 1) .good && roomOf line 2 .good then q.Frames (c.Run (numberOf 10 (wordOf line 1) .is))
-    (record { image = 0; copy = roomOf line 2 .is; trace = 4294967295 }) else q.Other
+-- word k says the room of the backtrace store
+unfoldable pub askTraced : Call → List ℕ → ℕ → Asked
+askTraced call line k = if roomOf line k .good then q.Frames call (record { image = 0; copy = 4294967295; trace = roomOf line k .is }) else q.Other
+
+unfoldable pub askContinue : List ℕ → Asked
+askContinue line = if numberOf 10 (wordOf line 1) .good then askTraced (c.Continue (numberOf 10 (wordOf line 1) .is)) line 2 else q.Other
 
 -- what is asked, and the space, which holds the bytes of an image
 pub record Heard : Type 0 where
@@ -54,10 +58,12 @@ askLoad line space = record {
 unfoldable pub askOf : List ℕ → List ℕ → Heard
 askOf line space =
     if sameBytes (wordOf line 0) (ascii "new") then record { asked = askNew line; space = space } else (
-    if sameBytes (wordOf line 0) (ascii "trace") then record { asked = askTrace line; space = space } else (
-    if sameBytes (wordOf line 0) (ascii "run") then record { asked = askRun line; space = space } else (
+    if sameBytes (wordOf line 0) (ascii "trace") then record { asked = askTraced c.Trace line 1; space = space } else (
+    if sameBytes (wordOf line 0) (ascii "start") then record { asked = askStart line; space = space } else (
+    if sameBytes (wordOf line 0) (ascii "continue") then record { asked = askContinue line; space = space } else (
+    if sameBytes (wordOf line 0) (ascii "abandon") then record { asked = askTraced c.Abandon line 1; space = space } else (
     if sameBytes (wordOf line 0) (ascii "image") then askLoad line space else
-    record { asked = q.Other; space = space })))
+    record { asked = q.Other; space = space })))))
 
 -- ---- the commands that need no frames, in groups
 

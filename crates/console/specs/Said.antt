@@ -4,6 +4,7 @@ use Prim.Native.Nat.{ℕ, _/_}
 use lib.Dec.{ltb}
 use lib.ListN.{length}
 use Rattle.model.specs.declared.Header.{Header}
+use Rattle.model.specs.declared.Tally.{Tally}
 use Rattle.model.specs.declared.Vm.{Vm}
 use Rattle.model.specs.declared.Emitted.{Emitted}
 use Rattle.model.specs.declared.Emitted.the-variants as e
@@ -15,6 +16,7 @@ use Rattle.model.specs.declared.Last.the-variants.{Nothing}
 use Rattle.model.specs.Basics.{if_then_else_}
 use Rattle.model.specs.Values.{payloadAt}
 use Rattle.model.specs.Heap.{headerOf}
+use Rattle.model.specs.Machines.{noRun}
 use Rattle.console_frames.specs.declared.Answer.{Answer}
 use Rattle.console_frames.specs.declared.Answer.the-variants as a
 use Rattle.console_damage.specs.declared.Changed.{Changed}
@@ -26,7 +28,7 @@ headerIn cells p = if ltb p (length cells / 2) then headerOf (payloadAt cells p)
 
 -- before any is made: nothing is in good order yet
 unfoldable pub noMachine : Vm
-noMachine = record { program = record { constants = 0; structs = 0; functions = 0; text = 0; current = 0 }; stack = 0; frames = 0; cells = 0; last = Nothing }
+noMachine = record { program = record { constants = 0; structs = 0; functions = 0; text = 0; current = 0 }; stack = 0; frames = 0; cells = 0; last = Nothing; run = noRun }
 
 unfoldable pub afterEmitted : Vm → Emitted → Vm
 afterEmitted m (e.Done c n) = withProgram m c
@@ -37,10 +39,15 @@ afterStarted m (s.Done made) = made
 afterStarted m (s.Broken at) = m
 afterStarted m (s.Refused n) = m
 
+-- what the run that is under way has done so far
+unfoldable pub soFar : Vm → Tally
+soFar m = record { spent = m .run .spent; returns = m .run .returns }
+
 unfoldable pub afterRun : Vm → RunResult → Vm
 afterRun m (x.Value left v spent) = left
 afterRun m (x.Continue left spent) = left
 afterRun m (x.Fault left n spent entries) = left
+afterRun m (x.Paused left) = left
 afterRun m (x.Refused n) = m
 
 -- a backtrace leaves the machine as it was

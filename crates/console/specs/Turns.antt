@@ -62,7 +62,7 @@ withFrames frames s = record { program = s .program; stack = s .stack; cells = s
 
 -- by the group of its command; one that only tells changes nothing
 unfoldable pub obeyedBy : (group : Group) (line : List ℕ) (m : Vm) (s : Held) → Host
-obeyedBy (g.Emit kind) line m s = emitted m s (emitAsked kind (m .program) line (s .program))
+obeyedBy (g.Emit kind) line m s = emitted m s (emitAsked kind (m .run .on) (m .program) line (s .program))
 obeyedBy g.Count line m s = record { m = afterDamage m (countAsked m line); held = s }
 obeyedBy g.Result line m s = record { m = afterDamage m (resultAsked m line); held = s }
 obeyedBy g.Poke line m s = record { m = m; held = pokedIn line s }

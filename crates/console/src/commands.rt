@@ -8,15 +8,16 @@ use console_script::Most;
 use console_script::stores;
 use console_script::word;
 use emission_code::current_offset;
-use emission_tables::functions::get_function_idx;
+use emission_functions::get_function_idx;
 use layout::reads::same_bytes;
 use model::Counts;
 use model::Frame;
 use model::Last;
+use model::Run;
 use model::Told;
 use model::Vm;
 ghost use mathlib.Core.Path.{_≡_};
-ghost use Rattle.console.specs.Asks.{lentWhole, askNew, askTrace, askRun, askLoad, askOf, isCode, isConstant, isName, isLook, isRead, isSaid, groupOf};
+ghost use Rattle.console.specs.Asks.{lentWhole, askNew, askStart, askTraced, askContinue, askLoad, askOf, isCode, isConstant, isName, isLook, isRead, isSaid, groupOf};
 ghost use Rattle.console.specs.Said.{noMachine, afterDamage};
 ghost use Rattle.console_damage.specs.Sums.{sumOf};
 ghost use Rattle.console_damage.specs.Damage.{frameArgs, frameAsked};
@@ -59,35 +60,45 @@ fn ask_new(line: &[u8]) -> Asked
     Asked::Other
 }
 
-// `trace`, `trace ROOM`.
-fn ask_trace(line: &[u8]) -> Asked
-    ensures { λ r. ⌜ r ≡ askTrace (now (line .entry)) ⌝ }
+// `start`, `start ROOM`.
+fn ask_start(line: &[u8]) -> Asked
+    ensures { λ r. ⌜ r ≡ askStart (now (line .entry)) ⌝ }
 {
     let room = console_script::read_room(line, 1);
+    if room.good {
+        let lent = Lent {
+            image: 0,
+            copy: room.is as usize,
+            trace: console_script::whole(),
+        };
+        return Asked::Frames(Call::Begin, lent);
+    }
+    Asked::Other
+}
+
+// A call that is lent so much of the backtrace store as word k says: `trace`, `trace ROOM`, `abandon`, `abandon ROOM`.
+fn ask_traced(call: Call, line: &[u8], k: usize) -> Asked
+    ensures { λ r. ⌜ r ≡ askTraced call (now (line .entry)) k ⌝ }
+{
+    let room = console_script::read_room(line, k);
     if room.good {
         let lent = Lent {
             image: 0,
             copy: console_script::whole(),
             trace: room.is as usize,
         };
-        return Asked::Frames(Call::Trace, lent);
+        return Asked::Frames(call, lent);
     }
     Asked::Other
 }
 
-// `run UNITS`, `run UNITS ROOM`.
-fn ask_run(line: &[u8]) -> Asked
-    ensures { λ r. ⌜ r ≡ askRun (now (line .entry)) ⌝ }
+// `continue UNITS`, `continue UNITS ROOM`.
+fn ask_continue(line: &[u8]) -> Asked
+    ensures { λ r. ⌜ r ≡ askContinue (now (line .entry)) ⌝ }
 {
     let units = console_script::decimal(word(line, 1));
-    let room = console_script::read_room(line, 2);
-    if units.good & room.good {
-        let lent = Lent {
-            image: 0,
-            copy: room.is as usize,
-            trace: console_script::whole(),
-        };
-        return Asked::Frames(Call::Run(units.is), lent);
+    if units.good {
+        return ask_traced(Call::Continue(units.is), line, 2);
     }
     Asked::Other
 }
@@ -112,10 +123,16 @@ pub fn ask(line: &[u8], space: &mut stores::Space) -> Asked
         return ask_new(line);
     }
     if same_bytes(what, b"trace") {
-        return ask_trace(line);
+        return ask_traced(Call::Trace, line, 1);
     }
-    if same_bytes(what, b"run") {
-        return ask_run(line);
+    if same_bytes(what, b"start") {
+        return ask_start(line);
+    }
+    if same_bytes(what, b"continue") {
+        return ask_continue(line);
+    }
+    if same_bytes(what, b"abandon") {
+        return ask_traced(Call::Abandon, line, 1);
     }
     if same_bytes(what, b"image") {
         return ask_load(line, space);
@@ -414,7 +431,7 @@ fn frame(line: &[u8], number: u64, frames: &mut [u64])
     say::say_unknown(number);
 }
 
-// The checksum of the counts, the last result and all stores.
+// The checksum of the counts, the last result, the run that is under way and all stores.
 fn sum(
     m: Vm,
     constants: &[u64],
@@ -533,6 +550,7 @@ pub fn obey(
     match group {
         Group::Emit(kind) => {
             let e = console_emission::emit(
+                m.run.on,
                 m.program,
                 kind,
                 line,
@@ -606,11 +624,20 @@ pub fn no_machine() -> Vm
         text: 0,
         current: 0,
     };
+    let run = Run {
+        on: false,
+        given: 0,
+        spent: 0,
+        returns: 0,
+        mark: 0,
+        saved: 0,
+    };
     Vm {
         program,
         stack: 0,
         frames: 0,
         cells: 0,
         last: Last::Nothing,
+        run,
     }
 }

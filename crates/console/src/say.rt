@@ -15,7 +15,7 @@ use model::Value;
 use model::Vm;
 use value::words;
 ghost use mathlib.Core.Path.{_≡_};
-ghost use Rattle.console.specs.Said.{headerIn, afterRun, afterStarted, afterEmitted, afterAnswer};
+ghost use Rattle.console.specs.Said.{headerIn, soFar, afterRun, afterStarted, afterEmitted, afterAnswer};
 
 pub fn say(text: &[u8]) {
     io::write_all(1, text);
@@ -160,7 +160,18 @@ fn say_entries(n: usize, trace: &[u32]) {
     }
 }
 
-// A run's answer; the machine is then as it says, or as it was.
+// What a run that is under way has done so far.
+fn so_far(m: Vm) -> Tally
+    ensures { λ r. ⌜ r ≡ soFar m ⌝ }
+{
+    let run = m.run;
+    Tally {
+        spent: run.spent,
+        returns: run.returns,
+    }
+}
+
+// What a call of a run answers; the machine is then as it says, or as it was.
 fn say_run(m: Vm, r: RunResult, cells: &[u64], trace: &[u32], number: u64) -> Vm
     ensures { λ left. ⌜ left ≡ afterRun m r ⌝ }
 {
@@ -181,6 +192,11 @@ fn say_run(m: Vm, r: RunResult, cells: &[u64], trace: &[u32], number: u64) -> Vm
             say_number(n as u64);
             say_left(left, did);
             say_entries(entries, trace);
+            left
+        }
+        RunResult::Paused(left) => {
+            say(b"paused");
+            say_left(left, so_far(left));
             left
         }
         RunResult::Refused(n) => {

@@ -1,4 +1,4 @@
--- What is damaged: one count, or the last result, and nothing else; one number of one store.
+-- What is damaged: one count, or one number of the run that is under way, or the last result, and nothing else; one number of one store.
 use mathlib.Core.Bool.{Bool, true, false, _&&_}
 use mathlib.Core.List.{List}
 use Prim.Native.Nat.{ℕ, _+_, _*_, _/_, _%_}
@@ -6,6 +6,7 @@ use lib.Dec.{ltb}
 use lib.ListN.{length, getD, set}
 use Rattle.model.specs.declared.Vm.{Vm}
 use Rattle.model.specs.declared.Counts.{Counts}
+use Rattle.model.specs.declared.Run.{Run}
 use Rattle.model.specs.declared.Frame.{Frame}
 use Rattle.model.specs.declared.Last.{Last}
 use Rattle.model.specs.declared.Last.the-variants.{Is}
@@ -18,7 +19,11 @@ use Rattle.console_script.specs.Words.{wordOf, argsOf}
 
 -- a machine with other counts of its program
 unfoldable pub withProgram : Vm → Counts → Vm
-withProgram m c = record { program = c; stack = m .stack; frames = m .frames; cells = m .cells; last = m .last }
+withProgram m c = record { program = c; stack = m .stack; frames = m .frames; cells = m .cells; last = m .last; run = m .run }
+
+-- a machine with another run under way
+unfoldable pub withRun : Vm → Run → Vm
+withRun m r = record { program = m .program; stack = m .stack; frames = m .frames; cells = m .cells; last = m .last; run = r }
 
 -- understood, and the machine is then m
 unfoldable pub changed : Vm → Changed
@@ -38,17 +43,28 @@ programWith m c name n =
     if sameBytes name (ascii "current") then changed (withProgram m (record { constants = c .constants; structs = c .structs; functions = c .functions; text = c .text; current = n })) else
     unchanged m))))
 
+-- the number of that name of the run that is under way is n; one is under way where `on` is not 0
+unfoldable pub runWith : Vm → Run → List ℕ → ℕ → Changed
+runWith m r name n =
+    if sameBytes name (ascii "on") then changed (withRun m (record { on = ltb 0 n; given = r .given; spent = r .spent; returns = r .returns; mark = r .mark; saved = r .saved })) else (
+    if sameBytes name (ascii "given") then changed (withRun m (record { on = r .on; given = n; spent = r .spent; returns = r .returns; mark = r .mark; saved = r .saved })) else (
+    if sameBytes name (ascii "spent") then changed (withRun m (record { on = r .on; given = r .given; spent = n; returns = r .returns; mark = r .mark; saved = r .saved })) else (
+    if sameBytes name (ascii "returns") then changed (withRun m (record { on = r .on; given = r .given; spent = r .spent; returns = n; mark = r .mark; saved = r .saved })) else (
+    if sameBytes name (ascii "mark") then changed (withRun m (record { on = r .on; given = r .given; spent = r .spent; returns = r .returns; mark = n; saved = r .saved })) else (
+    if sameBytes name (ascii "saved") then changed (withRun m (record { on = r .on; given = r .given; spent = r .spent; returns = r .returns; mark = r .mark; saved = n })) else
+    programWith m (m .program) name n)))))
+
 -- the count of that name is n
 unfoldable pub countWith : Vm → List ℕ → ℕ → Changed
 countWith m name n =
-    if sameBytes name (ascii "stack") then changed (record { program = m .program; stack = n; frames = m .frames; cells = m .cells; last = m .last }) else (
-    if sameBytes name (ascii "frames") then changed (record { program = m .program; stack = m .stack; frames = n; cells = m .cells; last = m .last }) else (
-    if sameBytes name (ascii "cells") then changed (record { program = m .program; stack = m .stack; frames = m .frames; cells = n; last = m .last }) else
-    programWith m (m .program) name n))
+    if sameBytes name (ascii "stack") then changed (record { program = m .program; stack = n; frames = m .frames; cells = m .cells; last = m .last; run = m .run }) else (
+    if sameBytes name (ascii "frames") then changed (record { program = m .program; stack = m .stack; frames = n; cells = m .cells; last = m .last; run = m .run }) else (
+    if sameBytes name (ascii "cells") then changed (record { program = m .program; stack = m .stack; frames = m .frames; cells = n; last = m .last; run = m .run }) else
+    runWith m (m .run) name n))
 
 -- the last result is that
 unfoldable pub lastWith : Vm → Last → Vm
-lastWith m l = record { program = m .program; stack = m .stack; frames = m .frames; cells = m .cells; last = l }
+lastWith m l = record { program = m .program; stack = m .stack; frames = m .frames; cells = m .cells; last = l; run = m .run }
 
 -- `count NAME N`
 unfoldable pub countArgs : List ℕ → Args

@@ -7,6 +7,7 @@ use layout::reads::same_bytes;
 use model::Counts;
 use model::Frame;
 use model::Last;
+use model::Run;
 use model::Vm;
 use value::words;
 ghost use mathlib.Core.Path.{_≡_};
@@ -14,8 +15,8 @@ ghost use mathlib.Core.Bool.{_&&_, _||_};
 ghost use Prim.Native.Nat.{_%_};
 ghost use lib.Dec.{ltb};
 ghost use lib.ListN.{length};
-ghost use Rattle.console_damage.specs.Sums.{halfMixed, mixedWith, mixedAll, mixedLast, mixedCounts};
-ghost use Rattle.console_damage.specs.Damage.{programWith, countWith, countAsked, resultAsked, putAt, pokedWords, pokedBytes, pokedPlaces, wordsAsked, bytesAsked, placesAsked, frameIn, frameAt};
+ghost use Rattle.console_damage.specs.Sums.{halfMixed, mixedWith, mixedAll, mixedLast, mixedRun, mixedCounts};
+ghost use Rattle.console_damage.specs.Damage.{programWith, runWith, countWith, countAsked, resultAsked, putAt, pokedWords, pokedBytes, pokedPlaces, wordsAsked, bytesAsked, placesAsked, frameIn, frameAt};
 
 // ---- the checksum
 
@@ -89,7 +90,17 @@ fn mixed_last(h: u64, last: Last) -> u64
     }
 }
 
-// The counts and the last result.
+fn mixed_run(h: u64, r: Run) -> u64
+    ensures { λ sum. ⌜ sum ≡ mixedRun h r ⌝ }
+{
+    let units = mixed(mixed(mixed(h, r.on as u64), r.given), r.spent);
+    mixed(
+        mixed(mixed(units, r.returns), r.mark as u64),
+        r.saved as u64,
+    )
+}
+
+// The counts, the last result and the run that is under way.
 pub fn mixed_counts(h: u64, m: Vm) -> u64
     ensures { λ r. ⌜ r ≡ mixedCounts h m ⌝ }
 {
@@ -103,7 +114,8 @@ pub fn mixed_counts(h: u64, m: Vm) -> u64
         mixed(mixed(a, c.text as u64), c.current as u64),
         m.stack as u64,
     );
-    mixed_last(mixed(mixed(b, m.frames as u64), m.cells as u64), last)
+    let d = mixed_last(mixed(mixed(b, m.frames as u64), m.cells as u64), last);
+    mixed_run(d, m.run)
 }
 
 // ---- frames, which rest between calls as three numbers each
@@ -188,6 +200,65 @@ fn with_program(m: Vm, name: &[u8], n: usize) -> Changed
     Changed { m, good: false }
 }
 
+// One of the numbers of the run that is under way, or of the program's counts.
+fn with_run(m: Vm, name: &[u8], n: usize) -> Changed
+    ensures { λ r. ⌜ r ≡ runWith m (m .run) (now (name .entry)) n ⌝ }
+{
+    let r = m.run;
+    if same_bytes(name, b"on") {
+        let run = Run { on: 0 < n, ..r };
+        return Changed {
+            m: Vm { run, ..m },
+            good: true,
+        };
+    }
+    if same_bytes(name, b"given") {
+        let run = Run {
+            given: n as u64,
+            ..r
+        };
+        return Changed {
+            m: Vm { run, ..m },
+            good: true,
+        };
+    }
+    if same_bytes(name, b"spent") {
+        let run = Run {
+            spent: n as u64,
+            ..r
+        };
+        return Changed {
+            m: Vm { run, ..m },
+            good: true,
+        };
+    }
+    if same_bytes(name, b"returns") {
+        let run = Run {
+            returns: n as u64,
+            ..r
+        };
+        return Changed {
+            m: Vm { run, ..m },
+            good: true,
+        };
+    }
+    if same_bytes(name, b"mark") {
+        let run = Run { mark: n, ..r };
+        return Changed {
+            m: Vm { run, ..m },
+            good: true,
+        };
+    }
+    if same_bytes(name, b"saved") {
+        let run = Run { saved: n, ..r };
+        return Changed {
+            m: Vm { run, ..m },
+            good: true,
+        };
+    }
+    with_program(m, name, n)
+}
+
 // One of the counts.
 fn with_named(m: Vm, name: &[u8], n: usize) -> Changed
     ensures { λ r. ⌜ r ≡ countWith m (now (name .entry)) n ⌝ }
@@ -210,7 +281,7 @@ fn with_named(m: Vm, name: &[u8], n: usize) -> Changed
             good: true,
         };
     }
-    with_program(m, name, n)
+    with_run(m, name, n)
 }
 
 // `count NAME N`.

@@ -1,4 +1,4 @@
-// The commands that emit a program: each calls one entry of emission.
+// The commands that emit a program: each calls one entry of emission, and tells it whether a run is under way (`running`).
 use console_script::Args;
 use console_script::Most;
 use console_script::front;
@@ -8,10 +8,10 @@ use console_script::read_bytes;
 use console_script::stores;
 use console_script::word;
 use console_script::words_from;
-use emission_tables::constants::add_constant;
-use emission_tables::functions::begin_function;
-use emission_tables::functions::end_function;
-use emission_tables::structs::add_struct_info;
+use emission_constants::add_constant;
+use emission_functions::begin_function;
+use emission_functions::end_function;
+use emission_structs::add_struct_info;
 use layout::reads::same_bytes;
 use model::Constant;
 use model::Counts;
@@ -78,6 +78,7 @@ fn unknown() -> Emitted
 
 // `op N PLACE`, and `op1`, `op2`, `op3` with operands between.
 fn emit_code(
+    running: bool,
     c: Counts,
     line: &[u8],
     functions: &mut stores::Functions,
@@ -86,13 +87,14 @@ fn emit_code(
     other: &mut stores::Code,
     other_places: &mut stores::Places,
 ) -> Emitted
-    ensures { λ r. ⌜ ((rest : Stores) → Is (codeAsked c (now (line .entry)) (codeLent rest (now (functions .entry)) (now (main .entry)) (now («main_places» .entry)) (now (other .entry)) (now («other_places» .entry)))) r (codeLent rest (now (functions .exit)) (now (main .exit)) (now («main_places» .exit)) (now (other .exit)) (now («other_places» .exit)))) ⌝ }
+    ensures { λ r. ⌜ ((rest : Stores) → Is (codeAsked running c (now (line .entry)) (codeLent rest (now (functions .entry)) (now (main .entry)) (now («main_places» .entry)) (now (other .entry)) (now («other_places» .entry)))) r (codeLent rest (now (functions .exit)) (now (main .exit)) (now («main_places» .exit)) (now (other .exit)) (now («other_places» .exit)))) ⌝ }
 {
     let what = word(line, 0);
     if same_bytes(what, b"op") {
         let n = op_args(line, 3);
         if n.good {
             return emission_code::add_op(
+                running,
                 c,
                 byte(n.a),
                 place(n.b),
@@ -111,6 +113,7 @@ fn emit_code(
             return unknown();
         }
         return emission_code::add_op1(
+            running,
             c,
             byte(n.a),
             operand(n.b),
@@ -128,6 +131,7 @@ fn emit_code(
             return unknown();
         }
         return emission_code::add_op2(
+            running,
             c,
             byte(n.a),
             operand(n.b),
@@ -145,6 +149,7 @@ fn emit_code(
         return unknown();
     }
     emission_code::add_op3(
+        running,
         c,
         byte(n.a),
         operand(n.b),
@@ -161,13 +166,14 @@ fn emit_code(
 
 // `patch AT VALUE`.
 fn emit_patch(
+    running: bool,
     c: Counts,
     line: &[u8],
     functions: &stores::Functions,
     main: &mut stores::Code,
     other: &mut stores::Code,
 ) -> Emitted
-    ensures { λ r. ⌜ ((rest : Stores) → Is (patchAsked c (now (line .entry)) (bytesLent rest (now (functions .entry)) (now (main .entry)) (now (other .entry)))) r (bytesLent rest (now (functions .entry)) (now (main .exit)) (now (other .exit)))) ⌝ }
+    ensures { λ r. ⌜ ((rest : Stores) → Is (patchAsked running c (now (line .entry)) (bytesLent rest (now (functions .entry)) (now (main .entry)) (now (other .entry)))) r (bytesLent rest (now (functions .entry)) (now (main .exit)) (now (other .exit)))) ⌝ }
 {
     let n = read_args(
         line,
@@ -183,6 +189,7 @@ fn emit_patch(
     );
     if n.good {
         return emission_code::patch_u16_value_at(
+            running,
             c,
             operand(n.a),
             operand(n.b),
@@ -196,18 +203,19 @@ fn emit_patch(
 
 // `scalar HEX16`, `boolean 0` or `1`, `string HEX`, `reference HEX`. A text's bytes go by way of a space of its own.
 fn emit_constant(
+    running: bool,
     c: Counts,
     line: &[u8],
     constants: &mut stores::Constants,
     text: &mut stores::Text,
 ) -> Emitted
-    ensures { λ r. ⌜ ((rest : Stores) → Is (constantAsked c (now (line .entry)) (constantsLent rest (now (constants .entry)) (now (text .entry)))) r (constantsLent rest (now (constants .exit)) (now (text .exit)))) ⌝ }
+    ensures { λ r. ⌜ ((rest : Stores) → Is (constantAsked running c (now (line .entry)) (constantsLent rest (now (constants .entry)) (now (text .entry)))) r (constantsLent rest (now (constants .exit)) (now (text .exit)))) ⌝ }
 {
     let what = word(line, 0);
     if same_bytes(what, b"scalar") {
         let n = hex(words_from(line, 1));
         if n.good {
-            return add_constant(c, Constant::Scalar(n.is), b"", constants, text);
+            return add_constant(running, c, Constant::Scalar(n.is), b"", constants, text);
         }
         return unknown();
     }
@@ -225,7 +233,14 @@ fn emit_constant(
             },
         );
         if n.good {
-            return add_constant(c, Constant::Boolean(n.a == 1), b"", constants, text);
+            return add_constant(
+                running,
+                c,
+                Constant::Boolean(n.a == 1),
+                b"",
+                constants,
+                text,
+            );
         }
         return unknown();
     }
@@ -234,15 +249,23 @@ fn emit_constant(
     if b.good {
         let lent = front(&space, b.size);
         if same_bytes(what, b"string") {
-            return add_constant(c, Constant::String, lent, constants, text);
+            return add_constant(running, c, Constant::String, lent, constants, text);
         }
-        return add_constant(c, Constant::FunctionReference, lent, constants, text);
+        return add_constant(
+            running,
+            c,
+            Constant::FunctionReference,
+            lent,
+            constants,
+            text,
+        );
     }
     unknown()
 }
 
 // A name that is given.
 fn named(
+    running: bool,
     c: Counts,
     what: &[u8],
     name: &[u8],
@@ -250,35 +273,44 @@ fn named(
     functions: &mut stores::Functions,
     text: &mut stores::Text,
 ) -> Emitted
-    ensures { λ r. ⌜ ((rest : Stores) → Is (nameGiven c (now (what .entry)) (now (name .entry)) (allNames rest (now (structs .entry)) (now (functions .entry)) (now (text .entry)))) r (allNames rest (now (structs .exit)) (now (functions .exit)) (now (text .exit)))) ⌝ }
+    ensures { λ r. ⌜ ((rest : Stores) → Is (nameGiven running c (now (what .entry)) (now (name .entry)) (allNames rest (now (structs .entry)) (now (functions .entry)) (now (text .entry)))) r (allNames rest (now (structs .exit)) (now (functions .exit)) (now (text .exit)))) ⌝ }
 {
     if same_bytes(what, b"struct") {
-        return add_struct_info(c, name, structs, text);
+        return add_struct_info(running, c, name, structs, text);
     }
     if same_bytes(what, b"begin") {
-        return begin_function(c, name, functions, text);
+        return begin_function(running, c, name, functions, text);
     }
     if name.len() == 0 {
-        return end_function(c);
+        return end_function(running, c);
     }
     unknown()
 }
 
 // `struct HEX`, `begin HEX`, `end`.
 fn emit_name(
+    running: bool,
     c: Counts,
     line: &[u8],
     structs: &mut stores::Structs,
     functions: &mut stores::Functions,
     text: &mut stores::Text,
 ) -> Emitted
-    ensures { λ r. ⌜ ((rest : Stores) → Is (nameAsked c (now (line .entry)) (allNames rest (now (structs .entry)) (now (functions .entry)) (now (text .entry)))) r (allNames rest (now (structs .exit)) (now (functions .exit)) (now (text .exit)))) ⌝ }
+    ensures { λ r. ⌜ ((rest : Stores) → Is (nameAsked running c (now (line .entry)) (allNames rest (now (structs .entry)) (now (functions .entry)) (now (text .entry)))) r (allNames rest (now (structs .exit)) (now (functions .exit)) (now (text .exit)))) ⌝ }
 {
     let what = word(line, 0);
     let mut space = [0u8; 16384];
     let b = read_bytes(words_from(line, 1), &mut space);
     if b.good {
-        return named(c, what, front(&space, b.size), structs, functions, text);
+        return named(
+            running,
+            c,
+            what,
+            front(&space, b.size),
+            structs,
+            functions,
+            text,
+        );
     }
     unknown()
 }
@@ -293,6 +325,7 @@ pub enum Kind {
 
 // A line that emits.
 pub fn emit(
+    running: bool,
     c: Counts,
     kind: Kind,
     line: &[u8],
@@ -305,12 +338,21 @@ pub fn emit(
     other: &mut stores::Code,
     other_places: &mut stores::Places,
 ) -> Emitted
-    ensures { λ r. ⌜ Is (emitAsked kind c (now (line .entry)) (storesOf (now (constants .entry)) (now (structs .entry)) (now (functions .entry)) (now (text .entry)) (now (main .entry)) (now («main_places» .entry)) (now (other .entry)) (now («other_places» .entry)))) r (storesOf (now (constants .exit)) (now (structs .exit)) (now (functions .exit)) (now (text .exit)) (now (main .exit)) (now («main_places» .exit)) (now (other .exit)) (now («other_places» .exit))) ⌝ }
+    ensures { λ r. ⌜ Is (emitAsked kind running c (now (line .entry)) (storesOf (now (constants .entry)) (now (structs .entry)) (now (functions .entry)) (now (text .entry)) (now (main .entry)) (now («main_places» .entry)) (now (other .entry)) (now («other_places» .entry)))) r (storesOf (now (constants .exit)) (now (structs .exit)) (now (functions .exit)) (now (text .exit)) (now (main .exit)) (now («main_places» .exit)) (now (other .exit)) (now («other_places» .exit))) ⌝ }
 {
     match kind {
-        Kind::Code => emit_code(c, line, functions, main, main_places, other, other_places),
-        Kind::Patch => emit_patch(c, line, functions, main, other),
-        Kind::Constant => emit_constant(c, line, constants, text),
-        Kind::Name => emit_name(c, line, structs, functions, text),
+        Kind::Code => emit_code(
+            running,
+            c,
+            line,
+            functions,
+            main,
+            main_places,
+            other,
+            other_places,
+        ),
+        Kind::Patch => emit_patch(running, c, line, functions, main, other),
+        Kind::Constant => emit_constant(running, c, line, constants, text),
+        Kind::Name => emit_name(running, c, line, structs, functions, text),
     }
 }

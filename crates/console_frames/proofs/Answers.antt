@@ -1,5 +1,6 @@
 -- What a call over frames leaves, from what the machine's entry says of it.
 use mathlib.Core.Path.{_≡_, refl, ap, sym, _∙_}
+use mathlib.Core.Bool.{Bool}
 use mathlib.Core.List.{List}
 use Prim.Native.Nat.{ℕ}
 use Rattle.model.specs.declared.Vm.{Vm}
@@ -9,12 +10,12 @@ use Rattle.model.specs.declared.RunResult.{RunResult}
 use Rattle.model.specs.declared.Told.{Told}
 use Rattle.model.specs.Stores.{Stores}
 use Rattle.model.specs.Loading.{OutRes}
-use Rattle.model.specs.Machines.{StartRes, RunPost, newMachineOf, loadMachineOf, backtraceIn}
+use Rattle.model.specs.Machines.{StartRes, RunCall, begins, continues, abandons, RunPost, newMachineOf, loadMachineOf, backtraceIn}
 use Rattle.layout.specs.Links.{namesLent}
 use Rattle.model.specs.Stores.{storesOf}
 use Rattle.run_ends.specs.Links.{programLent}
 use Rattle.machine.specs.Links.{runLent}
-use Rattle.console_frames.specs.declared.Call.the-variants.{New, Load, Run, Trace}
+use Rattle.console_frames.specs.declared.Call.the-variants.{New, Load, Begin, Continue, Abandon, Trace}
 use Rattle.console_frames.specs.declared.Answer.{Answer}
 use Rattle.console_frames.specs.declared.Answer.the-variants.{Made, Ran, Traced}
 use Rattle.console_frames.specs.Resting.{allKept}
@@ -35,28 +36,53 @@ module _ (m : Vm) (image constants structs functions text main mainPlaces other 
   abbrev before : Held
   before = held constants structs functions text main mainPlaces other otherPlaces stack cells copy trace words
 
-  pub new-called : (functions′ text′ : List ℕ) {x : Started} {fs′ : List Frame}
-      → ((rest : Stores) → record { answer = x; stores = namesLent rest functions′ text′; frames = fs′ } ≡ newMachineOf (namesLent rest functions text) fs)
+  pub new-called : {running : Bool} → running ≡ m .run .on → (functions′ text′ : List ℕ) {x : Started} {fs′ : List Frame}
+      → ((rest : Stores) → record { answer = x; stores = namesLent rest functions′ text′; frames = fs′ } ≡ newMachineOf running (namesLent rest functions text) fs)
       → {words′ : List ℕ} → words′ ≡ allKept fs′ words → {r : Answer} → r ≡ Made x
       → Called m New image fs before r fs′ (held constants structs functions′ text′ main mainPlaces other otherPlaces stack cells copy trace words′)
   unfolding Called namesLent
-  new-called functions′ text′ e ek er = making (newMachineOf (before .program) fs) before (e (before .program)) er ek
+  new-called on functions′ text′ e ek er = making (newMachineOf (m .run .on) (before .program) fs) before (rw on at (e (before .program))) er ek
 
-  pub load-called : {constants′ structs′ functions′ text′ main′ mainPlaces′ other′ otherPlaces′ : List ℕ} {x : Started} {fs′ : List Frame}
+  pub load-called : {running : Bool} → running ≡ m .run .on → {constants′ structs′ functions′ text′ main′ mainPlaces′ other′ otherPlaces′ : List ℕ} {x : Started} {fs′ : List Frame}
       → record { answer = x; stores = storesOf constants′ structs′ functions′ text′ main′ mainPlaces′ other′ otherPlaces′; frames = fs′ }
-      ≡ loadMachineOf image (storesOf constants structs functions text main mainPlaces other otherPlaces) fs
+      ≡ loadMachineOf running image (storesOf constants structs functions text main mainPlaces other otherPlaces) fs
       → {words′ : List ℕ} → words′ ≡ allKept fs′ words → {r : Answer} → r ≡ Made x
       → Called m Load image fs before r fs′ (held constants′ structs′ functions′ text′ main′ mainPlaces′ other′ otherPlaces′ stack cells copy trace words′)
   unfolding Called
-  load-called e ek er = making (loadMachineOf image (before .program) fs) before e er ek
+  load-called on e ek er = making (loadMachineOf (m .run .on) image (before .program) fs) before (rw on at e) er ek
 
-  pub run-called : (units : ℕ) (stack′ cells′ : List ℕ) (fs′ : List Frame) (copy′ trace′ : List ℕ) {x : RunResult}
-      → RunPost m (programLent structs constants functions text main mainPlaces other otherPlaces) (runLent stack cells fs copy trace) units x
+  running : (call : RunCall) (stack′ cells′ : List ℕ) (fs′ : List Frame) (copy′ trace′ : List ℕ) {x : RunResult}
+      → RunPost call m (programLent structs constants functions text main mainPlaces other otherPlaces) (runLent stack cells fs copy trace) x
       (runLent stack′ cells′ fs′ copy′ trace′)
       → {words′ : List ℕ} → words′ ≡ allKept fs′ words → {r : Answer} → r ≡ Ran x
-      → Called m (Run units) image fs before r fs′ (held constants structs functions text main mainPlaces other otherPlaces stack′ cells′ copy′ trace′ words′)
-  unfolding Called programLent runLent lentIn
-  run-called units stack′ cells′ fs′ copy′ trace′ {x} p ek er = record { result = x; answer = er; post = p; program = refl; words = ek }
+      → Running call m fs before r fs′ (held constants structs functions text main mainPlaces other otherPlaces stack′ cells′ copy′ trace′ words′)
+  unfolding programLent runLent lentIn
+  running call stack′ cells′ fs′ copy′ trace′ {x} p ek er = record { result = x; answer = er; post = p; program = refl; words = ek }
+
+  -- a beginning is lent no backtrace store: this one is as any other
+  pub begin-called : (copy′ : List ℕ) {x : RunResult}
+      → ((backtrace : List ℕ) → RunPost begins m (programLent structs constants functions text main mainPlaces other otherPlaces) (runLent stack cells fs copy backtrace) x
+      (runLent stack cells fs copy′ backtrace))
+      → {words′ : List ℕ} → words′ ≡ allKept fs words → {r : Answer} → r ≡ Ran x
+      → Called m Begin image fs before r fs (held constants structs functions text main mainPlaces other otherPlaces stack cells copy′ trace words′)
+  unfolding Called
+  begin-called copy′ p ek er = running begins stack cells fs copy′ trace (p trace) ek er
+
+  pub continue-called : (units : ℕ) (stack′ cells′ : List ℕ) (fs′ : List Frame) (trace′ : List ℕ) {x : RunResult}
+      → RunPost (continues units) m (programLent structs constants functions text main mainPlaces other otherPlaces) (runLent stack cells fs copy trace) x
+      (runLent stack′ cells′ fs′ copy trace′)
+      → {words′ : List ℕ} → words′ ≡ allKept fs′ words → {r : Answer} → r ≡ Ran x
+      → Called m (Continue units) image fs before r fs′ (held constants structs functions text main mainPlaces other otherPlaces stack′ cells′ copy trace′ words′)
+  unfolding Called
+  continue-called units stack′ cells′ fs′ trace′ p ek er = running (continues units) stack′ cells′ fs′ copy trace′ p ek er
+
+  pub abandon-called : (stack′ : List ℕ) (fs′ : List Frame) (trace′ : List ℕ) {x : RunResult}
+      → RunPost abandons m (programLent structs constants functions text main mainPlaces other otherPlaces) (runLent stack cells fs copy trace) x
+      (runLent stack′ cells fs′ copy trace′)
+      → {words′ : List ℕ} → words′ ≡ allKept fs′ words → {r : Answer} → r ≡ Ran x
+      → Called m Abandon image fs before r fs′ (held constants structs functions text main mainPlaces other otherPlaces stack′ cells copy trace′ words′)
+  unfolding Called
+  abandon-called stack′ fs′ trace′ p ek er = running abandons stack′ cells fs′ copy trace′ p ek er
 
   pub trace-called : {trace′ : List ℕ} {x : Told}
       → ((structs′ constants′ : List ℕ) → record { answer = x; out = trace′ } ≡ backtraceIn m

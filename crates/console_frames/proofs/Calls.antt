@@ -14,7 +14,7 @@ use denote.Laws.{Is, Tells, Makes}
 use denote.Builtin.{u64}
 use denote.Enum.Laws as EL
 use Rattle.console_frames.specs.declared.Call.{Call}
-use Rattle.console_frames.specs.declared.Call.the-variants.{Run}
+use Rattle.console_frames.specs.declared.Call.the-variants.{Continue}
 use Rattle.console_frames.specs.declared.Answer.{Answer}
 use Rattle.console_frames.proofs.Call as C
 use Rattle.console_frames.proofs.Call.Laws as C′
@@ -33,8 +33,8 @@ IsCall c = Is CallRow c (callVal c ∷ [])
 pub call-tells : Tells CallRow (Is CallRow) (λ c. callVal c ∷ [])
 call-tells = C′.lowers .val-is
 
-pub run-fits : (n : ℕ) → IsCall (Run n) → Is u64 n (vint w64 n ∷ [])
-run-fits n is = EL.owed C.the-type C′.the-laws (Run n) _ is .0
+pub units-fit : (n : ℕ) → IsCall (Continue n) → Is u64 n (vint w64 n ∷ [])
+units-fit n is = EL.owed C.the-type C′.the-laws (Continue n) _ is .0
 
 abbrev pub AnswerRow : RattleType
 AnswerRow = N.the-row

@@ -9,7 +9,7 @@ use Rattle.model.specs.declared.RunResult.{RunResult}
 use Rattle.model.specs.Stores.{Stores}
 use Rattle.model.specs.Loading.{OutRes}
 use Rattle.model.specs.Machines as machine
-use Rattle.model.specs.Machines.{StartRes, RunPost, newMachineOf, loadMachineOf, backtraceIn}
+use Rattle.model.specs.Machines.{StartRes, RunCall, begins, continues, abandons, RunPost, newMachineOf, loadMachineOf, backtraceIn}
 use Rattle.frames.specs.Links.{noFrame}
 use Rattle.console_frames.specs.declared.Call.{Call}
 use Rattle.console_frames.specs.declared.Call.the-variants as c
@@ -62,11 +62,11 @@ pub record Making (w : StartRes) (s : Held) (r : Answer) (frames' : List Frame) 
 unfoldable pub lentIn : (frames : List Frame) (s : Held) → machine.Lent
 lentIn frames s = record { stack = s .stack; cells = s .cells; frames = frames; copy = s .copy; backtrace = s .trace }
 
--- the run's own rule, over the frames as records; the program's stores are as they were
-pub record Running (m : Vm) (units : ℕ) (frames : List Frame) (s : Held) (r : Answer) (frames' : List Frame) (s' : Held) : Type 0 where
+-- the rule of that call of a run, over the frames as records; the program's stores are as they were
+pub record Running (call : RunCall) (m : Vm) (frames : List Frame) (s : Held) (r : Answer) (frames' : List Frame) (s' : Held) : Type 0 where
   pub result : RunResult
   pub answer : r ≡ a.Ran result
-  pub post : RunPost m (s .program) (lentIn frames s) units result (lentIn frames' s')
+  pub post : RunPost call m (s .program) (lentIn frames s) result (lentIn frames' s')
   pub program : s' .program ≡ s .program
   pub words : s' .frames ≡ allKept frames' (s .frames)
 
@@ -82,9 +82,11 @@ pub record Tracing (w : OutRes) (frames : List Frame) (s : Held) (r : Answer) (f
 
 -- the machine m is called, the image beside it; r answers, and s' is what the stores then hold
 unfoldable pub Called : (m : Vm) (call : Call) (image : List ℕ) (frames : List Frame) (s : Held) (r : Answer) (frames' : List Frame) (s' : Held) → Type 0
-Called m c.New image frames s r frames' s' = Making (newMachineOf (s .program) frames) s r frames' s'
-Called m c.Load image frames s r frames' s' = Making (loadMachineOf image (s .program) frames) s r frames' s'
-Called m (c.Run units) image frames s r frames' s' = Running m units frames s r frames' s'
+Called m c.New image frames s r frames' s' = Making (newMachineOf (m .run .on) (s .program) frames) s r frames' s'
+Called m c.Load image frames s r frames' s' = Making (loadMachineOf (m .run .on) image (s .program) frames) s r frames' s'
+Called m c.Begin image frames s r frames' s' = Running begins m frames s r frames' s'
+Called m (c.Continue units) image frames s r frames' s' = Running (continues units) m frames s r frames' s'
+Called m c.Abandon image frames s r frames' s' = Running abandons m frames s r frames' s'
 Called m c.Trace image frames s r frames' s' = Tracing (backtraceIn m (s .program) (s .stack) frames (s .trace)) frames s r frames' s'
 
 -- a call over 256 frames that rest in words

@@ -89,7 +89,9 @@ pub fn keep(frames: &[Frame], words: &mut [u64])
 pub enum Call {
     New,
     Load,
-    Run(u64),
+    Begin,
+    Continue(u64),
+    Abandon,
     Trace,
 }
 
@@ -118,6 +120,13 @@ fn traced(t: Told) -> Answer
     Answer::Traced(t)
 }
 
+// Whether a run is under way.
+fn under_way(m: Vm) -> bool
+    ensures { λ r. ⌜ r ≡ m .run .on ⌝ }
+{
+    m.run.on
+}
+
 // The call, over frames that are laid before it and kept after it.
 pub fn act(
     m: Vm,
@@ -143,13 +152,16 @@ pub fn act(
     lay(frames, words);
     match call {
         Call::New => {
-            let s = machine::new(functions, text, frames);
+            let running = under_way(m);
+            let s = machine::new(running, functions, text, frames);
             keep(frames, words);
             let r = made(s);
             return r;
         }
         Call::Load => {
+            let running = under_way(m);
             let s = machine::load(
+                running,
                 image,
                 constants,
                 structs,
@@ -165,10 +177,51 @@ pub fn act(
             let r = made(s);
             return r;
         }
-        Call::Run(units) => {
-            let x = machine::run(
+        Call::Begin => {
+            let x = machine::begin(
+                m,
+                constants,
+                structs,
+                functions,
+                text,
+                main,
+                main_places,
+                other,
+                other_places,
+                stack,
+                cells,
+                frames,
+                copy,
+            );
+            keep(frames, words);
+            let r = ran(x);
+            return r;
+        }
+        Call::Continue(units) => {
+            let x = machine::continue_run(
                 m,
                 units,
+                constants,
+                structs,
+                functions,
+                text,
+                main,
+                main_places,
+                other,
+                other_places,
+                stack,
+                cells,
+                frames,
+                copy,
+                trace,
+            );
+            keep(frames, words);
+            let r = ran(x);
+            return r;
+        }
+        Call::Abandon => {
+            let x = machine::abandon(
+                m,
                 constants,
                 structs,
                 functions,

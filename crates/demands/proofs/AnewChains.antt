@@ -32,6 +32,8 @@ elsewhere {h = h} {d = d} {k = k} a l =
         otherPlaces = l .long .otherPlaces ∙ a .stores .otherPlaces;
       };
       machine = rw (world-same o (l .relent) (l .rooms), z .machine) (a .machine);
+      on = ap (λ (m : Vm). m .run .on) (l .relent .vm) ∙ a .on;
+      under = λ on. rw (world-same o (l .relent) (l .rooms), z .under) (a .under on);
       stack = l .rooms .stack ∙ a .stack;
       frames = l .rooms .frames ∙ a .frames;
       copy = l .rooms .copy ∙ a .copy;

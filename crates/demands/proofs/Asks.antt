@@ -21,7 +21,7 @@ use Rattle.model.specs.Heap.{heapOf, headIn, placedBelow}
 use Rattle.model.specs.Stores.{Stores, functionsFrom}
 use Rattle.model.specs.Orders.{frameStoreOk, traces, judgedBy}
 use Rattle.model.specs.Emission.{Res}
-use Rattle.model.specs.Machines.{Lent, traceOrder, backtraceIn, startWith, fresh, loadMachineOf, newMachineOf}
+use Rattle.model.specs.Machines.{Lent, traceOrder, backtraceIn, startWith, fresh, unlessRunning, loadMachineOf, newMachineOf}
 use Rattle.model.specs.Readers.{stackValueOf, reads, headerAt, blockHeaderOf, elementShown, elementOf}
 use Rattle.value.proofs.Coding.{and-right}
 use Rattle.cells.proofs.Order.{Whole, Placed, list-of, struct-of}
@@ -91,13 +91,20 @@ module _ (m : Vm) (s : Stores) {l l' : Lent} (k : LentAlike m l l') where
         stack = record { front = refl; room = k .stack .room };
         cells = record { front = refl; room = k .cells .room };
         frames = record { front = refl; room = f .room };
-        copy = k .copy;
+        copy = record { front = refl; room = k .copy .room };
         backtrace = k .backtrace;
       };
     };
   }
   start-alike (ld.Broken i) s' fs fs' f = record { answer = refl; agree = record { vm = refl; stores = refl; lent = frames-too f } }
   start-alike (ld.Refused n) s' fs fs' f = record { answer = refl; agree = record { vm = refl; stores = refl; lent = frames-too f } }
+
+  -- unless a run is under way
+  unless-alike : (running : Bool) (a : Loaded) (s' : Stores)
+      → DoneAlike (starts (here l) (unlessRunning running s (l .frames) (startWith a s' s (l .frames)))) (starts (here l') (unlessRunning running s (l' .frames) (startWith a s' s (l' .frames))))
+  unfolding unlessRunning starts
+  unless-alike true a s' = record { answer = refl; agree = record { vm = refl; stores = refl; lent = frames-too (k .frames) } }
+  unless-alike false a s' = start-alike a s' (l .frames) (l' .frames) (k .frames)
 
   -- ---- entries that only look
 
@@ -144,8 +151,8 @@ module _ (m : Vm) (s : Stores) {l l' : Lent} (k : LentAlike m l l') where
 
   pub ask-alike : (q : Ask) → DoneAlike (done q (here l)) (done q (here l'))
   unfolding done newMachineOf loadMachineOf
-  ask-alike new = start-alike _ _ (l .frames) (l' .frames) (k .frames)
-  ask-alike (load image) = start-alike _ _ (l .frames) (l' .frames) (k .frames)
+  ask-alike new = unless-alike (m .run .on) _ _
+  ask-alike (load image) = unless-alike (m .run .on) _ _
   ask-alike (addOp op place) = emits-alike _
   ask-alike (addOp1 op a place) = emits-alike _
   ask-alike (addOp2 op a b place) = emits-alike _

@@ -223,26 +223,30 @@ module _ {c : Counts} {s s' : Stores} (one : OneProgram c s s') where
   unfolding appended
   appended-same bytes place = both-done c 0 (functions-long (with-code _ _ _ _ (written-long _ _ _ _ _ _ code-long) (written-long _ _ _ _ _ _ places-long)) _ _ (longer-long (length bytes)))
 
-  emit-res : (op : ℕ) (bytes : List ℕ) (place : ℕ) → SameRes (emitOf c op bytes place s) (emitOf c op bytes place s')
+  emit-res : (running : Bool) (op : ℕ) (bytes : List ℕ) (place : ℕ) → SameRes (emitOf running c op bytes place s) (emitOf running c op bytes place s')
   unfolding emitOf emitIn codeOrder
-  emit-res op bytes place =
+  emit-res running op bytes place =
       rw (g .counts, g .functions, g .codes, g .places, g' .functions, g' .codes, g' .places, size-here, code-room, end-here)
+      (same-if running (refused 25)
       (same-if (ltb codeLimit (sizeHere c s + length bytes)) (refused 22)
-      (same-if (ltb (codeRoom c s) (endHere c s + length bytes)) (refused 21) (same-if (leb 38 op) (refused 1) (appended-same bytes place))))
+      (same-if (ltb (codeRoom c s) (endHere c s + length bytes)) (refused 21) (same-if (leb 38 op) (refused 1) (appended-same bytes place)))))
 
-  pub emit-alike : (op : ℕ) (bytes : List ℕ) (place : ℕ) → AlikeRes (emitOf c op bytes place s) (emitOf c op bytes place s')
-  emit-alike op bytes place = alike-res (emit-res op bytes place) (emit-reads c op bytes place s (one .ok)) (emit-reads c op bytes place s' (one .ok')) (rw (one .same))
+  pub emit-alike : (running : Bool) (op : ℕ) (bytes : List ℕ) (place : ℕ) → AlikeRes (emitOf running c op bytes place s) (emitOf running c op bytes place s')
+  emit-alike running op bytes place =
+      alike-res (emit-res running op bytes place) (emit-reads running c op bytes place s (one .ok)) (emit-reads running c op bytes place s' (one .ok')) (rw (one .same))
 
   patched-same : (at a : ℕ) → SameRes (patched c at a s) (patched c at a s')
   unfolding patched
   patched-same at a = both-done c 0 (with-code _ _ _ _ (written-long _ _ _ _ _ _ code-long) places-long)
 
-  patch-res : (at a : ℕ) → SameRes (patchOf c at a s) (patchOf c at a s')
+  patch-res : (running : Bool) (at a : ℕ) → SameRes (patchOf running c at a s) (patchOf running c at a s')
   unfolding patchOf patchOrder
-  patch-res at a = rw (g .counts, g .functions, g .codes, g' .functions, g' .codes, size-here) (same-if (ltb (sizeHere c s) (at + 2)) (refused 23) (patched-same at a))
+  patch-res running at a =
+      rw (g .counts, g .functions, g .codes, g' .functions, g' .codes, size-here)
+      (same-if running (refused 25) (same-if (ltb (sizeHere c s) (at + 2)) (refused 23) (patched-same at a)))
 
-  pub patch-alike : (at a : ℕ) → AlikeRes (patchOf c at a s) (patchOf c at a s')
-  patch-alike at a = alike-res (patch-res at a) (patch-reads c at a s (one .ok)) (patch-reads c at a s' (one .ok')) (rw (one .same))
+  pub patch-alike : (running : Bool) (at a : ℕ) → AlikeRes (patchOf running c at a s) (patchOf running c at a s')
+  patch-alike running at a = alike-res (patch-res running at a) (patch-reads running c at a s (one .ok)) (patch-reads running c at a s' (one .ok')) (rw (one .same))
 
   -- a text behind the others
   more-text : (lent : List ℕ) → AsLong (withText (written (s' .text) (c .text) lent) s') (withText (written (s .text) (c .text) lent) s)
@@ -265,14 +269,16 @@ module _ {c : Counts} {s s' : Stores} (one : OneProgram c s s') where
   constant-by k.String lent = text-constant 2 lent
   constant-by k.FunctionReference lent = text-constant 3 lent
 
-  constant-res : (x : Constant) (lent : List ℕ) → SameRes (addConstantOf c x lent s) (addConstantOf c x lent s')
+  constant-res : (running : Bool) (x : Constant) (lent : List ℕ) → SameRes (addConstantOf running c x lent s) (addConstantOf running c x lent s')
   unfolding addConstantOf constantOrder
-  constant-res x lent =
+  constant-res running x lent =
       rw (g .counts, g .text, g .constants, g' .text, g' .constants, places-alike (s' .constants) (s .constants) (one .long .constants) 2)
-      (same-if (leb constantLimit (c .constants)) (refused 22) (same-if (leb (places 2 (s .constants)) (c .constants)) (refused 21) (constant-by x lent)))
+      (same-if running (refused 25)
+      (same-if (leb constantLimit (c .constants)) (refused 22) (same-if (leb (places 2 (s .constants)) (c .constants)) (refused 21) (constant-by x lent))))
 
-  pub constant-alike : (x : Constant) (lent : List ℕ) → AlikeRes (addConstantOf c x lent s) (addConstantOf c x lent s')
-  constant-alike x lent = alike-res (constant-res x lent) (add-constant-reads c x lent s (one .ok)) (add-constant-reads c x lent s' (one .ok')) (rw (one .same))
+  pub constant-alike : (running : Bool) (x : Constant) (lent : List ℕ) → AlikeRes (addConstantOf running c x lent s) (addConstantOf running c x lent s')
+  constant-alike running x lent =
+      alike-res (constant-res running x lent) (add-constant-reads running c x lent s (one .ok)) (add-constant-reads running c x lent s' (one .ok')) (rw (one .same))
 
   name-long : (name : List ℕ) → length (withStructName c name s') ≡ length (withStructName c name s)
   unfolding withStructName
@@ -287,28 +293,33 @@ module _ {c : Counts} {s s' : Stores} (one : OneProgram c s s') where
       (same-if (leb nameLimit (c .structs)) (refused 22) (same-if (leb (places 2 (s .structs)) (c .structs)) (refused 21) (same-if (textRoom c s (length name))
       (both-done (oneStruct (length name) c) (c .structs) (structs-long (more-text name) _ _ (name-long name))) (refused 21))))
 
-  struct-res : (name : List ℕ) → SameRes (addStructOf c name s) (addStructOf c name s')
+  struct-res : (running : Bool) (name : List ℕ) → SameRes (addStructOf running c name s) (addStructOf running c name s')
   unfolding addStructOf structOrder structNames
-  struct-res name = rw (g .counts, g .text, g .structs, g' .text, g' .structs, structs-same) (struct-by name _)
+  struct-res running name = rw (g .counts, g .text, g .structs, g' .text, g' .structs, structs-same) (same-if running (refused 25) (struct-by name _))
 
-  pub struct-alike : (name : List ℕ) → AlikeRes (addStructOf c name s) (addStructOf c name s')
-  struct-alike name = alike-res (struct-res name) (struct-reads c name s (one .ok)) (struct-reads c name s' (one .ok')) (rw (one .same))
+  pub struct-alike : (running : Bool) (name : List ℕ) → AlikeRes (addStructOf running c name s) (addStructOf running c name s')
+  struct-alike running name = alike-res (struct-res running name) (struct-reads running c name s (one .ok)) (struct-reads running c name s' (one .ok')) (rw (one .same))
 
   begun-same : (name : List ℕ) → SameRes (begun c name s) (begun c name s')
   unfolding begun
   begun-same name = both-done (oneFunction (length name) c) (c .functions) (functions-long (more-text name) _ _ (words-long _ _ _ _ _ _ _ _ (one .long .functions)))
 
-  begin-res : (name : List ℕ) → SameRes (beginFunctionOf c name s) (beginFunctionOf c name s')
+  begin-res : (running : Bool) (name : List ℕ) → SameRes (beginFunctionOf running c name s) (beginFunctionOf running c name s')
   unfolding beginFunctionOf functionOrder
-  begin-res name =
+  begin-res running name =
       rw (g .counts, g .text, g .functions, g .main, g' .text, g' .functions, g' .main, text-room (length name), places-alike (s' .functions) (s .functions) (one .long .functions) 2)
-      (same-if (leb nameLimit (c .functions)) (refused 22) (same-if (leb (places 2 (s .functions)) (c .functions)) (refused 21) (same-if (textRoom c s (length name)) (begun-same name) (refused 21))))
+      (same-if running (refused 25)
+      (same-if (leb nameLimit (c .functions)) (refused 22) (same-if (leb (places 2 (s .functions)) (c .functions)) (refused 21) (same-if (textRoom c s (length name)) (begun-same name) (refused 21)))))
 
-  pub begin-alike : (name : List ℕ) → AlikeRes (beginFunctionOf c name s) (beginFunctionOf c name s')
-  begin-alike name = alike-res (begin-res name) (begin-reads c name s (one .ok)) (begin-reads c name s' (one .ok')) (rw (one .same))
+  pub begin-alike : (running : Bool) (name : List ℕ) → AlikeRes (beginFunctionOf running c name s) (beginFunctionOf running c name s')
+  begin-alike running name = alike-res (begin-res running name) (begin-reads running c name s (one .ok)) (begin-reads running c name s' (one .ok')) (rw (one .same))
 
-  pub end-alike : AlikeRes (record { answer = endFunctionOf c; stores = s }) (record { answer = endFunctionOf c; stores = s' })
-  end-alike = record { answer = refl; rooms = one .long; program = λ d i q. end-reads c s' (one .ok') d i q ∙ one .same ∙ sym (end-reads c s (one .ok) d i q) }
+  pub end-alike : (running : Bool) → AlikeRes (record { answer = endFunctionOf running c; stores = s }) (record { answer = endFunctionOf running c; stores = s' })
+  end-alike running = record {
+    answer = refl;
+    rooms = one .long;
+    program = λ d i q. end-reads running c s' (one .ok') d i q ∙ one .same ∙ sym (end-reads running c s (one .ok) d i q);
+  }
 
   -- ---- entries that only look
 

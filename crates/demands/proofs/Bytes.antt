@@ -23,7 +23,7 @@ use Rattle.model.specs.Images.{joined, counted, textImage, constantImage, runsO
 use Rattle.model.specs.Stores.{Stores, codeHere, placesHere, withCode}
 use Rattle.model.specs.Emission.{Res, refuse, counts, written, u16, textRoom, sizeHere, endHere, codeRoom, appended, codeOrder, emitIn, emitOf, patchOrder, patched, patchOf, withConstant, withTextConstant, constantAdded, constantOrder, addConstantOf, structAdded, structFound, structOrder, addStructOf, functionOrder, begun, beginFunctionOf, newOf, addOpOf, addOp1Of, addOp2Of, addOp3Of}
 use Rattle.model.specs.Emission as e
-use Rattle.model.specs.Machines.{startWith, newMachineOf, loadMachineOf}
+use Rattle.model.specs.Machines.{StartRes, startWith, unlessRunning, newMachineOf, loadMachineOf}
 use Rattle.model.specs.Loading.{LoadRes, mainOf, othersOf, laid, countsFor, roomFor, loadJudged, loadOf}
 use Rattle.layout.proofs.Bools.{either-way}
 use Rattle.laws_images.proofs.Codecs.{bytes-front, bytes-rest}
@@ -96,19 +96,20 @@ module _ (c : Counts) (s : Stores) (b : CodeBytes s) where
       (written-bytes (codeHere c s) (endHere c s) bytes h code-here) in
       record { code = record { main = z .main; other = z .other } }
 
-  pub emit-bytes : (op : ℕ) (rest : List ℕ) (place : ℕ) → Bytes rest → Coded (emitOf c op (op ∷ rest) place s)
+  pub emit-bytes : (running : Bool) (op : ℕ) (rest : List ℕ) (place : ℕ) → Bytes rest → Coded (emitOf running c op (op ∷ rest) place s)
   unfolding emitOf emitIn
-  emit-bytes op rest place h =
-      code-if (codeOrder c s) (code-if (ltb codeLimit (sizeHere c s + length (op ∷ rest))) (stays 22) (λ _. code-if (ltb (codeRoom c s) (endHere c s + length (op ∷ rest))) (stays 21) (λ _.
-      code-if (leb 38 op) (stays 1) (λ f. appended-bytes (op ∷ rest) place (unfold Bytes in (omega (arith, leb-false 38 op f), h)))))) (λ _. stays 19)
+  emit-bytes running op rest place h =
+      code-if (codeOrder c s) (code-if running (stays 25) (λ _. code-if (ltb codeLimit (sizeHere c s + length (op ∷ rest))) (stays 22) (λ _.
+      code-if (ltb (codeRoom c s) (endHere c s + length (op ∷ rest))) (stays 21) (λ _.
+      code-if (leb 38 op) (stays 1) (λ f. appended-bytes (op ∷ rest) place (unfold Bytes in (omega (arith, leb-false 38 op f), h))))))) (λ _. stays 19)
 
   patched-bytes : (at a : ℕ) → a < 65536 → Coded (patched c at a s)
   unfolding patched
   patched-bytes at a h = record { code = with-code _ _ (written-bytes (codeHere c s) _ (u16 a) (u16-bytes a h) code-here) }
 
-  pub patch-bytes : (at a : ℕ) → a < 65536 → Coded (patchOf c at a s)
+  pub patch-bytes : (running : Bool) (at a : ℕ) → a < 65536 → Coded (patchOf running c at a s)
   unfolding patchOf
-  patch-bytes at a h = code-if (patchOrder c s) (code-if (ltb (sizeHere c s) (at + 2)) (stays 23) (λ _. patched-bytes at a h)) (λ _. stays 19)
+  patch-bytes running at a h = code-if (patchOrder c s) (code-if running (stays 25) (λ _. code-if (ltb (sizeHere c s) (at + 2)) (stays 23) (λ _. patched-bytes at a h))) (λ _. stays 19)
 
   constant-by : (x : Constant) (lent : List ℕ) → Coded (constantAdded c x lent s)
   unfolding constantAdded withConstant withTextConstant
@@ -117,11 +118,11 @@ module _ (c : Counts) (s : Stores) (b : CodeBytes s) where
   constant-by k.String lent = code-if (textRoom c s (length lent)) (same-code _ _ _ refl refl) (λ _. stays 21)
   constant-by k.FunctionReference lent = code-if (textRoom c s (length lent)) (same-code _ _ _ refl refl) (λ _. stays 21)
 
-  pub constant-bytes : (x : Constant) (lent : List ℕ) → Coded (addConstantOf c x lent s)
+  pub constant-bytes : (running : Bool) (x : Constant) (lent : List ℕ) → Coded (addConstantOf running c x lent s)
   unfolding addConstantOf
-  constant-bytes x lent =
-      code-if (constantOrder c s) (code-if (leb constantLimit (c .constants)) (stays 22)
-      (λ _. code-if (leb (places 2 (s .constants)) (c .constants)) (stays 21) (λ _. constant-by x lent))) (λ _. stays 19)
+  constant-bytes running x lent =
+      code-if (constantOrder c s) (code-if running (stays 25) (λ _. code-if (leb constantLimit (c .constants)) (stays 22)
+      (λ _. code-if (leb (places 2 (s .constants)) (c .constants)) (stays 21) (λ _. constant-by x lent)))) (λ _. stays 19)
 
   struct-by : (name : List ℕ) (x : Option ℕ) → Coded (structFound c name s x)
   unfolding structFound structAdded
@@ -130,19 +131,19 @@ module _ (c : Counts) (s : Stores) (b : CodeBytes s) where
       code-if (leb nameLimit (c .structs)) (stays 22) (λ _. code-if (leb (places 2 (s .structs)) (c .structs)) (stays 21)
       (λ _. code-if (textRoom c s (length name)) (same-code _ _ _ refl refl) (λ _. stays 21)))
 
-  pub struct-bytes : (name : List ℕ) → Coded (addStructOf c name s)
+  pub struct-bytes : (running : Bool) (name : List ℕ) → Coded (addStructOf running c name s)
   unfolding addStructOf
-  struct-bytes name = code-if (structOrder c s) (struct-by name _) (λ _. stays 19)
+  struct-bytes running name = code-if (structOrder c s) (code-if running (stays 25) (λ _. struct-by name _)) (λ _. stays 19)
 
   begun-bytes : (name : List ℕ) → Coded (begun c name s)
   unfolding begun
   begun-bytes name = same-code _ _ _ refl refl
 
-  pub begin-bytes : (name : List ℕ) → Coded (beginFunctionOf c name s)
+  pub begin-bytes : (running : Bool) (name : List ℕ) → Coded (beginFunctionOf running c name s)
   unfolding beginFunctionOf
-  begin-bytes name =
-      code-if (functionOrder c s) (code-if (leb nameLimit (c .functions)) (stays 22) (λ _. code-if (leb (places 2 (s .functions)) (c .functions)) (stays 21) (λ _.
-      code-if (textRoom c s (length name)) (begun-bytes name) (λ _. stays 21)))) (λ _. stays 19)
+  begin-bytes running name =
+      code-if (functionOrder c s) (code-if running (stays 25) (λ _. code-if (leb nameLimit (c .functions)) (stays 22) (λ _. code-if (leb (places 2 (s .functions)) (c .functions)) (stays 21) (λ _.
+      code-if (textRoom c s (length name)) (begun-bytes name) (λ _. stays 21))))) (λ _. stays 19)
 
 -- ---- a program made anew, or loaded
 
@@ -194,20 +195,27 @@ started-bytes (ld.Done c) t s (f ∷ fs) b k = b
 started-bytes (ld.Broken i) t s fs b k = k
 started-bytes (ld.Refused n) t s fs b k = k
 
+unless-bytes : (running : Bool) (s : Stores) (fs : List Frame) (x : StartRes) → CodeBytes s → CodeBytes (x .stores) → CodeBytes (unlessRunning running s fs x .stores)
+unfolding unlessRunning
+unless-bytes true s fs x b k = b
+unless-bytes false s fs x b k = k
+
 ask-bytes : (q : Ask) (h : Held) → Typed (jobOf q) → CodeBytes (h .stores) → CodeBytes (done q h .held .stores)
 unfolding jobOf done emits starts looks newMachineOf loadMachineOf addOpOf addOp1Of addOp2Of addOp3Of Below
-ask-bytes new h t b = started-bytes _ _ (h .stores) (h .lent .frames) (new-bytes (h .stores) b) b
-ask-bytes (load image) h t b = started-bytes _ _ (h .stores) (h .lent .frames) (load-bytes image (h .stores) t b) b
-ask-bytes (addOp op place) h t b = emit-bytes (h .vm .program) (h .stores) b op [] place (unfold Bytes in tt) .code
-ask-bytes (addOp1 op x place) h t b = emit-bytes (h .vm .program) (h .stores) b op (u16 x) place (u16-bytes x (t .0)) .code
-ask-bytes (addOp2 op x y place) h t b = emit-bytes (h .vm .program) (h .stores) b op (u16 x ++ u16 y) place (bytes-append (u16 x) (u16 y) (u16-bytes x (t .0)) (u16-bytes y (t .1 .0))) .code
+ask-bytes new h t b = unless-bytes (h .vm .run .on) (h .stores) (h .lent .frames) _ b (started-bytes _ _ (h .stores) (h .lent .frames) (new-bytes (h .stores) b) b)
+ask-bytes (load image) h t b = unless-bytes (h .vm .run .on) (h .stores) (h .lent .frames) _ b (started-bytes _ _ (h .stores) (h .lent .frames) (load-bytes image (h .stores) t b) b)
+ask-bytes (addOp op place) h t b = emit-bytes (h .vm .program) (h .stores) b (h .vm .run .on) op [] place (unfold Bytes in tt) .code
+ask-bytes (addOp1 op x place) h t b = emit-bytes (h .vm .program) (h .stores) b (h .vm .run .on) op (u16 x) place (u16-bytes x (t .0)) .code
+ask-bytes (addOp2 op x y place) h t b =
+    emit-bytes (h .vm .program) (h .stores) b (h .vm .run .on) op (u16 x ++ u16 y) place
+    (bytes-append (u16 x) (u16 y) (u16-bytes x (t .0)) (u16-bytes y (t .1 .0))) .code
 ask-bytes (addOp3 op x y z place) h t b =
-    emit-bytes (h .vm .program) (h .stores) b op (u16 x ++ u16 y ++ u16 z) place
+    emit-bytes (h .vm .program) (h .stores) b (h .vm .run .on) op (u16 x ++ u16 y ++ u16 z) place
     (bytes-append (u16 x ++ u16 y) (u16 z) (bytes-append (u16 x) (u16 y) (u16-bytes x (t .0)) (u16-bytes y (t .1 .0))) (u16-bytes z (t .1 .1 .0))) .code
-ask-bytes (patch offset word) h t b = patch-bytes (h .vm .program) (h .stores) b offset word (t .0) .code
-ask-bytes (addConstant x text) h t b = constant-bytes (h .vm .program) (h .stores) b x text .code
-ask-bytes (addStruct text) h t b = struct-bytes (h .vm .program) (h .stores) b text .code
-ask-bytes (beginFunction text) h t b = begin-bytes (h .vm .program) (h .stores) b text .code
+ask-bytes (patch offset word) h t b = patch-bytes (h .vm .program) (h .stores) b (h .vm .run .on) offset word (t .0) .code
+ask-bytes (addConstant x text) h t b = constant-bytes (h .vm .program) (h .stores) b (h .vm .run .on) x text .code
+ask-bytes (addStruct text) h t b = struct-bytes (h .vm .program) (h .stores) b (h .vm .run .on) text .code
+ask-bytes (beginFunction text) h t b = begin-bytes (h .vm .program) (h .stores) b (h .vm .run .on) text .code
 ask-bytes endFunction h t b = b
 ask-bytes currentOffset h t b = b
 ask-bytes (functionIdx text) h t b = b
@@ -223,5 +231,5 @@ ask-bytes (textBytes x out) h t b = b
 -- every call keeps good order, and code bytes
 pub fine-kept : (c : Call) (a : Answer) → AllTyped (c ∷ []) → {h h' : Held} → After c h a h' → Fine h → Fine h'
 unfolding AllTyped
-fine-kept (run u) a t p o = record { order = order-kept (run u) a t p (o .order); code = rw (p .stores) (o .code) }
+fine-kept (run c) a t p o = record { order = order-kept (run c) a t p (o .order); code = rw (p .stores) (o .code) }
 fine-kept (ask q) a t {h} p o = record { order = order-kept (ask q) a t p (o .order); code = subst (λ (d : Done). CodeBytes (d .held .stores)) p (ask-bytes q h (t .0) (o .code)) }

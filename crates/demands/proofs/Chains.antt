@@ -1,9 +1,8 @@
 -- Calls one after another: states that agree give the same answers, whatever the calls.
 use mathlib.Core.Path.{_≡_, refl, sym, ap, _∙_}
 use mathlib.Core.List.{List}
-use Prim.Native.Nat.{ℕ}
 use Rattle.model.specs.declared.Vm.{Vm}
-use Rattle.model.specs.Machines.{RunPost}
+use Rattle.model.specs.Machines.{RunCall, RunPost}
 use Rattle.demands.specs.Host.{Held, Ask, Call, run, ask, Answer, ran, Done, done, vmAfter, RanBy, After, Chain, none, more}
 use Rattle.demands.specs.Agree.{Agree, SameChain}
 use Rattle.demands.proofs.OneRun.{same-answer, same-vm, same-lent}
@@ -18,16 +17,16 @@ module _ {h k : Held} (g : Agree h k) where
   moved : k ≡ record { vm = h .vm; stores = h .stores; lent = k .lent }
   moved = rw (g .vm, g .stores)
 
-  run-agrees : (u : ℕ) {a b : Answer} {h' k' : Held} → RanBy u h a h' → RanBy u k b k' → SameCall a b h' k'
-  run-agrees u {h' = h'} {k' = k'} p q =
-      let post : RunPost (h .vm) (h .stores) (k .lent) u (q .result) (k' .lent) = rw (g .vm, g .stores) (q .post) in
-      let vm : vmAfter (h .vm) (p .result) ≡ vmAfter (h .vm) (q .result) = same-vm (h .vm) (h .stores) u (g .lent) (p .post) post in
+  run-agrees : (c : RunCall) {a b : Answer} {h' k' : Held} → RanBy c h a h' → RanBy c k b k' → SameCall a b h' k'
+  run-agrees c {h' = h'} {k' = k'} p q =
+      let post : RunPost c (h .vm) (h .stores) (k .lent) (q .result) (k' .lent) = rw (g .vm, g .stores) (q .post) in
+      let vm : vmAfter (h .vm) (p .result) ≡ vmAfter (h .vm) (q .result) = same-vm c (h .vm) (h .stores) (g .lent) (p .post) post in
       record {
-        answer = p .answer ∙ ap ran (same-answer (h .vm) (h .stores) u (g .lent) (p .post) post) ∙ sym (q .answer);
+        answer = p .answer ∙ ap ran (same-answer c (h .vm) (h .stores) (g .lent) (p .post) post) ∙ sym (q .answer);
         agree = record {
           vm = p .vm ∙ vm ∙ ap (λ (m : Vm). vmAfter m (q .result)) (g .vm) ∙ sym (q .vm);
           stores = p .stores ∙ g .stores ∙ sym (q .stores);
-          lent = rw (p .vm) (same-lent (h .vm) (h .stores) u (g .lent) (p .post) post);
+          lent = rw (p .vm) (same-lent c (h .vm) (h .stores) (g .lent) (p .post) post);
         };
       }
 
@@ -38,7 +37,7 @@ module _ {h k : Held} (g : Agree h k) where
       record { answer = f .answer; agree = f .agree }
 
   call-agrees : (c : Call) {a b : Answer} {h' k' : Held} → After c h a h' → After c k b k' → SameCall a b h' k'
-  call-agrees (run u) p q = run-agrees u p q
+  call-agrees (run c) p q = run-agrees c p q
   call-agrees (ask q) p r = ask-agrees q p r
 
 -- whatever calls come: the same answers, and states that agree at the end

@@ -81,20 +81,22 @@ module _ (c : Counts) (s : Stores) where
   }
 
   -- add_op to add_op3
-  pub emit-grows : (op : ℕ) (bytes : List ℕ) (place : ℕ) → programOk c s ≡ true → Grows c s (emitOf c op bytes place s)
+  pub emit-grows : (running : Bool) (op : ℕ) (bytes : List ℕ) (place : ℕ) → programOk c s ≡ true → Grows c s (emitOf running c op bytes place s)
   unfolding emitOf emitIn
-  emit-grows op bytes place e =
+  emit-grows running op bytes place e =
       grows-if (codeOrder c s) _ _ (λ _.
+      grows-if running _ _ (λ _. grows-refused 25) (λ _.
       grows-if (ltb codeLimit (sizeHere c s + length bytes)) _ _ (λ _. grows-refused 22) (λ short.
       grows-if (ltb (codeRoom c s) (endHere c s + length bytes)) _ _ (λ _. grows-refused 21) (λ fits.
-      grows-if (leb 38 op) _ _ (λ _. grows-refused 1) (λ _. emit-by bytes place (good-of c s e) (ltb-false _ _ short) (ltb-false _ _ fits)))))
+      grows-if (leb 38 op) _ _ (λ _. grows-refused 1) (λ _. emit-by bytes place (good-of c s e) (ltb-false _ _ short) (ltb-false _ _ fits))))))
       (λ _. grows-refused 19)
 
-  pub patch-grows : (at a : ℕ) → Grows c s (patchOf c at a s)
+  pub patch-grows : (running : Bool) (at a : ℕ) → Grows c s (patchOf running c at a s)
   unfolding patchOf patched
-  patch-grows at a =
+  patch-grows running at a =
       grows-if (patchOrder c s) _ _ (λ _.
-      grows-if (ltb (sizeHere c s) (at + 2)) _ _ (λ _. grows-refused 23) (λ _. grows-same c 0 _ (omega arith) (omega arith) (ap (take (c .text)) (code-text _ _)) (code-functions _ _)))
+      grows-if running _ _ (λ _. grows-refused 25) (λ _.
+      grows-if (ltb (sizeHere c s) (at + 2)) _ _ (λ _. grows-refused 23) (λ _. grows-same c 0 _ (omega arith) (omega arith) (ap (take (c .text)) (code-text _ _)) (code-functions _ _))))
       (λ _. grows-refused 19)
 
   constant-by : (x : Constant) (lent : List ℕ) → Grows c s (constantAdded c x lent s)
@@ -105,12 +107,13 @@ module _ (c : Counts) (s : Stores) where
   constant-by k.FunctionReference lent = grows-if (textRoom c s (length lent)) _ _
       (λ _. grows-same _ _ _ (omega arith) (omega arith) (text-front (s .text) (c .text) lent) refl) (λ _. grows-refused 21)
 
-  pub constant-grows : (x : Constant) (lent : List ℕ) → Grows c s (addConstantOf c x lent s)
+  pub constant-grows : (running : Bool) (x : Constant) (lent : List ℕ) → Grows c s (addConstantOf running c x lent s)
   unfolding addConstantOf
-  constant-grows x lent =
+  constant-grows running x lent =
       grows-if (constantOrder c s) _ _ (λ _.
+      grows-if running _ _ (λ _. grows-refused 25) (λ _.
       grows-if (leb constantLimit (c .constants)) _ _ (λ _. grows-refused 22) (λ _.
-      grows-if (leb (places 2 (s .constants)) (c .constants)) _ _ (λ _. grows-refused 21) (λ _. constant-by x lent)))
+      grows-if (leb (places 2 (s .constants)) (c .constants)) _ _ (λ _. grows-refused 21) (λ _. constant-by x lent))))
       (λ _. grows-refused 19)
 
   struct-by : (name : List ℕ) (x : Option ℕ) → Grows c s (structFound c name s x)
@@ -121,9 +124,9 @@ module _ (c : Counts) (s : Stores) where
       grows-if (textRoom c s (length name)) _ _ (λ _. grows-same _ _ _ (omega arith) (omega arith) (text-front (s .text) (c .text) name) refl) (λ _. grows-refused 21)))
   struct-by name (some i) = grows-same _ _ _ (omega arith) (omega arith) refl refl
 
-  pub struct-grows : (name : List ℕ) → Grows c s (addStructOf c name s)
+  pub struct-grows : (running : Bool) (name : List ℕ) → Grows c s (addStructOf running c name s)
   unfolding addStructOf
-  struct-grows name = grows-if (structOrder c s) _ _ (λ _. struct-by name _) (λ _. grows-refused 19)
+  struct-grows running name = grows-if (structOrder c s) _ _ (λ _. grows-if running _ _ (λ _. grows-refused 25) (λ _. struct-by name _)) (λ _. grows-refused 19)
 
   begun-by : (name : List ℕ) → c .functions < places 2 (s .functions) → Grows c s (begun c name s)
   unfolding begun codeWord
@@ -139,11 +142,12 @@ module _ (c : Counts) (s : Stores) where
         });
   }
 
-  pub begin-grows : (name : List ℕ) → Grows c s (beginFunctionOf c name s)
+  pub begin-grows : (running : Bool) (name : List ℕ) → Grows c s (beginFunctionOf running c name s)
   unfolding beginFunctionOf
-  begin-grows name =
+  begin-grows running name =
       grows-if (functionOrder c s) _ _ (λ _.
+      grows-if running _ _ (λ _. grows-refused 25) (λ _.
       grows-if (leb nameLimit (c .functions)) _ _ (λ _. grows-refused 22) (λ _.
       grows-if (leb (places 2 (s .functions)) (c .functions)) _ _ (λ _. grows-refused 21) (λ fits.
-      grows-if (textRoom c s (length name)) _ _ (λ _. begun-by name (leb-false _ _ fits)) (λ _. grows-refused 21))))
+      grows-if (textRoom c s (length name)) _ _ (λ _. begun-by name (leb-false _ _ fits)) (λ _. grows-refused 21)))))
       (λ _. grows-refused 19)

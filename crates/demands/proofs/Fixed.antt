@@ -10,21 +10,22 @@ use lib.ListN.{length, getD, take, length-take, length-reverse}
 use lib.Seq.{getD-take, ext-getD, length-take-le, take-suc}
 use Rattle.model.specs.declared.Vm.{Vm}
 use Rattle.model.specs.declared.Frame.{Frame}
+use Rattle.model.specs.declared.Last.the-variants.{Nothing}
 use Rattle.model.specs.declared.Value.{Value}
 use Rattle.model.specs.declared.Value.the-variants as v
 use Rattle.model.specs.Values.{places, mostPlaces, kind, payload, kindAt, payloadAt, valueAt, vals, exactValue}
-use Rattle.model.specs.Heap.{Cell, item, cellKind, cellPayload, cellAt, heapOf, exactCell, exactCells}
-use Rattle.model.specs.Runs.{Machine, root}
+use Rattle.model.specs.Heap.{Cell, item, cellKind, cellPayload, cellAt, cellsFrom, heapOf, exactCell, exactCells}
+use Rattle.model.specs.Runs.{Machine, begin, machineOf, root, Under}
 use Rattle.model.specs.Stores.{Stores, functionsFrom, worldIn}
-use Rattle.model.specs.Orders.{framesOk, frameStoreOk}
-use Rattle.model.specs.Machines.{Lent, innermost, callersIn, machineIn, worldOf, runOrder}
+use Rattle.model.specs.Orders.{stackOk, framesOk, frameStoreOk}
+use Rattle.model.specs.Machines.{Lent, innermost, callersIn, machineIn, progressIn, underIn, worldOf, runOrder, noRun}
 use Rattle.value.proofs.Coding.{and-left, exact-kind, exact-payload, exact-cell-kind, exact-cell-payload}
 use Rattle.value.proofs.Stores.{length-vals, vals-slot, getD-cells}
 use Rattle.cells.proofs.Stands.{length-heap, exact-at}
 use Rattle.layout.proofs.Bools.{either-way}
 use Rattle.image_load.proofs.Loads.{two-words}
 use Rattle.laws_runs.specs.Ordered.{Exact}
-use Rattle.laws_runs.proofs.Ordered.{order-of, order-sane, order-exact}
+use Rattle.laws_runs.proofs.Ordered.{order-of, order-sane, order-exact, idle-of, under-of, slots-of, stack-of}
 use Rattle.demands.specs.Agree.{Alike, Rooms, LentAlike}
 
 -- ---- words
@@ -94,6 +95,36 @@ pub record Standing (m : Vm) (l : Lent) : Type 0 where
   pub cells : 2 * m .cells ≤ length (l .cells)
   pub frames : m .frames ≤ length (l .frames)
   pub exact : Exact m l
+  pub spent : m .run .spent ≤ m .run .given
+  pub copy : 2 * m .run .saved ≤ length (l .copy)
+  pub saved : (i : ℕ) → i < m .run .saved → exactValue (kindAt (l .copy) i) (payloadAt (l .copy) i) ≡ true
+
+-- values in order: there is room for them, in exact words
+values-stand : (t : ℕ) (H : List Cell) (n : ℕ) (a : List ℕ) → stackOk t H n a ≡ true
+    → (2 * n ≤ length a) × ((i : ℕ) → i < n → exactValue (kindAt a i) (payloadAt a i) ≡ true)
+values-stand t H n a e = (two-words n a (stack-of t H n a e .0), λ i h. slots-of t H n a e i h .0)
+
+-- what is judged of the copy, and of the units
+record Saving (m : Vm) (l : Lent) : Type 0 where
+  spent : m .run .spent ≤ m .run .given
+  copy : 2 * m .run .saved ≤ length (l .copy)
+  saved : (i : ℕ) → i < m .run .saved → exactValue (kindAt (l .copy) i) (payloadAt (l .copy) i) ≡ true
+
+saving : (m : Vm) (s : Stores) (l : Lent) → runOrder m s l ≡ true → Saving m l
+saving m s l e = either-way (m .run .on)
+    (λ on.
+    let o = under-of m s l e on in
+    let z = values-stand (m .program .text) (heapOf (m .run .mark) (l .cells)) (m .run .saved) (l .copy) (o .copy) in
+    record { spent = o .spent; copy = z .0; saved = z .1 })
+    (λ off. let q = idle-of m s l e off in record {
+      spent = rw q (omega arith);
+      copy = rw q (omega arith);
+      saved = rw q (λ i h. absurd (let z : ⊥ = omega arith in z));
+    })
+
+pub stack-fits : (m : Vm) (s : Stores) (l : Lent) → runOrder m s l ≡ true → m .stack ≤ places 2 (l .stack)
+unfolding worldOf worldIn machineIn
+stack-fits m s l e = rw (length-vals (m .stack) (l .stack)) at (order-sane m s l e 0 .stack)
 
 pub standing : (m : Vm) (s : Stores) (l : Lent) → runOrder m s l ≡ true → Standing m l
 unfolding worldOf worldIn machineIn frameStoreOk
@@ -102,47 +133,83 @@ standing m s l e =
     let x = leb (m .frames) (min (length (l .frames)) mostPlaces) in
     let y = framesOk (functionsFrom (m .program .functions) 0 s) (places 2 (l .stack)) (take (m .frames) (l .frames)) in
     let z : m .frames ≤ min (length (l .frames)) mostPlaces = leb-true _ _ (and-left x y (order-of m s l e .frames)) in
+    let c = saving m s l e in
     record {
-      stack = two-words (m .stack) (l .stack) (rw (length-vals (m .stack) (l .stack)) at (h .stack));
+      stack = two-words (m .stack) (l .stack) (stack-fits m s l e);
       cells = two-words (m .cells) (l .cells) (rw (length-heap (m .cells) (l .cells)) at (h .cells));
       frames = omega arith;
       exact = order-exact m s l e;
+      spent = c .spent;
+      copy = c .copy;
+      saved = c .saved;
     }
 
+-- ---- the run under way holds the machine; without one it holds nothing else
+
+pub machine-under : (m m' : Vm) (l l' : Lent) → underIn m l ≡ underIn m' l' → machineIn m l ≡ machineIn m' l'
+unfolding underIn machineIn
+machine-under m m' l l' e = ap (λ (r : Under). machineOf (r .state)) e
+
+abbrev resting : Machine → Under
+resting x = record { given = 0; start = []; progress = record { answer = Nothing; returns = 0; heap = []; last = x .last }; state = begin x 0 }
+
+idle-rests : (m : Vm) (l : Lent) → m .run ≡ noRun → underIn m l ≡ resting (machineIn m l)
+unfolding underIn progressIn machineIn vals heapOf cellsFrom
+idle-rests m l e = rw e
+
+pub idle-under : (m m' : Vm) (l l' : Lent) → m .run ≡ noRun → m' .run ≡ noRun → machineIn m l ≡ machineIn m' l' → underIn m l ≡ underIn m' l'
+idle-under m m' l l' p q e = idle-rests m l p ∙ ap resting e ∙ sym (idle-rests m' l' q)
+
+-- the same record of it
+run-fixes : {m m' : Vm} {l l' : Lent} → Standing m l → Standing m' l' → m .run .on ≡ m' .run .on → underIn m l ≡ underIn m' l' → m .run ≡ m' .run
+unfolding underIn progressIn
+run-fixes {m} {m'} {l} {l'} a b on e =
+    let given : m .run .given ≡ m' .run .given = ap (λ (r : Under). r .given) e in
+    let left : m .run .given - m .run .spent ≡ m' .run .given - m' .run .spent = ap (λ (r : Under). r .state .units) e in
+    let spent : m .run .spent ≡ m' .run .spent = omega (arith, a .spent, b .spent) in
+    let returns : m .run .returns ≡ m' .run .returns = ap (λ (r : Under). r .progress .returns) e in
+    let mark : m .run .mark ≡ m' .run .mark = sym (length-heap (m .run .mark) (l .cells)) ∙ ap (λ (r : Under). length (r .progress .heap)) e ∙ length-heap (m' .run .mark) (l' .cells) in
+    let saved : m .run .saved ≡ m' .run .saved = sym (length-vals (m .run .saved) (l .copy)) ∙ ap (λ (r : Under). length (r .start)) e ∙ length-vals (m' .run .saved) (l' .copy) in
+    rw (on, given, spent, returns, mark, saved)
+
 -- the same machine of the same program: the same counts
-counts-fix : {m m' : Vm} {l l' : Lent} → Standing m l → Standing m' l' → m .program ≡ m' .program → machineIn m l ≡ machineIn m' l' → m ≡ m'
+counts-fix : {m m' : Vm} {l l' : Lent} → Standing m l → Standing m' l' → m .program ≡ m' .program → m .run .on ≡ m' .run .on → underIn m l ≡ underIn m' l' → m ≡ m'
 unfolding machineIn
-counts-fix {m} {m'} {l} {l'} a b p e =
+counts-fix {m} {m'} {l} {l'} a b p on u =
+    let e = machine-under m m' l l' u in
     let stack : m .stack ≡ m' .stack = sym (length-vals (m .stack) (l .stack)) ∙ ap (λ (x : Machine). length (x .stack)) e ∙ length-vals (m' .stack) (l' .stack) in
     let cells : m .cells ≡ m' .cells = sym (length-heap (m .cells) (l .cells)) ∙ ap (λ (x : Machine). length (x .heap)) e ∙ length-heap (m' .cells) (l' .cells) in
     let frames : m .frames ≡ m' .frames = sym (counted (m .frames) (l .frames) (a .exact .frames) (a .frames))
     ∙ ap (λ (x : Machine). suc (length (x .callers))) e ∙ counted (m' .frames) (l' .frames) (b .exact .frames) (b .frames) in
     let last : m .last ≡ m' .last = ap (λ (x : Machine). x .last) e in
-    rw (p, stack, cells, frames, last)
+    let run : m .run ≡ m' .run = run-fixes a b on u in
+    rw (p, stack, cells, frames, last, run)
 
 -- and in stores of the same lengths the same below them
-lent-fix : (m : Vm) {l l' : Lent} → Standing m l → Standing m l' → Rooms l l' → machineIn m l ≡ machineIn m l' → LentAlike m l l'
-unfolding machineIn
-lent-fix m {l} {l'} a b r e = record {
-  stack = values-fix (m .stack) (l .stack) (l' .stack) (a .stack) (r .stack) (a .exact .stack) (b .exact .stack) (ap (λ (x : Machine). x .stack) e);
-  cells = cells-fix (m .cells) (l .cells) (l' .cells) (a .cells) (r .cells) (a .exact .cells) (b .exact .cells) (ap (λ (x : Machine). x .heap) e);
-  frames = record {
-    front = split (m .frames) (l .frames) (a .exact .frames) (a .frames) ∙ ap (λ (x : Machine). reverse (x .callers) ++ x .frame ∷ []) e
-        ∙ sym (split (m .frames) (l' .frames) (b .exact .frames) (b .frames));
-    room = r .frames;
-  };
-  copy = r .copy;
-  backtrace = r .backtrace;
-}
+lent-fix : (m : Vm) {l l' : Lent} → Standing m l → Standing m l' → Rooms l l' → underIn m l ≡ underIn m l' → LentAlike m l l'
+unfolding machineIn underIn
+lent-fix m {l} {l'} a b r u =
+    let e = machine-under m m l l' u in
+    record {
+      stack = values-fix (m .stack) (l .stack) (l' .stack) (a .stack) (r .stack) (a .exact .stack) (b .exact .stack) (ap (λ (x : Machine). x .stack) e);
+      cells = cells-fix (m .cells) (l .cells) (l' .cells) (a .cells) (r .cells) (a .exact .cells) (b .exact .cells) (ap (λ (x : Machine). x .heap) e);
+      frames = record {
+        front = split (m .frames) (l .frames) (a .exact .frames) (a .frames) ∙ ap (λ (x : Machine). reverse (x .callers) ++ x .frame ∷ []) e
+            ∙ sym (split (m .frames) (l' .frames) (b .exact .frames) (b .frames));
+        room = r .frames;
+      };
+      copy = values-fix (m .run .saved) (l .copy) (l' .copy) (a .copy) (r .copy) (a .saved) (b .saved) (ap (λ (x : Under). x .start) u);
+      backtrace = r .backtrace;
+    }
 
 pub record FixedBy (m m' : Vm) (l l' : Lent) : Type 0 where
   pub vm : m ≡ m'
   pub lent : LentAlike m l l'
 
 pub machine-fixes : {m m' : Vm} {l l' : Lent} (s s' : Stores) → runOrder m s l ≡ true → runOrder m' s' l' ≡ true → Rooms l l' → m .program ≡ m' .program
-    → machineIn m l ≡ machineIn m' l' → FixedBy m m' l l'
-machine-fixes {m} {m'} {l} {l'} s s' a b r p e =
+    → m .run .on ≡ m' .run .on → underIn m l ≡ underIn m' l' → FixedBy m m' l l'
+machine-fixes {m} {m'} {l} {l'} s s' a b r p on u =
     let x = standing m s l a in
     let y = standing m' s' l' b in
-    let z : m ≡ m' = counts-fix x y p e in
-    record { vm = z; lent = lent-fix m x (rw (← z) at y) r (rw (← z) at e) }
+    let z : m ≡ m' = counts-fix x y p on u in
+    record { vm = z; lent = lent-fix m x (rw (← z) at y) r (rw (← z) at u) }

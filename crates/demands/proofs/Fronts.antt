@@ -13,15 +13,38 @@ use Rattle.model.specs.Heap.{Cell, cellAt, cellsFrom, heapOf, exactCells, place
 use Rattle.model.specs.Programs.{Function}
 use Rattle.model.specs.Runs.{root}
 use Rattle.model.specs.Orders.{cellsOk, stackOk, frameStoreOk}
-use Rattle.model.specs.Machines.{frameRoom, innermost, callersIn}
+use Rattle.model.specs.Machines.{Lent, frameRoom, innermost, callersIn}
 use Rattle.model.specs.Readers.{valueShown}
-use Rattle.demands.specs.Agree.{Front, Alike}
+use Rattle.demands.specs.Agree.{Front, Alike, Rooms}
 
 pub front-of : {A : Type 0} {n : ℕ} {a b : List A} → Alike n a b → Front n a b
 front-of k = record { front = k .front }
 
 pub front-at : {A : Type 0} {n : ℕ} {a b : List A} → Front n a b → (j : ℕ) (d : A) → j < n → getD a j d ≡ getD b j d
 front-at {A} {n} {a} {b} k j d h = sym (getD-take n a j d h) ∙ ap (λ (l : List A). getD l j d) (k .front) ∙ getD-take n b j d h
+
+-- and fewer of them
+pub front-less : {A : Type 0} {n c : ℕ} {a b : List A} → n ≤ c → Front c a b → Front n a b
+front-less {n = n} {c = c} {a = a} {b = b} h k = record { front = sym (take-take n c a h) ∙ ap (take n) (k .front) ∙ take-take n c b h }
+
+pub alike-less : {A : Type 0} {n c : ℕ} {a b : List A} → n ≤ c → Alike c a b → Alike n a b
+alike-less h k = record { front = front-less h (front-of k) .front; room = k .room }
+
+pub alike-back : {A : Type 0} {n : ℕ} {a b : List A} → Alike n a b → Alike n b a
+alike-back k = record { front = sym (k .front); room = sym (k .room) }
+
+-- stores of the same lengths, one after another
+pub rooms-back : {l k : Lent} → Rooms l k → Rooms k l
+rooms-back r = record { stack = sym (r .stack); cells = sym (r .cells); frames = sym (r .frames); copy = sym (r .copy); backtrace = sym (r .backtrace) }
+
+pub rooms-then : {l k j : Lent} → Rooms l k → Rooms k j → Rooms l j
+rooms-then r q = record {
+  stack = r .stack ∙ q .stack;
+  cells = r .cells ∙ q .cells;
+  frames = r .frames ∙ q .frames;
+  copy = r .copy ∙ q .copy;
+  backtrace = r .backtrace ∙ q .backtrace;
+}
 
 pub alike-same : {A : Type 0} (n : ℕ) (a : List A) → Alike n a a
 alike-same n a = record { front = refl; room = refl }

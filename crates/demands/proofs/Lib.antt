@@ -1,5 +1,6 @@
 -- The theorems. Demand 1: `refuses`, `steps-within`, `new-in-order`, `load-in-order`, `chain-kept`, `run-in-order`.
--- Demand 2: `run-written`, with `step-cost`, `fault-cost`, `path-units`, `run-is-steps` and `as-trees`.
+-- A run in parts: `parts-come-to`, `over-is-one`, `dealings-agree`, `dealt-ends-agree`, `more-units-change-nothing`, `any-call-goes-on`.
+-- Demand 2: `run-written`, `pause-written`, `paused-where-one-run-ends-in-13`, with `step-cost`, `fault-cost`, `path-units`, `run-is-steps` and `as-trees`.
 -- Demand 3: `fault-recovers`, with `fault-leaves`, `chain-alike`, `chains-agree` and `past-counts-unseen`. Demand 4: `run-one`, `ask-one`.
 
 -- lent stores that are the same below the counts; a machine in good order fixes its words
@@ -11,14 +12,17 @@ pub mod OneRun
 -- `chains-agree`, `past-counts-unseen`, `ask-one`
 pub mod Asks
 pub mod Chains
--- a run that was not refused is the rules' run
+-- a call of a run that was not refused does what the rules say
 pub mod Went
--- `step-cost`, `fault-cost`, `path-units`, `run-is-steps`, `as-trees`, `run-written`, `steps-within`
+-- `refuses`; while a run is under way
+pub mod Refusing
+pub mod WhileRunning
+-- `parts-come-to`, `over-is-one`, `dealings-agree`, `dealt-ends-agree`, `more-units-change-nothing`, `any-call-goes-on`
+pub mod Parting
+-- `step-cost`, `fault-cost`, `path-units`, `run-is-steps`, `as-trees`, `run-written`, `pause-written`, `steps-within`
 pub mod Paying
 pub mod Growing
 pub mod Written
--- `refuses`
-pub mod Refusing
 -- good order where a program grows; `new-in-order`, `load-in-order`, `chain-kept`, `run-in-order`
 pub mod Wider
 pub mod Emitted

@@ -2,7 +2,7 @@
 use mathlib.Core.Path.{_≡_, refl, sym, ap, subst, _∙_}
 use mathlib.Core.Bool.{Bool, true, false}
 use mathlib.Core.List.{List, [], _∷_, _++_, reverse}
-use Prim.Native.Nat.{ℕ, suc, _-_, _≤_, _<_}
+use Prim.Native.Nat.{ℕ, suc, _-_, _<_}
 use native.Mathlib.Omega.{arith}
 use borrow.Author.Tests.{le-leb, ltb-true}
 use lib.Dec.{ltb}
@@ -23,11 +23,11 @@ use Rattle.model.specs.Heap.{Cell, cellsFrom, heapOf}
 use Rattle.model.specs.Trees.{meaning}
 use Rattle.model.specs.Stores.{Stores}
 use Rattle.model.specs.Stores as st
-use Rattle.model.specs.Emission.{Res, addOpOf, addOp1Of, addOp2Of, addOp3Of}
-use Rattle.model.specs.Machines.{innermost, callersIn, machineIn, worldOf, backtraceIn, traceOrder, startWith, fresh, newMachineOf, loadMachineOf}
+use Rattle.model.specs.Emission.{Res, emitOf, addOpOf, addOp1Of, addOp2Of, addOp3Of}
+use Rattle.model.specs.Machines.{innermost, callersIn, machineIn, worldOf, backtraceIn, traceOrder, StartRes, startWith, unlessRunning, fresh, newMachineOf, loadMachineOf}
 use Rattle.model.specs.Readers.{lastShown, lastResultOf, valueShown, stackValueOf}
 use Rattle.value.proofs.Stores.{length-vals, vals-slot}
-use Rattle.laws_runs.proofs.Ordered.{order-sane, order-exact}
+use Rattle.laws_runs.proofs.Ordered.{order-exact}
 use Rattle.laws_meaning.specs.Alike.{none, nothing, AlikeLast}
 use Rattle.laws_meaning.specs.Alike as al
 use Rattle.laws_meaning.specs.Answers.{Begins}
@@ -37,14 +37,16 @@ use Rattle.demands.specs.Host.{Held, Ask, new, load, addOp, addOp1, addO
 use Rattle.demands.specs.Agree.{Alike}
 use Rattle.demands.specs.Kept.{InOrder, Grew}
 use Rattle.demands.specs.Meant.{worldIn, machineOf, Fine, AlikeHeld, value, saidIn, says}
+use Rattle.demands.specs.Refusals.{refusedEmitted}
 use Rattle.demands.specs.Jobs.{makes, writes, looks, handed, jobOf, isMakes, Typed, AllTyped}
 use Rattle.demands.proofs.Fronts.{places-alike}
-use Rattle.demands.proofs.Fixed.{Standing, standing, split}
+use Rattle.demands.proofs.Fixed.{Standing, stack-fits, standing, split}
 use Rattle.demands.proofs.Fixed as fx
 use Rattle.layout.proofs.Parts.{places-same}
 use Rattle.demands.proofs.Asks.{trace-alike}
 use Rattle.demands.proofs.Emitted.{Grows, emit-grows, patch-grows, constant-grows, struct-grows, begin-grows}
 use Rattle.demands.proofs.Refusing.{ask-says}
+use Rattle.demands.proofs.WhileRunning.{written-idle}
 use Rattle.demands.proofs.Orderly.{end-grows, refused-is}
 use Rattle.demands.proofs.Bytes.{fine-kept}
 use Rattle.demands.proofs.Beside.{AlikeRes, OneProgram, emit-alike, patch-alike, constant-alike, struct-alike, begin-alike, end-alike, offset-same, index-same, save-same, list-same, trace-same}
@@ -53,14 +55,10 @@ use Rattle.demands.proofs.MeantRuns.{AlikeCall, one-program, sane, besi
 
 -- ---- a value of the stack
 
-stack-fits : (k : Held) → InOrder k → k .vm .stack ≤ places 2 (k .lent .stack)
-unfolding worldOf st.worldIn machineIn
-stack-fits k o = rw (length-vals (k .vm .stack) (k .lent .stack)) at (order-sane (k .vm) (k .stores) (k .lent) (o .machine) 0 .stack)
-
 stack-told : (k : Held) → InOrder k → (i : ℕ) (b : Bool) → ltb i (k .vm .stack) ≡ b → stackValueOf (k .vm) i (k .lent .stack) ≡ (if b then w.Value (valueAt (k .lent .stack) i) else w.Refused 6)
 unfolding stackValueOf valueShown
-stack-told k o i true e = rw (le-leb _ _ (stack-fits k o), e, order-exact (k .vm) (k .stores) (k .lent) (o .machine) .stack i (ltb-true _ _ e))
-stack-told k o i false e = rw (le-leb _ _ (stack-fits k o), e)
+stack-told k o i true e = rw (le-leb _ _ (stack-fits (k .vm) (k .stores) (k .lent) (o .machine)), e, order-exact (k .vm) (k .stores) (k .lent) (o .machine) .stack i (ltb-true _ _ e))
+stack-told k o i false e = rw (le-leb _ _ (stack-fits (k .vm) (k .stores) (k .lent) (o .machine)), e)
 
 -- ---- emission: the text grows at its end
 
@@ -82,10 +80,19 @@ left q k o t = fine-kept (ask q) (done q k .answer) (unfold AllTyped in (t, tt))
 
 -- a refusal changes nothing
 stays : (q : Ask) (k : Held) (x : Res) → InOrder k → done q k ≡ emits k x → (i : ℕ) → x .answer ≡ em.Refused i → emits k x .held ≡ k
-stays q k x o e i r = subst (λ (y : Done). y .held ≡ k) e (ask-says k q .kept i (rw e (refused-is k o x i r)) .0)
+stays q k x o e i r = subst (λ (y : Done). y .held ≡ k) e (ask-says k q .kept i (rw e (refused-is k x i r)) .0)
 
 abbrev with-frames : Held → List Frame → Held
 with-frames k fs = record { vm = k .vm; stores = k .stores; lent = withFrames fs (k .lent) }
+
+-- a run is not under way and not under way
+not-running : {A : Type 0} {b : Bool} → b ≡ false → b ≡ true → A
+not-running e f = absurd (let z : _≡_ {A = Bool} false true = sym e ∙ f in let y : _≡_ {A = ℕ} 0 1 = cc in let x : ⊥ = omega arith in x)
+
+-- where none is, a machine is made
+fine-made : (k : Held) (x : StartRes) → Fine (starts k (unlessRunning (k .vm .run .on) (k .stores) (k .lent .frames) x) .held) → k .vm .run .on ≡ false → Fine (starts k x .held)
+unfolding unlessRunning
+fine-made k x o off = subst (λ (b : Bool). Fine (starts k (unlessRunning b (k .stores) (k .lent .frames) x) .held)) off o
 
 -- ---- the last result
 
@@ -99,10 +106,11 @@ module _ {r : Bool} {h d : Held} (a : AlikeHeld r h d) where
   c = h .vm .program
 
   emits-by : (x x' : Res) (e : Emitted) → x .answer ≡ e → AlikeRes x x' → Grows c (h .stores) x → Grows (d .vm .program) (d .stores) x'
-      → ((i : ℕ) → x .answer ≡ em.Refused i → emits h x .held ≡ h) → ((i : ℕ) → x' .answer ≡ em.Refused i → emits d x' .held ≡ d) → Fine (emits h x .held) → Fine (emits d x' .held)
+      → ((n : Counts) (i : ℕ) → x .answer ≡ em.Done n i → h .vm .run .on ≡ false) → ((i : ℕ) → x .answer ≡ em.Refused i → emits h x .held ≡ h)
+      → ((i : ℕ) → x' .answer ≡ em.Refused i → emits d x' .held ≡ d) → Fine (emits h x .held) → Fine (emits d x' .held)
       → AlikeHeld r (emits h x .held) (emits d x' .held)
   unfolding emits machineIn
-  emits-by x x' (em.Done n i) q l g g' same same' o o' =
+  emits-by x x' (em.Done n i) q l g g' idle same same' o o' =
       let q' : x' .answer ≡ em.Done n i = l .answer ∙ q in
       record {
         counts = rw (q, q');
@@ -110,6 +118,8 @@ module _ {r : Bool} {h d : Held} (a : AlikeHeld r h d) where
         stores = l .rooms;
         machine = rw (q, q') (later-alike (sane a 0) (beside-sane a 0) (text-begins h n (x .stores) (g .grown n i q))
             (text-begins d n (x' .stores) (g' .grown n i q')) (unfold worldOf st.worldIn in refl) (unfold worldOf st.worldIn in refl) (a .machine));
+        on = rw (q, q') (a .on);
+        under = λ on. not-running (idle n i q) (rw q at on);
         stack = a .stack;
         frames = a .frames;
         copy = a .copy;
@@ -118,7 +128,7 @@ module _ {r : Bool} {h d : Held} (a : AlikeHeld r h d) where
         fine = o;
         beside = o';
       }
-  emits-by x x' (em.Refused i) q l g g' same same' o o' = rw (same i q, same' i (l .answer ∙ q)) a
+  emits-by x x' (em.Refused i) q l g g' idle same same' o o' = rw (same i q, same' i (l .answer ∙ q)) a
 
   abbrev Line : Ask → Type 0
   Line q = AlikeCall r (ask q) (done q h .answer) (done q h .held) (done q d .answer) (done q d .held)
@@ -128,7 +138,8 @@ module _ {r : Bool} {h d : Held} (a : AlikeHeld r h d) where
   unfolding says
   emits-line q x x' b e one other l g g' = record {
     says = rw (e, one, other) (unfold emits saidIn in rw (l .answer));
-    held = rw (one, other) (emits-by x x' (x .answer) refl l g g' (stays q h x (a .fine .order) one) (stays q d x' (a .beside .order) other)
+    held = rw (one, other) (emits-by x x' (x .answer) refl l g g' (λ n i w. written-idle h q e (rw one (unfold emits in ap refusedEmitted w)))
+        (stays q h x (a .fine .order) one) (stays q d x' (a .beside .order) other)
         (subst (λ (y : Done). Fine (y .held)) one (left q h (a .fine) b)) (subst (λ (y : Done). Fine (y .held)) other (left q d (a .beside) b)));
   }
 
@@ -162,6 +173,8 @@ module _ {r : Bool} {h d : Held} (a : AlikeHeld r h d) where
         callers = refl;
         free = rw (places-alike (d .lent .cells) (h .lent .cells) long 2);
       };
+      on = refl;
+      under = λ on. not-running refl on;
       stack = a .stack;
       frames = frames-same _ _ p q;
       copy = a .copy;
@@ -174,13 +187,35 @@ module _ {r : Bool} {h d : Held} (a : AlikeHeld r h d) where
   starts-by k e long (ld.Broken i) t t' l fs fs' p q o o' = record { says = rw e; held = unstarted fs fs' p q }
   starts-by k e long (ld.Refused i) t t' l fs fs' p q o o' = record { says = rw e; held = unstarted fs fs' p q }
 
+  -- where a run is under way, both are refused
+  unless-by : (q : Ask) {i : List ℕ} → jobOf q ≡ makes i → (running running' : Bool) → running' ≡ running → (x x' : StartRes)
+      → (running ≡ false → AlikeCall r (ask q) (starts h x .answer) (starts h x .held) (starts d x' .answer) (starts d x' .held))
+      → AlikeCall r (ask q) (starts h (unlessRunning running (h .stores) (h .lent .frames) x) .answer) (starts h (unlessRunning running (h .stores) (h .lent .frames) x) .held)
+      (starts d (unlessRunning running' (d .stores) (d .lent .frames) x') .answer) (starts d (unlessRunning running' (d .stores) (d .lent .frames) x') .held)
+  unfolding starts unlessRunning says saidIn
+  unless-by q e true true s x x' k = record { says = rw e; held = a }
+  unless-by q e true false s x x' k = not-running refl s
+  unless-by q e false true s x x' k = not-running s refl
+  unless-by q e false false s x x' k = k refl
+
+  abbrev made : Loaded → Stores → StartRes
+  made x t = startWith x t (h .stores) (h .lent .frames)
+
+  abbrev beside : Loaded → Stores → StartRes
+  beside x t = startWith x t (d .stores) (d .lent .frames)
+
   starts-line : (q : Ask) {i : List ℕ} → jobOf q ≡ makes i → length (d .lent .cells) ≡ length (h .lent .cells) → {x x' : Loaded} {t t' : Stores} → AlikeLoaded x x' t t'
-      → Fine (starts h (startWith x t (h .stores) (h .lent .frames)) .held) → Fine (starts d (startWith x' t' (d .stores) (d .lent .frames)) .held)
-      → AlikeCall r (ask q) (starts h (startWith x t (h .stores) (h .lent .frames)) .answer) (starts h (startWith x t (h .stores) (h .lent .frames)) .held)
-      (starts d (startWith x' t' (d .stores) (d .lent .frames)) .answer) (starts d (startWith x' t' (d .stores) (d .lent .frames)) .held)
-  starts-line q e long {x} {x'} {t} {t'} l o o' =
+      → done q h ≡ starts h (unlessRunning (h .vm .run .on) (h .stores) (h .lent .frames) (made x t))
+      → done q d ≡ starts d (unlessRunning (d .vm .run .on) (d .stores) (d .lent .frames) (beside x' t'))
+      → Typed (jobOf q) → Line q
+  starts-line q e long {x} {x'} {t} {t'} l one other b =
       let again : AlikeLoaded x x t t' = record { answer = refl; rooms = l .rooms; program = l .program } in
-      rw (l .answer) (starts-by q e long x t t' again (h .lent .frames) (d .lent .frames) refl refl o (rw (l .answer) at o'))
+      let o = subst (λ (y : Done). Fine (y .held)) one (left q h (a .fine) b) in
+      let o' = subst (λ (y : Done). Fine (y .held)) other (left q d (a .beside) b) in
+      rw (one, other) (unless-by q e (h .vm .run .on) (d .vm .run .on) (a .on) (made x t) (beside x' t') (λ off.
+      let p = fine-made h (made x t) o off in
+      let p' = fine-made d (beside x' t') o' (a .on ∙ off) in
+      rw (l .answer) (starts-by q e long x t t' again (h .lent .frames) (d .lent .frames) refl refl p (rw (l .answer) at p'))))
 
   -- ---- entries that only look
 
@@ -256,20 +291,28 @@ module _ {r : Bool} {h d : Held} (a : AlikeHeld r h d) where
   one : OneProgram c (h .stores) (d .stores)
   one = one-program a
 
+  abbrev running : Bool
+  running = h .vm .run .on
+
+  -- code that is written
+  code-line : (q : Ask) {ws : List ℕ} (op : ℕ) (bytes : List ℕ) (place : ℕ) → Typed (jobOf q) → jobOf q ≡ writes ws → done q h ≡ emits h (emitOf running c op bytes place (h .stores))
+      → done q d ≡ emits d (emitOf (d .vm .run .on) (d .vm .program) op bytes place (d .stores)) → Line q
+  code-line q op bytes place b e here there =
+      emits-line q _ _ b e here there (rw (a .counts, a .on) (emit-alike one running op bytes place)) (emit-grows _ _ _ _ _ _ (one .ok)) (emit-grows _ _ _ _ _ _ (a .beside .order .program))
+
   pub ask-said : (q : Ask) → Typed (jobOf q) → (isMakes (jobOf q) ≡ true → r ≡ true) → Line q
   unfolding done jobOf newMachineOf loadMachineOf addOpOf addOp1Of addOp2Of addOp3Of saidIn
-  ask-said new b n = starts-line new refl (a .cells (n refl)) (new-alike (h .stores) (d .stores) (a .stores)) (left new h (a .fine) b) (left new d (a .beside) b)
-  ask-said (load image) b n = starts-line (load image) refl (a .cells (n refl)) (load-alike (h .stores) (d .stores) (a .stores) image b)
-      (left (load image) h (a .fine) b) (left (load image) d (a .beside) b)
-  ask-said (addOp op place) b n = emits-line _ _ _ b refl refl refl (rw (a .counts) (emit-alike one _ _ _)) (emit-grows _ _ _ _ _ (one .ok)) (emit-grows _ _ _ _ _ (a .beside .order .program))
-  ask-said (addOp1 op x place) b n = emits-line _ _ _ b refl refl refl (rw (a .counts) (emit-alike one _ _ _)) (emit-grows _ _ _ _ _ (one .ok)) (emit-grows _ _ _ _ _ (a .beside .order .program))
-  ask-said (addOp2 op x y place) b n = emits-line _ _ _ b refl refl refl (rw (a .counts) (emit-alike one _ _ _)) (emit-grows _ _ _ _ _ (one .ok)) (emit-grows _ _ _ _ _ (a .beside .order .program))
-  ask-said (addOp3 op x y z place) b n = emits-line _ _ _ b refl refl refl (rw (a .counts) (emit-alike one _ _ _)) (emit-grows _ _ _ _ _ (one .ok)) (emit-grows _ _ _ _ _ (a .beside .order .program))
-  ask-said (patch offset word) b n = emits-line _ _ _ b refl refl refl (rw (a .counts) (patch-alike one _ _)) (patch-grows _ _ _ _) (patch-grows _ _ _ _)
-  ask-said (addConstant x text) b n = emits-line _ _ _ b refl refl refl (rw (a .counts) (constant-alike one _ _)) (constant-grows _ _ _ _) (constant-grows _ _ _ _)
-  ask-said (addStruct text) b n = emits-line _ _ _ b refl refl refl (rw (a .counts) (struct-alike one _)) (struct-grows _ _ _) (struct-grows _ _ _)
-  ask-said (beginFunction text) b n = emits-line _ _ _ b refl refl refl (rw (a .counts) (begin-alike one _)) (begin-grows _ _ _) (begin-grows _ _ _)
-  ask-said endFunction b n = emits-line _ _ _ b refl refl refl (rw (a .counts) (end-alike one)) (end-grows _ _) (end-grows _ _)
+  ask-said new b n = starts-line new refl (a .cells (n refl)) (new-alike (h .stores) (d .stores) (a .stores)) refl refl b
+  ask-said (load image) b n = starts-line (load image) refl (a .cells (n refl)) (load-alike (h .stores) (d .stores) (a .stores) image b) refl refl b
+  ask-said (addOp op place) b n = code-line _ _ _ _ b refl refl refl
+  ask-said (addOp1 op x place) b n = code-line _ _ _ _ b refl refl refl
+  ask-said (addOp2 op x y place) b n = code-line _ _ _ _ b refl refl refl
+  ask-said (addOp3 op x y z place) b n = code-line _ _ _ _ b refl refl refl
+  ask-said (patch offset word) b n = emits-line _ _ _ b refl refl refl (rw (a .counts, a .on) (patch-alike one running _ _)) (patch-grows _ _ _ _ _) (patch-grows _ _ _ _ _)
+  ask-said (addConstant x text) b n = emits-line _ _ _ b refl refl refl (rw (a .counts, a .on) (constant-alike one running _ _)) (constant-grows _ _ _ _ _) (constant-grows _ _ _ _ _)
+  ask-said (addStruct text) b n = emits-line _ _ _ b refl refl refl (rw (a .counts, a .on) (struct-alike one running _)) (struct-grows _ _ _ _) (struct-grows _ _ _ _)
+  ask-said (beginFunction text) b n = emits-line _ _ _ b refl refl refl (rw (a .counts, a .on) (begin-alike one running _)) (begin-grows _ _ _ _) (begin-grows _ _ _ _)
+  ask-said endFunction b n = emits-line _ _ _ b refl refl refl (rw (a .counts, a .on) (end-alike one running)) (end-grows _ _ _) (end-grows _ _ _)
   ask-said currentOffset b n = looks-line _ _ _ refl refl refl (rw (a .counts, offset-same one))
   ask-said (functionIdx text) b n = looks-line _ _ _ refl refl refl (rw (a .counts, index-same one text))
   ask-said (save out) b n = looks-line _ _ _ refl refl refl (rw (a .counts, save-same one out))

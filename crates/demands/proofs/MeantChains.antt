@@ -4,32 +4,39 @@ use mathlib.Core.Bool.{Bool, true, false, _||_}
 use mathlib.Core.List.{List, [], _∷_}
 use Prim.Native.Nat.{ℕ}
 use native.Mathlib.Omega.{arith}
+use lib.Dec.{eqb}
+use Rattle.model.specs.declared.Vm.{Vm}
 use Rattle.model.specs.declared.Value.{Value}
 use Rattle.model.specs.declared.Last.{Last}
 use Rattle.model.specs.declared.Last.the-variants.{Nothing, Is}
+use Rattle.model.specs.Basics.{if_then_else_}
 use Rattle.model.specs.Heap.{Cell}
-use Rattle.model.specs.Steps.{World}
+use Rattle.model.specs.Steps.{World, State}
 use Rattle.model.specs.Runs.{Machine}
-use Rattle.laws_meaning.specs.Alike.{AlikeValues, AlikeLast, AlikeMachine}
+use Rattle.model.specs.Machines.{Lent, machineIn, progressIn, underIn}
+use Rattle.layout.proofs.Bools.{either-way}
+use Rattle.laws_meaning.specs.Alike.{AlikeValues, AlikeLast, AlikeMachine, AlikeUnder, Answers}
 use Rattle.laws_meaning.specs.Alike as al
 use Rattle.demands.specs.Host.{Held, Call, run, ask, Answer, After, Chain, none, more}
 use Rattle.demands.specs.Agree.{Rooms}
 use Rattle.demands.specs.Jobs.{jobOf, isMakes, anew, AllTyped}
-use Rattle.demands.specs.Meant.{worldIn, machineOf, Fine, AlikeHeld, said, AlikeChains}
+use Rattle.demands.specs.Meant.{worldIn, machineOf, underOf, Fine, AlikeHeld, said, AlikeChains}
 use Rattle.demands.proofs.Orderly.{typed-first, typed-rest}
+use Rattle.demands.proofs.Fixed.{machine-under}
 use Rattle.demands.proofs.Bytes.{fine-kept}
-use Rattle.demands.proofs.MeantRuns.{AlikeCall, same-world, run-said}
+use Rattle.demands.proofs.Went.{same-world}
+use Rattle.demands.proofs.MeantRuns.{AlikeCall, run-said}
 use Rattle.demands.proofs.MeantAsks.{ask-said}
 
 pub call-alike : {r : Bool} (c : Call) {h d h' d' : Held} {x y : Answer} → AlikeHeld r h d → (anew (c ∷ []) ≡ true → r ≡ true) → AllTyped (c ∷ []) → After c h x h'
     → After c d y d' → AlikeCall r c x h' y d'
 unfolding anew AllTyped
-call-alike (run u) {x = x} {y = y} a n t p q = run-said a u (fine-kept (run u) x t p (a .fine)) (fine-kept (run u) y t q (a .beside)) p q
+call-alike (run c) {x = x} {y = y} a n t p q = run-said a c (fine-kept (run c) x t p (a .fine)) (fine-kept (run c) y t q (a .beside)) p q
 call-alike (ask i) a n t p q = rw (p, q) at (ask-said a i (t .0) (λ e. n (rw e)))
 
 pub anew-first : (c : Call) (cs : List Call) → anew (c ∷ []) ≡ true → anew (c ∷ cs) ≡ true
 unfolding anew
-anew-first (run u) cs e = absurd (let z : _≡_ {A = ℕ} 0 1 = cc in let y : ⊥ = omega arith in y)
+anew-first (run c) cs e = absurd (let z : _≡_ {A = ℕ} 0 1 = cc in let y : ⊥ = omega arith in y)
 anew-first (ask q) cs e = first (isMakes (jobOf q)) (anew cs) e
   where
     first : (b z : Bool) → (b || false) ≡ true → (b || z) ≡ true
@@ -38,7 +45,7 @@ anew-first (ask q) cs e = first (isMakes (jobOf q)) (anew cs) e
 
 pub anew-rest : (c : Call) (cs : List Call) → anew cs ≡ true → anew (c ∷ cs) ≡ true
 unfolding anew
-anew-rest (run u) cs e = e
+anew-rest (run c) cs e = e
 anew-rest (ask q) cs e = rest (isMakes (jobOf q)) (anew cs) e
   where
     rest : (b z : Bool) → z ≡ true → (b || z) ≡ true
@@ -68,12 +75,29 @@ last-self t H (Is x) = al.is refl
 pub machine-self : (w : World) (m : Machine) → AlikeMachine w (record { text = w .text; constants = w .constants; cellRoom = w .cellRoom }) m m
 machine-self w m = record { stack = values-self (w .text) (m .heap) (m .stack); last = last-self (w .text) (m .heap) (m .last); frame = refl; callers = refl; free = refl }
 
-pub self-alike : (r : Bool) {h d : Held} → Fine h → Fine d → d .vm .program ≡ h .vm .program → d .stores ≡ h .stores → Rooms (d .lent) (h .lent) → machineOf d ≡ machineOf h → AlikeHeld r h d
-self-alike r {h} {d} o o' p s l m = record {
+-- so does a run under way: what it would answer is its last result, if it had a root Return
+answer-self : (returns : ℕ) (s : State) → Answers s s (if eqb returns 0 then Nothing else s .last) (if eqb returns 0 then Nothing else s .last)
+answer-self returns s = either-way (eqb returns 0) (λ e. rw e (al.not-yet refl refl)) (λ e. rw e (al.latest refl refl))
+
+pub under-self : (w : World) (m : Vm) (l : Lent) → AlikeUnder w (record { text = w .text; constants = w .constants; cellRoom = w .cellRoom }) (underIn m l) (underIn m l)
+unfolding underIn progressIn machineIn
+under-self w m l = record {
+  given = refl;
+  state = record { machine = machine-self w (machineIn m l); units = refl };
+  start = values-self _ _ _;
+  marks = record { last = last-self _ _ _; free = refl; returns = refl };
+  answers = answer-self (m .run .returns) _;
+}
+
+pub self-alike : (r : Bool) {h d : Held} → Fine h → Fine d → d .vm .program ≡ h .vm .program → d .stores ≡ h .stores → Rooms (d .lent) (h .lent) → d .vm .run .on ≡ h .vm .run .on
+    → underOf d ≡ underOf h → AlikeHeld r h d
+self-alike r {h} {d} o o' p s l on u = record {
   counts = p;
   program = rw (p, s);
   stores = rw s (record { constants = refl; structs = refl; functions = refl; text = refl; main = refl; mainPlaces = refl; other = refl; otherPlaces = refl });
-  machine = rw (m, same-world h d p s l) (machine-self (worldIn h) (machineOf h));
+  machine = rw (machine-under (d .vm) (h .vm) (d .lent) (h .lent) u, same-world h d p s l) (machine-self (worldIn h) (machineOf h));
+  on = on;
+  under = λ _. rw (u, same-world h d p s l) (under-self (worldIn h) (h .vm) (h .lent));
   stack = l .stack;
   frames = l .frames;
   copy = l .copy;

@@ -14,9 +14,7 @@ use Rattle.model.specs.declared.Op.the-variants as o
 use Rattle.model.specs.declared.Decoded.{Decoded}
 use Rattle.model.specs.declared.Decoded.the-variants as d
 use Rattle.model.specs.declared.Value.{Value}
-use Rattle.model.specs.declared.Last.{Last}
 use Rattle.model.specs.declared.Tally.{Tally}
-use Rattle.model.specs.declared.Last.the-variants.{Nothing, Is}
 use Rattle.model.specs.declared.Frame.{Frame}
 use Rattle.model.specs.declared.Fault.{Fault}
 use Rattle.model.specs.declared.Fault.the-variants as f
@@ -25,7 +23,7 @@ use Rattle.model.specs.declared.Found.the-variants as g
 use Rattle.model.specs.Basics.{if_then_else_}
 use Rattle.model.specs.Values.{popping, poppingScalar, poppingBoolean, faultNumber}
 use Rattle.model.specs.Scalars.{zeroDivisor}
-use Rattle.model.specs.Heap.{Cell, headIn, deepest, blockOf, built, unbuilt, buildOf, fieldOf}
+use Rattle.model.specs.Heap.{Cell, deepest, blockOf, built, unbuilt, buildOf, fieldOf}
 use Rattle.model.specs.Equality.{Same, same, sameOf}
 use Rattle.model.specs.Steps.{World, State, Outcome, went, returned, faulted, short, withStack, withHeap, withUnits, at, position, codeOf, pushing, onFound, constantOf, slotOf, lastOf, loadStep, slotStep, lastStep, negateStep, arithmeticStep, orderingStep, onSame, equalStep, logicStep, notStep, jumpStep, jumpIfFalseStep, enter, callStep, enterNamed, callCallableStep, onBuilt, buildStep, structStep, fieldStep, returnTo, returnStep, execOf, operandsThen, decodedThen, fetched, stepOf}
 use Rattle.laws_runs.proofs.Combinators.{if-each, ifScalar-each, ifBoolean-each, ifReference-each, ifStruct-each}

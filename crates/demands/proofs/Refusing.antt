@@ -29,17 +29,17 @@ use Rattle.model.specs.Heap.{Cell}
 use Rattle.model.specs.Programs.{Function, nameLimit, withinLimits}
 use Rattle.model.specs.Images.{Judged, fine, broken, judge}
 use Rattle.model.specs.Listings.{Listed, text, unlisted}
-use Rattle.model.specs.Runs.{traceable, Traced, backtraceOf, Ran}
+use Rattle.model.specs.Runs.{traceable, Traced, backtraceOf, Part}
 use Rattle.model.specs.Stores.{Stores}
 use Rattle.model.specs.Orders.{textOk}
 use Rattle.model.specs.Emission.{Res, refuse, textRoom, newOf, u16, appended, emitIn, emitOf, addOpOf, addOp1Of, addOp2Of, addOp3Of, currentOffsetOf, patched, patchOf, withConstant, withTextConstant, constantAdded, addConstantOf, structAdded, structFound, addStructOf, begun, beginFunctionOf, endFunctionOf, toldName, functionIdxOf}
 use Rattle.model.specs.Loading.{roomFor, LoadRes, loadJudged, loadOf, OutRes, putOut, saveOf, putListing, listOf}
-use Rattle.model.specs.Machines.{runOrder, tooShort, ran, refused, runAnswer, putTrace, backtraceIn, startWith, asLoaded, loadMachineOf, newMachineOf}
+use Rattle.model.specs.Machines.{RunAnswer, ran, refused, RunCall, begins, continues, abandons, beginAnswer, continueAnswer, abandonAnswer, runAnswer, putTrace, backtraceIn, StartRes, startWith, unlessRunning, asLoaded, loadMachineOf, newMachineOf}
 use Rattle.model.specs.Readers.{lastShown, lastResultOf, valueShown, stackValueOf, headerAt, headerShown, blockHeaderOf, elementShown, elementOf, textShown, readsText, textBytesOf}
 use Rattle.value.proofs.Coding.{and-left, and-right}
 use Rattle.demands.specs.Host.{Held, Ask, new, load, addOp, addOp1, addOp2, addOp3, patch, addConstant, addStruct, beginFunction, endFunction, currentOffset, functionIdx, save, disassemble, backtrace, lastResult, stackValue, blockHeader, element, textBytes, Call, run, ask, Answer, told, put, shown, headed, Done, withFrames, emits, starts, looks, done, RanBy, After}
-use Rattle.demands.proofs.OneRun.{Seen, went, stayed, seen}
-use Rattle.demands.specs.Refusals.{Check, must, mustNot, firstOf, isNone, isEmpty, codeChecks, hasText, loadChecks, newName, fitsOut, listChecks, noLast, exactAt, elementChecks, textChecks, askChecks, checks, refusedRun, refusedBy, OutKept, Demand1}
+use Rattle.demands.specs.Refusals.{Check, must, mustNot, firstOf, isNone, isEmpty, codeChecks, hasText, writing, loadChecks, newName, fitsOut, listChecks, noLast, exactAt, elementChecks, textChecks, askChecks, runChecks, checks, refusedRun, refusedBy, OutKept, Demand1}
+use Rattle.demands.proofs.Went.{answers, stays}
 
 -- what a refusal n leaves
 record Refusal (h : Held) (n : ℕ) (d : Done) : Type 0 where
@@ -98,10 +98,15 @@ module _ (h : Held) where
   unfolding emits
   emit-done c n s = says-none refl
 
-  code-says : (op : ℕ) (bytes : List ℕ) (place : ℕ) → Says h (codeChecks h op (length bytes)) (emits h (emitOf (h .vm .program) op bytes place (h .stores)))
+  -- good order first, and then that no run is under way
+  write-says : (inOrder : Bool) {cs : List Check} (x : Res) → Says h cs (emits h x)
+      → Says h (writing h inOrder cs) (emits h (if inOrder then (if h .vm .run .on then refuse 25 (h .stores) else x) else refuse 19 (h .stores)))
+  write-says inOrder x s = pass-if (emits h) h inOrder (emit-refused 19) (stop-if (emits h) h (h .vm .run .on) (emit-refused 25) s)
+
+  code-says : (op : ℕ) (bytes : List ℕ) (place : ℕ) → Says h (codeChecks h op (length bytes)) (emits h (emitOf (h .vm .run .on) (h .vm .program) op bytes place (h .stores)))
   unfolding codeChecks emitOf emitIn appended
   code-says op bytes place =
-      pass-if (emits h) h _ (emit-refused 19) (stop-if (emits h) h _ (emit-refused 22) (stop-if (emits h) h _ (emit-refused 21) (stop-if (emits h) h _ (emit-refused 1) (emit-done _ _ _))))
+      write-says _ _ (stop-if (emits h) h _ (emit-refused 22) (stop-if (emits h) h _ (emit-refused 21) (stop-if (emits h) h _ (emit-refused 1) (emit-done _ _ _))))
 
   constant-says : (x : Constant) (lent : List ℕ)
       → Says h (must (not (hasText x) || textRoom (h .vm .program) (h .stores) (length lent)) 21 ∷ []) (emits h (constantAdded (h .vm .program) x lent (h .stores)))
@@ -141,9 +146,17 @@ module _ (h : Held) where
   frame-says : (c : Counts) (s' : Stores) → Says h (mustNot (isEmpty (h .lent .frames)) 21 ∷ []) (starts h (startWith (ld.Done c) s' (h .stores) (h .lent .frames)))
   frame-says c s' = frame-by c s' (h .lent .frames) refl
 
-  new-says : Says h (askChecks new h) (starts h (newMachineOf (h .stores) (h .lent .frames)))
+  -- no run is under way: before all else
+  make-by : (running : Bool) {cs : List Check} (x : StartRes) → Says h cs (starts h x) → Says h (mustNot running 25 ∷ cs) (starts h (unlessRunning running (h .stores) (h .lent .frames) x))
+  unfolding unlessRunning startWith
+  make-by true x s = says-first (start-refused 25)
+  make-by false x s = says-more s
+
+  new-says : Says h (askChecks new h) (starts h (newMachineOf (h .vm .run .on) (h .stores) (h .lent .frames)))
   unfolding askChecks newMachineOf newOf asLoaded
-  new-says = pass-if (λ (x : Res). starts h (startWith (asLoaded (x .answer)) (x .stores) (h .stores) (h .lent .frames))) h _ (start-refused 21) (frame-says _ _)
+  new-says =
+      make-by (h .vm .run .on) _
+      (pass-if (λ (x : Res). starts h (startWith (asLoaded (x .answer)) (x .stores) (h .stores) (h .lent .frames))) h _ (start-refused 21) (frame-says _ _))
 
   load-by : (x : Judged) → Says h (loadChecks h x) (starts h (startWith (loadJudged x (h .stores) .answer) (loadJudged x (h .stores) .stores) (h .stores) (h .lent .frames)))
   unfolding loadChecks loadJudged
@@ -236,17 +249,19 @@ module _ (h : Held) where
   pub ask-says : (q : Ask) → Says h (askChecks q h) (done q h)
   unfolding askChecks done newName loadMachineOf loadOf addOpOf addOp1Of addOp2Of addOp3Of u16 patchOf patched addConstantOf addStructOf beginFunctionOf begun endFunctionOf currentOffsetOf functionIdxOf saveOf listOf backtraceIn lastResultOf stackValueOf blockHeaderOf elementOf textBytesOf
   ask-says new = new-says
-  ask-says (load image) = load-by (judge image)
+  ask-says (load image) = make-by (h .vm .run .on) _ (load-by (judge image))
   ask-says (addOp op place) = code-says op (op ∷ []) place
   ask-says (addOp1 op a place) = code-says op _ place
   ask-says (addOp2 op a b place) = code-says op _ place
   ask-says (addOp3 op a b c place) = code-says op _ place
-  ask-says (patch offset word) = pass-if (emits h) h _ (emit-refused 19) (stop-if (emits h) h _ (emit-refused 23) (emit-done _ _ _))
-  ask-says (addConstant x bytes) = pass-if (emits h) h _ (emit-refused 19) (stop-if (emits h) h _ (emit-refused 22) (stop-if (emits h) h _ (emit-refused 21) (constant-says x bytes)))
-  ask-says (addStruct name) = pass-if (emits h) h _ (emit-refused 19) (struct-says name _)
+  ask-says (patch offset word) = write-says _ _ (stop-if (emits h) h _ (emit-refused 23) (emit-done _ _ _))
+  ask-says (addConstant x bytes) = write-says _ _ (stop-if (emits h) h _ (emit-refused 22) (stop-if (emits h) h _ (emit-refused 21) (constant-says x bytes)))
+  ask-says (addStruct name) = write-says _ _ (struct-says name _)
   ask-says (beginFunction name) =
-      pass-if (emits h) h _ (emit-refused 19) (stop-if (emits h) h _ (emit-refused 22) (stop-if (emits h) h _ (emit-refused 21) (pass-if (emits h) h _ (emit-refused 21) (emit-done _ _ _))))
-  ask-says endFunction = pass-if (λ (x : Emitted). emits h (record { answer = x; stores = h .stores })) h _ (emit-refused 19) (emit-done _ _ _)
+      write-says _ _ (stop-if (emits h) h _ (emit-refused 22) (stop-if (emits h) h _ (emit-refused 21) (pass-if (emits h) h _ (emit-refused 21) (emit-done _ _ _))))
+  ask-says endFunction =
+      let f : Emitted → Done = λ x. emits h (record { answer = x; stores = h .stores }) in
+      pass-if f h _ (emit-refused 19) (stop-if f h (h .vm .run .on) (emit-refused 25) (emit-done _ _ _))
   ask-says currentOffset = pass-if tells h _ (looked _ refl tt) (saw _ refl)
   ask-says (functionIdx name) = pass-if tells h _ (looked _ refl tt) (name-says _)
   ask-says (save out) = pass-if (puts out) h _ (looked _ refl refl) (out-says out _)
@@ -261,31 +276,55 @@ module _ (h : Held) where
       let b = readsText (h .vm) x in
       pass-then (puts out) h (a && b) (looked _ refl refl) (λ e. text-says out x (and-left a b e) (and-right a b e))
 
--- ---- a run
+-- ---- the calls of a run
 
-run-number : (a b : Bool) (c : Counts) (x : Ran) → refusedRun (if a then (if b then refused 17 else ran c x) else refused 19) ≡ firstOf (must a 19 ∷ mustNot b 17 ∷ [])
+begin-number : (order on short : Bool) (c : Counts) (x : Part)
+    → refusedRun (if order then (if on then refused 25 else (if short then refused 17 else ran c x)) else refused 19) ≡ firstOf (must order 19 ∷ mustNot on 25 ∷ mustNot short 17 ∷ [])
 unfolding firstOf
-run-number true true c x = refl
-run-number true false c x = refl
-run-number false b c x = refl
+begin-number true true short c x = refl
+begin-number true false true c x = refl
+begin-number true false false c x = refl
+begin-number false on short c x = refl
 
-module _ {u : ℕ} {h h' : Held} {a : Answer} (p : RanBy u h a h') where
-  same-held : h' .vm ≡ h .vm → h' .lent ≡ h .lent → h' ≡ h
-  same-held v l = rw (← (p .stores), ← v, ← l)
+continue-number : (order on short much : Bool) (c : Counts) (x : Part)
+    → refusedRun (if order then (if on then (if short then refused 17 else (if much then refused 22 else ran c x)) else refused 18) else refused 19)
+    ≡ firstOf (must order 19 ∷ must on 18 ∷ mustNot short 17 ∷ mustNot much 22 ∷ [])
+unfolding firstOf
+continue-number true true true much c x = refl
+continue-number true true false true c x = refl
+continue-number true true false false c x = refl
+continue-number true false short much c x = refl
+continue-number false on short much c x = refl
 
-  run-kept : (n : ℕ) → refusedBy a ≡ some n → Seen (h .vm) (h .stores) (h .lent) (p .result) (h' .lent) → (h' ≡ h) × OutKept a
-  run-kept n e (went y q o) = absurd (let f : some n ≡ none = sym e ∙ ap refusedBy (p .answer) ∙ ap refusedRun q in let z : _≡_ {A = ℕ} 0 1 = cc in let b : ⊥ = omega arith in b)
-  run-kept n e (stayed i q v l) = (same-held (p .vm ∙ v) l, rw (p .answer) tt)
+abandon-number : (order on short : Bool) (c : Counts) (x : Part)
+    → refusedRun (if order then (if on then (if short then refused 17 else ran c x) else refused 18) else refused 19) ≡ firstOf (must order 19 ∷ must on 18 ∷ mustNot short 17 ∷ [])
+unfolding firstOf
+abandon-number true true true c x = refl
+abandon-number true true false c x = refl
+abandon-number true false short c x = refl
+abandon-number false on short c x = refl
 
-  run-says : Demand1 (run u) h a h'
-  unfolding checks runAnswer
-  run-says = record {
-    number = ap refusedBy (p .answer) ∙ ap refusedRun (p .post .answer) ∙ run-number (runOrder (h .vm) (h .stores) (h .lent)) (tooShort (h .lent)) _ _;
-    kept = λ n e. run-kept n e (seen (h .vm) (h .stores) (h .lent) (p .result) (h' .lent) (p .post .left));
-  }
+pub run-number : (c : RunCall) (h : Held) → refusedRun (runAnswer c (h .vm) (h .stores) (h .lent)) ≡ firstOf (runChecks c h)
+unfolding runAnswer beginAnswer continueAnswer abandonAnswer runChecks
+run-number begins h = begin-number _ _ _ _ _
+run-number (continues u) h = continue-number _ _ _ _ _ _
+run-number abandons h = abandon-number _ _ _ _ _
+
+was-refused : (x : RunAnswer) (n : ℕ) → refusedRun x ≡ some n → x ≡ refused n
+was-refused (ran c x) n e = absurd (let z : _≡_ {A = ℕ} 0 1 = cc in let y : ⊥ = omega arith in y)
+was-refused (refused i) n e = let z : i ≡ n = cc in rw z
+
+run-says : {c : RunCall} {h h' : Held} {a : Answer} → RanBy c h a h' → Demand1 (run c) h a h'
+unfolding checks
+run-says {c} {h} p =
+    let x = runAnswer c (h .vm) (h .stores) (h .lent) in
+    record {
+      number = ap refusedBy (answers p) ∙ run-number c h;
+      kept = λ n e. (stays p n (was-refused x n (sym (ap refusedBy (answers p)) ∙ e)), rw (answers p) tt);
+    }
 
 -- DEMAND 1: each call is refused by the first of its checks that fails, and by no other number; a refusal changes nothing
 pub refuses : (c : Call) {h h' : Held} {a : Answer} → After c h a h' → Demand1 c h a h'
 unfolding checks
-refuses (run u) p = run-says p
+refuses (run c) p = run-says p
 refuses (ask q) {h} p = let s : Says h (askChecks q h) (record { answer = _; held = _ }) = rw p at (ask-says h q) in record { number = s .number; kept = s .kept }

@@ -1,36 +1,38 @@
 -- A machine in stores that are lent anew is in good order, and stands for the same program and the same machine; where they are as long, no answer says which.
 use mathlib.Core.Path.{_≡_, refl, sym, ap, _∙_}
-use mathlib.Core.Bool.{Bool, true, false}
+use mathlib.Core.Bool.{Bool, true, false, _&&_}
 use mathlib.Core.List.{List, [], _∷_}
-use Prim.Native.Nat.{ℕ, zero, suc, _+_, _≤_, _<_}
+use Prim.Native.Nat.{ℕ, zero, suc, _+_, _*_, _≤_, _<_}
 use native.Mathlib.Omega.{arith}
 use borrow.Author.Tests.{leb-true, le-leb, ne-eqb}
 use lib.Dec.{leb, eqb}
-use lib.ListN.{length, take, drop}
+use lib.ListN.{length, take, drop, length-take}
 use lib.Seq.{take-take}
 use Rattle.model.specs.declared.Counts.{Counts}
 use Rattle.model.specs.declared.Vm.{Vm}
 use Rattle.model.specs.Basics.{if_then_else_, everyFrom}
-use Rattle.model.specs.Values.{places, kindAt, payloadAt, valuesFrom, textAt}
+use Rattle.model.specs.Values.{places, kindAt, payloadAt, valueAt, valuesFrom, exactValue, textAt}
+use Rattle.model.specs.Heap.{Cell, heapOf, heapOk, exactCells, placedBelow}
 use Rattle.model.specs.Programs.{Function}
 use Rattle.model.specs.Stores.{Stores, start, size, part, structWord, orderWord, nameWord, codeWord, codeEnd, constantIn, constantsFrom, structsFrom, functionIn, functionsFrom, programIn}
 use Rattle.model.specs.Stores as t
-use Rattle.model.specs.Orders.{textOk, constantOk, constantsOk, nameInOrder, codeStart, functionOk, functionsOk, mainOk, mainTaken, otherTaken, insideCodes, programOk}
-use Rattle.model.specs.Machines.{frameRoom, machineIn, worldOf, runOrder}
+use Rattle.model.specs.Orders.{textOk, constantOk, constantsOk, nameInOrder, codeStart, functionOk, functionsOk, mainOk, mainTaken, otherTaken, insideCodes, programOk, cellsOk, stackOk}
+use Rattle.model.specs.Machines.{frameRoom, innermost, machineIn, progressIn, underIn, worldOf, runOrder, partOrder}
 use Rattle.layout.proofs.Bools.{either-way, and-left, and-right, and-both}
 use Rattle.laws_programs.proofs.Every.{pass-all}
 use Rattle.laws_programs.proofs.Known.{Limited, limited, text-inside, constants-known, Structs, structs-known, structs-good, Known, function-known, ascending}
 use Rattle.laws_programs.proofs.Keeping.{Good, good-of, of-good}
-use Rattle.laws_runs.specs.Ordered.{CodeBytes}
-use Rattle.laws_runs.proofs.Ordered.{order-sane, order-exact, sane-ordered}
+use Rattle.laws_runs.specs.Ordered.{CodeBytes, UnderOrdered}
+use Rattle.laws_runs.proofs.Ordered.{order-sane, order-exact, idle-of, idle-to, under-of, under-to, sane-ordered}
 use Rattle.demands.specs.Host.{Held}
 use Rattle.demands.specs.Kept.{InOrder, WorldGrew}
 use Rattle.demands.specs.Agree.{Front, Rooms}
 use Rattle.demands.specs.Meant.{worldIn, machineOf, AsLong, Fine, AlikeHeld}
 use Rattle.demands.specs.Relent.{ProgramAnew, Relent, StandsFor}
-use Rattle.demands.proofs.Fronts.{places-alike, kind-alike, payload-alike, value-alike, vals-alike, heap-alike, exact-alike, every-alike, innermost-alike, callers-alike}
+use Rattle.demands.proofs.Fronts.{front-less, places-alike, kind-alike, payload-alike, value-alike, vals-alike, heap-to, heap-alike, exact-alike, every-alike, innermost-alike, callers-alike}
 use Rattle.demands.proofs.Wider.{sane-wider}
-use Rattle.demands.proofs.MeantChains.{machine-self}
+use Rattle.demands.proofs.Agreeing.{mark-below}
+use Rattle.demands.proofs.MeantChains.{machine-self, under-self}
 
 -- ---- rooms
 
@@ -245,12 +247,49 @@ module _ (c : Counts) (s s' : Stores) (g : ProgramAnew c s s') (ok : programOk c
 
 -- ---- the machine
 
+-- room for n values in other stores with the same words
+front-room : (n : ℕ) (a b : List ℕ) → Front (2 * n) b a → n ≤ places 2 a → n ≤ places 2 b
+unfolding places
+front-room n a b f h =
+    let z : length (take (2 * n) b) ≡ length (take (2 * n) a) = ap length (f .front) in
+    let x = length-take (2 * n) a in let y = length-take (2 * n) b in
+    omega arith
+
+-- what stands in order does so there
+module _ (n : ℕ) {a b : List ℕ} (f : Front (2 * n) b a) where
+  room-anew : leb n (places 2 a) ≡ true → leb n (places 2 b) ≡ true
+  room-anew e = le-leb n (places 2 b) (front-room n a b f (leb-true n (places 2 a) e))
+
+  cells-anew : (t : ℕ) → cellsOk t n a ≡ true → cellsOk t n b ≡ true
+  unfolding cellsOk
+  cells-anew t e =
+      let within = leb n (places 2 a) in let exact = exactCells n 0 a in let whole = heapOk t (heapOf n a) in
+      let z = and-left (within && exact) whole e in
+      rw (room-anew (and-left within exact z), exact-alike n f, heap-alike n f, and-right within exact z) (and-right (within && exact) whole e)
+
+  stack-anew : (t : ℕ) (H : List Cell) → stackOk t H n a ≡ true → stackOk t H n b ≡ true
+  unfolding stackOk
+  stack-anew t H e =
+      let slot : List ℕ → ℕ → Bool = λ l i. exactValue (kindAt l i) (payloadAt l i) && placedBelow t H (length H) (valueAt l i) in
+      let within = leb n (places 2 a) in let each = everyFrom n 0 (slot a) in
+      rw (
+        room-anew (and-left within each e),
+        every-alike n 0 (slot b) (slot a) (λ i h. rw (kind-alike n f i (omega arith), payload-alike n f i (omega arith), value-alike n f i (omega arith))),
+      ) (and-right within each e)
+
 module _ {h k : Held} (o : InOrder h) (g : Relent h k) where
   machine-anew : machineIn (h .vm) (k .lent) ≡ machineIn (h .vm) (h .lent)
   unfolding machineIn
   machine-anew =
       let some = order-exact (h .vm) (h .stores) (h .lent) (o .machine) .frames in
       rw (vals-alike (h .vm .stack) (g .stack .front), innermost-alike (g .frames .front) some, callers-alike (g .frames .front), heap-alike (h .vm .cells) (g .cells .front))
+
+  mark-anew : heapOf (h .vm .run .mark) (k .lent .cells) ≡ heapOf (h .vm .run .mark) (h .lent .cells)
+  mark-anew = heap-to (h .vm .cells) (g .cells .front) (h .vm .run .mark) (mark-below (h .vm) (h .stores) (h .lent) (o .machine))
+
+  under-anew : underIn (h .vm) (k .lent) ≡ underIn (h .vm) (h .lent)
+  unfolding underIn progressIn
+  under-anew = rw (vals-alike (h .vm .run .saved) (g .copy), mark-anew, machine-anew)
 
   rooms-grew : WorldGrew (worldOf (h .vm) (h .stores) (h .lent)) (worldOf (h .vm) (k .stores) (k .lent))
   unfolding worldOf t.worldIn frameRoom
@@ -265,6 +304,35 @@ module _ {h k : Held} (o : InOrder h) (g : Relent h k) where
         codes = λ i l. rw f (omega arith);
       }
 
+  same-functions : functionsFrom (h .vm .program .functions) 0 (k .stores) ≡ functionsFrom (h .vm .program .functions) 0 (h .stores)
+  same-functions = functions-anew (h .vm .program) (h .stores) (k .stores) (g .program) (o .program) (h .vm .program .functions) 0 (omega arith)
+
+  same-frame : innermost (h .vm .frames) (k .lent .frames) ≡ innermost (h .vm .frames) (h .lent .frames)
+  same-frame = innermost-alike (g .frames .front) (order-exact (h .vm) (h .stores) (h .lent) (o .machine) .frames)
+
+  -- a run under way
+  under-order : h .vm .run .on ≡ true → UnderOrdered (h .vm) (k .stores) (k .lent)
+  under-order on =
+      let u = under-of (h .vm) (h .stores) (h .lent) (o .machine) on in
+      let marked = front-less {n = 2 * h .vm .run .mark} (let z = u .mark in omega arith) (g .cells .front) in
+      record {
+        spent = u .spent;
+        returns = u .returns;
+        answer = u .answer;
+        mark = u .mark;
+        saved = let z = more-2 (h .lent .stack) (k .lent .stack) (g .stack .room) in omega (arith, u .saved);
+        cells = cells-anew (h .vm .run .mark) marked (h .vm .program .text) (u .cells);
+        copy = rw mark-anew (stack-anew (h .vm .run .saved) (g .copy) (h .vm .program .text) _ (u .copy));
+        last = rw mark-anew (u .last);
+        inside = rw (same-frame, same-functions) (u .inside);
+      }
+
+  part-order : partOrder (h .vm) (k .stores) (k .lent) ≡ true
+  part-order =
+      either-way (h .vm .run .on)
+      (λ on. under-to (h .vm) (k .stores) (k .lent) on (under-order on))
+      (λ off. idle-to (h .vm) (k .stores) (k .lent) (idle-of (h .vm) (h .stores) (h .lent) (o .machine) off))
+
   order-anew : runOrder (h .vm) (k .stores) (k .lent) ≡ true
   order-anew =
       let x = order-exact (h .vm) (h .stores) (h .lent) (o .machine) in
@@ -275,6 +343,7 @@ module _ {h k : Held} (o : InOrder h) (g : Relent h k) where
         frames = x .frames;
       })
       (rw machine-anew (sane-wider rooms-grew (order-sane (h .vm) (h .stores) (h .lent) (o .machine) 0)))
+      part-order
 
   -- STORES LENT ANEW: good order is kept, and they stand for the same program and the same machine
   pub relent-stands : StandsFor h k
@@ -285,6 +354,7 @@ module _ {h k : Held} (o : InOrder h) (g : Relent h k) where
     };
     program = rw (g .vm) (program-anew (h .vm .program) (h .stores) (k .stores) (g .program) (o .program));
     machine = rw (g .vm) machine-anew;
+    under = rw (g .vm) under-anew;
   }
 
   -- ---- and as long as before
@@ -305,6 +375,8 @@ relent-alike again {h} {k} f code g long l =
       program = same .program;
       stores = long;
       machine = rw (same .machine, world-same (f .order) g l) (machine-self (worldIn h) (machineOf h));
+      on = ap (λ (m : Vm). m .run .on) (g .vm);
+      under = λ _. rw (same .under, world-same (f .order) g l) (under-self (worldIn h) (h .vm) (h .lent));
       stack = l .stack;
       frames = l .frames;
       copy = l .copy;

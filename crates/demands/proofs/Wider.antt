@@ -23,7 +23,7 @@ use Rattle.model.specs.Machines.{Lent, machineIn, worldOf, runOrder}
 use Rattle.value.proofs.Coding.{and-left, and-right}
 use Rattle.cells.proofs.Order.{and-both}
 use Rattle.laws_runs.specs.Sane.{AllPlaced, LastPlaced, FrameFits, CallersFit, Sane}
-use Rattle.laws_runs.proofs.Ordered.{order-of, order-sane, order-exact, sane-ordered, text-length}
+use Rattle.laws_runs.proofs.Ordered.{order-of, order-sane, order-exact, idle-of, idle-to, sane-ordered, text-length}
 use Rattle.laws_runs.proofs.Programs.{length-functions, parts-of, code-size}
 use Rattle.demands.specs.Kept.{Grew, WorldGrew}
 
@@ -115,9 +115,10 @@ module _ {w w' : World} (g : WorldGrew w w') where
 -- ---- a machine whose program grew
 
 abbrev pub withProgram : Counts → Vm → Vm
-withProgram c m = record { program = c; stack = m .stack; frames = m .frames; cells = m .cells; last = m .last }
+withProgram c m = record { program = c; stack = m .stack; frames = m .frames; cells = m .cells; last = m .last; run = m .run }
 
-module _ (m : Vm) (s : Stores) (l : Lent) (c : Counts) (s' : Stores) (e : runOrder m s l ≡ true) (e' : programOk c s' ≡ true) (g : Grew (m .program) s c s') where
+-- it grows only where no run is under way
+module _ (m : Vm) (s : Stores) (l : Lent) (c : Counts) (s' : Stores) (e : runOrder m s l ≡ true) (off : m .run .on ≡ false) (e' : programOk c s' ≡ true) (g : Grew (m .program) s c s') where
   world-grew : WorldGrew (worldOf m s l) (worldOf (withProgram c m) s' l)
   unfolding worldOf worldIn
   world-grew =
@@ -139,3 +140,4 @@ module _ (m : Vm) (s : Stores) (l : Lent) (c : Counts) (s' : Stores) (e : runOrd
   order-wider =
       let x = order-exact m s l e in
       sane-ordered (withProgram c m) s' l 0 e' (record { cells = x .cells; stack = x .stack; frames = x .frames }) (sane-wider world-grew (order-sane m s l e 0))
+      (idle-to (withProgram c m) s' l (idle-of m s l e off))

@@ -1,30 +1,34 @@
 -- Demand 2, over lent stores.
-use mathlib.Core.Path.{_≡_, refl, sym, _∙_}
+use mathlib.Core.Path.{_≡_, refl, sym, ap, _∙_}
+use mathlib.Core.Bool.{not}
 use mathlib.Core.List.{List}
-use Prim.Native.Nat.{ℕ, _-_, _≤_}
+use Prim.Native.Nat.{ℕ, _+_, _-_, _≤_}
 use native.Mathlib.Omega.{arith}
-use Rattle.model.specs.declared.Vm.{Vm}
-use Rattle.model.specs.declared.Counts.{Counts}
+use borrow.Author.Tests.{eqb-true, eqb-false, not-true, not-false}
+use lib.Dec.{eqb}
 use Rattle.model.specs.declared.Last.{Last}
 use Rattle.model.specs.declared.Last.the-variants.{Nothing, Is}
 use Rattle.model.specs.declared.Tally.{Tally}
 use Rattle.model.specs.declared.Fault.{Fault}
 use Rattle.model.specs.declared.Fault.the-variants as f
-use Rattle.model.specs.declared.RunResult.{RunResult}
 use Rattle.model.specs.Values.{faultNumber}
 use Rattle.model.specs.Steps.{World, State}
-use Rattle.model.specs.Runs.{Machine, begin, Progress, Ended, ended, stopped, paused, endOf, Entry, fault, Ran, tally, answered, partOf, abandonOf, givenUp, runOf}
-use Rattle.model.specs.Stores.{Stores}
-use Rattle.model.specs.Machines.{Lent, machineIn, worldOf, ran, answerIn, RunPost}
-use Rattle.laws_runs.specs.Paths.{Steps}
+use Rattle.model.specs.Runs.{Machine, begin, Progress, atStart, Ended, ended, stopped, paused, endOf, Entry, fault, Ran, tally, answered, Under, Part, pauses, partOf, abandonOf, givenUp, runOf}
+use Rattle.model.specs.Machines.{progressIn, underIn, someLast}
+use Rattle.laws_runs.specs.Paths.{Steps, rootReturns, By, PausedBy}
 use Rattle.laws_runs.specs.Demand.{Cut, faulting, unpaid}
-use Rattle.laws_runs.proofs.Paths.{path-spends}
+use Rattle.laws_runs.proofs.Ends.{end-of}
+use Rattle.laws_runs.proofs.Paths.{run-path, returns-counted, path-spends, a-run-that-starts-has-no-value, a-run-has-a-value-exactly-behind-a-root-return}
 use Rattle.laws_runs.proofs.Demands.{run-recovered}
 use Rattle.laws_runs.proofs.Ordered.{order-world, order-sane}
 use Rattle.laws_runs.proofs.Runs.{path-sane}
-use Rattle.demands.specs.Units.{Within, Demand2}
-use Rattle.demands.proofs.Went.{Went, went}
-use Rattle.demands.proofs.Paying.{run-is-steps}
+use Rattle.demands.specs.Units.{spentOn, Within, Demand2}
+use Rattle.demands.specs.Host.{Held}
+use Rattle.demands.specs.Meant.{worldIn, machineOf, underOf}
+use Rattle.demands.specs.Parts.{Parts, Over, IsThirteen, PausedAtThirteen, StandsBefore}
+use Rattle.demands.proofs.Fixed.{standing}
+use Rattle.demands.proofs.Parting.{parts-come-to, over-is-one}
+use Rattle.demands.proofs.Paying.{path-units, run-is-steps}
 use Rattle.demands.proofs.Growing.{as-trees}
 
 fault-known : (n : Fault) → (1 ≤ faultNumber n) × (faultNumber n ≤ 14)
@@ -44,20 +48,22 @@ fault-known f.TooDeep = (omega arith, omega arith)
 fault-known f.NoFunction = (omega arith, omega arith)
 
 module _ (w : World) (m : Machine) (u : ℕ) where
-  answered-within : (a : Last) (i : Tally) → i .spent ≤ u → Within u (answered a i)
-  unfolding answered
-  answered-within Nothing i h = h
-  answered-within (Is x) i h = h
+  answered-within : (a : Last) (i : Tally) → i .spent ≤ u → someLast a ≡ not (eqb (i .returns) 0) → Within u (answered a i)
+  unfolding answered someLast
+  answered-within Nothing i h e = (h, eqb-true _ _ (not-false _ (sym e)))
+  answered-within (Is x) i h e = let some : i .returns ≡ 0 → ⊥ = eqb-false _ _ (not-true _ (sym e)) in (h, omega (arith, some))
 
-  settled-within : (e : Ended) → Within u (givenUp w (partOf w (m .stack) u e) .reply)
+  settled-within : (e : Ended) → By w (atStart (begin m u)) (begin m u) e → Within u (givenUp w (partOf w (m .stack) u e) .reply)
   unfolding partOf givenUp abandonOf
-  settled-within (ended k t) = answered-within (k .answer) (tally (u - t .units) k) (omega arith)
-  settled-within (stopped n t k) = (omega arith, fault-known n)
-  settled-within (paused k t) = (omega arith, (omega arith, omega arith))
+  settled-within (ended k t) r =
+      answered-within (k .answer) (tally (u - t .units) k) (omega arith)
+      (a-run-has-a-value-exactly-behind-a-root-return w (a-run-that-starts-has-no-value (begin m u)) (r .path))
+  settled-within (stopped n t k) r = (omega arith, fault-known n)
+  settled-within (paused k t) r = (omega arith, (omega arith, omega arith))
 
   run-within : Within u (runOf w m u .reply)
   unfolding runOf
-  run-within = settled-within (endOf w (begin m u))
+  run-within = let s = begin m u in settled-within (endOf w s) (run-path w (atStart s) s (sym (end-of w s)))
 
   not-thirteen : (n : Fault) → faultNumber n ≡ 13 → ⊥
   unfolding faultNumber
@@ -88,15 +94,63 @@ pub steps-within : {w : World} {m : Machine} {u n : ℕ} {j k : Progress} {t : S
 steps-within {w} p = omega (arith, path-spends w p)
 
 -- DEMAND 2
-pub run-written : (m : Vm) (s : Stores) (l : Lent) (u : ℕ) {q : RunResult} {l' : Lent} → RunPost m s l u q l' → {c : Counts} {x : Ran} → answerIn l' q ≡ ran c x → Demand2 m s l u c x
-run-written m s l u p {c} {x} e =
-    let w = worldOf m s l in
-    let a = machineIn m l in
-    let z : Went m s l u c x = went m s l u (sym e ∙ p .answer) in
+pub run-written : {h k : Held} {u : ℕ} {x : Ran} → Over h u x k → Demand2 (h .vm) (h .stores) (h .lent) u (k .vm .program) x
+run-written {h} {k} {u} {x} p =
+    let w = worldIn h in
+    let a = machineOf h in
+    let z = over-is-one p in
     record {
-      program = z .program;
-      steps = rw (z .run) (run-is-steps w a u);
-      within = rw (z .run) (run-within w a u);
-      whole = λ did es q. run-whole w a u did es (rw (← (z .run)) q);
-      trees = λ b p. as-trees w _ (path-sane w (order-world m s l (z .order) b) (order-sane m s l (z .order) u) p);
+      program = z .beside .program;
+      steps = rw (z .one) (run-is-steps w a u);
+      within = rw (z .one) (run-within w a u);
+      whole = λ did es q. run-whole w a u did es (rw (← (z .one)) q);
+      trees = λ b p. as-trees w _ (path-sane w (order-world (h .vm) (h .stores) (h .lent) (z .order) b) (order-sane (h .vm) (h .stores) (h .lent) (z .order) u) p);
     }
+
+-- ---- a run in parts is paused where one run ends in 13
+
+answered-not-thirteen : (a : Last) (i : Tally) → IsThirteen (answered a i) → ⊥
+unfolding answered
+answered-not-thirteen Nothing i e = e
+answered-not-thirteen (Is x) i e = e
+
+thirteen-by : (w : World) (m : Machine) (u : ℕ) (e : Ended) → PausedAtThirteen (givenUp w (partOf w (m .stack) u e) .reply) (partOf w (m .stack) u e)
+unfolding partOf givenUp abandonOf
+thirteen-by w m u (ended k t) = answered-not-thirteen (k .answer) _
+thirteen-by w m u (stopped n t k) = not-thirteen w m u n
+thirteen-by w m u (paused k t) = refl
+
+pub paused-where-one-run-ends-in-13 : {h k : Held} {g : ℕ} {x : Part} → Parts h g x k → PausedAtThirteen (runOf (worldIn h) (machineOf h) g .reply) x
+unfolding runOf
+paused-where-one-run-ends-in-13 {h} {g = g} p = rw (parts-come-to p .one) (thirteen-by (worldIn h) (machineOf h) g (endOf (worldIn h) (begin (machineOf h) g)))
+
+-- ---- a run that is paused
+
+module _ (w : World) (m : Machine) (g : ℕ) where
+  -- only a run that is short is paused
+  paused-by : {r : Under} (e : Ended) → endOf w (begin m g) ≡ e → pauses r ≡ partOf w (m .stack) g e → PausedBy w (atStart (begin m g)) (begin m g) (r .progress) (r .state)
+  unfolding partOf
+  paused-by (ended k t) q e = absurd (let z : _≡_ {A = ℕ} 0 1 = cc in let y : ⊥ = omega arith in y)
+  paused-by (stopped n t k) q e = absurd (let z : _≡_ {A = ℕ} 0 1 = cc in let y : ⊥ = omega arith in y)
+  paused-by {r} (paused k t) q e =
+      let same : r ≡ record { given = g; start = m .stack; progress = k; state = t } = cc in
+      rw same (run-path w (atStart (begin m g)) (begin m g) (sym (end-of w (begin m g)) ∙ q))
+
+  paused-given : {r : Under} (e : Ended) → pauses r ≡ partOf w (m .stack) g e → r .given ≡ g
+  unfolding partOf
+  paused-given (ended k t) e = absurd (let z : _≡_ {A = ℕ} 0 1 = cc in let y : ⊥ = omega arith in y)
+  paused-given (stopped n t k) e = absurd (let z : _≡_ {A = ℕ} 0 1 = cc in let y : ⊥ = omega arith in y)
+  paused-given {r} (paused k t) e = let same : r ≡ record { given = g; start = m .stack; progress = k; state = t } = cc in ap (λ (x : Under). x .given) same
+
+-- DEMAND 2, between two parts
+pub pause-written : {h k : Held} {g : ℕ} {r : Under} → Parts h g (pauses r) k → StandsBefore h g k
+unfolding underIn progressIn
+pause-written {h} {k} {g} p =
+    let z = parts-come-to p in
+    let is : pauses (underOf k) ≡ partOf (worldIn h) (machineOf h .stack) g (endOf (worldIn h) (begin (machineOf h) g)) = ap pauses (z .stands .under) ∙ z .one in
+    let by = paused-by (worldIn h) (machineOf h) g (endOf (worldIn h) (begin (machineOf h) g)) refl is in
+    let given : k .vm .run .given ≡ g = paused-given (worldIn h) (machineOf h) g (endOf (worldIn h) (begin (machineOf h) g)) is in
+    let few = standing (k .vm) (k .stores) (k .lent) (z .beside .order) .spent in
+    let units : g ≡ k .vm .run .given - k .vm .run .spent + spentOn (by .path) = path-units (by .path) in
+    let returns : k .vm .run .returns ≡ 0 + rootReturns (by .path) = returns-counted (worldIn h) (by .path) in
+    record { by = by; given = given; spent = omega arith; returns = omega arith }

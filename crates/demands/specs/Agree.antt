@@ -24,15 +24,16 @@ pub record Rooms (l l' : Lent) : Type 0 where
   pub copy : length (l .copy) ≡ length (l' .copy)
   pub backtrace : length (l .backtrace) ≡ length (l' .backtrace)
 
--- the same below the counts of stack, cells and frames. Of the copy and the backtrace store only the lengths count: nothing reads them.
+-- the same below the counts of stack, cells and frames, and the copy as far as a run under way has saved its stack there. Of the rest of the copy, and of
+-- the backtrace store, only the lengths count: nothing reads them.
 pub record LentAlike (m : Vm) (l l' : Lent) : Type 0 where
   pub stack : Alike (2 * m .stack) (l .stack) (l' .stack)
   pub cells : Alike (2 * m .cells) (l .cells) (l' .cells)
   pub frames : Alike (m .frames) (l .frames) (l' .frames)
-  pub copy : length (l .copy) ≡ length (l' .copy)
+  pub copy : Alike (2 * m .run .saved) (l .copy) (l' .copy)
   pub backtrace : length (l .backtrace) ≡ length (l' .backtrace)
 
--- the same counts and last result, the same program stores, and the lent stores the same below the counts
+-- the same counts and last result, the same record of a run, the same program stores, and the lent stores the same below the counts
 pub record Agree (h h' : Held) : Type 0 where
   pub vm : h .vm ≡ h' .vm
   pub stores : h .stores ≡ h' .stores

@@ -18,7 +18,7 @@ use Rattle.model.specs.declared.RunResult.the-variants as r
 use Rattle.model.specs.Stores.{Stores}
 use Rattle.model.specs.Emission.{Res, addOpOf, addOp1Of, addOp2Of, addOp3Of, currentOffsetOf, patchOf, addConstantOf, addStructOf, beginFunctionOf, endFunctionOf, functionIdxOf}
 use Rattle.model.specs.Loading.{OutRes, saveOf, listOf}
-use Rattle.model.specs.Machines.{Lent, RunAnswer, answerIn, RunPost, backtraceIn, StartRes, loadMachineOf, newMachineOf}
+use Rattle.model.specs.Machines.{Lent, RunAnswer, answerIn, RunCall, RunPost, backtraceIn, StartRes, loadMachineOf, newMachineOf}
 use Rattle.model.specs.Readers.{lastResultOf, stackValueOf, blockHeaderOf, elementOf, textBytesOf}
 
 -- the machine's counts, the program's stores, and what is lent besides
@@ -52,8 +52,9 @@ pub data Ask : Type 0 where
   element : Value → (i : ℕ) → Ask
   textBytes : Value → (out : List ℕ) → Ask
 
+-- the three calls of a run, and all others
 pub data Call : Type 0 where
-  run : (units : ℕ) → Call
+  run : RunCall → Call
   ask : Ask → Call
 
 -- what comes back; of an entry that writes a result store, the store as it was lent, the answer, and the store then
@@ -74,7 +75,7 @@ pub record Done : Type 0 where
 
 -- only the program's counts change
 abbrev pub counted : Vm → Emitted → Vm
-counted m (e.Done c n) = record { program = c; stack = m .stack; frames = m .frames; cells = m .cells; last = m .last }
+counted m (e.Done c n) = record { program = c; stack = m .stack; frames = m .frames; cells = m .cells; last = m .last; run = m .run }
 counted m (e.Refused n) = m
 
 unfoldable pub emits : Held → Res → Done
@@ -96,18 +97,19 @@ starts h x = record { answer = started (x .answer); held = record { vm = replace
 unfoldable pub looks : Held → Answer → Done
 looks h a = record { answer = a; held = h }
 
+-- emission, loading and making anew are told whether a run is under way
 unfoldable pub done : Ask → Held → Done
-done new h = starts h (newMachineOf (h .stores) (h .lent .frames))
-done (load image) h = starts h (loadMachineOf image (h .stores) (h .lent .frames))
-done (addOp op place) h = emits h (addOpOf (h .vm .program) op place (h .stores))
-done (addOp1 op a place) h = emits h (addOp1Of (h .vm .program) op a place (h .stores))
-done (addOp2 op a b place) h = emits h (addOp2Of (h .vm .program) op a b place (h .stores))
-done (addOp3 op a b c place) h = emits h (addOp3Of (h .vm .program) op a b c place (h .stores))
-done (patch offset word) h = emits h (patchOf (h .vm .program) offset word (h .stores))
-done (addConstant x text) h = emits h (addConstantOf (h .vm .program) x text (h .stores))
-done (addStruct text) h = emits h (addStructOf (h .vm .program) text (h .stores))
-done (beginFunction text) h = emits h (beginFunctionOf (h .vm .program) text (h .stores))
-done endFunction h = emits h (record { answer = endFunctionOf (h .vm .program); stores = h .stores })
+done new h = starts h (newMachineOf (h .vm .run .on) (h .stores) (h .lent .frames))
+done (load image) h = starts h (loadMachineOf (h .vm .run .on) image (h .stores) (h .lent .frames))
+done (addOp op place) h = emits h (addOpOf (h .vm .run .on) (h .vm .program) op place (h .stores))
+done (addOp1 op a place) h = emits h (addOp1Of (h .vm .run .on) (h .vm .program) op a place (h .stores))
+done (addOp2 op a b place) h = emits h (addOp2Of (h .vm .run .on) (h .vm .program) op a b place (h .stores))
+done (addOp3 op a b c place) h = emits h (addOp3Of (h .vm .run .on) (h .vm .program) op a b c place (h .stores))
+done (patch offset word) h = emits h (patchOf (h .vm .run .on) (h .vm .program) offset word (h .stores))
+done (addConstant x text) h = emits h (addConstantOf (h .vm .run .on) (h .vm .program) x text (h .stores))
+done (addStruct text) h = emits h (addStructOf (h .vm .run .on) (h .vm .program) text (h .stores))
+done (beginFunction text) h = emits h (beginFunctionOf (h .vm .run .on) (h .vm .program) text (h .stores))
+done endFunction h = emits h (record { answer = endFunctionOf (h .vm .run .on) (h .vm .program); stores = h .stores })
 done currentOffset h = looks h (told (currentOffsetOf (h .vm .program) (h .stores .functions)))
 done (functionIdx text) h = looks h (told (functionIdxOf (h .vm .program) text (h .stores)))
 done (save out) h = looks h (put out (saveOf (h .vm .program) (h .stores) out))
@@ -119,18 +121,19 @@ done (blockHeader x) h = looks h (headed (blockHeaderOf (h .vm) x (h .lent .cell
 done (element x i) h = looks h (shown (elementOf (h .vm) x i (h .lent .cells)))
 done (textBytes x out) h = looks h (put out (textBytesOf (h .vm) x (h .stores .text) out))
 
--- ---- a run
+-- ---- a part of a run
 
 abbrev pub vmAfter : Vm → RunResult → Vm
 vmAfter m (r.Value m' x n) = m'
 vmAfter m (r.Continue m' n) = m'
 vmAfter m (r.Fault m' k n j) = m'
+vmAfter m (r.Paused m') = m'
 vmAfter m (r.Refused n) = m
 
--- a result and lent stores that fit the run's contract; the program's stores are only read
-pub record RanBy (units : ℕ) (h : Held) (a : Answer) (h' : Held) : Type 0 where
+-- a result and lent stores that fit the contract of a run's call; the program's stores are only read
+pub record RanBy (c : RunCall) (h : Held) (a : Answer) (h' : Held) : Type 0 where
   pub result : RunResult
-  pub post : RunPost (h .vm) (h .stores) (h .lent) units result (h' .lent)
+  pub post : RunPost c (h .vm) (h .stores) (h .lent) result (h' .lent)
   pub answer : a ≡ ran (answerIn (h' .lent) result)
   pub vm : h' .vm ≡ vmAfter (h .vm) result
   pub stores : h' .stores ≡ h .stores
@@ -139,7 +142,7 @@ pub record RanBy (units : ℕ) (h : Held) (a : Answer) (h' : Held) : Type 0 wher
 
 -- what a call's contract says of its answer and of what the host then holds
 abbrev pub After : Call → Held → Answer → Held → Type 0
-After (run units) h a h' = RanBy units h a h'
+After (run c) h a h' = RanBy c h a h'
 After (ask q) h a h' = done q h ≡ record { answer = a; held = h' }
 
 pub data Chain : List Call → Held → List Answer → Held → Type 0 where

@@ -47,7 +47,7 @@ isMakes handed = false
 
 unfoldable pub anew : List Call → Bool
 anew [] = false
-anew (run u ∷ cs) = anew cs
+anew (run c ∷ cs) = anew cs
 anew (ask q ∷ cs) = isMakes (jobOf q) || anew cs
 
 -- what the types say: an image is bytes, an operand a number of 16 bits
@@ -63,5 +63,5 @@ Typed handed = Unit
 
 unfoldable pub AllTyped : List Call → Type 0
 AllTyped [] = Unit
-AllTyped (run u ∷ cs) = AllTyped cs
+AllTyped (run c ∷ cs) = AllTyped cs
 AllTyped (ask q ∷ cs) = Typed (jobOf q) × AllTyped cs

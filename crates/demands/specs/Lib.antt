@@ -7,9 +7,12 @@ pub mod Kept
 -- demand 2: values as trees, units and written steps
 pub mod Trees
 pub mod Units
--- demand 3: what no answer tells apart, by its words and by its meaning; and what a fault leaves
+-- what no answer tells apart, by its words and by its meaning
 pub mod Agree
 pub mod Meant
+-- a run in parts, over calls
+pub mod Parts
+-- demand 3: what a fault leaves, or abandoning
 pub mod Recovery
 -- a machine in stores that are lent anew
 pub mod Relent

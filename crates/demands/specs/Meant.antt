@@ -2,18 +2,19 @@
 use mathlib.Core.Path.{_≡_}
 use mathlib.Core.Bool.{Bool, true}
 use mathlib.Core.List.{List, [], _∷_}
-use Prim.Native.Nat.{ℕ}
+use Prim.Native.Nat.{ℕ, _-_}
 use lib.ListN.{length}
 use Rattle.model.specs.declared.Shown.the-variants as w
+use Rattle.model.specs.declared.Tally.{Tally}
 use Rattle.model.specs.Heap.{Cell}
 use Rattle.model.specs.Trees.{Tree, meaning}
 use Rattle.model.specs.Steps.{World}
-use Rattle.model.specs.Runs.{Machine}
+use Rattle.model.specs.Runs.{Machine, tally, Under, ends, pauses}
 use Rattle.model.specs.Stores.{Stores, programIn}
-use Rattle.model.specs.Machines.{machineIn, worldOf}
+use Rattle.model.specs.Machines.{machineIn, underIn, worldOf}
 use Rattle.model.specs.Machines as m
 use Rattle.laws_runs.specs.Ordered.{CodeBytes}
-use Rattle.laws_meaning.specs.Alike.{Layout, AlikeMachine}
+use Rattle.laws_meaning.specs.Alike.{Layout, AlikeMachine, AlikeUnder}
 use Rattle.laws_meaning.specs.Answers.{Meant, meantIn}
 use Rattle.demands.specs.Host.{Held, Call, run, ask, Answer, ran, emitted, started, told, put, shown, headed, Chain, none, more}
 use Rattle.demands.specs.Kept.{InOrder}
@@ -24,6 +25,10 @@ worldIn h = worldOf (h .vm) (h .stores) (h .lent)
 
 abbrev pub machineOf : Held → Machine
 machineOf h = machineIn (h .vm) (h .lent)
+
+-- the run that is under way
+abbrev pub underOf : Held → Under
+underOf h = underIn (h .vm) (h .lent)
 
 -- ---- what a host holds: h and d mean the same
 
@@ -55,6 +60,9 @@ pub record AlikeHeld (anew : Bool) (h d : Held) : Type 0 where
   pub stores : AsLong (d .stores) (h .stores)
   -- stack and last result of the same trees, the same frames, as many cells free
   pub machine : AlikeMachine (worldIn h) (layoutOf d) (machineOf h) (machineOf d)
+  -- a run is under way in both or in neither; in both it was given and has spent as much, has come as far, and its starting stack is of the same trees
+  pub on : d .vm .run .on ≡ h .vm .run .on
+  pub under : h .vm .run .on ≡ true → AlikeUnder (worldIn h) (layoutOf d) (underOf h) (underOf d)
   -- the lent stores as long
   pub stack : length (d .lent .stack) ≡ length (h .lent .stack)
   pub frames : length (d .lent .frames) ≡ length (h .lent .frames)
@@ -67,8 +75,10 @@ pub record AlikeHeld (anew : Bool) (h d : Held) : Type 0 where
 -- ---- what an answer says
 
 pub data Said : Type 0 where
-  -- a run: the tree of its value, or "continue", or the fault with its backtrace; and the units spent
+  -- a run that is over: the tree of its value, or "continue", or the fault with its backtrace; and what it did
   ended : Meant → Said
+  -- one that is paused: the units that it was given, and what it has done so far
+  paused : (given : ℕ) → Tally → Said
   -- a value that is told: its tree
   value : Tree → Said
   -- all else, as it was answered
@@ -79,7 +89,8 @@ pub data Said : Type 0 where
 
 -- values are those of the machine that is then held
 unfoldable pub saidIn : List ℕ → List Cell → Answer → Said
-saidIn t H (ran (m.ran c x)) = ended (meantIn t H (x .reply))
+saidIn t H (ran (m.ran c (ends x))) = ended (meantIn t H (x .reply))
+saidIn t H (ran (m.ran c (pauses r))) = paused (r .given) (tally (r .given - r .state .units) (r .progress))
 saidIn t H (ran (m.refused n)) = plain (ran (m.refused n))
 saidIn t H (emitted a) = plain (emitted a)
 saidIn t H (started a) = plain (started a)
@@ -97,7 +108,7 @@ heard looks x = x
 heard handed x = own
 
 unfoldable pub says : Call → Held → Answer → Said
-says (run u) h a = saidIn (worldIn h .text) (machineOf h .heap) a
+says (run c) h a = saidIn (worldIn h .text) (machineOf h .heap) a
 says (ask q) h a = heard (jobOf q) (saidIn (worldIn h .text) (machineOf h .heap) a)
 
 -- what calls one after another say

@@ -1,4 +1,4 @@
--- Demand 3: what a run that ends in a fault leaves, and that no later answer tells it from a machine set up so by hand.
+-- Demand 3: what a run that ends in a fault or is abandoned leaves, and that no later answer tells it from a machine set up so by hand.
 use mathlib.Core.Path.{_≡_}
 use mathlib.Core.Bool.{true, false}
 use mathlib.Core.List.{List}
@@ -14,7 +14,7 @@ use Rattle.model.specs.Programs.{functionAt}
 use Rattle.model.specs.Steps.{World, State, returned, stepOf}
 use Rattle.model.specs.Runs.{Machine, begin, Progress, over, root, Entry, recovered}
 use Rattle.model.specs.Stores.{Stores}
-use Rattle.model.specs.Machines.{Lent, machineIn, worldOf, runOrder}
+use Rattle.model.specs.Machines.{Lent, machineIn, worldOf, runOrder, noRun}
 use Rattle.laws_runs.specs.Ordered.{CodeBytes}
 use Rattle.laws_runs.specs.Sane.{Faults}
 use Rattle.laws_runs.specs.Paths.{Steps}
@@ -31,7 +31,8 @@ pub data Kept (w : World) (s t : State) : Last → List Cell → Type 0 where
   -- those of the last root Return completed before the cut, which returned v
   return : {n : ℕ} {m k : Progress} {q q' : State} {v : Value} → Steps w n m s k q → over w q ≡ false → stepOf w q ≡ returned v q' → Quiet w q' t → Kept w s t (Is v) (q' .heap)
 
--- a run of m with u units that answered fault n, what it did and a backtrace, and left m'. The program's stores are only read.
+-- a run that was begun by m and given u units in all, in however many parts; it answered fault n, or was abandoned, with what it did and a backtrace, and left
+-- m'. The program's stores are only read.
 pub record Recovers (m : Vm) (s : Stores) (l : Lent) (u : ℕ) (m' : Vm) (n : ℕ) (did : Tally) (trace : List Entry) (l' : Lent) : Type 0 where
   -- the written steps up to the cut, and the step that faulted there
   pub rules : Recovered (worldOf m s l) (machineIn m l) u n did trace
@@ -41,8 +42,9 @@ pub record Recovers (m : Vm) (s : Stores) (l : Lent) (u : ℕ) (m' : Vm) (n : �
   -- one frame: function 0, base 0, position at the end of main
   pub frames : m' .frames ≡ 1
   pub frame : getD (l' .frames) 0 (root 0) ≡ root (length (functionAt (worldOf m s l .functions) 0 .code))
-  -- unchanged code and constants
+  -- unchanged code and constants, and no run is under way
   pub program : m' .program ≡ m .program
+  pub run : m' .run ≡ noRun
   -- the last result is that of the last root Return completed before the cut, or the former one; so are the cells
   pub kept : Kept (worldOf m s l) (begin (machineIn m l) u) (rules .at) (m' .last) (heapOf (m' .cells) (l' .cells))
   -- all at once: the machine that is left, by the rules; and it is in good order
@@ -51,15 +53,18 @@ pub record Recovers (m : Vm) (s : Stores) (l : Lent) (u : ℕ) (m' : Vm) (n : �
   -- the step that faulted has dropped and added no frame, and its backtrace stands
   pub traced : CodeBytes s → Faults (worldOf m s l) (rules .at) (rules .after)
 
--- a machine set up as x beside h in the same words: the same program stores, lent stores of the same lengths and so the same free cells, in good order
+-- a machine set up as x beside h in the same words: the same program stores, lent stores of the same lengths and so the same free cells, in good order, and
+-- no run under way
 pub record SetUp (x : Machine) (h d : Held) : Type 0 where
   pub program : d .vm .program ≡ h .vm .program
   pub stores : d .stores ≡ h .stores
   pub rooms : Rooms (d .lent) (h .lent)
   pub machine : machineIn (d .vm) (d .lent) ≡ x
+  pub run : d .vm .run ≡ noRun
   pub order : runOrder (d .vm) (d .stores) (d .lent) ≡ true
 
--- DEMAND 3, of a run with u units of what a host holds in h, that answered fault n, what it did and a backtrace, and left h'
+-- DEMAND 3, of a run that was begun by what a host holds in h and given u units in all; it answered fault n, or was abandoned, with what it did and a
+-- backtrace, and left h'
 pub record Demand3 (u : ℕ) (h : Held) (n : ℕ) (did : Tally) (trace : List Entry) (h' : Held) : Type 0 where
   pub leaves : Recovers (h .vm) (h .stores) (h .lent) u (h' .vm) n did trace (h' .lent)
   -- whatever calls come then, new code included and the same for both: they say what they say of any machine d that was set up in that state with the same free cells

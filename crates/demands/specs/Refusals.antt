@@ -33,7 +33,7 @@ use Rattle.model.specs.Stores.{functionsFrom, programIn}
 use Rattle.model.specs.Orders.{countsOk, textOk, functionsOk, programOk}
 use Rattle.model.specs.Emission.{structNames, textRoom, sizeHere, endHere, codeRoom, codeOrder, patchOrder, constantOrder, structOrder, functionOrder, namesFrom}
 use Rattle.model.specs.Loading.{roomFor, listOrder}
-use Rattle.model.specs.Machines.{innermost, callersIn, runOrder, tooShort, RunAnswer, ran as answered, refused, traceOrder}
+use Rattle.model.specs.Machines.{innermost, callersIn, runOrder, copyShort, traceShort, RunCall, begins, continues, abandons, RunAnswer, ran as answered, refused, traceOrder}
 use Rattle.model.specs.Readers.{reads, headerAt, readsText}
 use Rattle.demands.specs.Host.{Held, Ask, new, load, addOp, addOp1, addOp2, addOp3, patch, addConstant, addStruct, beginFunction, endFunction, currentOffset, functionIdx, save, disassemble, backtrace, lastResult, stackValue, blockHeader, element, textBytes, Call, run, ask, Answer, ran, emitted, started, told, put, shown, headed}
 
@@ -62,13 +62,21 @@ abbrev pub isEmpty : {A : Type 0} → List A → Bool
 isEmpty [] = true
 isEmpty (x ∷ l) = false
 
+-- what writes to the program judges it, and then sees that no run is under way
+abbrev pub writing : Held → (inOrder : Bool) → List Check → List Check
+writing h inOrder rest = must inOrder 19 ∷ mustNot (h .vm .run .on) 25 ∷ rest
+
+-- what makes a machine sees first that no run is under way
+abbrev pub making : Held → List Check → List Check
+making h rest = mustNot (h .vm .run .on) 25 ∷ rest
+
 unfoldable pub codeChecks : Held → ℕ → ℕ → List Check
 codeChecks h op n =
-    must (codeOrder (h .vm .program) (h .stores)) 19
-    ∷ mustNot (ltb codeLimit (sizeHere (h .vm .program) (h .stores) + n)) 22
+    writing h (codeOrder (h .vm .program) (h .stores))
+    (mustNot (ltb codeLimit (sizeHere (h .vm .program) (h .stores) + n)) 22
     ∷ mustNot (ltb (codeRoom (h .vm .program) (h .stores)) (endHere (h .vm .program) (h .stores) + n)) 21
     ∷ mustNot (leb 38 op) 1
-    ∷ []
+    ∷ [])
 
 -- a string or a function reference brings a text
 abbrev pub hasText : Constant → Bool
@@ -126,37 +134,38 @@ textChecks out (v.StructInstance p) = always 5 ∷ []
 
 unfoldable pub askChecks : Ask → Held → List Check
 askChecks new h =
-    must (leb 6 (places 1 (h .stores .text)) && leb 1 (places 2 (h .stores .functions))) 21
+    making h
+    (must (leb 6 (places 1 (h .stores .text)) && leb 1 (places 2 (h .stores .functions))) 21
     ∷ mustNot (isEmpty (h .lent .frames)) 21
-    ∷ []
-askChecks (load image) h = loadChecks h (judge image)
+    ∷ [])
+askChecks (load image) h = making h (loadChecks h (judge image))
 askChecks (addOp op place) h = codeChecks h op 1
 askChecks (addOp1 op a place) h = codeChecks h op 3
 askChecks (addOp2 op a b place) h = codeChecks h op 5
 askChecks (addOp3 op a b c place) h = codeChecks h op 7
 askChecks (patch offset word) h =
-    must (patchOrder (h .vm .program) (h .stores)) 19
-    ∷ mustNot (ltb (sizeHere (h .vm .program) (h .stores)) (offset + 2)) 23
-    ∷ []
+    writing h (patchOrder (h .vm .program) (h .stores))
+    (mustNot (ltb (sizeHere (h .vm .program) (h .stores)) (offset + 2)) 23
+    ∷ [])
 askChecks (addConstant x bytes) h =
-    must (constantOrder (h .vm .program) (h .stores)) 19
-    ∷ mustNot (leb constantLimit (h .vm .program .constants)) 22
+    writing h (constantOrder (h .vm .program) (h .stores))
+    (mustNot (leb constantLimit (h .vm .program .constants)) 22
     ∷ mustNot (leb (places 2 (h .stores .constants)) (h .vm .program .constants)) 21
     ∷ must (not (hasText x) || textRoom (h .vm .program) (h .stores) (length bytes)) 21
-    ∷ []
+    ∷ [])
 askChecks (addStruct name) h =
-    must (structOrder (h .vm .program) (h .stores)) 19
-    ∷ mustNot (newName h name && leb nameLimit (h .vm .program .structs)) 22
+    writing h (structOrder (h .vm .program) (h .stores))
+    (mustNot (newName h name && leb nameLimit (h .vm .program .structs)) 22
     ∷ mustNot (newName h name && leb (places 2 (h .stores .structs)) (h .vm .program .structs)) 21
     ∷ must (not (newName h name) || textRoom (h .vm .program) (h .stores) (length name)) 21
-    ∷ []
+    ∷ [])
 askChecks (beginFunction name) h =
-    must (functionOrder (h .vm .program) (h .stores)) 19
-    ∷ mustNot (leb nameLimit (h .vm .program .functions)) 22
+    writing h (functionOrder (h .vm .program) (h .stores))
+    (mustNot (leb nameLimit (h .vm .program .functions)) 22
     ∷ mustNot (leb (places 2 (h .stores .functions)) (h .vm .program .functions)) 21
     ∷ must (textRoom (h .vm .program) (h .stores) (length name)) 21
-    ∷ []
-askChecks endFunction h = must (countsOk (h .vm .program)) 19 ∷ []
+    ∷ [])
+askChecks endFunction h = writing h (countsOk (h .vm .program)) []
 askChecks currentOffset h = must (countsOk (h .vm .program) && functionsOk (h .vm .program) (h .stores .functions)) 19 ∷ []
 askChecks (functionIdx name) h =
     must (functionOrder (h .vm .program) (h .stores)) 19
@@ -191,11 +200,27 @@ askChecks (textBytes x out) h =
     must (textOk (h .vm .program) (h .stores .text) && readsText (h .vm) x) 19
     ∷ textChecks out x
 
-unfoldable pub checks : Call → Held → List Check
-checks (run units) h =
+-- 25, a run is under way; 18, none is
+unfoldable pub runChecks : RunCall → Held → List Check
+runChecks begins h =
     must (runOrder (h .vm) (h .stores) (h .lent)) 19
-    ∷ mustNot (tooShort (h .lent)) 17
+    ∷ mustNot (h .vm .run .on) 25
+    ∷ mustNot (copyShort (h .lent)) 17
     ∷ []
+runChecks (continues units) h =
+    must (runOrder (h .vm) (h .stores) (h .lent)) 19
+    ∷ must (h .vm .run .on) 18
+    ∷ mustNot (traceShort (h .lent)) 17
+    ∷ mustNot (ltb 0xFFFF_FFFF_FFFF_FFFF (h .vm .run .given + units)) 22
+    ∷ []
+runChecks abandons h =
+    must (runOrder (h .vm) (h .stores) (h .lent)) 19
+    ∷ must (h .vm .run .on) 18
+    ∷ mustNot (traceShort (h .lent)) 17
+    ∷ []
+
+unfoldable pub checks : Call → Held → List Check
+checks (run c) h = runChecks c h
 checks (ask q) h = askChecks q h
 
 -- ---- what an answer says of a refusal

@@ -10,7 +10,7 @@ use Rattle.laws_runs.specs.Ordered.{CodeBytes}
 use Rattle.demands.specs.Host.{Held, Call, Answer, After}
 use Rattle.demands.specs.Kept.{InOrder}
 use Rattle.demands.specs.Agree.{Front, Rooms}
-use Rattle.demands.specs.Meant.{machineOf, AsLong, Said, says}
+use Rattle.demands.specs.Meant.{machineOf, underOf, AsLong, Said, says}
 
 -- b is lent for a: the first n entries are the same, and it is no shorter
 pub record Anew {A : Type 0} (n : ℕ) (a b : List A) : Type 0 where
@@ -28,19 +28,22 @@ pub record ProgramAnew (c : Counts) (s s' : Stores) : Type 0 where
   pub other : Anew (otherTaken c (s .functions)) (s .other) (s' .other)
   pub otherPlaces : Anew (otherTaken c (s .functions)) (s .otherPlaces) (s' .otherPlaces)
 
--- k holds the machine of h in stores lent anew. Of copy and backtrace nothing is asked: nothing reads them.
+-- k holds the machine of h in stores lent anew. Of the copy no more is asked than that it holds the stack that a run under way has saved there, and of the
+-- backtrace nothing: nothing reads them.
 pub record Relent (h k : Held) : Type 0 where
   pub vm : k .vm ≡ h .vm
   pub program : ProgramAnew (h .vm .program) (h .stores) (k .stores)
   pub stack : Anew (2 * h .vm .stack) (h .lent .stack) (k .lent .stack)
   pub cells : Anew (2 * h .vm .cells) (h .lent .cells) (k .lent .cells)
   pub frames : Anew (h .vm .frames) (h .lent .frames) (k .lent .frames)
+  pub copy : Front (2 * h .vm .run .saved) (k .lent .copy) (h .lent .copy)
 
--- k is in good order, and stands for the program and the machine that h stands for
+-- k is in good order, and stands for the program and the machine that h stands for, and for its run under way
 pub record StandsFor (h k : Held) : Type 0 where
   pub order : InOrder k
   pub program : programIn (k .vm .program) (k .stores) ≡ programIn (h .vm .program) (h .stores)
   pub machine : machineOf k ≡ machineOf h
+  pub under : underOf k ≡ underOf h
 
 -- ---- calls one after another, where the host lends other stores in between
 

@@ -3,7 +3,6 @@ use mathlib.Core.Path.{_≡_}
 use mathlib.Core.Bool.{true, false}
 use mathlib.Core.List.{List, [], _∷_}
 use Prim.Native.Nat.{ℕ, suc, _+_, _≤_, _<_}
-use lib.ListN.{getD}
 use Rattle.model.specs.declared.Op.{Op}
 use Rattle.model.specs.declared.Op.the-variants as o
 use Rattle.model.specs.declared.Decoded.{Decoded}
@@ -110,13 +109,14 @@ pub data RunIs (w : World) (m : Machine) (u : ℕ) : Ran → Type 0 where
   gives-up : {n : ℕ} {k : Progress} {s : State} (p : Steps w n (atStart (begin m u)) (begin m u) k s) → over w s ≡ false → stepOf w s ≡ short
       → RunIs w m u (record { reply = fault 13 (didGiven u p) (traceOf (w .functions) (cutAt s .frame ∷ cutAt s .callers)); machine = recovered w (m .stack) k })
 
--- the units spent are at most those given, and a fault is one of the 14 faults of a run; "continue" is answered where no root Return was completed
+-- the units spent are at most those given, and a fault is one of the 14 faults of a run; a value is answered where a root Return was completed, "continue"
+-- where none was
 abbrev pub Within : ℕ → Reply → Type 0
-Within u (value x did) = did .spent ≤ u
-Within u (continue did) = did .spent ≤ u
+Within u (value x did) = (did .spent ≤ u) × (1 ≤ did .returns)
+Within u (continue did) = (did .spent ≤ u) × (did .returns ≡ 0)
 Within u (fault n did es) = (did .spent ≤ u) × ((1 ≤ n) × (n ≤ 14))
 
--- DEMAND 2, of a run of m with u units that was not refused; c and x are what its result and the lent stores then stand for
+-- DEMAND 2, of a run that was begun by m and given u units in all, in however many parts; c and x are what its last result and the lent stores then stand for
 pub record Demand2 (m : Vm) (s : Stores) (l : Lent) (u : ℕ) (c : Counts) (x : Ran) : Type 0 where
   pub program : c ≡ m .program
   -- its answer, stack, frames, last result and units are those of the written steps

@@ -1,10 +1,10 @@
--- What an entry over call frames itself answers: 19 where its judge says no, and no 19 where it says yes. And what a short record does not change of loading.
-use mathlib.Core.Path.{_≡_, refl, sym, ap, _∙_}
+-- What an entry over call frames itself answers, as its judges know it: 19 where the order is not good, then 25 or 18, and no such number else. And what a
+-- short record does not change of loading.
+use mathlib.Core.Path.{_≡_, refl, _∙_}
 use mathlib.Core.Bool.{Bool, true, false}
 use mathlib.Core.List.{List, [], _∷_}
-use Prim.Native.Nat.{ℕ, zero, suc}
-use native.Mathlib.Omega.{arith}
-use lib.Dec.{eqb, ltb}
+use Prim.Native.Nat.{ℕ, _+_}
+use lib.Dec.{ltb}
 use Rattle.model.specs.declared.Counts.{Counts}
 use Rattle.model.specs.declared.Vm.{Vm}
 use Rattle.model.specs.declared.Frame.{Frame}
@@ -20,32 +20,35 @@ use Rattle.model.specs.Values.{places}
 use Rattle.model.specs.Stores.{Stores, functionsFrom}
 use Rattle.model.specs.Emission.{newOf}
 use Rattle.model.specs.Loading.{OutRes, loadOf}
-use Rattle.model.specs.Runs.{Entry, trace, untraced, traceOf, traceable, backtraceOf, Ran}
-use Rattle.model.specs.Machines.{Lent, runOrder, tooShort, ran, refused as not-run, runAnswer, answerIn}
-use Rattle.model.specs.Machines.{traceOrder, putTrace, innermost, callersIn, backtraceIn, startWith, loadMachineOf, asLoaded, newMachineOf}
-use Rattle.machine.specs.Links.{runLent, RunJudged}
-use Rattle.embed_words.specs.Coding.{atEntry, crossed, ranNumber, Coded, unmade}
-use Rattle.laws_embed.proofs.Says.{Says, says-crossed}
+use Rattle.model.specs.Runs.{Entry, trace, untraced, traceOf, traceable, backtraceOf, Part}
+use Rattle.model.specs.Machines.{Lent, runOrder, copyShort, traceShort, RunAnswer, ran, refused as not-run, begins, continues, abandons, beginAnswer, continueAnswer, abandonAnswer, runAnswer, refusalOf}
+use Rattle.model.specs.Machines.{traceOrder, putTrace, innermost, callersIn, backtraceIn, startWith, unlessRunning, loadMachineOf, asLoaded, newMachineOf}
+use Rattle.embed_words.specs.Coding.{atEntry, among, Coded, unmade}
+use Rattle.laws_embed.proofs.Says.{Says, late-says, says-itself}
 
 -- ---- the backtrace
 
-traced : (b : Bool) (es : List Entry) (out : List ℕ) → eqb (toldNumber (putTrace (if b then trace es else untraced 16) out .answer)) 19 ≡ false
-unfolding putTrace
+-- none of the numbers that come before a short answer
+abbrev Late : OutRes → Type 0
+Late x = among atEntry (toldNumber (x .answer)) ≡ false
+
+traced : (b : Bool) (es : List Entry) (out : List ℕ) → Late (putTrace (if b then trace es else untraced 16) out)
+unfolding putTrace among
 traced true es out = refl
 traced false es out = refl
 
-short-first : (b : Bool) (x : OutRes) (out : List ℕ) → eqb (toldNumber (x .answer)) 19 ≡ false
-    → eqb (toldNumber ((if b then record { answer = t.Refused 17; out = out } else x) .answer)) 19 ≡ false
+short-first : (b : Bool) (x : OutRes) (out : List ℕ) → Late x → Late (if b then record { answer = t.Refused 17; out = out } else x)
+unfolding among
 short-first true x out p = refl
 short-first false x out p = p
 
-order-first : (g : Bool) (x : OutRes) (out : List ℕ) → eqb (toldNumber (x .answer)) 19 ≡ false
-    → Says g (toldNumber ((if g then x else record { answer = t.Refused 19; out = out }) .answer))
-order-first true x out p = record { is = p }
-order-first false x out p = record { is = refl }
+order-first : (g : Bool) (x : OutRes) (out : List ℕ) → Late x
+    → Says (if g then 0 else 19) (toldNumber ((if g then x else record { answer = t.Refused 19; out = out }) .answer))
+order-first true x out p = late-says (toldNumber (x .answer)) p
+order-first false x out p = says-itself 19
 
 pub trace-says : (m : Vm) (s : Stores) (stack : List ℕ) (frames : List Frame) (out : List ℕ) (g : Bool) → g ≡ traceOrder m s stack frames
-    → Says g (toldNumber (backtraceIn m s stack frames out .answer))
+    → Says (if g then 0 else 19) (toldNumber (backtraceIn m s stack frames out .answer))
 unfolding backtraceIn backtraceOf
 trace-says m s stack frames out g e =
     let fs = functionsFrom (m .program .functions) 0 s in
@@ -54,31 +57,41 @@ trace-says m s stack frames out g e =
 
 -- ---- a run
 
-ran-says : (g short : Bool) (c : Counts) (x : Ran) → Says g (ranNumber (if g then (if short then not-run 17 else ran c x) else not-run 19))
-unfolding ranNumber
-ran-says true true c x = record { is = refl }
-ran-says true false c x = record { is = refl }
-ran-says false short c x = record { is = refl }
+-- a run is begun where none is under way
+begin-by : (g on short : Bool) (c : Counts) (x : Part)
+    → Says (if g then (if on then 25 else 0) else 19) (refusalOf (if g then (if on then not-run 25 else (if short then not-run 17 else ran c x)) else not-run 19))
+unfolding refusalOf among
+begin-by true true short c x = says-itself 25
+begin-by true false true c x = late-says 17 refl
+begin-by true false false c x = says-itself 0
+begin-by false on short c x = says-itself 19
 
-run-says : (m : Vm) (s : Stores) (l : Lent) (u : ℕ) → Says (runOrder m s l) (ranNumber (runAnswer m s l u))
-unfolding runAnswer
-run-says m s l u = ran-says (runOrder m s l) (tooShort l) _ _
+-- a run goes on or is abandoned where one is; y is what is answered then
+under-by : (g on short : Bool) (y : RunAnswer) → among atEntry (refusalOf y) ≡ false
+    → Says (if g then (if on then 0 else 18) else 19) (refusalOf (if g then (if on then (if short then not-run 17 else y) else not-run 18) else not-run 19))
+unfolding refusalOf among
+under-by true true true y p = late-says 17 refl
+under-by true true false y p = late-says (refusalOf y) p
+under-by true false short y p = says-itself 18
+under-by false on short y p = says-itself 19
 
--- what was judged of a run is what the run itself answers
-judged-is : (m : Vm) (s : Stores) (l : Lent) (u own : ℕ) → RunJudged m s l own → own ≡ ranNumber (runAnswer m s l u)
-unfolding runAnswer ranNumber answerIn
-judged-is m s l u zero j = let y = j .grants refl in rw (y .order, y .long)
-judged-is m s l u (suc n) j = ap ranNumber (j .refuses (λ z. omega (arith, z)) u .answer)
+given-late : (over : Bool) (c : Counts) (x : Part) → among atEntry (refusalOf (if over then not-run 22 else ran c x)) ≡ false
+unfolding refusalOf among
+given-late true c x = refl
+given-late false c x = refl
 
--- a run is judged as well where it is lent no copy store and no backtrace store
-pub run-own : (m : Vm) (s : Stores) (stack cells : List ℕ) (frames : List Frame) (copy entries : List ℕ) (u own : ℕ) → RunJudged m s (runLent stack cells frames [] []) own → (why : ℕ)
-    → crossed atEntry why own ≡ crossed atEntry why (ranNumber (runAnswer m s (runLent stack cells frames copy entries) u))
-unfolding runLent runOrder
-run-own m s stack cells frames copy entries u own j why =
-    let here = runLent stack cells frames copy entries in
-    let bare = runLent stack cells frames [] [] in
-    ap (crossed atEntry why) (judged-is m s bare u own j) ∙ sym (says-crossed (runOrder m s bare) _ why (run-says m s bare u))
-    ∙ says-crossed (runOrder m s here) _ why (run-says m s here u)
+module _ (m : Vm) (s : Stores) (l : Lent) where
+  pub begin-says : (g : Bool) → g ≡ runOrder m s l → Says (if g then (if m .run .on then 25 else 0) else 19) (refusalOf (runAnswer begins m s l))
+  unfolding runAnswer beginAnswer
+  begin-says g e = rw (← e) (begin-by g (m .run .on) (copyShort l) _ _)
+
+  pub continue-says : (u : ℕ) (g : Bool) → g ≡ runOrder m s l → Says (if g then (if m .run .on then 0 else 18) else 19) (refusalOf (runAnswer (continues u) m s l))
+  unfolding runAnswer continueAnswer
+  continue-says u g e = rw (← e) (under-by g (m .run .on) (traceShort l) _ (given-late (ltb 0xFFFF_FFFF_FFFF_FFFF (m .run .given + u)) _ _))
+
+  pub abandon-says : (g : Bool) → g ≡ runOrder m s l → Says (if g then (if m .run .on then 0 else 18) else 19) (refusalOf (runAnswer abandons m s l))
+  unfolding runAnswer abandonAnswer
+  abandon-says g e = rw (← e) (under-by g (m .run .on) (traceShort l) _ (given-late false _ _))
 
 -- ---- making a machine
 
@@ -98,12 +111,12 @@ loaded-unmade (l.Broken i) s' s rs why w a = refl
 loaded-unmade (l.Refused n) s' s rs why w a = refl
 
 -- a new machine is of no image
-pub new-unmade : (s : Stores) (rs : List Frame) (why : ℕ) (w a : List ℕ) → record { number = why; vm = w; answer = a } ≡ unmade why (newMachineOf s rs .answer) w a
-unfolding newMachineOf
+pub new-unmade : (s : Stores) (rs : List Frame) (why : ℕ) (w a : List ℕ) → record { number = why; vm = w; answer = a } ≡ unmade why (newMachineOf false s rs .answer) w a
+unfolding newMachineOf unlessRunning
 new-unmade s rs why w a = emitted-unmade (newOf s .answer) (newOf s .stores) s rs why w a
 
 -- what is wrong with an image is so beside any frame store
-pub load-unmade : (image : List ℕ) (s : Stores) (rs : List Frame) (why : ℕ) (w a : List ℕ) {x : Started} → x ≡ loadMachineOf image s [] .answer → {c : Coded}
-    → c ≡ unmade why x w a → c ≡ unmade why (loadMachineOf image s rs .answer) w a
-unfolding loadMachineOf
+pub load-unmade : (image : List ℕ) (s : Stores) (rs : List Frame) (why : ℕ) (w a : List ℕ) {x : Started} → x ≡ loadMachineOf false image s [] .answer → {c : Coded}
+    → c ≡ unmade why x w a → c ≡ unmade why (loadMachineOf false image s rs .answer) w a
+unfolding loadMachineOf unlessRunning
 load-unmade image s rs why w a ex ec = ec ∙ rw ex (loaded-unmade (loadOf image s .answer) (loadOf image s .stores) s rs why w a)

@@ -9,29 +9,31 @@ use Rattle.model.specs.declared.Started.{Started}
 use Rattle.model.specs.declared.RunResult.{RunResult}
 use Rattle.model.specs.declared.RunResult.the-variants as v
 use Rattle.model.specs.Stores.{Stores}
-use Rattle.model.specs.Machines.{Lent, runAnswer, RunPost, StartRes}
-use Rattle.embed_words.specs.Coding.{vmIn, slicesRefusal, outRefusal, atEntry, crossed, Coded, runCoded, ranNumber, startedCoded, unmade}
+use Rattle.model.specs.Machines.{Lent, RunCall, runAnswer, RunPost, StartRes, refusalOf}
+use Rattle.embed_words.specs.Coding.{vmIn, slicesRefusal, outRefusal, atEntry, crossed, Coded, runCoded, startedCoded, unmade}
 use Rattle.embed_words.specs.Coding.{RunThrough, startThrough}
 use Rattle.embed_answers.proofs.Answers.{told-refused}
+use Rattle.laws_embed.proofs.Says.{Says}
 
--- ---- a run
+-- ---- a call of a run
 
-module _ (w a : List ℕ) (s : Stores) (l : Lent) (u : ℕ) (n : ℕ) (e : n ≡ slicesRefusal w 5 a) where
-  pub run-through : n ≡ 0 → (m : Vm) → m ≡ vmIn w → (x : RunResult) (l' : Lent) → RunPost m s l u x l' → (c : Coded) → c ≡ runCoded x w a → RunThrough w a s l u c l'
+module _ (call : RunCall) (w a : List ℕ) (s : Stores) (l : Lent) (n : ℕ) (e : n ≡ slicesRefusal w 5 a) where
+  pub run-through : n ≡ 0 → (m : Vm) → m ≡ vmIn w → (x : RunResult) (l' : Lent) → RunPost call m s l x l' → (c : Coded) → c ≡ runCoded x w a → RunThrough call w a s l c l'
   run-through z m em x l' post c ec = record {
     result = x;
     coded = ec;
-    runs = λ y. subst (λ (k : Vm). RunPost k s l u x l') em post;
+    runs = λ y. subst (λ (k : Vm). RunPost call k s l x l') em post;
     refuses = λ y. absurd (y (sym e ∙ z));
   }
 
-  pub run-refused : (n ≡ 0 → ⊥) → (m : Vm) → m ≡ vmIn w → (own : ℕ) → crossed atEntry n own ≡ crossed atEntry n (ranNumber (runAnswer m s l u)) → (k : ℕ)
-      → k ≡ crossed atEntry n own → RunThrough w a s l u (record { number = k; vm = w; answer = a }) l
-  run-refused z m em own eo k ek = record {
+  -- `own` was judged
+  pub run-refused : (n ≡ 0 → ⊥) → (m : Vm) → m ≡ vmIn w → (own : ℕ) → Says own (refusalOf (runAnswer call m s l)) → (k : ℕ)
+      → k ≡ crossed atEntry n own → RunThrough call w a s l (record { number = k; vm = w; answer = a }) l
+  run-refused z m em own y k ek = record {
     result = v.Refused k;
     coded = told-refused w a refl;
-    runs = λ y. absurd (z (e ∙ y));
-    refuses = λ y. (ap v.Refused (rw (← e, ← em) (ek ∙ eo)), refl);
+    runs = λ o. absurd (z (e ∙ o));
+    refuses = λ o. (ap v.Refused (rw (← e, ← em) (ek ∙ y .crosses n)), refl);
   }
 
 -- ---- making a machine

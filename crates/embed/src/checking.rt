@@ -10,8 +10,8 @@ use model::Frame;
 ghost use Rattle.model.specs.Stores.{storesOf as lent};
 ghost use Rattle.check_words.specs.Words.{CheckThrough, CheckBeside};
 
-// All but the frame: `frames` is how many places the frame store has. Where the record or the answer is too short, no place for a height is lent, and where no
-// frame has a place, no function: so the check itself refuses 17 and 21, in its order.
+// All but the frame: `frames` is how many places the frame store has. A run that is under way refuses 25, before all else. Where the record or the answer is too
+// short, no place for a height is lent, and where no frame has a place, no function: so the check itself refuses 17 and 21, in its order.
 fn check_program(
     image: &[u8],
     vm: &mut [u64],
@@ -35,6 +35,9 @@ fn check_program(
         (now (main .exit)) (now («main_places» .exit)) (now (other .exit)) (now («other_places» .exit))) ⌝ }
 {
     let why = out_refusal(vm, 2, answer);
+    if why == 25 {
+        return why;
+    }
     let places = lent_room(why, heights.len());
     let rows = lent_functions(frames, functions.len());
     let checked = check(

@@ -1,5 +1,6 @@
 // Emission for a host in C: a program is written into the stores that the host lends. Where a number is told it stands in answer[0].
 ghost use mathlib.Core.Path.{_≡_};
+ghost use mathlib.Core.Bool.{Bool};
 ghost use mathlib.Core.List.{[]};
 ghost use Rattle.model.specs.declared.Counts.{Counts};
 ghost use Rattle.model.specs.declared.Constant.the-variants as k;
@@ -21,7 +22,7 @@ pub extern "C" fn chaffwheel_add_op(
     other_places: &mut [u32],
     answer: &mut [u64],
 ) -> u32
-    ensures { λ r. ⌜ Emits (λ (c : Counts). addOpOf c op place) (now (vm .entry)) (now (answer .entry))
+    ensures { λ r. ⌜ Emits (λ (running : Bool) (c : Counts). addOpOf running c op place) (now (vm .entry)) (now (answer .entry))
         (λ (rest : Stores). codeLent rest (now (functions .entry)) (now (main .entry)) (now («main_places» .entry)) (now (other .entry)) (now («other_places» .entry)))
         r (now (vm .exit)) (now (answer .exit))
         (λ (rest : Stores). codeLent rest (now (functions .exit)) (now (main .exit)) (now («main_places» .exit)) (now (other .exit)) (now («other_places» .exit))) ⌝ }
@@ -54,7 +55,7 @@ pub extern "C" fn chaffwheel_add_op1(
     other_places: &mut [u32],
     answer: &mut [u64],
 ) -> u32
-    ensures { λ r. ⌜ Emits (λ (c : Counts). addOp1Of c op a place) (now (vm .entry)) (now (answer .entry))
+    ensures { λ r. ⌜ Emits (λ (running : Bool) (c : Counts). addOp1Of running c op a place) (now (vm .entry)) (now (answer .entry))
         (λ (rest : Stores). codeLent rest (now (functions .entry)) (now (main .entry)) (now («main_places» .entry)) (now (other .entry)) (now («other_places» .entry)))
         r (now (vm .exit)) (now (answer .exit))
         (λ (rest : Stores). codeLent rest (now (functions .exit)) (now (main .exit)) (now («main_places» .exit)) (now (other .exit)) (now («other_places» .exit))) ⌝ }
@@ -89,7 +90,7 @@ pub extern "C" fn chaffwheel_add_op2(
     other_places: &mut [u32],
     answer: &mut [u64],
 ) -> u32
-    ensures { λ r. ⌜ Emits (λ (c : Counts). addOp2Of c op a b place) (now (vm .entry)) (now (answer .entry))
+    ensures { λ r. ⌜ Emits (λ (running : Bool) (c : Counts). addOp2Of running c op a b place) (now (vm .entry)) (now (answer .entry))
         (λ (rest : Stores). codeLent rest (now (functions .entry)) (now (main .entry)) (now («main_places» .entry)) (now (other .entry)) (now («other_places» .entry)))
         r (now (vm .exit)) (now (answer .exit))
         (λ (rest : Stores). codeLent rest (now (functions .exit)) (now (main .exit)) (now («main_places» .exit)) (now (other .exit)) (now («other_places» .exit))) ⌝ }
@@ -126,7 +127,7 @@ pub extern "C" fn chaffwheel_add_op3(
     other_places: &mut [u32],
     answer: &mut [u64],
 ) -> u32
-    ensures { λ r. ⌜ Emits (λ (c : Counts). addOp3Of c op a b d place) (now (vm .entry)) (now (answer .entry))
+    ensures { λ r. ⌜ Emits (λ (running : Bool) (c : Counts). addOp3Of running c op a b d place) (now (vm .entry)) (now (answer .entry))
         (λ (rest : Stores). codeLent rest (now (functions .entry)) (now (main .entry)) (now («main_places» .entry)) (now (other .entry)) (now («other_places» .entry)))
         r (now (vm .exit)) (now (answer .exit))
         (λ (rest : Stores). codeLent rest (now (functions .exit)) (now (main .exit)) (now («main_places» .exit)) (now (other .exit)) (now («other_places» .exit))) ⌝ }
@@ -159,7 +160,7 @@ pub extern "C" fn chaffwheel_patch_u16_value_at(
     other: &mut [u8],
     answer: &mut [u64],
 ) -> u32
-    ensures { λ r. ⌜ Emits (λ (c : Counts). patchOf c offset arg) (now (vm .entry)) (now (answer .entry))
+    ensures { λ r. ⌜ Emits (λ (running : Bool) (c : Counts). patchOf running c offset arg) (now (vm .entry)) (now (answer .entry))
         (λ (rest : Stores). bytesLent rest (now (functions .entry)) (now (main .entry)) (now (other .entry)))
         r (now (vm .exit)) (now (answer .exit)) (λ (rest : Stores). bytesLent rest (now (functions .entry)) (now (main .exit)) (now (other .exit))) ⌝ }
 {
@@ -176,7 +177,7 @@ pub extern "C" fn chaffwheel_add_scalar(
     text: &mut [u8],
     answer: &mut [u64],
 ) -> u32
-    ensures { λ r. ⌜ Emits (λ (c : Counts). addConstantOf c (k.Scalar bits) []) (now (vm .entry)) (now (answer .entry))
+    ensures { λ r. ⌜ Emits (λ (running : Bool) (c : Counts). addConstantOf running c (k.Scalar bits) []) (now (vm .entry)) (now (answer .entry))
         (λ (rest : Stores). constantsLent rest (now (constants .entry)) (now (text .entry)))
         r (now (vm .exit)) (now (answer .exit)) (λ (rest : Stores). constantsLent rest (now (constants .exit)) (now (text .exit))) ⌝ }
 {
@@ -193,7 +194,7 @@ pub extern "C" fn chaffwheel_add_boolean(
     text: &mut [u8],
     answer: &mut [u64],
 ) -> u32
-    ensures { λ r. ⌜ Emits (λ (c : Counts). addConstantOf c (k.Boolean value) []) (now (vm .entry)) (now (answer .entry))
+    ensures { λ r. ⌜ Emits (λ (running : Bool) (c : Counts). addConstantOf running c (k.Boolean value) []) (now (vm .entry)) (now (answer .entry))
         (λ (rest : Stores). constantsLent rest (now (constants .entry)) (now (text .entry)))
         r (now (vm .exit)) (now (answer .exit)) (λ (rest : Stores). constantsLent rest (now (constants .exit)) (now (text .exit))) ⌝ }
 {
@@ -210,7 +211,7 @@ pub extern "C" fn chaffwheel_add_string(
     text: &mut [u8],
     answer: &mut [u64],
 ) -> u32
-    ensures { λ r. ⌜ Emits (λ (c : Counts). addConstantOf c k.String (now (lent .entry))) (now (vm .entry)) (now (answer .entry))
+    ensures { λ r. ⌜ Emits (λ (running : Bool) (c : Counts). addConstantOf running c k.String (now (lent .entry))) (now (vm .entry)) (now (answer .entry))
         (λ (rest : Stores). constantsLent rest (now (constants .entry)) (now (text .entry)))
         r (now (vm .exit)) (now (answer .exit)) (λ (rest : Stores). constantsLent rest (now (constants .exit)) (now (text .exit))) ⌝ }
 {
@@ -227,7 +228,7 @@ pub extern "C" fn chaffwheel_add_reference(
     text: &mut [u8],
     answer: &mut [u64],
 ) -> u32
-    ensures { λ r. ⌜ Emits (λ (c : Counts). addConstantOf c k.FunctionReference (now (lent .entry))) (now (vm .entry)) (now (answer .entry))
+    ensures { λ r. ⌜ Emits (λ (running : Bool) (c : Counts). addConstantOf running c k.FunctionReference (now (lent .entry))) (now (vm .entry)) (now (answer .entry))
         (λ (rest : Stores). constantsLent rest (now (constants .entry)) (now (text .entry)))
         r (now (vm .exit)) (now (answer .exit)) (λ (rest : Stores). constantsLent rest (now (constants .exit)) (now (text .exit))) ⌝ }
 {
@@ -244,7 +245,7 @@ pub extern "C" fn chaffwheel_add_struct_info(
     text: &mut [u8],
     answer: &mut [u64],
 ) -> u32
-    ensures { λ r. ⌜ Emits (λ (c : Counts). addStructOf c (now (name .entry))) (now (vm .entry)) (now (answer .entry))
+    ensures { λ r. ⌜ Emits (λ (running : Bool) (c : Counts). addStructOf running c (now (name .entry))) (now (vm .entry)) (now (answer .entry))
         (λ (rest : Stores). structsLent rest (now (structs .entry)) (now (text .entry)))
         r (now (vm .exit)) (now (answer .exit)) (λ (rest : Stores). structsLent rest (now (structs .exit)) (now (text .exit))) ⌝ }
 {
@@ -261,7 +262,7 @@ pub extern "C" fn chaffwheel_begin_function(
     text: &mut [u8],
     answer: &mut [u64],
 ) -> u32
-    ensures { λ r. ⌜ Emits (λ (c : Counts). beginFunctionOf c (now (name .entry))) (now (vm .entry)) (now (answer .entry))
+    ensures { λ r. ⌜ Emits (λ (running : Bool) (c : Counts). beginFunctionOf running c (now (name .entry))) (now (vm .entry)) (now (answer .entry))
         (λ (rest : Stores). namesLent rest (now (functions .entry)) (now (text .entry)))
         r (now (vm .exit)) (now (answer .exit)) (λ (rest : Stores). namesLent rest (now (functions .exit)) (now (text .exit))) ⌝ }
 {
@@ -274,7 +275,7 @@ pub extern "C" fn chaffwheel_begin_function(
 pub extern "C" fn chaffwheel_end_function(vm: &mut [u64], answer: &mut [u64]) -> u32
     ensures { λ r. ⌜ record { number = r; vm = now (vm .exit); answer = now (answer .exit) }
         ≡ through atEntry (slicesRefusal (now (vm .entry)) 1 (now (answer .entry))) (now (vm .entry)) (now (answer .entry))
-        (emittedCoded (endFunctionOf (vmIn (now (vm .entry)) .program)) (now (vm .entry)) (now (answer .entry))) ⌝ }
+        (emittedCoded (endFunctionOf (vmIn (now (vm .entry)) .run .on) (vmIn (now (vm .entry)) .program)) (now (vm .entry)) (now (answer .entry))) ⌝ }
 {
     let n = embed_tables::end_function(vm, answer);
     n

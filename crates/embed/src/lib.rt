@@ -7,26 +7,30 @@ use embed_answers::tell;
 use embed_answers::tell_run;
 use embed_answers::tell_started;
 use embed_answers::tell_unmade;
-use embed_refusals::crossed;
+use embed_refusals::crossed_idle;
 use embed_refusals::crossed_order;
+use embed_refusals::crossed_running;
 use embed_refusals::out_refusal;
 use embed_refusals::slices_refusal;
 use embed_words::vm_of;
+use machine::abandon;
 use machine::backtrace;
+use machine::begin;
+use machine::continue_run;
 use machine::load;
 use machine::new;
-use machine::run;
-use machine::running::run_refusal;
+use machine::running::order;
 use machine::starting::no_place;
 use machine::tracing::trace_order;
 use model::Frame;
 ghost use mathlib.Core.Path.{_≡_};
+ghost use mathlib.Core.Bool.{false};
 ghost use mathlib.Core.List.{List};
 ghost use Prim.Native.Nat.{ℕ};
 ghost use Rattle.model.specs.declared.Vm.{Vm};
 ghost use Rattle.model.specs.Stores.{Stores};
 ghost use Rattle.model.specs.Loading.{saveOf, listOf};
-ghost use Rattle.model.specs.Machines.{backtraceIn, loadMachineOf, newMachineOf};
+ghost use Rattle.model.specs.Machines.{begins, continues, abandons, backtraceIn, loadMachineOf, newMachineOf};
 ghost use Rattle.layout.specs.Links.{namesLent};
 ghost use Rattle.model.specs.Stores.{storesOf as lent};
 ghost use Rattle.listing.specs.Links.{lent as listed};
@@ -34,7 +38,7 @@ ghost use Rattle.run_ends.specs.Links.{programLent};
 ghost use Rattle.machine.specs.Links.{runLent};
 ghost use Rattle.embed_words.specs.Coding.{slicesRefusal, atEntry, atListing, unmade, RunThrough, startThrough, outThrough};
 
-// A machine over a new program.
+// A machine over a new program. Where a run is under way in the record, that is told first (25), so what is made is made with none.
 #[no_mangle]
 pub extern "C" fn chaffwheel_new(
     vm: &mut [u64],
@@ -48,21 +52,21 @@ pub extern "C" fn chaffwheel_new(
       stores = namesLent rest (now (functions .exit)) (now (text .exit));
       frames = now (frames .exit);
     } ≡ startThrough (now (vm .entry)) (now (answer .entry)) (namesLent rest (now (functions .entry)) (now (text .entry))) (now (frames .entry))
-        (newMachineOf (namesLent rest (now (functions .entry)) (now (text .entry))) (now (frames .entry)))) ⌝ }
+        (newMachineOf false (namesLent rest (now (functions .entry)) (now (text .entry))) (now (frames .entry)))) ⌝ }
 {
     let why = out_refusal(vm, 1, answer);
     if why == 0 {
-        let made = new(functions, text, frames);
+        let made = new(false, functions, text, frames);
         let n = tell_started(made, vm, answer);
         return n;
     }
     why
 }
 
-// What loading answers where the record or the answer is too short: what is wrong with the image comes first. vm is any record.
+// What loading answers where the record refuses: what is wrong with the image comes before a record or an answer that is too short. vm is any record.
 fn unloaded(why: u32, image: &[u8], answer: &mut [u64]) -> u32
     ensures { λ r. ⌜ ((w : List ℕ) (s : Stores) (fs : List Frame) → record { number = r; vm = w; answer = now (answer .exit) }
-        ≡ unmade why (loadMachineOf (now (image .entry)) s fs .answer) w (now (answer .entry))) ⌝ }
+        ≡ unmade why (loadMachineOf false (now (image .entry)) s fs .answer) w (now (answer .entry))) ⌝ }
 {
     let made = no_place(image);
     tell_unmade(why, made, answer)
@@ -92,13 +96,14 @@ pub extern "C" fn chaffwheel_load(
     } ≡ startThrough (now (vm .entry)) (now (answer .entry))
         (lent (now (constants .entry)) (now (structs .entry)) (now (functions .entry)) (now (text .entry))
         (now (main .entry)) (now («main_places» .entry)) (now (other .entry)) (now («other_places» .entry))) (now (frames .entry))
-        (loadMachineOf (now (image .entry))
+        (loadMachineOf false (now (image .entry))
         (lent (now (constants .entry)) (now (structs .entry)) (now (functions .entry)) (now (text .entry))
         (now (main .entry)) (now («main_places» .entry)) (now (other .entry)) (now («other_places» .entry))) (now (frames .entry))) ⌝ }
 {
     let why = out_refusal(vm, 1, answer);
     if why == 0 {
         let made = load(
+            false,
             image,
             constants,
             structs,
@@ -117,9 +122,74 @@ pub extern "C" fn chaffwheel_load(
     n
 }
 
-// A run of the machine with `units`.
+// A run of the machine is begun: the stack is copied. No backtrace is written, so what is promised is so of any store for one.
 #[no_mangle]
-pub extern "C" fn chaffwheel_run(
+pub extern "C" fn chaffwheel_begin(
+    vm: &mut [u64],
+    constants: &[u64],
+    structs: &[u64],
+    functions: &[u64],
+    text: &[u8],
+    main: &[u8],
+    main_places: &[u32],
+    other: &[u8],
+    other_places: &[u32],
+    stack: &[u64],
+    cells: &[u64],
+    frames: &[Frame],
+    copy: &mut [u64],
+    answer: &mut [u64],
+) -> u32
+    ensures { λ r. ⌜ ((trace : List ℕ) → RunThrough begins (now (vm .entry)) (now (answer .entry))
+        (programLent (now (structs .entry)) (now (constants .entry)) (now (functions .entry)) (now (text .entry))
+        (now (main .entry)) (now («main_places» .entry)) (now (other .entry)) (now («other_places» .entry)))
+        (runLent (now (stack .entry)) (now (cells .entry)) (now (frames .entry)) (now (copy .entry)) trace)
+        (record { number = r; vm = now (vm .exit); answer = now (answer .exit) })
+        (runLent (now (stack .entry)) (now (cells .entry)) (now (frames .entry)) (now (copy .exit)) trace)) ⌝ }
+{
+    let why = slices_refusal(vm, 5, answer);
+    let m = vm_of(vm);
+    if why == 0 {
+        let result = begin(
+            m,
+            constants,
+            structs,
+            functions,
+            text,
+            main,
+            main_places,
+            other,
+            other_places,
+            stack,
+            cells,
+            frames,
+            copy,
+        );
+        let n = tell_run(result, vm, answer);
+        return n;
+    }
+    let good = order(
+        m,
+        constants,
+        structs,
+        functions,
+        text,
+        main,
+        main_places,
+        other,
+        other_places,
+        stack,
+        cells,
+        frames,
+        copy,
+    );
+    let n = crossed_running(why, m, good);
+    n
+}
+
+// The machine's run goes on, with `units` more.
+#[no_mangle]
+pub extern "C" fn chaffwheel_continue(
     units: u64,
     vm: &mut [u64],
     constants: &[u64],
@@ -133,21 +203,21 @@ pub extern "C" fn chaffwheel_run(
     stack: &mut [u64],
     cells: &mut [u64],
     frames: &mut [Frame],
-    copy: &mut [u64],
+    copy: &[u64],
     trace: &mut [u32],
     answer: &mut [u64],
 ) -> u32
-    ensures { λ r. ⌜ RunThrough (now (vm .entry)) (now (answer .entry))
+    ensures { λ r. ⌜ RunThrough (continues units) (now (vm .entry)) (now (answer .entry))
         (programLent (now (structs .entry)) (now (constants .entry)) (now (functions .entry)) (now (text .entry))
         (now (main .entry)) (now («main_places» .entry)) (now (other .entry)) (now («other_places» .entry)))
         (runLent (now (stack .entry)) (now (cells .entry)) (now (frames .entry)) (now (copy .entry)) (now (trace .entry)))
-        units (record { number = r; vm = now (vm .exit); answer = now (answer .exit) })
-        (runLent (now (stack .exit)) (now (cells .exit)) (now (frames .exit)) (now (copy .exit)) (now (trace .exit))) ⌝ }
+        (record { number = r; vm = now (vm .exit); answer = now (answer .exit) })
+        (runLent (now (stack .exit)) (now (cells .exit)) (now (frames .exit)) (now (copy .entry)) (now (trace .exit))) ⌝ }
 {
     let why = slices_refusal(vm, 5, answer);
     let m = vm_of(vm);
     if why == 0 {
-        let result = run(
+        let result = continue_run(
             m,
             units,
             constants,
@@ -167,10 +237,8 @@ pub extern "C" fn chaffwheel_run(
         let n = tell_run(result, vm, answer);
         return n;
     }
-    let own = run_refusal(
+    let good = order(
         m,
-        0,
-        0,
         constants,
         structs,
         functions,
@@ -182,8 +250,76 @@ pub extern "C" fn chaffwheel_run(
         stack,
         cells,
         frames,
+        copy,
     );
-    let n = crossed(why, own);
+    let n = crossed_idle(why, m, good);
+    n
+}
+
+// The machine's run is abandoned.
+#[no_mangle]
+pub extern "C" fn chaffwheel_abandon(
+    vm: &mut [u64],
+    constants: &[u64],
+    structs: &[u64],
+    functions: &[u64],
+    text: &[u8],
+    main: &[u8],
+    main_places: &[u32],
+    other: &[u8],
+    other_places: &[u32],
+    stack: &mut [u64],
+    cells: &[u64],
+    frames: &mut [Frame],
+    copy: &[u64],
+    trace: &mut [u32],
+    answer: &mut [u64],
+) -> u32
+    ensures { λ r. ⌜ RunThrough abandons (now (vm .entry)) (now (answer .entry))
+        (programLent (now (structs .entry)) (now (constants .entry)) (now (functions .entry)) (now (text .entry))
+        (now (main .entry)) (now («main_places» .entry)) (now (other .entry)) (now («other_places» .entry)))
+        (runLent (now (stack .entry)) (now (cells .entry)) (now (frames .entry)) (now (copy .entry)) (now (trace .entry)))
+        (record { number = r; vm = now (vm .exit); answer = now (answer .exit) })
+        (runLent (now (stack .exit)) (now (cells .entry)) (now (frames .exit)) (now (copy .entry)) (now (trace .exit))) ⌝ }
+{
+    let why = slices_refusal(vm, 5, answer);
+    let m = vm_of(vm);
+    if why == 0 {
+        let result = abandon(
+            m,
+            constants,
+            structs,
+            functions,
+            text,
+            main,
+            main_places,
+            other,
+            other_places,
+            stack,
+            cells,
+            frames,
+            copy,
+            trace,
+        );
+        let n = tell_run(result, vm, answer);
+        return n;
+    }
+    let good = order(
+        m,
+        constants,
+        structs,
+        functions,
+        text,
+        main,
+        main_places,
+        other,
+        other_places,
+        stack,
+        cells,
+        frames,
+        copy,
+    );
+    let n = crossed_idle(why, m, good);
     n
 }
 

@@ -72,6 +72,11 @@ module _ (w a : List ℕ) where
     unfolding runCoded runWords
     told-fault e f g = rw (e, f, g)
 
+    pub told-paused : {w' a' : List ℕ} {m : Vm} → x ≡ r.Paused m → w' ≡ written w 0 (vmWords m)
+        → a' ≡ written a 0 (4 ∷ m .run .spent ∷ m .run .returns ∷ 0 ∷ 0 ∷ []) → record { number = 0; vm = w'; answer = a' } ≡ runCoded x w a
+    unfolding runCoded runWords
+    told-paused e f g = rw (e, f, g)
+
     pub told-refused : {n : ℕ} → x ≡ r.Refused n → record { number = n; vm = w; answer = a } ≡ runCoded x w a
     unfolding runCoded
     told-refused e = rw e
@@ -89,18 +94,23 @@ module _ (w a : List ℕ) where
     unfolding startedCoded
     started-refused e = rw e
 
-    -- the record or the answer is too short
-    pub unmade-done : (why : ℕ) {m : Vm} → x ≡ st.Done m → record { number = why; vm = w; answer = a } ≡ unmade why x w a
-    unfolding unmade
-    unmade-done why e = rw e
+    -- the record refuses
+    module _ (why : ℕ) where
+      pub unmade-done : {m : Vm} → x ≡ st.Done m → record { number = why; vm = w; answer = a } ≡ unmade why x w a
+      unfolding unmade
+      unmade-done e = rw e
 
-    pub unmade-refused : (why : ℕ) {n : ℕ} → x ≡ st.Refused n → record { number = why; vm = w; answer = a } ≡ unmade why x w a
-    unfolding unmade
-    unmade-refused why e = rw e
+      pub unmade-refused : {n : ℕ} → x ≡ st.Refused n → record { number = why; vm = w; answer = a } ≡ unmade why x w a
+      unfolding unmade
+      unmade-refused e = rw e
 
-    pub unmade-broken : (why : ℕ) {a' : List ℕ} {n i : ℕ} → x ≡ st.Broken i → n ≡ 20 → a' ≡ set a 0 i → record { number = n; vm = w; answer = a' } ≡ unmade why x w a
-    unfolding unmade startedCoded written
-    unmade-broken why e en ea = rw (e, en, ea)
+      pub unmade-broken : why ≡ 17 → {a' : List ℕ} {n i : ℕ} → x ≡ st.Broken i → n ≡ 20 → a' ≡ set a 0 i → record { number = n; vm = w; answer = a' } ≡ unmade why x w a
+      unfolding unmade startedCoded written
+      unmade-broken z e en ea = rw (e, en, ea, eq-eqb why 17 z)
+
+      pub unmade-first : (why ≡ 17 → ⊥) → {i : ℕ} → x ≡ st.Broken i → record { number = why; vm = w; answer = a } ≡ unmade why x w a
+      unfolding unmade
+      unmade-first z e = rw (e, ne-eqb why 17 z)
 
   module _ {x : Emitted} where
     pub emitted-done : {w' a' : List ℕ} {c : Counts} {n : ℕ} → x ≡ e.Done c n → w' ≡ written w 0 (countWords c) → a' ≡ set a 0 n → record { number = 0; vm = w'; answer = a' } ≡ emittedCoded x w a

@@ -21,7 +21,7 @@ ghost use Rattle.model.specs.Basics.{written};
 ghost use Rattle.model.specs.Answers.{toldNumber, shownNumber, headedNumber};
 ghost use Rattle.embed_words.specs.Coding.{atEntry, atListing, runCoded, startedCoded, unmade, emittedCoded, toldCoded, shownCoded, headedCoded, through};
 
-// What a run came to, what it did, and two words more.
+// What a part of a run came to, what the run did, and two words more.
 fn put_run(answer: &mut [u64], outcome: u64, did: Tally, a: u64, b: u64)
     ensures { λ _. ⌜ now (answer .exit) ≡ written (now (answer .entry)) 0 (outcome ∷ did .spent ∷ did .returns ∷ a ∷ b ∷ []) ⌝ }
 {
@@ -32,7 +32,7 @@ fn put_run(answer: &mut [u64], outcome: u64, did: Tally, a: u64, b: u64)
     put(answer, 4, b);
 }
 
-// What a run answers.
+// What a part of a run answers.
 pub fn tell_run(result: RunResult, vm: &mut [u64], answer: &mut [u64]) -> u32
     ensures { λ r. ⌜ record { number = r; vm = now (vm .exit); answer = now (answer .exit) } ≡ runCoded result (now (vm .entry)) (now (answer .entry)) ⌝ }
 {
@@ -52,6 +52,16 @@ pub fn tell_run(result: RunResult, vm: &mut [u64], answer: &mut [u64]) -> u32
         RunResult::Fault(m, k, did, j) => {
             put_vm(m, vm);
             put_run(answer, 3, did, k as u64, j as u64);
+            0
+        }
+        RunResult::Paused(m) => {
+            let run = m.run;
+            let did = Tally {
+                spent: run.spent,
+                returns: run.returns,
+            };
+            put_vm(m, vm);
+            put_run(answer, 4, did, 0, 0);
             0
         }
         RunResult::Refused(n) => n as u32,
@@ -80,13 +90,18 @@ pub fn tell_started(result: Started, vm: &mut [u64], answer: &mut [u64]) -> u32
     }
 }
 
-// The same where the record or the answer is too short: a broken image comes first. vm is any record.
+// The same where the record refuses: a broken image comes before a record or an answer that is too short. vm is any record.
 pub fn tell_unmade(why: u32, result: Started, answer: &mut [u64]) -> u32
     ensures { λ r. ⌜ ((w : List ℕ) → record { number = r; vm = w; answer = now (answer .exit) } ≡ unmade why result w (now (answer .entry))) ⌝ }
 {
     match result {
         Started::Done(m) => why,
-        Started::Broken(offset) => tell_broken(offset, answer),
+        Started::Broken(offset) => {
+            if why == 17 {
+                return tell_broken(offset, answer);
+            }
+            why
+        }
         Started::Refused(n) => why,
     }
 }

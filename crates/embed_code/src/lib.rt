@@ -1,12 +1,13 @@
 // Emission of code over a machine's record in words: what crosses is refused, or the entry's own rule makes the answer, in words too. A host in C calls it through `embed`.
 use embed_answers::answer_told;
 use embed_answers::tell_emitted;
-use embed_refusals::crossed_order;
+use embed_refusals::crossed_running;
 use embed_refusals::slices_refusal;
 use embed_words::vm_of;
 use emission_code::code_order;
 use emission_code::patch_order;
 ghost use mathlib.Core.Path.{_≡_};
+ghost use mathlib.Core.Bool.{Bool};
 ghost use Rattle.model.specs.declared.Counts.{Counts};
 ghost use Rattle.model.specs.Stores.{Stores};
 ghost use Rattle.model.specs.Emission.{addOpOf, addOp1Of, addOp2Of, addOp3Of, patchOf, currentOffsetOf};
@@ -25,7 +26,7 @@ pub fn add_op(
     other_places: &mut [u32],
     answer: &mut [u64],
 ) -> u32
-    ensures { λ r. ⌜ Emits (λ (c : Counts). addOpOf c op place) (now (vm .entry)) (now (answer .entry))
+    ensures { λ r. ⌜ Emits (λ (running : Bool) (c : Counts). addOpOf running c op place) (now (vm .entry)) (now (answer .entry))
         (λ (rest : Stores). codeLent rest (now (functions .entry)) (now (main .entry)) (now («main_places» .entry)) (now (other .entry)) (now («other_places» .entry)))
         r (now (vm .exit)) (now (answer .exit))
         (λ (rest : Stores). codeLent rest (now (functions .exit)) (now (main .exit)) (now («main_places» .exit)) (now (other .exit)) (now («other_places» .exit))) ⌝ }
@@ -35,6 +36,7 @@ pub fn add_op(
     let c = m.program;
     if why == 0 {
         let done = emission_code::add_op(
+            m.run.on,
             c,
             op,
             place,
@@ -48,7 +50,7 @@ pub fn add_op(
         return n;
     }
     let good = code_order(c, functions, main, main_places, other, other_places);
-    let n = crossed_order(why, good);
+    let n = crossed_running(why, m, good);
     n
 }
 
@@ -65,7 +67,7 @@ pub fn add_op1(
     other_places: &mut [u32],
     answer: &mut [u64],
 ) -> u32
-    ensures { λ r. ⌜ Emits (λ (c : Counts). addOp1Of c op a place) (now (vm .entry)) (now (answer .entry))
+    ensures { λ r. ⌜ Emits (λ (running : Bool) (c : Counts). addOp1Of running c op a place) (now (vm .entry)) (now (answer .entry))
         (λ (rest : Stores). codeLent rest (now (functions .entry)) (now (main .entry)) (now («main_places» .entry)) (now (other .entry)) (now («other_places» .entry)))
         r (now (vm .exit)) (now (answer .exit))
         (λ (rest : Stores). codeLent rest (now (functions .exit)) (now (main .exit)) (now («main_places» .exit)) (now (other .exit)) (now («other_places» .exit))) ⌝ }
@@ -75,6 +77,7 @@ pub fn add_op1(
     let c = m.program;
     if why == 0 {
         let done = emission_code::add_op1(
+            m.run.on,
             c,
             op,
             a,
@@ -89,7 +92,7 @@ pub fn add_op1(
         return n;
     }
     let good = code_order(c, functions, main, main_places, other, other_places);
-    let n = crossed_order(why, good);
+    let n = crossed_running(why, m, good);
     n
 }
 
@@ -107,7 +110,7 @@ pub fn add_op2(
     other_places: &mut [u32],
     answer: &mut [u64],
 ) -> u32
-    ensures { λ r. ⌜ Emits (λ (c : Counts). addOp2Of c op a b place) (now (vm .entry)) (now (answer .entry))
+    ensures { λ r. ⌜ Emits (λ (running : Bool) (c : Counts). addOp2Of running c op a b place) (now (vm .entry)) (now (answer .entry))
         (λ (rest : Stores). codeLent rest (now (functions .entry)) (now (main .entry)) (now («main_places» .entry)) (now (other .entry)) (now («other_places» .entry)))
         r (now (vm .exit)) (now (answer .exit))
         (λ (rest : Stores). codeLent rest (now (functions .exit)) (now (main .exit)) (now («main_places» .exit)) (now (other .exit)) (now («other_places» .exit))) ⌝ }
@@ -117,6 +120,7 @@ pub fn add_op2(
     let c = m.program;
     if why == 0 {
         let done = emission_code::add_op2(
+            m.run.on,
             c,
             op,
             a,
@@ -132,7 +136,7 @@ pub fn add_op2(
         return n;
     }
     let good = code_order(c, functions, main, main_places, other, other_places);
-    let n = crossed_order(why, good);
+    let n = crossed_running(why, m, good);
     n
 }
 
@@ -151,7 +155,7 @@ pub fn add_op3(
     other_places: &mut [u32],
     answer: &mut [u64],
 ) -> u32
-    ensures { λ r. ⌜ Emits (λ (c : Counts). addOp3Of c op a b d place) (now (vm .entry)) (now (answer .entry))
+    ensures { λ r. ⌜ Emits (λ (running : Bool) (c : Counts). addOp3Of running c op a b d place) (now (vm .entry)) (now (answer .entry))
         (λ (rest : Stores). codeLent rest (now (functions .entry)) (now (main .entry)) (now («main_places» .entry)) (now (other .entry)) (now («other_places» .entry)))
         r (now (vm .exit)) (now (answer .exit))
         (λ (rest : Stores). codeLent rest (now (functions .exit)) (now (main .exit)) (now («main_places» .exit)) (now (other .exit)) (now («other_places» .exit))) ⌝ }
@@ -161,6 +165,7 @@ pub fn add_op3(
     let c = m.program;
     if why == 0 {
         let done = emission_code::add_op3(
+            m.run.on,
             c,
             op,
             a,
@@ -177,7 +182,7 @@ pub fn add_op3(
         return n;
     }
     let good = code_order(c, functions, main, main_places, other, other_places);
-    let n = crossed_order(why, good);
+    let n = crossed_running(why, m, good);
     n
 }
 
@@ -191,7 +196,7 @@ pub fn patch_u16_value_at(
     other: &mut [u8],
     answer: &mut [u64],
 ) -> u32
-    ensures { λ r. ⌜ Emits (λ (c : Counts). patchOf c offset arg) (now (vm .entry)) (now (answer .entry))
+    ensures { λ r. ⌜ Emits (λ (running : Bool) (c : Counts). patchOf running c offset arg) (now (vm .entry)) (now (answer .entry))
         (λ (rest : Stores). bytesLent rest (now (functions .entry)) (now (main .entry)) (now (other .entry)))
         r (now (vm .exit)) (now (answer .exit)) (λ (rest : Stores). bytesLent rest (now (functions .entry)) (now (main .exit)) (now (other .exit))) ⌝ }
 {
@@ -199,12 +204,20 @@ pub fn patch_u16_value_at(
     let m = vm_of(vm);
     let c = m.program;
     if why == 0 {
-        let done = emission_code::patch_u16_value_at(c, offset, arg, functions, main, other);
+        let done = emission_code::patch_u16_value_at(
+            m.run.on,
+            c,
+            offset,
+            arg,
+            functions,
+            main,
+            other,
+        );
         let n = tell_emitted(done, vm, answer);
         return n;
     }
     let good = patch_order(c, functions, main, other);
-    let n = crossed_order(why, good);
+    let n = crossed_running(why, m, good);
     n
 }
 

@@ -2,14 +2,13 @@
 use mathlib.Core.Path.{_≡_, refl, sym}
 use mathlib.Core.Bool.{Bool, true, false, _&&_, _||_}
 use mathlib.Core.List.{List}
-use mathlib.Mathlib.Data.Bool.Basic.{and-elim-left as and-left}
 use Prim.Native.Nat.{ℕ, _≤_, _<_}
-use borrow.Author.Tests.{le-leb, lt-leb, eq-eqb, ne-eqb, eqb-true}
+use borrow.Author.Tests.{le-leb, lt-leb, eq-eqb, ne-eqb}
 use lib.Dec.{eqb, leb}
 use lib.ListN.{length, getD}
 use Rattle.model.specs.Basics.{if_then_else_}
 use Rattle.model.specs.Values.{exactValue}
-use Rattle.embed_words.specs.Coding.{lastExact, recordOk, slicesRefusal, valueRefusal, outRefusal, atEntry, atListing, among, crossed}
+use Rattle.embed_words.specs.Coding.{lastExact, recordOk, slicesRefusal, valueRefusal, underWay, outRefusal, atEntry, atListing, among, crossed}
 
 -- ---- whether words are a record
 
@@ -22,9 +21,14 @@ module _ (k a : ℕ) where
   unfolding lastExact
   exact-some h e = rw (ne-eqb _ _ h, e)
 
-pub record-is : (w : List ℕ) {k a : ℕ} {b : Bool} → k ≡ getD w 8 0 → a ≡ getD w 9 0 → b ≡ lastExact k a → leb 10 (length w) && b ≡ recordOk w
+pub record-is : (w : List ℕ) {k a on : ℕ} {b : Bool} → k ≡ getD w 8 0 → a ≡ getD w 9 0 → b ≡ lastExact k a → on ≡ getD w 10 0
+    → leb 16 (length w) && b && leb on 1 ≡ recordOk w
 unfolding recordOk
-record-is w e f g = rw (g, e, f)
+record-is w e f g h = rw (g, e, f, h)
+
+pub way-is : (w : List ℕ) {on : ℕ} → on ≡ getD w 10 0 → leb 16 (length w) && eqb on 1 ≡ underWay w
+unfolding underWay
+way-is w e = rw e
 
 -- ---- refusals
 
@@ -51,13 +55,18 @@ module _ (w : List ℕ) (n : ℕ) (a : List ℕ) where
     unfolding valueRefusal
     value-inexact y = rw (← e, y)
 
-  pub out-fits : leb 10 (length w) && leb n (length a) ≡ true → 0 ≡ outRefusal w n a
-  unfolding outRefusal
-  out-fits e = rw e
+  module _ {way : Bool} (e : way ≡ underWay w) where
+    pub out-running : way ≡ true → 25 ≡ outRefusal w n a
+    unfolding outRefusal
+    out-running y = rw (← e, y)
 
-  pub out-short : leb 10 (length w) && leb n (length a) ≡ false → 17 ≡ outRefusal w n a
-  unfolding outRefusal
-  out-short e = rw e
+    pub out-fits : way ≡ false → leb 16 (length w) && leb n (length a) ≡ true → 0 ≡ outRefusal w n a
+    unfolding outRefusal
+    out-fits y f = rw (← e, y, f)
+
+    pub out-short : way ≡ false → leb 16 (length w) && leb n (length a) ≡ false → 17 ≡ outRefusal w n a
+    unfolding outRefusal
+    out-short y f = rw (← e, y, f)
 
 -- ---- their order with the entry's own
 
@@ -71,13 +80,13 @@ or-three false true c = refl
 or-three false false c = sym (or-false c)
 
 module _ (why own : ℕ) where
-  pub gives-way : eqb own 19 && eqb why 17 ≡ true → 19 ≡ crossed atEntry why own
+  pub gives-way : (eqb own 19 || eqb own 18 || eqb own 25) && eqb why 17 ≡ true → own ≡ crossed atEntry why own
   unfolding crossed among
-  gives-way e = rw (or-false (eqb own 19), e) (sym (eqb-true own 19 (and-left (eqb own 19) (eqb why 17) e)))
+  gives-way e = rw (← or-three (eqb own 19) (eqb own 18) (eqb own 25), e)
 
-  pub stays-so : eqb own 19 && eqb why 17 ≡ false → why ≡ crossed atEntry why own
+  pub stays-so : (eqb own 19 || eqb own 18 || eqb own 25) && eqb why 17 ≡ false → why ≡ crossed atEntry why own
   unfolding crossed among
-  stays-so e = rw (or-false (eqb own 19), e)
+  stays-so e = rw (← or-three (eqb own 19) (eqb own 18) (eqb own 25), e)
 
   pub listing-gives-way : (eqb own 19 || eqb own 1 || eqb own 3) && eqb why 17 ≡ true → own ≡ crossed atListing why own
   unfolding crossed among
@@ -87,13 +96,21 @@ module _ (why own : ℕ) where
   unfolding crossed among
   listing-stays e = rw (← or-three (eqb own 19) (eqb own 1) (eqb own 3), e)
 
-module _ (why : ℕ) (good : Bool) where
-  pub judged-good : good ≡ true → why ≡ crossed atEntry why (if good then 0 else 19)
-  unfolding crossed among
-  judged-good e = rw e
+-- the entry's own judge has been asked, and behind it comes a number
+module _ (why : ℕ) (good : Bool) (behind : ℕ) {n : ℕ} where
+  pub judged-good : good ≡ true → n ≡ crossed atEntry why behind → n ≡ crossed atEntry why (if good then behind else 19)
+  judged-good e f = rw e f
 
-  pub judged-bad : good ≡ false → {n : ℕ} → n ≡ crossed atEntry why 19 → n ≡ crossed atEntry why (if good then 0 else 19)
+  pub judged-bad : good ≡ false → n ≡ crossed atEntry why 19 → n ≡ crossed atEntry why (if good then behind else 19)
   judged-bad e f = rw e f
+
+-- and that number is one of a run under way, or of none
+module _ (why : ℕ) (good on : Bool) (there gone : ℕ) {n : ℕ} where
+  pub is-running : on ≡ true → n ≡ crossed atEntry why (if good then there else 19) → n ≡ crossed atEntry why (if good then (if on then there else gone) else 19)
+  is-running e f = rw e f
+
+  pub is-idle : on ≡ false → n ≡ crossed atEntry why (if good then gone else 19) → n ≡ crossed atEntry why (if good then (if on then there else gone) else 19)
+  is-idle e f = rw e f
 
 module _ (why size : ℕ) where
   pub whole-room : why ≡ 0 → size ≡ (if eqb why 0 then size else 0)

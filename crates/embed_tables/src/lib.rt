@@ -1,16 +1,17 @@
 // Emission of constants, struct names and functions over a machine's record in words: what crosses is refused, or the entry's own rule makes the answer, in words too. A host in C calls it through `embed`.
 use embed_answers::answer_told;
 use embed_answers::tell_emitted;
-use embed_refusals::crossed_order;
+use embed_refusals::crossed_running;
 use embed_refusals::slices_refusal;
 use embed_words::vm_of;
-use emission_tables::constants::add_constant;
-use emission_tables::constants::constant_order;
-use emission_tables::functions::function_order;
-use emission_tables::structs::struct_order;
+use emission_constants::add_constant;
+use emission_constants::constant_order;
+use emission_functions::function_order;
+use emission_structs::struct_order;
 use model::Constant;
 use program::order::counts_ok;
 ghost use mathlib.Core.Path.{_≡_};
+ghost use mathlib.Core.Bool.{Bool};
 ghost use mathlib.Core.List.{[]};
 ghost use Rattle.model.specs.declared.Counts.{Counts};
 ghost use Rattle.model.specs.declared.Constant.the-variants as k;
@@ -27,7 +28,7 @@ pub fn add_scalar(
     text: &mut [u8],
     answer: &mut [u64],
 ) -> u32
-    ensures { λ r. ⌜ Emits (λ (c : Counts). addConstantOf c (k.Scalar bits) []) (now (vm .entry)) (now (answer .entry))
+    ensures { λ r. ⌜ Emits (λ (running : Bool) (c : Counts). addConstantOf running c (k.Scalar bits) []) (now (vm .entry)) (now (answer .entry))
         (λ (rest : Stores). constantsLent rest (now (constants .entry)) (now (text .entry)))
         r (now (vm .exit)) (now (answer .exit)) (λ (rest : Stores). constantsLent rest (now (constants .exit)) (now (text .exit))) ⌝ }
 {
@@ -35,12 +36,12 @@ pub fn add_scalar(
     let m = vm_of(vm);
     let c = m.program;
     if why == 0 {
-        let done = add_constant(c, Constant::Scalar(bits), b"", constants, text);
+        let done = add_constant(m.run.on, c, Constant::Scalar(bits), b"", constants, text);
         let n = tell_emitted(done, vm, answer);
         return n;
     }
     let good = constant_order(c, constants, text);
-    let n = crossed_order(why, good);
+    let n = crossed_running(why, m, good);
     n
 }
 
@@ -52,7 +53,7 @@ pub fn add_boolean(
     text: &mut [u8],
     answer: &mut [u64],
 ) -> u32
-    ensures { λ r. ⌜ Emits (λ (c : Counts). addConstantOf c (k.Boolean value) []) (now (vm .entry)) (now (answer .entry))
+    ensures { λ r. ⌜ Emits (λ (running : Bool) (c : Counts). addConstantOf running c (k.Boolean value) []) (now (vm .entry)) (now (answer .entry))
         (λ (rest : Stores). constantsLent rest (now (constants .entry)) (now (text .entry)))
         r (now (vm .exit)) (now (answer .exit)) (λ (rest : Stores). constantsLent rest (now (constants .exit)) (now (text .exit))) ⌝ }
 {
@@ -60,12 +61,12 @@ pub fn add_boolean(
     let m = vm_of(vm);
     let c = m.program;
     if why == 0 {
-        let done = add_constant(c, Constant::Boolean(value), b"", constants, text);
+        let done = add_constant(m.run.on, c, Constant::Boolean(value), b"", constants, text);
         let n = tell_emitted(done, vm, answer);
         return n;
     }
     let good = constant_order(c, constants, text);
-    let n = crossed_order(why, good);
+    let n = crossed_running(why, m, good);
     n
 }
 
@@ -77,7 +78,7 @@ pub fn add_string(
     text: &mut [u8],
     answer: &mut [u64],
 ) -> u32
-    ensures { λ r. ⌜ Emits (λ (c : Counts). addConstantOf c k.String (now (lent .entry))) (now (vm .entry)) (now (answer .entry))
+    ensures { λ r. ⌜ Emits (λ (running : Bool) (c : Counts). addConstantOf running c k.String (now (lent .entry))) (now (vm .entry)) (now (answer .entry))
         (λ (rest : Stores). constantsLent rest (now (constants .entry)) (now (text .entry)))
         r (now (vm .exit)) (now (answer .exit)) (λ (rest : Stores). constantsLent rest (now (constants .exit)) (now (text .exit))) ⌝ }
 {
@@ -85,12 +86,12 @@ pub fn add_string(
     let m = vm_of(vm);
     let c = m.program;
     if why == 0 {
-        let done = add_constant(c, Constant::String, lent, constants, text);
+        let done = add_constant(m.run.on, c, Constant::String, lent, constants, text);
         let n = tell_emitted(done, vm, answer);
         return n;
     }
     let good = constant_order(c, constants, text);
-    let n = crossed_order(why, good);
+    let n = crossed_running(why, m, good);
     n
 }
 
@@ -102,7 +103,7 @@ pub fn add_reference(
     text: &mut [u8],
     answer: &mut [u64],
 ) -> u32
-    ensures { λ r. ⌜ Emits (λ (c : Counts). addConstantOf c k.FunctionReference (now (lent .entry))) (now (vm .entry)) (now (answer .entry))
+    ensures { λ r. ⌜ Emits (λ (running : Bool) (c : Counts). addConstantOf running c k.FunctionReference (now (lent .entry))) (now (vm .entry)) (now (answer .entry))
         (λ (rest : Stores). constantsLent rest (now (constants .entry)) (now (text .entry)))
         r (now (vm .exit)) (now (answer .exit)) (λ (rest : Stores). constantsLent rest (now (constants .exit)) (now (text .exit))) ⌝ }
 {
@@ -110,12 +111,19 @@ pub fn add_reference(
     let m = vm_of(vm);
     let c = m.program;
     if why == 0 {
-        let done = add_constant(c, Constant::FunctionReference, lent, constants, text);
+        let done = add_constant(
+            m.run.on,
+            c,
+            Constant::FunctionReference,
+            lent,
+            constants,
+            text,
+        );
         let n = tell_emitted(done, vm, answer);
         return n;
     }
     let good = constant_order(c, constants, text);
-    let n = crossed_order(why, good);
+    let n = crossed_running(why, m, good);
     n
 }
 
@@ -127,7 +135,7 @@ pub fn add_struct_info(
     text: &mut [u8],
     answer: &mut [u64],
 ) -> u32
-    ensures { λ r. ⌜ Emits (λ (c : Counts). addStructOf c (now (name .entry))) (now (vm .entry)) (now (answer .entry))
+    ensures { λ r. ⌜ Emits (λ (running : Bool) (c : Counts). addStructOf running c (now (name .entry))) (now (vm .entry)) (now (answer .entry))
         (λ (rest : Stores). structsLent rest (now (structs .entry)) (now (text .entry)))
         r (now (vm .exit)) (now (answer .exit)) (λ (rest : Stores). structsLent rest (now (structs .exit)) (now (text .exit))) ⌝ }
 {
@@ -135,12 +143,12 @@ pub fn add_struct_info(
     let m = vm_of(vm);
     let c = m.program;
     if why == 0 {
-        let done = emission_tables::structs::add_struct_info(c, name, structs, text);
+        let done = emission_structs::add_struct_info(m.run.on, c, name, structs, text);
         let n = tell_emitted(done, vm, answer);
         return n;
     }
     let good = struct_order(c, structs, text);
-    let n = crossed_order(why, good);
+    let n = crossed_running(why, m, good);
     n
 }
 
@@ -152,7 +160,7 @@ pub fn begin_function(
     text: &mut [u8],
     answer: &mut [u64],
 ) -> u32
-    ensures { λ r. ⌜ Emits (λ (c : Counts). beginFunctionOf c (now (name .entry))) (now (vm .entry)) (now (answer .entry))
+    ensures { λ r. ⌜ Emits (λ (running : Bool) (c : Counts). beginFunctionOf running c (now (name .entry))) (now (vm .entry)) (now (answer .entry))
         (λ (rest : Stores). namesLent rest (now (functions .entry)) (now (text .entry)))
         r (now (vm .exit)) (now (answer .exit)) (λ (rest : Stores). namesLent rest (now (functions .exit)) (now (text .exit))) ⌝ }
 {
@@ -160,12 +168,12 @@ pub fn begin_function(
     let m = vm_of(vm);
     let c = m.program;
     if why == 0 {
-        let done = emission_tables::functions::begin_function(c, name, functions, text);
+        let done = emission_functions::begin_function(m.run.on, c, name, functions, text);
         let n = tell_emitted(done, vm, answer);
         return n;
     }
     let good = function_order(c, functions, text);
-    let n = crossed_order(why, good);
+    let n = crossed_running(why, m, good);
     n
 }
 
@@ -173,18 +181,18 @@ pub fn begin_function(
 pub fn end_function(vm: &mut [u64], answer: &mut [u64]) -> u32
     ensures { λ r. ⌜ record { number = r; vm = now (vm .exit); answer = now (answer .exit) }
         ≡ through atEntry (slicesRefusal (now (vm .entry)) 1 (now (answer .entry))) (now (vm .entry)) (now (answer .entry))
-        (emittedCoded (endFunctionOf (vmIn (now (vm .entry)) .program)) (now (vm .entry)) (now (answer .entry))) ⌝ }
+        (emittedCoded (endFunctionOf (vmIn (now (vm .entry)) .run .on) (vmIn (now (vm .entry)) .program)) (now (vm .entry)) (now (answer .entry))) ⌝ }
 {
     let why = slices_refusal(vm, 1, answer);
     let m = vm_of(vm);
     let c = m.program;
     if why == 0 {
-        let done = emission_tables::functions::end_function(c);
+        let done = emission_functions::end_function(m.run.on, c);
         let n = tell_emitted(done, vm, answer);
         return n;
     }
     let good = counts_ok(c);
-    let n = crossed_order(why, good);
+    let n = crossed_running(why, m, good);
     n
 }
 
@@ -204,7 +212,7 @@ pub fn get_function_idx(
     let why = slices_refusal(vm, 1, answer);
     let m = vm_of(vm);
     let c = m.program;
-    let told = emission_tables::functions::get_function_idx(c, name, functions, text);
+    let told = emission_functions::get_function_idx(c, name, functions, text);
     let n = answer_told(why, told, answer);
     n
 }

@@ -1,6 +1,6 @@
 -- A record that was written is read back as the machine: a host in C that hands the record back hands the machine back.
 use mathlib.Core.Path.{_≡_, refl, ap}
-use mathlib.Core.Bool.{true, _&&_}
+use mathlib.Core.Bool.{Bool, true, false, _&&_}
 use mathlib.Core.List.{List, [], _∷_, _++_}
 use Prim.Native.Nat.{ℕ, _+_, _≤_}
 use native.Mathlib.Omega.{arith}
@@ -15,11 +15,11 @@ use Rattle.model.specs.declared.Value.the-variants as v
 use Rattle.model.specs.declared.Last.{Last}
 use Rattle.model.specs.declared.Last.the-variants.{Nothing, Is}
 use Rattle.model.specs.Basics.{if_then_else_, written}
-use Rattle.model.specs.Values.{kind, payload, exactValue}
+use Rattle.model.specs.Values.{kind, payload, exactValue, bit}
 use Rattle.value.specs.Links.{Fine, lastIn, lastKind, lastPayload}
 use Rattle.value.proofs.Coding.{words-exact}
 use Rattle.value.proofs.Lasts.{last-words}
-use Rattle.embed_words.specs.Coding.{vmIn, vmWords, FineLast, lastExact, recordOk, RecordOf}
+use Rattle.embed_words.specs.Coding.{runIn, vmIn, underWords, vmWords, FineLast, lastExact, recordOk, RecordOf}
 
 -- ---- the last result
 
@@ -43,17 +43,27 @@ unfolding lastExact lastKind lastPayload
 last-exact Nothing f = refl
 last-exact (Is x) f = value-exact x (words-exact x f)
 
+-- ---- the run
+
+on-back : (b : Bool) → eqb (bit b) 1 ≡ b
+on-back true = refl
+on-back false = refl
+
+on-exact : (b : Bool) → leb (bit b) 1 ≡ true
+on-exact true = refl
+on-exact false = refl
+
 -- ---- the record
 
--- with whatever stands behind its ten words
+-- with whatever stands behind its sixteen words
 record-front : (m : Vm) (rest : List ℕ) → FineLast (m .last) → RecordOf m (vmWords m ++ rest)
-unfolding vmWords vmIn recordOk
+unfolding vmWords underWords vmIn runIn recordOk
 record-front m rest f = record {
-  taken = rw (le-leb 10 (length (vmWords m ++ rest)) (omega arith), last-exact (m .last) f);
-  machine = rw (last-back (m .last) f);
+  taken = rw (le-leb 16 (length (vmWords m ++ rest)) (omega arith), last-exact (m .last) f, on-exact (m .run .on));
+  machine = rw (last-back (m .last) f, on-back (m .run .on));
 }
 
--- what stood in the slice does not count: ten words or more are enough
-pub record-back : (w : List ℕ) (m : Vm) → 10 ≤ length w → FineLast (m .last) → RecordOf m (written w 0 (vmWords m))
-unfolding written vmWords
-record-back w m h f = rw (sets-eq (vmWords m) w 0 (omega arith)) (record-front m (drop 10 w) f)
+-- what stood in the slice does not count: sixteen words or more are enough; a run that is under way comes back too
+pub record-back : (w : List ℕ) (m : Vm) → 16 ≤ length w → FineLast (m .last) → RecordOf m (written w 0 (vmWords m))
+unfolding written vmWords underWords
+record-back w m h f = rw (sets-eq (vmWords m) w 0 (omega arith)) (record-front m (drop 16 w) f)

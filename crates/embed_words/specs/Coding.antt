@@ -8,6 +8,7 @@ use lib.Dec.{T, eqb, leb}
 use lib.Ieee.{binary64, fits}
 use lib.ListN.{length, getD}
 use Rattle.model.specs.declared.Counts.{Counts}
+use Rattle.model.specs.declared.Run.{Run}
 use Rattle.model.specs.declared.Vm.{Vm}
 use Rattle.model.specs.declared.Value.{Value}
 use Rattle.model.specs.declared.Value.the-variants as v
@@ -27,16 +28,26 @@ use Rattle.model.specs.declared.Started.the-variants as st
 use Rattle.model.specs.declared.RunResult.{RunResult}
 use Rattle.model.specs.declared.RunResult.the-variants as r
 use Rattle.model.specs.Basics.{if_then_else_, written}
-use Rattle.model.specs.Values.{kind, payload, exactValue}
+use Rattle.model.specs.Values.{kind, payload, exactValue, bit}
 use Rattle.model.specs.Answers.{runNumber, startedNumber, emittedNumber, toldNumber, shownNumber, headedNumber}
 use Rattle.model.specs.Stores.{Stores}
 use Rattle.model.specs.Emission.{Res}
 use Rattle.model.specs.Loading.{OutRes}
-use Rattle.model.specs.Machines.{Lent, RunAnswer, ran, refused as not-run, runAnswer, RunPost, StartRes}
+use Rattle.model.specs.Machines.{Lent, RunCall, runAnswer, refusalOf, RunPost, StartRes}
 use Rattle.value.specs.Links.{Fine, lastIn, lastKind, lastPayload}
 
--- ---- a machine's record in ten words: constants, structs, functions, text, current, stack, frames, cells, and the last result's kind and payload.
--- Kind 7, payload 0: no last result
+-- ---- a machine's record in sixteen words: constants, structs, functions, text, current, stack, frames, cells; the last result's kind and payload (kind 7,
+-- payload 0: none); and the run: whether one is under way (1, else 0), units given, units spent, root Returns, mark, values in the copy
+
+unfoldable pub runIn : List ℕ → Run
+runIn w = record {
+  on = eqb (getD w 10 0) 1;
+  given = getD w 11 0;
+  spent = getD w 12 0;
+  returns = getD w 13 0;
+  mark = getD w 14 0;
+  saved = getD w 15 0;
+}
 
 unfoldable pub vmIn : List ℕ → Vm
 vmIn w = record {
@@ -45,15 +56,19 @@ vmIn w = record {
   frames = getD w 6 0;
   cells = getD w 7 0;
   last = lastIn (getD w 8 0) (getD w 9 0);
+  run = runIn w;
 }
 
 unfoldable pub countWords : Counts → List ℕ
 countWords c = c .constants ∷ c .structs ∷ c .functions ∷ c .text ∷ c .current ∷ []
 
+unfoldable pub underWords : Run → List ℕ
+underWords x = bit (x .on) ∷ x .given ∷ x .spent ∷ x .returns ∷ x .mark ∷ x .saved ∷ []
+
 unfoldable pub vmWords : Vm → List ℕ
 vmWords m =
     m .program .constants ∷ m .program .structs ∷ m .program .functions ∷ m .program .text ∷ m .program .current
-    ∷ m .stack ∷ m .frames ∷ m .cells ∷ lastKind (m .last) ∷ lastPayload (m .last) ∷ []
+    ∷ m .stack ∷ m .frames ∷ m .cells ∷ lastKind (m .last) ∷ lastPayload (m .last) ∷ underWords (m .run)
 
 -- a last result that the words of a store can hold: what the types of the code say of it, and, of texts and cells, good order too
 abbrev pub FineLast : Last → Type 0
@@ -78,7 +93,7 @@ unfoldable pub lastExact : ℕ → ℕ → Bool
 lastExact k a = if eqb k 7 then eqb a 0 else exactValue k a
 
 unfoldable pub recordOk : List ℕ → Bool
-recordOk w = leb 10 (length w) && lastExact (getD w 8 0) (getD w 9 0)
+recordOk w = leb 16 (length w) && lastExact (getD w 8 0) (getD w 9 0) && leb (getD w 10 0) 1
 
 -- these words are the record of m: no entry refuses them 19 as no record, and every entry takes them for m
 pub record RecordOf (m : Vm) (w : List ℕ) : Type 0 where
@@ -95,15 +110,18 @@ slicesRefusal w n a = if recordOk w then (if leb n (length a) then 0 else 17) el
 unfoldable pub valueRefusal : List ℕ → ℕ → ℕ → ℕ → List ℕ → ℕ
 valueRefusal w k p n a = if exactValue k p then slicesRefusal w n a else 19
 
--- where the record is only written
+-- where the record is only written: 25 where a machine with a run under way stands there
+unfoldable pub underWay : List ℕ → Bool
+underWay w = leb 16 (length w) && eqb (getD w 10 0) 1
+
 unfoldable pub outRefusal : List ℕ → ℕ → List ℕ → ℕ
-outRefusal w n a = if leb 10 (length w) && leb n (length a) then 0 else 17
+outRefusal w n a = if underWay w then 25 else (if leb 16 (length w) && leb n (length a) then 0 else 17)
 
 -- ---- their order with the entry's own. The numbers of the entry itself that come before 17:
 
--- "Order at an entry: 19, 17, 22, 21, then the rest"
+-- "Order at an entry: 19, 17, 22, 21, then the rest"; 18 and 25 are "both after 19"
 abbrev pub atEntry : List ℕ
-atEntry = 19 ∷ []
+atEntry = 19 ∷ 18 ∷ 25 ∷ []
 
 -- "the listing: 19, 1 or 3 as met first, 17"
 abbrev pub atListing : List ℕ
@@ -129,18 +147,20 @@ pub record Coded : Type 0 where
 abbrev pub refused : ℕ → List ℕ → List ℕ → Coded
 refused n w a = record { number = n; vm = w; answer = a }
 
--- 1 value, 2 "continue", 3 fault; the units spent; the root Returns completed; the value's kind and payload, or the fault's number and the length of its
--- backtrace
+-- 1 value, 2 "continue", 3 fault, 4 paused; the units spent; the root Returns completed; the value's kind and payload, or the fault's number and the length
+-- of its backtrace
 unfoldable pub runWords : RunResult → List ℕ
 runWords (r.Value m v t) = 1 ∷ t .spent ∷ t .returns ∷ kind v ∷ payload v ∷ []
 runWords (r.Continue m t) = 2 ∷ t .spent ∷ t .returns ∷ 0 ∷ 0 ∷ []
 runWords (r.Fault m n t j) = 3 ∷ t .spent ∷ t .returns ∷ n ∷ j ∷ []
+runWords (r.Paused m) = 4 ∷ m .run .spent ∷ m .run .returns ∷ 0 ∷ 0 ∷ []
 runWords (r.Refused n) = []
 
 unfoldable pub runCoded : RunResult → List ℕ → List ℕ → Coded
 runCoded (r.Value m v t) w a = record { number = runNumber (r.Value m v t); vm = written w 0 (vmWords m); answer = written a 0 (runWords (r.Value m v t)) }
 runCoded (r.Continue m t) w a = record { number = runNumber (r.Continue m t); vm = written w 0 (vmWords m); answer = written a 0 (runWords (r.Continue m t)) }
 runCoded (r.Fault m n t j) w a = record { number = runNumber (r.Fault m n t j); vm = written w 0 (vmWords m); answer = written a 0 (runWords (r.Fault m n t j)) }
+runCoded (r.Paused m) w a = record { number = runNumber (r.Paused m); vm = written w 0 (vmWords m); answer = written a 0 (runWords (r.Paused m)) }
 runCoded (r.Refused n) w a = refused (runNumber (r.Refused n)) w a
 
 -- of refusal 20 the answer is the offset
@@ -174,21 +194,22 @@ headedCoded (h.Refused n) w a = refused (headedNumber (h.Refused n)) w a
 unfoldable pub through : List ℕ → ℕ → List ℕ → List ℕ → Coded → Coded
 through firsts why w a c = if eqb why 0 then c else refused (crossed firsts why (c .number)) w a
 
--- emission: an entry over the record's counts and the program's stores
+-- emission: an entry over the record's machine, whose program is written unless a run is under way, and the program's stores
 pub record EmitThrough : Type 0 where
   pub coded : Coded
   pub stores : Stores
 
-unfoldable pub emitThrough : List ℕ → List ℕ → Stores → (Counts → Res) → EmitThrough
+unfoldable pub emitThrough : List ℕ → List ℕ → Stores → (Vm → Res) → EmitThrough
 emitThrough w a s rule = record {
-  coded = through atEntry (slicesRefusal w 1 a) w a (emittedCoded (rule (vmIn w .program) .answer) w a);
-  stores = if eqb (slicesRefusal w 1 a) 0 then rule (vmIn w .program) .stores else s;
+  coded = through atEntry (slicesRefusal w 1 a) w a (emittedCoded (rule (vmIn w) .answer) w a);
+  stores = if eqb (slicesRefusal w 1 a) 0 then rule (vmIn w) .stores else s;
 }
 
 -- what a function of emission promises, whatever the stores that it is not lent: `before` and `after` are those it is lent, among the rest
-abbrev pub Emits : (Counts → Stores → Res) → List ℕ → List ℕ → (Stores → Stores) → ℕ → List ℕ → List ℕ → (Stores → Stores) → Type 0
+abbrev pub Emits : (Bool → Counts → Stores → Res) → List ℕ → List ℕ → (Stores → Stores) → ℕ → List ℕ → List ℕ → (Stores → Stores) → Type 0
 Emits rule w a before n w' a' after =
-    (rest : Stores) → record { coded = record { number = n; vm = w'; answer = a' }; stores = after rest } ≡ emitThrough w a (before rest) (λ c. rule c (before rest))
+    (rest : Stores) → record { coded = record { number = n; vm = w'; answer = a' }; stores = after rest }
+    ≡ emitThrough w a (before rest) (λ m. rule (m .run .on) (m .program) (before rest))
 
 -- an entry that tells a number, with what it writes
 pub record OutThrough : Type 0 where
@@ -201,26 +222,21 @@ outThrough firsts why w a out rule = record {
   out = if eqb why 0 then rule (vmIn w) .out else out;
 }
 
--- the number that a run itself answers
-unfoldable pub ranNumber : RunAnswer → ℕ
-ranNumber (ran c x) = 0
-ranNumber (not-run n) = n
-
--- a run: refused by its slices, or the run of the record's machine, with its result in words
-pub record RunThrough (w a : List ℕ) (s : Stores) (l : Lent) (u : ℕ) (c : Coded) (l' : Lent) : Type 0 where
+-- a call of a run: refused by its slices, or that part of the run of the record's machine, with its result in words
+pub record RunThrough (call : RunCall) (w a : List ℕ) (s : Stores) (l : Lent) (c : Coded) (l' : Lent) : Type 0 where
   pub result : RunResult
   pub coded : c ≡ runCoded result w a
-  pub runs : slicesRefusal w 5 a ≡ 0 → RunPost (vmIn w) s l u result l'
-  pub refuses : (slicesRefusal w 5 a ≡ 0 → ⊥) → (result ≡ r.Refused (crossed atEntry (slicesRefusal w 5 a) (ranNumber (runAnswer (vmIn w) s l u)))) × (l' ≡ l)
+  pub runs : slicesRefusal w 5 a ≡ 0 → RunPost call (vmIn w) s l result l'
+  pub refuses : (slicesRefusal w 5 a ≡ 0 → ⊥) → (result ≡ r.Refused (crossed atEntry (slicesRefusal w 5 a) (refusalOf (runAnswer call (vmIn w) s l)))) × (l' ≡ l)
 
--- making a machine where the record or the answer is too short. "Loading: 20, 17, 22, 21": a broken image comes first, and its offset is written
--- where the answer has a word
+-- making a machine where the record refuses, or it or the answer is too short. "Loading: 20, 17, 22, 21" and "25 first": a broken image comes before 17,
+-- and its offset is written where the answer has a word
 unfoldable pub unmade : ℕ → Started → List ℕ → List ℕ → Coded
 unmade why (st.Done m) w a = refused why w a
-unmade why (st.Broken i) w a = startedCoded (st.Broken i) w a
+unmade why (st.Broken i) w a = if eqb why 17 then startedCoded (st.Broken i) w a else refused why w a
 unmade why (st.Refused n) w a = refused why w a
 
--- making a machine
+-- making a machine; r is what the entry itself does where no run is under way
 pub record StartThrough : Type 0 where
   pub coded : Coded
   pub stores : Stores

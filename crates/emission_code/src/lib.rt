@@ -1,4 +1,5 @@
 // Code is emitted at the end of the current function, and patched inside it.
+// `running`: a run is under way on the machine whose program this is, and the program stays as it is (25).
 use layout::reads::lesser;
 use layout::reads::pack;
 use layout::reads::room;
@@ -66,6 +67,7 @@ fn code_room(
 
 // An instruction at the end of the current function, each byte with the place.
 fn emit(
+    running: bool,
     c: Counts,
     op: u8,
     bytes: &[u8],
@@ -76,11 +78,14 @@ fn emit(
     other: &mut [u8],
     other_places: &mut [u32],
 ) -> Emitted
-    ensures { λ r. ⌜ ((rest : Stores) → Is (emitOf c op (now (bytes .entry)) place (codeLent rest (now (functions .entry)) (now (main .entry)) (now («main_places» .entry)) (now (other .entry)) (now («other_places» .entry)))) r (codeLent rest (now (functions .exit)) (now (main .exit)) (now («main_places» .exit)) (now (other .exit)) (now («other_places» .exit)))) ⌝ }
+    ensures { λ r. ⌜ ((rest : Stores) → Is (emitOf running c op (now (bytes .entry)) place (codeLent rest (now (functions .entry)) (now (main .entry)) (now («main_places» .entry)) (now (other .entry)) (now («other_places» .entry)))) r (codeLent rest (now (functions .exit)) (now (main .exit)) (now («main_places» .exit)) (now (other .exit)) (now («other_places» .exit)))) ⌝ }
 {
     let ok = code_order(c, functions, main, main_places, other, other_places);
     if !ok {
         return Emitted::Refused(19);
+    }
+    if running {
+        return Emitted::Refused(25);
     }
     let current = c.current;
     let word = second(functions, current);
@@ -109,6 +114,7 @@ fn emit(
 
 // An instruction with no operand.
 pub fn add_op(
+    running: bool,
     c: Counts,
     op: u8,
     place: u32,
@@ -118,10 +124,11 @@ pub fn add_op(
     other: &mut [u8],
     other_places: &mut [u32],
 ) -> Emitted
-    ensures { λ r. ⌜ ((rest : Stores) → Is (addOpOf c op place (codeLent rest (now (functions .entry)) (now (main .entry)) (now («main_places» .entry)) (now (other .entry)) (now («other_places» .entry)))) r (codeLent rest (now (functions .exit)) (now (main .exit)) (now («main_places» .exit)) (now (other .exit)) (now («other_places» .exit)))) ⌝ }
+    ensures { λ r. ⌜ ((rest : Stores) → Is (addOpOf running c op place (codeLent rest (now (functions .entry)) (now (main .entry)) (now («main_places» .entry)) (now (other .entry)) (now («other_places» .entry)))) r (codeLent rest (now (functions .exit)) (now (main .exit)) (now («main_places» .exit)) (now (other .exit)) (now («other_places» .exit)))) ⌝ }
 {
     let bytes = [op];
     emit(
+        running,
         c,
         op,
         &bytes,
@@ -136,6 +143,7 @@ pub fn add_op(
 
 // An instruction with one operand, low byte first.
 pub fn add_op1(
+    running: bool,
     c: Counts,
     op: u8,
     a: u16,
@@ -146,10 +154,11 @@ pub fn add_op1(
     other: &mut [u8],
     other_places: &mut [u32],
 ) -> Emitted
-    ensures { λ r. ⌜ ((rest : Stores) → Is (addOp1Of c op a place (codeLent rest (now (functions .entry)) (now (main .entry)) (now («main_places» .entry)) (now (other .entry)) (now («other_places» .entry)))) r (codeLent rest (now (functions .exit)) (now (main .exit)) (now («main_places» .exit)) (now (other .exit)) (now («other_places» .exit)))) ⌝ }
+    ensures { λ r. ⌜ ((rest : Stores) → Is (addOp1Of running c op a place (codeLent rest (now (functions .entry)) (now (main .entry)) (now («main_places» .entry)) (now (other .entry)) (now («other_places» .entry)))) r (codeLent rest (now (functions .exit)) (now (main .exit)) (now («main_places» .exit)) (now (other .exit)) (now («other_places» .exit)))) ⌝ }
 {
     let bytes = [op, (a % 256) as u8, (a / 256) as u8];
     emit(
+        running,
         c,
         op,
         &bytes,
@@ -164,6 +173,7 @@ pub fn add_op1(
 
 // An instruction with two operands.
 pub fn add_op2(
+    running: bool,
     c: Counts,
     op: u8,
     a: u16,
@@ -175,7 +185,7 @@ pub fn add_op2(
     other: &mut [u8],
     other_places: &mut [u32],
 ) -> Emitted
-    ensures { λ r. ⌜ ((rest : Stores) → Is (addOp2Of c op a b place (codeLent rest (now (functions .entry)) (now (main .entry)) (now («main_places» .entry)) (now (other .entry)) (now («other_places» .entry)))) r (codeLent rest (now (functions .exit)) (now (main .exit)) (now («main_places» .exit)) (now (other .exit)) (now («other_places» .exit)))) ⌝ }
+    ensures { λ r. ⌜ ((rest : Stores) → Is (addOp2Of running c op a b place (codeLent rest (now (functions .entry)) (now (main .entry)) (now («main_places» .entry)) (now (other .entry)) (now («other_places» .entry)))) r (codeLent rest (now (functions .exit)) (now (main .exit)) (now («main_places» .exit)) (now (other .exit)) (now («other_places» .exit)))) ⌝ }
 {
     let bytes = [
         op,
@@ -185,6 +195,7 @@ pub fn add_op2(
         (b / 256) as u8,
     ];
     emit(
+        running,
         c,
         op,
         &bytes,
@@ -199,6 +210,7 @@ pub fn add_op2(
 
 // An instruction with three operands.
 pub fn add_op3(
+    running: bool,
     c: Counts,
     op: u8,
     a: u16,
@@ -211,7 +223,7 @@ pub fn add_op3(
     other: &mut [u8],
     other_places: &mut [u32],
 ) -> Emitted
-    ensures { λ r. ⌜ ((rest : Stores) → Is (addOp3Of c op a b d place (codeLent rest (now (functions .entry)) (now (main .entry)) (now («main_places» .entry)) (now (other .entry)) (now («other_places» .entry)))) r (codeLent rest (now (functions .exit)) (now (main .exit)) (now («main_places» .exit)) (now (other .exit)) (now («other_places» .exit)))) ⌝ }
+    ensures { λ r. ⌜ ((rest : Stores) → Is (addOp3Of running c op a b d place (codeLent rest (now (functions .entry)) (now (main .entry)) (now («main_places» .entry)) (now (other .entry)) (now («other_places» .entry)))) r (codeLent rest (now (functions .exit)) (now (main .exit)) (now («main_places» .exit)) (now (other .exit)) (now («other_places» .exit)))) ⌝ }
 {
     let bytes = [
         op,
@@ -223,6 +235,7 @@ pub fn add_op3(
         (d / 256) as u8,
     ];
     emit(
+        running,
         c,
         op,
         &bytes,
@@ -244,6 +257,7 @@ pub fn patch_order(c: Counts, functions: &[u64], main: &[u8], other: &[u8]) -> b
 
 // An operand written anew inside the current function's code.
 pub fn patch_u16_value_at(
+    running: bool,
     c: Counts,
     offset: u16,
     arg: u16,
@@ -251,11 +265,14 @@ pub fn patch_u16_value_at(
     main: &mut [u8],
     other: &mut [u8],
 ) -> Emitted
-    ensures { λ r. ⌜ ((rest : Stores) → Is (patchOf c offset arg (bytesLent rest (now (functions .entry)) (now (main .entry)) (now (other .entry)))) r (bytesLent rest (now (functions .entry)) (now (main .exit)) (now (other .exit)))) ⌝ }
+    ensures { λ r. ⌜ ((rest : Stores) → Is (patchOf running c offset arg (bytesLent rest (now (functions .entry)) (now (main .entry)) (now (other .entry)))) r (bytesLent rest (now (functions .entry)) (now (main .exit)) (now (other .exit)))) ⌝ }
 {
     let ok = patch_order(c, functions, main, other);
     if !ok {
         return Emitted::Refused(19);
+    }
+    if running {
+        return Emitted::Refused(25);
     }
     let current = c.current;
     let word = second(functions, current);

@@ -24,11 +24,8 @@ use Rattle.layout.proofs.Bools.{either-way, both-true}
 use Rattle.laws_programs.proofs.Searching.{same-sym}
 use Rattle.laws_programs.proofs.Known.{structs-known, Known as KnownFunction}
 use Rattle.image_load.proofs.Loaded.{Clear}
+use Rattle.image.specs.Loads.{Below}
 use Rattle.image_save.proofs.Orderly.{part-most, good, limits, text-small, constant-at, struct-at, function-at, ends-in}
-
--- every number of a store is below b: what the type of a slice says
-abbrev pub Below : ℕ → List ℕ → Type 0
-Below b l = (i : ℕ) → getD l i 0 < b
 
 -- ---- constants
 

@@ -25,8 +25,8 @@ use Rattle.layout.proofs.Parts.{one-word}
 use Rattle.laws_images.proofs.Formats.{judge-back, judge-only}
 use Rattle.laws_images.proofs.Held.{written-front}
 use Rattle.image_load.proofs.Loaded.{laid-again}
-use Rattle.image.specs.Loads.{LoadsAs}
-use Rattle.image.proofs.Sounds.{Below, order-sound, order-within}
+use Rattle.image.specs.Loads.{Below, LoadsAs}
+use Rattle.image.proofs.Sounds.{order-sound, order-within}
 
 pub image-back : (p : Program) → Sound p → judge (imageOf p) ≡ fine p
 image-back = judge-back

@@ -69,11 +69,15 @@ module _ (p : Program) (s : List ℕ) (i at : ℕ) (h : From p s i at) (l : i < 
       let here = post .reads (g .0) (g .1) (g .2) in
       let not-first : eqb (suc i) 0 ≡ false = ne-eqb (suc i) 0 (λ e. let z : ⊥ = omega arith in z) in
       let number = number-of (p .functions) i (g .0) (m .0) (sym (m .1)) in
+      let rest = behind-it (p .functions) i (g .0) (m .0) (sym (m .1)) in
       record {
         code = here .code ∙ ap (λ (f : Function). f .code) (sym number);
         from = record {
           read = record {
-            means = ap (λ (b : Bool). series readFunction (λ x f. false) left b (drop (c .next) s)) not-first ∙ ap others (here .next) ∙ m .2 ∙ ap (λ (fs : List Function). got fs (drop (length s) s)) (sym (behind-it (p .functions) i (g .0) (m .0) (sym (m .1))));
+            means = ap (λ (b : Bool). series readFunction (λ x f. false) left b (drop (c .next) s)) not-first
+                ∙ ap others (here .next)
+                ∙ m .2
+                ∙ ap (λ (fs : List Function). got fs (drop (length s) s)) (sym rest);
             ahead = post .within;
             within = omega arith;
           };

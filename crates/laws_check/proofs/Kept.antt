@@ -54,7 +54,7 @@ unfolding leadsOn
 leads-on main code i e h = rw e h
 
 -- the world's code is the program's
-same-code : (p : Program) (w : World) → Serves p w → (s : State) → steps.codeOf w s ≡ codeOf p (s .frame .function)
+pub same-code : (p : Program) (w : World) → Serves p w → (s : State) → steps.codeOf w s ≡ codeOf p (s .frame .function)
 unfolding steps.codeOf
 same-code p w of s = rw (of .functions)
 

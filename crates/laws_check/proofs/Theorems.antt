@@ -1,10 +1,10 @@
 -- THE THEOREMS over a program that passed the check: what its runs never meet, and how high its frames grow.
 use mathlib.Core.Path.{_≡_, refl, sym, subst}
-use mathlib.Core.Bool.{false}
+use mathlib.Core.Bool.{Bool, true, false}
 use mathlib.Core.List.{List, [], _∷_}
-use Prim.Native.Nat.{ℕ, _<_}
+use Prim.Native.Nat.{ℕ, _≤_, _<_}
 use native.Mathlib.Omega.{arith}
-use borrow.Author.Tests.{leb-false}
+use borrow.Author.Tests.{leb-true, leb-false, eqb-true}
 use lib.ListN.{length}
 use Rattle.model.specs.declared.Decoded.{Decoded}
 use Rattle.model.specs.declared.Fault.{Fault}
@@ -19,12 +19,13 @@ use Rattle.model.specs.Runs.{Machine, Progress, Entry, fault, begin, over}
 use Rattle.laws_runs.specs.Paths.{Steps, none, on, ret}
 use Rattle.laws_runs.specs.Demand.{Cut, faulting, unpaid, Recovered}
 use Rattle.laws_runs.proofs.Demands.{run-recovered}
-use Rattle.check_rules.specs.Rules.{starts, Passed, codeOf}
+use Rattle.check_rules.specs.declared.Rule.the-variants as r
+use Rattle.check_rules.specs.Rules.{starts, Keeps, Passed, codeOf, isMain}
 use Rattle.laws_check.specs.Row.{Unsure}
-use Rattle.laws_check.specs.Good.{Serves, Waiting, Good, Allowed, Safe}
-use Rattle.laws_check.specs.Passed.{JustLoaded, Comes, ruledOut, Meets, NeverFaultsSo, AsksInRange, Parts, FramesWithin, RunsSo, Asked, RunsAskInRange}
+use Rattle.laws_check.specs.Good.{Serves, Stands, Waiting, Good, Allowed, Safe}
+use Rattle.laws_check.specs.Passed.{JustLoaded, Comes, ruledOut, Meets, NeverFaultsSo, AsksInRange, Parts, FramesWithin, EndsInMain, RunsSo, Asked, RunsAskInRange}
 use Rattle.laws_check.proofs.Walked.{main-is-taken-with-none}
-use Rattle.laws_check.proofs.Kept.{good-at, a-step-stays-good}
+use Rattle.laws_check.proofs.Kept.{good-at, same-code, a-step-stays-good}
 
 -- a fault that is allowed has none of the numbers that are ruled out
 allowed-not-ruled-out : (x : Decoded) (n : Fault) → Allowed x n → ruledOut (faultNumber n) ≡ false
@@ -103,12 +104,30 @@ module _ (p : Program) (ok : Passed p) where
       let waits = h .0 .sum in
       (record { known = h .0 .stands .known; begins = omega arith; fits = λ m top. let z = top .most (h .0 .stands .path) in omega arith }, callers-fit cs (c .function) (c .base) (h .1))
 
-  pub passed-frames-fit : FramesWithin p
+  pub good-frames-fit : (s : State) → Good p s → Parts p (s .frame ∷ s .callers) (length (s .stack))
   unfolding Parts
-  passed-frames-fit w s c =
-      let good = comes-good c in
+  good-frames-fit s good =
       let sum = good .sum in
       (record { known = good .stands .known; begins = omega arith; fits = λ m top. let z = top .most (good .stands .path) in omega arith }, callers-fit (s .callers) _ _ (good .waiting))
+
+  pub passed-frames-fit : FramesWithin p
+  passed-frames-fit w s c = good-frames-fit s (comes-good c)
+
+  -- a frame of another function than main stands on an instruction
+  stands-inside : (f : ℕ) {i h : ℕ} → Stands p f i h → isMain f ≡ false → i < length (codeOf p f)
+  unfolding Keeps
+  stands-inside f here e = ok r.Heights f (here .known) .inside (here .path) e
+
+  pub passed-ends-in-main : EndsInMain p
+  unfolding over
+  passed-ends-in-main w s c o = by (isMain (s .frame .function)) refl
+    where
+      end : length (codeOf p (s .frame .function)) ≤ position s
+      end = subst (λ (code : List ℕ). length code ≤ position s) (same-code p w (c .serves) s) (leb-true (length (steps.codeOf w s)) (position s) o)
+
+      by : (b : Bool) → isMain (s .frame .function) ≡ b → s .frame .function ≡ 0
+      by true e = eqb-true (s .frame .function) 0 e
+      by false e = absurd (let z = stands-inside (s .frame .function) (comes-good c .stands) e in let y : ⊥ = omega (arith, z, end) in y)
 
   -- ---- whole runs
 

@@ -1,6 +1,6 @@
 -- WHAT IS SAID of a program that passed the check.
 use mathlib.Core.Path.{_≡_}
-use mathlib.Core.Bool.{Bool, false, _||_, _&&_}
+use mathlib.Core.Bool.{Bool, true, false, _||_, _&&_}
 use mathlib.Core.List.{List, [], _∷_}
 use Prim.Native.Nat.{ℕ, _+_, _≤_, _<_}
 use lib.Dec.{eqb, leb}
@@ -13,7 +13,7 @@ use Rattle.model.specs.Values.{faultNumber}
 use Rattle.model.specs.Programs.{Program, opcodeIn}
 use Rattle.model.specs.Steps.{World, State, position, faulted, stepOf}
 use Rattle.model.specs.Steps as steps
-use Rattle.model.specs.Runs.{Machine, Progress, Entry, fault, begin, root, runOf}
+use Rattle.model.specs.Runs.{Machine, Progress, Entry, fault, begin, over, root, runOf}
 use Rattle.laws_runs.specs.Paths.{Steps}
 use Rattle.laws_runs.specs.Demand.{Recovered}
 use Rattle.check_rules.specs.Rules.{Greatest, codeOf, countOf, isMain}
@@ -69,6 +69,10 @@ Parts p (r ∷ rs) end = Part p r end × Parts p rs (r .base)
 -- "It also gives each function's greatest height, which no frame of it exceeds"
 abbrev pub FramesWithin : Program → Type 0
 FramesWithin p = (w : World) (s : State) → Comes p w s → Parts p (s .frame ∷ s .callers) (length (s .stack))
+
+-- "no path reaches the end of a function other than main": a run that is over stands in main, so that no other function is left by its end
+abbrev pub EndsInMain : Program → Type 0
+EndsInMain p = (w : World) (s : State) → Comes p w s → over w s ≡ true → s .frame .function ≡ 0
 
 -- ---- whatever a whole run answers
 

@@ -8,7 +8,6 @@ use lib.Dec.{eqb}
 use lib.ListN.{length, take, drop}
 use lib.Seq.{take-length, drop-length, length-take-le}
 use borrow.Author.Tests.{eq-eqb, ne-eqb}
-use Rattle.model.specs.declared.Counts.{Counts}
 use Rattle.model.specs.declared.Vm.{Vm}
 use Rattle.model.specs.declared.Value.{Value}
 use Rattle.model.specs.declared.Told.{Told}
@@ -23,7 +22,7 @@ use Rattle.model.specs.Readers.{textBytesOf}
 use Rattle.embed_words.specs.Coding.{vmIn, slicesRefusal, atEntry, atListing, crossed, Coded, emittedCoded, toldCoded}
 use Rattle.embed_words.specs.Coding.{outThrough, through, emitThrough}
 use Rattle.embed_answers.proofs.Answers.{told-coded, goes-through, held-up}
-use Rattle.laws_embed.proofs.Says.{Says, says-crossed}
+use Rattle.laws_embed.proofs.Says.{Says}
 use Rattle.laws_embed.proofs.Foretells.{Foretells, save-foretells, list-foretells, text-foretells}
 
 emitted-coded : (x : Emitted) (w a : List ℕ) → emittedNumber x ≡ emittedCoded x w a .number
@@ -40,28 +39,28 @@ module _ (firsts w a : List ℕ) (n : ℕ) {why : ℕ} (e : n ≡ why) {m : Vm} 
 
 -- ---- emission
 
-module _ (w a : List ℕ) (n : ℕ) {why : ℕ} (e : n ≡ why) {m : Vm} (em : m ≡ vmIn w) (rule : Counts → Emitted) where
-  pub emits : n ≡ 0 → {x : Emitted} → x ≡ rule (m .program) → {c : Coded} → c ≡ emittedCoded x w a
-      → c ≡ through atEntry why w a (emittedCoded (rule (vmIn w .program)) w a)
+module _ (w a : List ℕ) (n : ℕ) {why : ℕ} (e : n ≡ why) {m : Vm} (em : m ≡ vmIn w) (rule : Vm → Emitted) where
+  pub emits : n ≡ 0 → {x : Emitted} → x ≡ rule m → {c : Coded} → c ≡ emittedCoded x w a
+      → c ≡ through atEntry why w a (emittedCoded (rule (vmIn w)) w a)
   emits z er ec = rw (← e, ← em, ← er) (goes-through atEntry n w a _ z ec)
 
-  -- the judge says g
-  pub emits-not : (n ≡ 0 → ⊥) → (g : Bool) → Says g (emittedNumber (rule (m .program))) → {k : ℕ} → k ≡ crossed atEntry n (if g then 0 else 19)
-      → record { number = k; vm = w; answer = a } ≡ through atEntry why w a (emittedCoded (rule (vmIn w .program)) w a)
-  emits-not z g y ek =
-      rw (← e, ← em) (held-up atEntry n w a _ z (emitted-coded (rule (m .program)) w a) (ek ∙ says-crossed g _ n y))
+  -- `own` was judged
+  pub emits-not : (n ≡ 0 → ⊥) → (own : ℕ) → Says own (emittedNumber (rule m)) → {k : ℕ} → k ≡ crossed atEntry n own
+      → record { number = k; vm = w; answer = a } ≡ through atEntry why w a (emittedCoded (rule (vmIn w)) w a)
+  emits-not z own y ek =
+      rw (← e, ← em) (held-up atEntry n w a _ z (emitted-coded (rule m) w a) (ek ∙ y .crosses n))
 
-module _ (w a : List ℕ) (n : ℕ) (e : n ≡ slicesRefusal w 1 a) (s : Stores) (rule : Counts → Res) where
-  pub emit-through : n ≡ 0 → {m : Vm} → m ≡ vmIn w → {x : Emitted} {s' : Stores} → record { answer = x; stores = s' } ≡ rule (m .program) → {c : Coded}
+module _ (w a : List ℕ) (n : ℕ) (e : n ≡ slicesRefusal w 1 a) (s : Stores) (rule : Vm → Res) where
+  pub emit-through : n ≡ 0 → {m : Vm} → m ≡ vmIn w → {x : Emitted} {s' : Stores} → record { answer = x; stores = s' } ≡ rule m → {c : Coded}
       → c ≡ emittedCoded x w a → record { coded = c; stores = s' } ≡ emitThrough w a s rule
   unfolding emitThrough through
   emit-through z em er ec = rw (← em, ← er, ec, eq-eqb (slicesRefusal w 1 a) 0 (sym e ∙ z))
 
-  pub emit-refused : (n ≡ 0 → ⊥) → {m : Vm} → m ≡ vmIn w → (g : Bool) → Says g (emittedNumber (rule (m .program) .answer)) → {k : ℕ}
-      → k ≡ crossed atEntry n (if g then 0 else 19) → record { coded = record { number = k; vm = w; answer = a }; stores = s } ≡ emitThrough w a s rule
+  pub emit-refused : (n ≡ 0 → ⊥) → {m : Vm} → m ≡ vmIn w → (own : ℕ) → Says own (emittedNumber (rule m .answer)) → {k : ℕ}
+      → k ≡ crossed atEntry n own → record { coded = record { number = k; vm = w; answer = a }; stores = s } ≡ emitThrough w a s rule
   unfolding emitThrough
-  emit-refused z em g y ek =
-      rw (ne-eqb (slicesRefusal w 1 a) 0 (λ o. z (e ∙ o)), ← emits-not w a n e em (λ c. rule c .answer) z g y ek)
+  emit-refused z em own y ek =
+      rw (ne-eqb (slicesRefusal w 1 a) 0 (λ o. z (e ∙ o)), ← emits-not w a n e em (λ x. rule x .answer) z own y ek)
 
 -- ---- an entry that tells a number
 
@@ -71,12 +70,12 @@ module _ (w a out : List ℕ) (rule : Vm → OutRes) (n : ℕ) {why : ℕ} (e : 
   unfolding outThrough through
   out-through z m em x out' er c ec = rw (← em, ← er, ec, eq-eqb why 0 (sym e ∙ z))
 
-  -- the judge says g
-  pub out-refused : (n ≡ 0 → ⊥) → (m : Vm) → m ≡ vmIn w → (g : Bool) → Says g (toldNumber (rule m .answer)) → (k : ℕ) → k ≡ crossed atEntry n (if g then 0 else 19)
+  -- `own` was judged
+  pub out-refused : (n ≡ 0 → ⊥) → (m : Vm) → m ≡ vmIn w → (own : ℕ) → Says own (toldNumber (rule m .answer)) → (k : ℕ) → k ≡ crossed atEntry n own
       → record { coded = record { number = k; vm = w; answer = a }; out = out } ≡ outThrough atEntry why w a out rule
   unfolding outThrough
-  out-refused z m em g y k ek =
-      let h = held-up atEntry n w a (toldCoded (rule m .answer) w a) z (told-coded (rule m .answer) w a) (ek ∙ says-crossed g _ n y) in rw (← e, ← em, ne-eqb n 0 z, ← h)
+  out-refused z m em own y k ek =
+      let h = held-up atEntry n w a (toldCoded (rule m .answer) w a) z (told-coded (rule m .answer) w a) (ek ∙ y .crosses n) in rw (← e, ← em, ne-eqb n 0 z, ← h)
 
 at-most : (b : Bool) (size : ℕ) → (if b then size else 0) ≤ size
 at-most true size = omega arith

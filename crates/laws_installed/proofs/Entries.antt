@@ -12,6 +12,7 @@ use Rattle.model.specs.declared.Counts.{Counts}
 use Rattle.model.specs.declared.Frame.{Frame}
 use Rattle.model.specs.declared.Vm.{Vm}
 use Rattle.model.specs.declared.RunResult.{RunResult}
+use Rattle.model.specs.declared.RunResult.the-variants as r
 use Rattle.model.specs.declared.Loaded.{Loaded}
 use Rattle.model.specs.declared.Loaded.the-variants as l
 use Rattle.model.specs.declared.Started.{Started}
@@ -25,7 +26,7 @@ use Rattle.model.specs.Emission.{written}
 use Rattle.model.specs.Loading.{laid, countsFor, roomFor, LoadRes, loadJudged, loadOf}
 use Rattle.model.specs.Runs.{root}
 use Rattle.model.specs.Basics.{if_then_else_}
-use Rattle.model.specs.Machines.{Lent, innermost, fresh, StartRes, startWith, loadMachineOf, RunPost}
+use Rattle.model.specs.Machines.{Lent, innermost, fresh, StartRes, startWith, unlessRunning, loadMachineOf, RunCall, RunPost}
 use Rattle.layout.proofs.Parts.{room-1}
 use Rattle.laws_images.proofs.Held.{written-front}
 use Rattle.image.proofs.Trip.{image-only, loaded-stands}
@@ -33,12 +34,12 @@ use Rattle.check_rules.specs.declared.Checked.{Checked}
 use Rattle.check_rules.specs.declared.Checked.the-variants as c
 use Rattle.check_rules.specs.Rules.{Passed}
 use Rattle.check_rules.specs.Checks.{HeightsOf, CheckAs, not-an-image, no-place, past-a-limit, no-room, breaks, passes}
-use Rattle.embed_words.specs.Coding.{Coded, vmIn, vmWords, slicesRefusal, RunThrough}
+use Rattle.embed_words.specs.Coding.{Coded, vmIn, vmWords, slicesRefusal}
 use Rattle.embed_words.proofs.Back.{record-back}
-use Rattle.check_words.specs.Words.{hasPlaces, hasRoom, CheckThrough}
+use Rattle.check_words.specs.Words.{hasPlaces, hasRoom, CheckIdle, CheckThrough}
 use Rattle.check_words.specs.Words as cw
 use Rattle.check_words.proofs.Judged.{an-image-has-main}
-use Rattle.laws_installed.specs.Installed.{Installed, FaultsSo, Tells, StaysWithin}
+use Rattle.laws_installed.specs.Installed.{Installed, byEntries, FromC, UnderWay, begun, continued, Answers, beginning, continuing, abandoning, FaultsSo, Tells, StaysWithin}
 use Rattle.laws_installed.proofs.Running.{installed-runs-so, installed-stays-within}
 
 -- a program that was laid in stores with the room, and a machine that has not run
@@ -90,12 +91,12 @@ module _ (image heights : List ℕ) (s : Stores) (bytes : Bytes image) where
         installed = λ l f. subst (λ (n : Counts). Installed p (fresh n) (laid p s) l) same (laid-is-installed image p s bytes j w r l f);
       }
 
-  module _ {k : Counts} {hs : List ℕ} {s' : Stores} (h : CheckAs image heights s (c.Passed k) hs s') (l : Lent) (frame : innermost 1 (l .frames) ≡ root 0) (u : ℕ) where
-    pub checked-runs-so : (x : RunResult) (l' : Lent) → RunPost (fresh k) s' l u x l' → FaultsSo (fresh k) s' l u l' x
-    checked-runs-so x l' post = let left = leaves-so h k refl in installed-runs-so (fresh k) s' l u (left .passed) (left .installed l frame) x post
+  module _ {k : Counts} {hs : List ℕ} {s' : Stores} (h : CheckAs image heights s (c.Passed k) hs s') (l : Lent) (frame : innermost 1 (l .frames) ≡ root 0) where
+    pub checked-runs-so : (g : ℕ) (x : RunResult) (l' : Lent) → Answers (byEntries s') (fresh k) l g x l' → FaultsSo (fresh k) s' l g l' x
+    checked-runs-so g x l' answer = let left = leaves-so h k refl in installed-runs-so (fresh k) s' l (left .passed) (left .installed l frame) x answer
 
-    pub checked-stays-within : StaysWithin (fresh k) s' l u hs
-    checked-stays-within = let left = leaves-so h k refl in installed-stays-within (left .passed) (left .installed l frame) hs (left .tells) u
+    pub checked-stays-within : StaysWithin (byEntries s') (fresh k) s' l hs
+    checked-stays-within = let left = leaves-so h k refl in installed-stays-within (left .passed) (left .installed l frame) hs (left .tells)
 
 -- ---- what loading leaves of an image whose program keeps the rules
 
@@ -121,16 +122,43 @@ module _ (image : List ℕ) (s : Stores) (bytes : Bytes image) (p : Program) (j 
       subst (λ (v : Vm). Installed p v s' l) machine
       (subst (λ (t : Stores). Installed p (fresh (countsFor p)) t l) stores (laid-is-installed image p s bytes j w r l (rw frames)))
 
-  pub loaded-runs-so : (fs : List Frame) {m : Vm} {s' : Stores} {fs' : List Frame} → loadMachineOf image s fs ≡ record { answer = st.Done m; stores = s'; frames = fs' }
-      → (l : Lent) → l .frames ≡ fs' → (u : ℕ) (x : RunResult) (l' : Lent) → RunPost m s' l u x l' → FaultsSo m s' l u l' x
-  unfolding loadMachineOf loadOf loadJudged
-  loaded-runs-so fs {m} {s'} e l f u x l' post =
-      installed-runs-so m s' l u ok (loaded-is (withinLimits p) (roomFor p s) refl refl fs (rw j at e) l f) x post
+  pub loaded-runs-so : (running : Bool) (fs : List Frame) {m : Vm} {s' : Stores} {fs' : List Frame} → loadMachineOf running image s fs ≡ record { answer = st.Done m; stores = s'; frames = fs' }
+      → (l : Lent) → l .frames ≡ fs' → (g : ℕ) (x : RunResult) (l' : Lent) → Answers (byEntries s') m l g x l' → FaultsSo m s' l g l' x
+  unfolding loadMachineOf unlessRunning loadOf loadJudged
+  loaded-runs-so true fs e l f g x l' answer = absurd (not-done (ap (λ (y : StartRes). y .answer) e))
+  loaded-runs-so false fs {m} {s'} e l f g x l' answer =
+      installed-runs-so m s' l ok (loaded-is (withinLimits p) (roomFor p s) refl refl fs (rw j at e) l f) x answer
 
 -- ---- the same for a host in C
 
+-- not a refusal
+abbrev IsRun : RunResult → Type 0
+IsRun (r.Value m v n) = Unit
+IsRun (r.Continue m n) = Unit
+IsRun (r.Fault m k n j) = Unit
+IsRun (r.Paused m) = Unit
+IsRun (r.Refused n) = ⊥
+
+-- what is called from C and not refused is called through the entry
+module _ {s : Stores} where
+  part-from-C : {c : RunCall} {m : Vm} {l : Lent} {x : RunResult} {l' : Lent} → FromC s c m l x l' → IsRun x → byEntries s c m l x l'
+  part-from-C {c} {m} {l} {x} {l'} h ran = by (slicesRefusal (h .words) 5 (h .answer)) refl
+    where
+      by : (n : ℕ) → slicesRefusal (h .words) 5 (h .answer) ≡ n → RunPost c m s l x l'
+      by zero e = subst (λ (k : Vm). RunPost c k s l x l') (h .is) (subst (λ (y : RunResult). RunPost c (vmIn (h .words)) s l y l') (h .result) (h .run .runs e))
+      by (suc n) e = absurd (subst IsRun (sym (h .result) ∙ h .run .refuses (λ y. omega (arith, e, y)) .0) ran)
+
+  under-way-from-C : {m : Vm} {l : Lent} {g : ℕ} {k : Vm} {l' : Lent} → UnderWay (FromC s) m l g k l' → UnderWay (byEntries s) m l g k l'
+  under-way-from-C (begun part) = begun (part-from-C part tt)
+  under-way-from-C (continued before part) = continued (under-way-from-C before) (part-from-C part tt)
+
+  answers-from-C : {m : Vm} {l : Lent} {g : ℕ} {x : RunResult} {l' : Lent} → Answers (FromC s) m l g x l' → IsRun x → Answers (byEntries s) m l g x l'
+  answers-from-C (beginning part) ran = beginning (part-from-C part ran)
+  answers-from-C (continuing before part) ran = continuing (under-way-from-C before) (part-from-C part ran)
+  answers-from-C (abandoning before part) ran = abandoning (under-way-from-C before) (part-from-C part ran)
+
 -- a record in which a fresh machine was written is read back as that machine
-fresh-back : (w : List ℕ) (k : Counts) → 10 ≤ length w → vmIn (written w 0 (vmWords (fresh k))) ≡ fresh k
+fresh-back : (w : List ℕ) (k : Counts) → 16 ≤ length w → vmIn (written w 0 (vmWords (fresh k))) ≡ fresh k
 unfolding fresh
 fresh-back w k n = record-back w (fresh k) n tt .machine
 
@@ -147,35 +175,41 @@ record LeavesWords (w hs : List ℕ) (s : Stores) (fs : List Frame) : Type 0 whe
   installed : (l : Lent) → l .frames ≡ fs → Installed program (vmIn w) s l
 
 module _ (image w a heights : List ℕ) (s : Stores) (fs : List Frame) (bytes : Bytes image) where
-  leaves-words : {d : Coded} {hs : List ℕ} {s' : Stores} {fs' : List Frame} → CheckThrough image w a heights s fs d hs s' fs' → d .number ≡ 0 → LeavesWords (d .vm) hs s' fs'
+  idle-leaves : {d : Coded} {hs : List ℕ} {s' : Stores} {fs' : List Frame} → CheckIdle image w a heights s fs d hs s' fs' → d .number ≡ 0 → LeavesWords (d .vm) hs s' fs'
   unfolding hasPlaces hasRoom
-  leaves-words (cw.not-an-image j) z = absurd (let y : ⊥ = omega (arith, z) in y)
-  leaves-words (cw.no-place j m) z = absurd (let y : ⊥ = omega (arith, z) in y)
-  leaves-words (cw.past-a-limit j m b) z = absurd (let y : ⊥ = omega (arith, z) in y)
-  leaves-words (cw.no-room j m b r) z = absurd (let y : ⊥ = omega (arith, z) in y)
-  leaves-words (cw.breaks j m b r d) z = absurd (let y : ⊥ = omega (arith, z) in y)
-  leaves-words (cw.passes {p} j m b r ok {hs} h) z =
-      let long = and-left (leb 10 (length w) && leb 2 (length a)) (leb (length (p .functions)) (places 1 heights)) m in
-      let ten = leb-true 10 (length w) (and-left (leb 10 (length w)) (leb 2 (length a)) long) in
-      let room = leb-true _ _ (and-right (leb 10 (length w) && leb 2 (length a)) (leb (length (p .functions)) (places 1 heights)) m) in
+  idle-leaves (cw.not-an-image j) z = absurd (let y : ⊥ = omega (arith, z) in y)
+  idle-leaves (cw.no-place j m) z = absurd (let y : ⊥ = omega (arith, z) in y)
+  idle-leaves (cw.past-a-limit j m b) z = absurd (let y : ⊥ = omega (arith, z) in y)
+  idle-leaves (cw.no-room j m b r) z = absurd (let y : ⊥ = omega (arith, z) in y)
+  idle-leaves (cw.breaks j m b r d) z = absurd (let y : ⊥ = omega (arith, z) in y)
+  idle-leaves (cw.passes {p} j m b r ok {hs} h) z =
+      let long = and-left (leb 16 (length w) && leb 2 (length a)) (leb (length (p .functions)) (places 1 heights)) m in
+      let sixteen = leb-true 16 (length w) (and-left (leb 16 (length w)) (leb 2 (length a)) long) in
+      let room = leb-true _ _ (and-right (leb 16 (length w) && leb 2 (length a)) (leb (length (p .functions)) (places 1 heights)) m) in
       record {
         program = p;
         passed = ok;
         tells = written-tells p heights hs room h;
-        installed = λ l f. subst (λ (v : Vm). Installed p v (laid p s) l) (sym (fresh-back w (countsFor p) ten))
+        installed = λ l f. subst (λ (v : Vm). Installed p v (laid p s) l) (sym (fresh-back w (countsFor p) sixteen))
             (laid-is-installed image p s bytes j b (and-left (roomFor p s) (leb 1 (length fs)) r) l (rw f (root-first fs)));
       }
 
-  module _ {d : Coded} {hs : List ℕ} {s' : Stores} {fs' : List Frame} (h : CheckThrough image w a heights s fs d hs s' fs') (z : d .number ≡ 0) (l : Lent) (f : l .frames ≡ fs')
-      (u : ℕ) where
-    through-so : (b : List ℕ) (n : ℕ) → slicesRefusal (d .vm) 5 b ≡ n → {v : Coded} {l' : Lent} (run : RunThrough (d .vm) b s' l u v l') → FaultsSo (vmIn (d .vm)) s' l u l' (run .result)
-    through-so b zero e run =
-        let left = leaves-words h z in installed-runs-so (vmIn (d .vm)) s' l u (left .passed) (left .installed l f) (run .result) (run .runs e)
-    through-so b (suc n) e {l' = l'} run =
-        subst (FaultsSo (vmIn (d .vm)) s' l u l') (sym (run .refuses (λ y. omega (arith, e, y)) .0)) tt
+  leaves-words : {d : Coded} {hs : List ℕ} {s' : Stores} {fs' : List Frame} → CheckThrough image w a heights s fs d hs s' fs' → d .number ≡ 0 → LeavesWords (d .vm) hs s' fs'
+  leaves-words (cw.under-way on) z = absurd (let y : ⊥ = omega (arith, z) in y)
+  leaves-words (cw.idle off h) z = idle-leaves h z
 
-    pub host-runs-so : (b : List ℕ) (v : Coded) (l' : Lent) (run : RunThrough (d .vm) b s' l u v l') → FaultsSo (vmIn (d .vm)) s' l u l' (run .result)
-    host-runs-so b v l' run = through-so b (slicesRefusal (d .vm) 5 b) refl run
+  module _ {d : Coded} {hs : List ℕ} {s' : Stores} {fs' : List Frame} (h : CheckThrough image w a heights s fs d hs s' fs') (z : d .number ≡ 0) (l : Lent) (f : l .frames ≡ fs') where
+    pub host-runs-so : (g : ℕ) (x : RunResult) (l' : Lent) → Answers (FromC s') (vmIn (d .vm)) l g x l' → FaultsSo (vmIn (d .vm)) s' l g l' x
+    host-runs-so g (r.Value k v n) l' answer = tt
+    host-runs-so g (r.Continue k n) l' answer = tt
+    host-runs-so g (r.Fault k n did j) l' answer =
+        let left = leaves-words h z in
+        installed-runs-so (vmIn (d .vm)) s' l (left .passed) (left .installed l f) (r.Fault k n did j) (answers-from-C answer tt)
+    host-runs-so g (r.Paused k) l' answer = tt
+    host-runs-so g (r.Refused n) l' answer = tt
 
-    pub host-stays-within : StaysWithin (vmIn (d .vm)) s' l u hs
-    host-stays-within = let left = leaves-words h z in installed-stays-within (left .passed) (left .installed l f) hs (left .tells) u
+    pub host-stays-within : StaysWithin (FromC s') (vmIn (d .vm)) s' l hs
+    host-stays-within =
+        let left = leaves-words h z in
+        let within = installed-stays-within (left .passed) (left .installed l f) hs (left .tells) in
+        record { whole = within .whole; parts = λ way. within .parts (under-way-from-C way) }

@@ -1,9 +1,10 @@
--- A program that passed the check, installed: what the run entry then answers, and how high the stack grows.
+-- A program that passed the check, installed: what a run then answers, however its units are dealt out, and how high the stack grows.
 use mathlib.Core.Path.{_≡_, refl, sym, ap, subst, _∙_}
 use mathlib.Core.Bool.{Bool, true, false}
 use mathlib.Core.List.{List, [], _∷_, reverse}
 use Prim.Native.Nat.{ℕ, zero, suc, _+_, _≤_, _<_}
 use native.Mathlib.Omega.{arith}
+use lib.Dec.{ltb}
 use lib.ListN.{length, getD}
 use Rattle.model.specs.declared.Counts.{Counts}
 use Rattle.model.specs.declared.Frame.{Frame}
@@ -12,18 +13,22 @@ use Rattle.model.specs.declared.Vm.{Vm}
 use Rattle.model.specs.declared.RunResult.{RunResult}
 use Rattle.model.specs.declared.RunResult.the-variants as r
 use Rattle.model.specs.Basics.{if_then_else_}
-use Rattle.model.specs.Values.{vals, valuesFrom}
+use Rattle.model.specs.Values.{places, vals, valuesFrom}
 use Rattle.model.specs.Programs.{Program}
 use Rattle.model.specs.Stores.{Stores, constantsFrom, structsFrom, programIn, worldIn}
 use Rattle.model.specs.Steps.{World, State}
-use Rattle.model.specs.Runs.{Machine, Reply, fault, Ran, Progress, Entry, begin, root, runOf}
-use Rattle.model.specs.Machines.{Lent, innermost, callersIn, machineIn, worldOf, runOrder, tooShort, ran, refused, RunAnswer, runAnswer, ranAs, answerIn, entriesIn, RunPost}
-use Rattle.laws_runs.specs.Paths.{Steps}
+use Rattle.model.specs.Runs.{Machine, fault, Ran, Progress, atStart, Ended, ended, stopped, paused, endOf, begin, root, Under, Part, ends, pauses, partOf, beginOf, continueOf, abandonOf, dealt, givenUp, runOf}
+use Rattle.model.specs.Machines.{Lent, frameRoom, innermost, callersIn, machineIn, underIn, worldOf, runOrder, copyShort, traceShort, RunAnswer, ran, refused, beginAnswer, continueAnswer, abandonAnswer, RunCall, begins, continues, abandons, runAnswer, answerIn, entriesIn, SameRooms, RunPost}
+use Rattle.laws_runs.specs.Paths.{PausedBy, more}
+use Rattle.laws_runs.specs.Parts.{onward, sumOf}
+use Rattle.laws_runs.proofs.Ends.{end-of}
+use Rattle.laws_runs.proofs.Paths.{run-path}
+use Rattle.laws_runs.proofs.Parts.{dealt-as-one}
 use Rattle.check_rules.specs.Rules.{Passed}
 use Rattle.laws_check.specs.Good.{Serves, Waiting, Good}
-use Rattle.laws_check.specs.Passed.{JustLoaded, Comes, Parts, ruledOut, Asked}
-use Rattle.laws_check.proofs.Theorems.{a-fresh-machine-is-good, a-run-stays-good, passed-runs-so, passed-runs-ask-in-range, passed-frames-fit}
-use Rattle.laws_installed.specs.Installed.{Installed, FaultsSo, Tells, PartsBelow, together, Within, StaysWithin}
+use Rattle.laws_check.specs.Passed.{JustLoaded, Parts}
+use Rattle.laws_check.proofs.Theorems.{a-fresh-machine-is-good, a-run-stays-good, passed-runs-so, passed-runs-ask-in-range, good-frames-fit}
+use Rattle.laws_installed.specs.Installed.{Installed, byEntries, UnderWay, begun, continued, Answers, beginning, continuing, abandoning, FaultsSo, Tells, PartsBelow, together, Within, StaysWithin}
 
 -- ---- as the theorems of the check ask for it
 
@@ -64,36 +69,142 @@ module _ {p : Program} {m : Vm} {s : Stores} {l : Lent} (here : Installed p m s 
     callers = rw (here .frames);
   }
 
--- ---- a run through its entry
+-- ---- a run through its entries: what a part comes to, where it is not refused
 
--- the reply that an answer carries
-abbrev Carries : RunAnswer → Reply → Type 0
-Carries (ran c x) y = x .reply ≡ y
-Carries (refused n) y = ⊥
+abbrev Carries : RunAnswer → Counts → Part → Type 0
+Carries (ran c x) d y = (c ≡ d) × (x ≡ y)
+Carries (refused n) d y = ⊥
 
-only-ran : (order short : Bool) (c : Counts) (x : Ran) {y : Reply} → Carries (if order then (if short then refused 17 else ran c x) else refused 19) y → x .reply ≡ y
-only-ran true true c x h = absurd h
-only-ran true false c x h = h
-only-ran false short c x h = absurd h
+only-begun : (order on short : Bool) (c : Counts) (x : Part) {d : Counts} {y : Part}
+    → Carries (if order then (if on then refused 25 else (if short then refused 17 else ran c x)) else refused 19) d y → (c ≡ d) × (x ≡ y)
+only-begun true true short c x h = absurd h
+only-begun true false true c x h = absurd h
+only-begun true false false c x h = h
+only-begun false on short c x h = absurd h
 
-module _ (m : Vm) (s : Stores) (l : Lent) (u : ℕ) {l' : Lent} where
-  faulted-so : {k : Vm} {n : ℕ} {did : Tally} {j : ℕ} → RunPost m s l u (r.Fault k n did j) l' → runOf (worldOf m s l) (machineIn m l) u .reply ≡ fault n did (entriesIn j 0 (l' .backtrace))
-  unfolding runAnswer answerIn
-  faulted-so {n = n} {did = did} {j = j} h =
-      only-ran (runOrder m s l) (tooShort l) (m .program) (runOf (worldOf m s l) (machineIn m l) u)
-      (subst (λ (x : RunAnswer). Carries x (fault n did (entriesIn j 0 (l' .backtrace)))) (h .answer) refl)
+only-continued : (order on short many : Bool) (c : Counts) (x : Part) {d : Counts} {y : Part}
+    → Carries (if order then (if on then (if short then refused 17 else (if many then refused 22 else ran c x)) else refused 18) else refused 19) d y → (c ≡ d) × (x ≡ y)
+only-continued true true true many c x h = absurd h
+only-continued true true false true c x h = absurd h
+only-continued true true false false c x h = h
+only-continued true false short many c x h = absurd h
+only-continued false on short many c x h = absurd h
 
-  -- "faults 1 to 4 and 14 never come, and 6 comes only from GetUpvalue or a field"
-  pub installed-runs-so : {p : Program} → Passed p → Installed p m s l → (x : RunResult) → RunPost m s l u x l' → FaultsSo m s l u l' x
+only-abandoned : (order on short : Bool) (c : Counts) (x : Part) {d : Counts} {y : Part}
+    → Carries (if order then (if on then (if short then refused 17 else ran c x) else refused 18) else refused 19) d y → (c ≡ d) × (x ≡ y)
+only-abandoned true true true c x h = absurd h
+only-abandoned true true false c x h = h
+only-abandoned true false short c x h = absurd h
+only-abandoned false on short c x h = absurd h
+
+-- an answer that stands for a part, not for a refusal
+ran-as : {a : RunAnswer} {d : Counts} {y : Part} → ran d y ≡ a → Carries a d y
+ran-as {d = d} {y = y} e = subst (λ (x : RunAnswer). Carries x d y) e (refl, refl)
+
+-- the part that each call comes to, by the rules
+abbrev comesTo : RunCall → World → Vm → Lent → Part
+comesTo begins w m l = beginOf w (machineIn m l)
+comesTo (continues u) w m l = continueOf w (underIn m l) u
+comesTo abandons w m l = ends (abandonOf w (underIn m l))
+
+part-is : (c : RunCall) (m : Vm) (s : Stores) (l : Lent) {d : Counts} {y : Part} → ran d y ≡ runAnswer c m s l → (m .program ≡ d) × (comesTo c (worldOf m s l) m l ≡ y)
+unfolding runAnswer beginAnswer continueAnswer abandonAnswer
+part-is begins m s l e = only-begun (runOrder m s l) (m .run .on) (copyShort l) (m .program) _ (ran-as e)
+part-is (continues u) m s l e = only-continued (runOrder m s l) (m .run .on) (traceShort l) (ltb 0xFFFF_FFFF_FFFF_FFFF (m .run .given + u)) (m .program) _ (ran-as e)
+part-is abandons m s l e = only-abandoned (runOrder m s l) (m .run .on) (traceShort l) (m .program) _ (ran-as e)
+
+-- ---- units dealt out are one run with their sum
+
+module _ (w : World) where
+  dealt-once : (u : ℕ) (x : Part) → dealt w x (u ∷ []) ≡ onward w u x
+  unfolding dealt onward
+  dealt-once u (ends x) = refl
+  dealt-once u (pauses r) = refl
+
+  dealt-twice : (u v : ℕ) (x : Part) → dealt w x (u ∷ v ∷ []) ≡ onward w v (dealt w x (u ∷ []))
+  unfolding dealt onward
+  dealt-twice u v (ends x) = refl
+  dealt-twice u v (pauses r) = dealt-once v (continueOf w r u)
+
+  module _ (m : Machine) where
+    -- one run that was given g units, up to where it is over or paused
+    abbrev oneRun : ℕ → Part
+    oneRun g = partOf w (m .stack) g (endOf w (begin m g))
+
+    more-is-one : (g u : ℕ) → onward w u (oneRun g) ≡ oneRun (g + u)
+    unfolding sumOf
+    more-is-one g u =
+        let once = dealt-as-one w m g [] in
+        let twice = dealt-as-one w m g (u ∷ []) in
+        let z : g + 0 ≡ g = omega arith in
+        let y : g + (u + 0) ≡ g + u = omega arith in
+        ap (onward w u) (sym (rw z at once)) ∙ sym (dealt-twice g u (beginOf w m)) ∙ (rw y at twice)
+
+    -- where it is over, or is abandoned
+    over-is-one : (g : ℕ) {x : Ran} → ends x ≡ oneRun g → runOf w m g ≡ x
+    unfolding runOf givenUp
+    over-is-one g e = ap (givenUp w) (sym e)
+
+    given-up-is-one : (g : ℕ) {r : Under} → pauses r ≡ oneRun g → runOf w m g ≡ abandonOf w r
+    unfolding runOf givenUp
+    given-up-is-one g e = ap (givenUp w) (sym e)
+
+-- ---- the run under way
+
+module _ (s : Stores) where
+  part-world : (m k : Vm) {l l' : Lent} → m .program ≡ k .program → SameRooms l l' → worldOf k s l' ≡ worldOf m s l
+  unfolding worldOf worldIn places frameRoom
+  part-world m k e same = rw (← e, same .stack, same .cells, same .frames)
+
+  module _ (m : Vm) (l : Lent) where
+    -- it has come to what one run comes to that is given its units at once, in the world in which it was begun
+    record CameTo (g : ℕ) (k : Vm) (l' : Lent) : Type 0 where
+      world : worldOf k s l' ≡ worldOf m s l
+      one : pauses (underIn k l') ≡ oneRun (worldOf m s l) (machineIn m l) g
+
+    went-on : {g : ℕ} {k : Vm} {l₁ : Lent} → CameTo g k l₁ → (u : ℕ) → continueOf (worldOf k s l₁) (underIn k l₁) u ≡ oneRun (worldOf m s l) (machineIn m l) (g + u)
+    unfolding onward
+    went-on {g} was u = rw (was .world) (ap (onward (worldOf m s l) u) (was .one) ∙ more-is-one (worldOf m s l) (machineIn m l) g u)
+
+    came-to : {g : ℕ} {k : Vm} {l' : Lent} → UnderWay (byEntries s) m l g k l' → CameTo g k l'
+    unfolding answerIn beginOf
+    came-to (begun {k} post) =
+        let is = part-is begins m s l (post .answer) in
+        record { world = part-world m k (is .0) (post .rooms); one = sym (is .1) }
+    came-to (continued {g} {u} {k} {k'} {l₁} {l'} before post) =
+        let was = came-to before in
+        let is = part-is (continues u) k s l₁ (post .answer) in
+        record { world = part-world k k' (is .0) (post .rooms) ∙ was .world; one = sym (is .1) ∙ went-on was u }
+
+    same-end : {a b : Ran} → ends a ≡ ends b → a ≡ b
+    same-end e = cc
+
+    -- a part that ends the run, by a fault too: it is one run, given all the units
+    came-to-an-end : {g : ℕ} {x : RunResult} {l' : Lent} → Answers (byEntries s) m l g x l' → {c : Counts} {y : Ran} → answerIn l' x ≡ ran c (ends y)
+        → runOf (worldOf m s l) (machineIn m l) g ≡ y
+    unfolding beginOf
+    came-to-an-end (beginning post) e = over-is-one (worldOf m s l) (machineIn m l) 0 (sym (part-is begins m s l (sym e ∙ post .answer) .1))
+    came-to-an-end (continuing {g} {u} {k} {x} {l₁} before post) e =
+        over-is-one (worldOf m s l) (machineIn m l) (g + u) (sym (part-is (continues u) k s l₁ (sym e ∙ post .answer) .1) ∙ went-on (came-to before) u)
+    came-to-an-end (abandoning {g} {k} {x} {l₁} before post) e =
+        let was = came-to before in
+        given-up-is-one (worldOf m s l) (machineIn m l) g (was .one) ∙ same-end (rw (was .world) at (part-is abandons k s l₁ (sym e ∙ post .answer) .1))
+
+-- "faults 1 to 4 and 14 never come, and 6 comes only from GetUpvalue or a field"
+module _ (m : Vm) (s : Stores) (l : Lent) {g : ℕ} {l' : Lent} where
+  pub installed-runs-so : {p : Program} → Passed p → Installed p m s l → (x : RunResult) → Answers (byEntries s) m l g x l' → FaultsSo m s l g l' x
+  unfolding answerIn
   installed-runs-so ok here (r.Value k v n) h = tt
   installed-runs-so ok here (r.Continue k n) h = tt
   installed-runs-so {p} ok here (r.Fault k n did j) h =
-      let said = faulted-so h in
       let w = worldOf m s l in
-      let x = machineIn m l in (
-        passed-runs-so p ok w (serves-it here) x (just-loaded here) u n did _ said,
-        λ e. passed-runs-ask-in-range p ok w (serves-it here) x (just-loaded here) u did _ (subst (λ (i : ℕ). runOf w x u .reply ≡ fault i did (entriesIn j 0 (l' .backtrace))) e said),
+      let x = machineIn m l in
+      let es = entriesIn j 0 (l' .backtrace) in
+      let said : runOf w x g .reply ≡ fault n did es = ap (λ (y : Ran). y .reply) (came-to-an-end s m l h refl) in (
+        passed-runs-so p ok w (serves-it here) x (just-loaded here) g n did es said,
+        λ e. passed-runs-ask-in-range p ok w (serves-it here) x (just-loaded here) g did es (subst (λ (i : ℕ). runOf w x g .reply ≡ fault i did es) e said),
       )
+  installed-runs-so ok here (r.Paused k) h = tt
   installed-runs-so ok here (r.Refused n) h = tt
 
 -- ---- how high the stack grows
@@ -119,13 +230,43 @@ module _ (p : Program) (hs : List ℕ) (tells : Tells p hs) where
       let rest = callers-sum (t .callers) (t .frame .function) (t .frame .base) (good .waiting) (below .1) in
       record { parts = below; sum = omega (arith, rest, below .0 .1) }
 
+-- the state in which a run is paused is one that its written steps come to
+module _ (w : World) (m : Machine) (g : ℕ) where
+  paused-by : (e : Ended) → endOf w (begin m g) ≡ e → {r : Under} → pauses r ≡ partOf w (m .stack) g e → PausedBy w (atStart (begin m g)) (begin m g) (r .progress) (r .state)
+  unfolding partOf
+  paused-by (ended k t) q e = absurd (let z : _≡_ {A = ℕ} 0 1 = cc in let y : ⊥ = omega arith in y)
+  paused-by (stopped n t k) q e = absurd (let z : _≡_ {A = ℕ} 0 1 = cc in let y : ⊥ = omega arith in y)
+  paused-by (paused k t) q {r} e =
+      let s = begin m g in
+      let same : r ≡ record { given = g; start = m .stack; progress = k; state = t } = cc in
+      let by : PausedBy w (atStart s) s k t = run-path w (atStart s) s (sym (end-of w s) ∙ q) in
+      rw same by
+
 module _ {p : Program} (ok : Passed p) {m : Vm} {s : Stores} {l : Lent} (here : Installed p m s l) (hs : List ℕ) (tells : Tells p hs) where
+  abbrev w : World
+  w = worldOf m s l
+
+  abbrev x : Machine
+  x = machineIn m l
+
+  good-within : (t : State) → Good p t → Within hs t
+  good-within t good = within-so p hs tells t good (good-frames-fit p ok t good)
+
+  good-at-start : (u : ℕ) → Good p (begin x u)
+  good-at-start u = a-fresh-machine-is-good p ok (here .main) x (just-loaded here) u
+
+  -- units are no part of it
+  good-with-more : (t : State) (u : ℕ) → Good p t → Good p (more u t)
+  good-with-more t u good = record { waiting = good .waiting; height = good .height; sum = good .sum; stands = good .stands }
+
+  good-where-paused : {g : ℕ} {k : Vm} {l' : Lent} → UnderWay (byEntries s) m l g k l' → Good p (underIn k l' .state)
+  good-where-paused {g} way =
+      a-run-stays-good p ok w (serves-it here) (good-at-start g) (paused-by w x g (endOf w (begin x g)) refl (came-to s m l way .one) .path)
+
   -- "each function's greatest height, which no frame of it exceeds"; and the stack has no more values than the frames' heights together
-  pub installed-stays-within : (u : ℕ) → StaysWithin m s l u hs
-  installed-stays-within u n before after t path =
-      let of = serves-it here in
-      let new = just-loaded here in
-      let good = a-run-stays-good p ok (worldOf m s l) of (a-fresh-machine-is-good p ok (here .main) (machineIn m l) new u) path in
-      let comes : Comes p (worldOf m s l) t
-      = record { serves = of; machine = machineIn m l; loaded = new; units = u; count = n; before = before; after = after; path = path } in
-      within-so p hs tells t good (passed-frames-fit p ok (worldOf m s l) t comes)
+  pub installed-stays-within : StaysWithin (byEntries s) m s l hs
+  installed-stays-within = record {
+    whole = λ u n before after t path. good-within t (a-run-stays-good p ok w (serves-it here) (good-at-start u) path);
+    parts = λ {g} {k} {l'} way u n before after t path. good-within t
+        (a-run-stays-good p ok w (serves-it here) (good-with-more (underIn k l' .state) u (good-where-paused way)) (rw (came-to s m l way .world) at path));
+  }

@@ -21,7 +21,7 @@ use Rattle.laws_runs.specs.Parts.{SaneUnder, SanePart}
 use Rattle.laws_runs.proofs.Adds.{step-adds}
 use Rattle.laws_runs.proofs.Paths.{run-by, marked, mark-grows}
 use Rattle.laws_runs.proofs.Keeps.{step-keeps}
-use Rattle.laws_runs.proofs.Runs.{any-units, mark-sane, part-sane}
+use Rattle.laws_runs.proofs.Runs.{any-units, mark-sane, first-part-sane}
 use Rattle.laws_meaning.specs.Alike.{AlikeValue, AlikeValues, AlikeLast, nothing, is, Layout, laidOut, AlikeConstants, SameFree, AlikeMachine, AlikeState, AlikeMark, Answers, not-yet, latest, AlikeUnder, AlikeOutcome, goes, returns, faults, runs-short, Both}
 use Rattle.laws_meaning.specs.Answers.{meantIn, meant, AlikeRan, AlikePart, ends, pauses}
 use Rattle.laws_meaning.proofs.Values.{Boths, boths-of, values-on}
@@ -201,6 +201,6 @@ module _ (w : World) (lay : Layout) (good : SaneWorld w) (beside-good : SaneWorl
   unfolding runOf endOf
   run-alike m m' u h h' a =
       given-up-alike
-      (part-sane w good (m .stack) h (mark-sane h) (marked (begin m u)) (h .stack) (h .placed) (omega arith))
-      (part-sane (laidOut lay w) beside-good (m' .stack) h' (mark-sane h') (marked (begin m' u)) (h' .stack) (h' .placed) (omega arith))
+      (first-part-sane w good m u h)
+      (first-part-sane (laidOut lay w) beside-good m' u h')
       (part-alike (running u h h' a) (mark-sane h) (mark-sane h') (marked (begin m u)) (marked (begin m' u)) (boths-of (a .stack) (h .placed) (h' .placed)) u)

@@ -58,39 +58,43 @@ word-fits n r s e h = let x = room-1 s in omega arith
 pub pair-fits : (n r : ℕ) (s : List ℕ) → r ≡ places 2 s → n < r → 2 * n + 2 ≤ length s
 pair-fits n r s e h = let x = room-2 s in omega arith
 
-module _ (c : Counts) (x : Constant) (lent : List ℕ) (s : Stores) (b : Bool) (e : b ≡ constantOrder c s) where
-  pub constant-19 : not b ≡ true → Is (addConstantOf c x lent s) (Refused 19) s
+module _ (running : Bool) (c : Counts) (x : Constant) (lent : List ℕ) (s : Stores) (b : Bool) (e : b ≡ constantOrder c s) where
+  pub constant-19 : not b ≡ true → Is (addConstantOf running c x lent s) (Refused 19) s
   unfolding addConstantOf
   constant-19 h = record { means = rw (← e, not-true b h) }
 
-  module _ (h : not b ≡ false) where
-    pub constant-22 : 65535 ≤ c .constants → Is (addConstantOf c x lent s) (Refused 22) s
+  pub constant-25 : not b ≡ false → running ≡ true → Is (addConstantOf running c x lent s) (Refused 25) s
+  unfolding addConstantOf
+  constant-25 h r = record { means = rw (← e, not-false b h, r) }
+
+  module _ (h : not b ≡ false) (idle : running ≡ false) where
+    pub constant-22 : 65535 ≤ c .constants → Is (addConstantOf running c x lent s) (Refused 22) s
     unfolding addConstantOf
-    constant-22 l = record { means = rw (← e, not-false b h, le-leb _ _ l) }
+    constant-22 l = record { means = rw (← e, not-false b h, idle, le-leb _ _ l) }
 
     module _ (l : c .constants < 65535) (r : ℕ) (er : r ≡ places 2 (s .constants)) where
-      pub constant-21 : r ≤ c .constants → Is (addConstantOf c x lent s) (Refused 21) s
+      pub constant-21 : r ≤ c .constants → Is (addConstantOf running c x lent s) (Refused 21) s
       unfolding addConstantOf
-      constant-21 g = record { means = rw (← e, not-false b h, lt-leb _ _ l, ← er, le-leb _ _ g) }
+      constant-21 g = record { means = rw (← e, not-false b h, idle, lt-leb _ _ l, ← er, le-leb _ _ g) }
 
       module _ (g : c .constants < r) (a : Emitted) (s' : Stores) where
-        constant-in : Is (constantAdded c x lent s) a s' → Is (addConstantOf c x lent s) a s'
+        constant-in : Is (constantAdded c x lent s) a s' → Is (addConstantOf running c x lent s) a s'
         unfolding addConstantOf
-        constant-in q = record { means = rw (← e, not-false b h, lt-leb _ _ l, ← er, lt-leb _ _ g) (q .means) }
+        constant-in q = record { means = rw (← e, not-false b h, idle, lt-leb _ _ l, ← er, lt-leb _ _ g) (q .means) }
 
-        pub scalar-in : (w : ℕ) → x ≡ k.Scalar w → Is (withConstant c 0 w s) a s' → Is (addConstantOf c x lent s) a s'
+        pub scalar-in : (w : ℕ) → x ≡ k.Scalar w → Is (withConstant c 0 w s) a s' → Is (addConstantOf running c x lent s) a s'
         unfolding constantAdded
         scalar-in w ex q = constant-in (record { means = rw ex (q .means) })
 
-        pub boolean-in : (v : Bool) (w : ℕ) → x ≡ k.Boolean v → w ≡ bit v → Is (withConstant c 1 w s) a s' → Is (addConstantOf c x lent s) a s'
+        pub boolean-in : (v : Bool) (w : ℕ) → x ≡ k.Boolean v → w ≡ bit v → Is (withConstant c 1 w s) a s' → Is (addConstantOf running c x lent s) a s'
         unfolding constantAdded
         boolean-in v w ex ew q = constant-in (record { means = rw (ex, ← ew) (q .means) })
 
-        pub string-in : x ≡ k.String → Is (withTextConstant c 2 lent s) a s' → Is (addConstantOf c x lent s) a s'
+        pub string-in : x ≡ k.String → Is (withTextConstant c 2 lent s) a s' → Is (addConstantOf running c x lent s) a s'
         unfolding constantAdded
         string-in ex q = constant-in (record { means = rw ex (q .means) })
 
-        pub reference-in : x ≡ k.FunctionReference → Is (withTextConstant c 3 lent s) a s' → Is (addConstantOf c x lent s) a s'
+        pub reference-in : x ≡ k.FunctionReference → Is (withTextConstant c 3 lent s) a s' → Is (addConstantOf running c x lent s) a s'
         unfolding constantAdded
         reference-in ex q = constant-in (record { means = rw ex (q .means) })
 
@@ -139,24 +143,28 @@ structs-ordered c ss t b e h =
 pub new-placed : (n : ℕ) (name ss t : List ℕ) (at : ℕ) → InOrder n ss t → Edge n (nameInOrder ss t) name at → Placed n at name ss t
 new-placed n name ss t at o e = record { order = o; spot = edge-spot n (nameInOrder ss t) (o .ascending) name at e }
 
-module _ (c : Counts) (name : List ℕ) (s : Stores) (b : Bool) (e : b ≡ structOrder c s) where
-  pub struct-19 : not b ≡ true → Is (addStructOf c name s) (Refused 19) s
+module _ (running : Bool) (c : Counts) (name : List ℕ) (s : Stores) (b : Bool) (e : b ≡ structOrder c s) where
+  pub struct-19 : not b ≡ true → Is (addStructOf running c name s) (Refused 19) s
   unfolding addStructOf
   struct-19 h = record { means = rw (← e, not-true b h) }
 
-  module _ (h : not b ≡ false) (o : InOrder (c .structs) (s .structs) (s .text)) (at : ℕ) (edge : Edge (c .structs) (nameInOrder (s .structs) (s .text)) name at)
-      (r : Bool) (er : r ≡ (ltb at (c .structs) && sameBytes name (nameInOrder (s .structs) (s .text) at))) where
-    search-is : {x : Option ℕ} → firstFrom 0 name (structsFrom (c .structs) 0 (s .structs) (s .text)) ≡ x → addStructOf c name s ≡ structFound c name s x
-    unfolding addStructOf structNames
-    search-is {x} f = rw (← e, not-false b h, ← f)
+  pub struct-25 : not b ≡ false → running ≡ true → Is (addStructOf running c name s) (Refused 25) s
+  unfolding addStructOf
+  struct-25 h r = record { means = rw (← e, not-false b h, r) }
 
-    pub struct-known : r ≡ true → (v i : ℕ) → v ≡ payloadAt (s .structs) at → i ≡ v → Is (addStructOf c name s) (Done c i) s
+  module _ (h : not b ≡ false) (idle : running ≡ false) (o : InOrder (c .structs) (s .structs) (s .text)) (at : ℕ) (edge : Edge (c .structs) (nameInOrder (s .structs) (s .text)) name at)
+      (r : Bool) (er : r ≡ (ltb at (c .structs) && sameBytes name (nameInOrder (s .structs) (s .text) at))) where
+    search-is : {x : Option ℕ} → firstFrom 0 name (structsFrom (c .structs) 0 (s .structs) (s .text)) ≡ x → addStructOf running c name s ≡ structFound c name s x
+    unfolding addStructOf structNames
+    search-is {x} f = rw (← e, not-false b h, idle, ← f)
+
+    pub struct-known : r ≡ true → (v i : ℕ) → v ≡ payloadAt (s .structs) at → i ≡ v → Is (addStructOf running c name s) (Done c i) s
     unfolding structFound orderWord
     struct-known t v i ev ei =
         let y = stands-yes at (c .structs) _ (sym er ∙ t) in
         record { means = sym (search-is (halves-find (c .structs) (s .structs) (s .text) o name at edge (y .0) (y .1)) ∙ rw (ei, ev)) }
 
-    pub struct-new : r ≡ false → (a : Emitted) (s' : Stores) → Is (structAdded c name s) a s' → Is (addStructOf c name s) a s'
+    pub struct-new : r ≡ false → (a : Emitted) (s' : Stores) → Is (structAdded c name s) a s' → Is (addStructOf running c name s) a s'
     unfolding structFound
     struct-new f a s' q =
         record { means = q .means ∙ sym (search-is (halves-miss (c .structs) (s .structs) (s .text) o name at edge (stands-no at (c .structs) _ (sym er ∙ f)))) }
@@ -194,28 +202,32 @@ behind-fits c fs t b e h n en =
     let l : codeStart fs (c .functions) ≤ 0xFFFF_FFFF = start-below c fs f (c .functions) (omega arith) in
     rw en (omega arith)
 
-module _ (c : Counts) (name : List ℕ) (s : Stores) (b : Bool) (e : b ≡ functionOrder c s) where
-  pub begin-19 : not b ≡ true → Is (beginFunctionOf c name s) (Refused 19) s
+module _ (running : Bool) (c : Counts) (name : List ℕ) (s : Stores) (b : Bool) (e : b ≡ functionOrder c s) where
+  pub begin-19 : not b ≡ true → Is (beginFunctionOf running c name s) (Refused 19) s
   unfolding beginFunctionOf
   begin-19 h = record { means = rw (← e, not-true b h) }
 
-  module _ (h : not b ≡ false) where
-    pub begin-22 : 65536 ≤ c .functions → Is (beginFunctionOf c name s) (Refused 22) s
+  pub begin-25 : not b ≡ false → running ≡ true → Is (beginFunctionOf running c name s) (Refused 25) s
+  unfolding beginFunctionOf
+  begin-25 h r = record { means = rw (← e, not-false b h, r) }
+
+  module _ (h : not b ≡ false) (idle : running ≡ false) where
+    pub begin-22 : 65536 ≤ c .functions → Is (beginFunctionOf running c name s) (Refused 22) s
     unfolding beginFunctionOf
-    begin-22 l = record { means = rw (← e, not-false b h, le-leb _ _ l) }
+    begin-22 l = record { means = rw (← e, not-false b h, idle, le-leb _ _ l) }
 
     module _ (l : c .functions < 65536) (r : ℕ) (er : r ≡ places 2 (s .functions)) where
-      pub begin-21 : r ≤ c .functions → Is (beginFunctionOf c name s) (Refused 21) s
+      pub begin-21 : r ≤ c .functions → Is (beginFunctionOf running c name s) (Refused 21) s
       unfolding beginFunctionOf
-      begin-21 g = record { means = rw (← e, not-false b h, lt-leb _ _ l, ← er, le-leb _ _ g) }
+      begin-21 g = record { means = rw (← e, not-false b h, idle, lt-leb _ _ l, ← er, le-leb _ _ g) }
 
       module _ (g : c .functions < r) (q : Bool) (eq : q ≡ textRoom c s (length name)) where
-        pub begin-text-21 : q ≡ false → Is (beginFunctionOf c name s) (Refused 21) s
+        pub begin-text-21 : q ≡ false → Is (beginFunctionOf running c name s) (Refused 21) s
         unfolding beginFunctionOf
-        begin-text-21 k = record { means = rw (← e, not-false b h, lt-leb _ _ l, ← er, lt-leb _ _ g, ← eq, k) }
+        begin-text-21 k = record { means = rw (← e, not-false b h, idle, lt-leb _ _ l, ← er, lt-leb _ _ g, ← eq, k) }
 
         pub begin-done : q ≡ true → (at w v : ℕ) (fs t : List ℕ) → at ≡ codeStart (s .functions) (c .functions) → t ≡ written (s .text) (c .text) name
             → w ≡ pack (c .text) (length name) → v ≡ pack at 0 → fs ≡ putWords (s .functions) (c .functions) w v
-            → Is (beginFunctionOf c name s) (Done (counts (c .constants) (c .structs) (c .functions + 1) (c .text + length name) (c .functions)) (c .functions)) (withFunctions fs (withText t s))
+            → Is (beginFunctionOf running c name s) (Done (counts (c .constants) (c .structs) (c .functions + 1) (c .text + length name) (c .functions)) (c .functions)) (withFunctions fs (withText t s))
         unfolding beginFunctionOf begun otherTaken
-        begin-done k at w v fs t ea et ew ev ef = record { means = rw (← e, not-false b h, lt-leb _ _ l, ← er, lt-leb _ _ g, ← eq, k, et, ef, ew, ev, ea, add-one) }
+        begin-done k at w v fs t ea et ew ev ef = record { means = rw (← e, not-false b h, idle, lt-leb _ _ l, ← er, lt-leb _ _ g, ← eq, k, et, ef, ew, ev, ea, add-one) }

@@ -79,15 +79,19 @@ module _ (c : Counts) (m mp o op : List ℕ) (r n : ℕ) (e : (rest : Stores) (f
   unfolding codeLent
   lent-other z = fits-other c (codeLent none [] m mp o op) r n (e none []) h z
 
-module _ (c : Counts) (p : ℕ) (bytes : List ℕ) (place : ℕ) (s : Stores) (b : Bool) (e : b ≡ codeOrder c s) where
-  pub emit-19 : not b ≡ true → Is (emitOf c p bytes place s) (Refused 19) s
+module _ (running : Bool) (c : Counts) (p : ℕ) (bytes : List ℕ) (place : ℕ) (s : Stores) (b : Bool) (e : b ≡ codeOrder c s) where
+  pub emit-19 : not b ≡ true → Is (emitOf running c p bytes place s) (Refused 19) s
   unfolding emitOf
   emit-19 h = record { means = rw (← e, not-true b h) }
 
-  module _ (h : not b ≡ false) (word at n : ℕ) (ew : word ≡ payloadAt (s .functions) (c .current)) (ea : at ≡ start word) (en : n ≡ size word) where
-    entered : emitOf c p bytes place s ≡ emitIn c p bytes place s
+  pub emit-25 : not b ≡ false → running ≡ true → Is (emitOf running c p bytes place s) (Refused 25) s
+  unfolding emitOf
+  emit-25 h r = record { means = rw (← e, not-false b h, r) }
+
+  module _ (h : not b ≡ false) (idle : running ≡ false) (word at n : ℕ) (ew : word ≡ payloadAt (s .functions) (c .current)) (ea : at ≡ start word) (en : n ≡ size word) where
+    entered : emitOf running c p bytes place s ≡ emitIn c p bytes place s
     unfolding emitOf
-    entered = rw (← e, not-false b h)
+    entered = rw (← e, not-false b h, idle)
 
     size-is : n ≡ sizeHere c s
     unfolding sizeHere codeWord
@@ -97,7 +101,7 @@ module _ (c : Counts) (p : ℕ) (bytes : List ℕ) (place : ℕ) (s : Stores) (b
     unfolding endHere codeEnd codeWord
     end-is = rw (ea, en, ew)
 
-    pub emit-22 : 65535 - n < length bytes → Is (emitOf c p bytes place s) (Refused 22) s
+    pub emit-22 : 65535 - n < length bytes → Is (emitOf running c p bytes place s) (Refused 22) s
     unfolding emitIn
     emit-22 g = let z : 65535 < n + length bytes = omega arith in record { means = sym (entered ∙ rw (← size-is, lt-ltb _ _ z)) }
 
@@ -105,16 +109,16 @@ module _ (c : Counts) (p : ℕ) (bytes : List ℕ) (place : ℕ) (s : Stores) (b
       short : n + length bytes ≤ 65535
       short = let k = size-short c (s .functions) (current-known c s b e h) word n ew en in omega arith
 
-      pub emit-21 : r < at + n + length bytes → Is (emitOf c p bytes place s) (Refused 21) s
+      pub emit-21 : r < at + n + length bytes → Is (emitOf running c p bytes place s) (Refused 21) s
       unfolding emitIn
       emit-21 l = record { means = sym (entered ∙ rw (← size-is, le-ltb _ _ short, ← end-is, ← er, lt-ltb _ _ l)) }
 
       module _ (l : at + n + length bytes ≤ r) where
-        pub emit-1 : 38 ≤ p → Is (emitOf c p bytes place s) (Refused 1) s
+        pub emit-1 : 38 ≤ p → Is (emitOf running c p bytes place s) (Refused 1) s
         unfolding emitIn
         emit-1 q = record { means = sym (entered ∙ rw (← size-is, le-ltb _ _ short, ← end-is, ← er, le-ltb _ _ l, le-leb _ _ q)) }
 
-        all-in : p < 38 → emitOf c p bytes place s ≡ appended c bytes place s
+        all-in : p < 38 → emitOf running c p bytes place s ≡ appended c bytes place s
         unfolding emitIn
         all-in q = entered ∙ rw (← size-is, le-ltb _ _ short, ← end-is, ← er, le-ltb _ _ l, lt-leb _ _ q)
 
@@ -124,12 +128,12 @@ module _ (c : Counts) (p : ℕ) (bytes : List ℕ) (place : ℕ) (s : Stores) (b
           longer-is = ef ∙ rw (ep, ea, ew, size-is)
 
           pub emitted-main : c .current ≡ 0 → code ≡ written (s .main) (at + n) bytes → places ≡ written (s .mainPlaces) (at + n) (replicate (length bytes) place)
-              → Is (emitOf c p bytes place s) (Done c 0) (withFunctions fs (withMain code places s))
+              → Is (emitOf running c p bytes place s) (Done c 0) (withFunctions fs (withMain code places s))
           unfolding appended withCode codeHere placesHere
           emitted-main z ec el = record { means = sym (all-in q ∙ rw (← longer-is, ← end-is, eq-eqb _ _ z, ec, el)) }
 
           pub emitted-other : (c .current ≡ 0 → ⊥) → code ≡ written (s .other) (at + n) bytes → places ≡ written (s .otherPlaces) (at + n) (replicate (length bytes) place)
-              → Is (emitOf c p bytes place s) (Done c 0) (withFunctions fs (withOther code places s))
+              → Is (emitOf running c p bytes place s) (Done c 0) (withFunctions fs (withOther code places s))
           unfolding appended withCode codeHere placesHere
           emitted-other z ec el = record { means = sym (all-in q ∙ rw (← longer-is, ← end-is, ne-eqb _ _ z, ec, el)) }
 
@@ -163,33 +167,37 @@ module _ (c : Counts) (fs m o : List ℕ) (b : Bool) (e : (rest : Stores) → b 
   pub patch-in-other : (c .current ≡ 0 → ⊥) → at + k + 2 ≤ length o
   patch-in-other z = let x = code-in-other c fs m o patch-limited patch-codes z in let y = patch-end in omega arith
 
-module _ (c : Counts) (k a : ℕ) (s : Stores) (b : Bool) (e : b ≡ patchOrder c s) where
-  pub patch-19 : not b ≡ true → Is (patchOf c k a s) (Refused 19) s
+module _ (running : Bool) (c : Counts) (k a : ℕ) (s : Stores) (b : Bool) (e : b ≡ patchOrder c s) where
+  pub patch-19 : not b ≡ true → Is (patchOf running c k a s) (Refused 19) s
   unfolding patchOf
   patch-19 h = record { means = rw (← e, not-true b h) }
 
-  module _ (h : not b ≡ false) (word at n : ℕ) (ew : word ≡ payloadAt (s .functions) (c .current)) (ea : at ≡ start word) (en : n ≡ size word) where
+  pub patch-25 : not b ≡ false → running ≡ true → Is (patchOf running c k a s) (Refused 25) s
+  unfolding patchOf
+  patch-25 h r = record { means = rw (← e, not-false b h, r) }
+
+  module _ (h : not b ≡ false) (idle : running ≡ false) (word at n : ℕ) (ew : word ≡ payloadAt (s .functions) (c .current)) (ea : at ≡ start word) (en : n ≡ size word) where
     patch-size : n ≡ sizeHere c s
     unfolding sizeHere codeWord
     patch-size = rw (en, ew)
 
-    pub patch-23 : n < k + 2 → Is (patchOf c k a s) (Refused 23) s
+    pub patch-23 : n < k + 2 → Is (patchOf running c k a s) (Refused 23) s
     unfolding patchOf
-    patch-23 l = record { means = rw (← e, not-false b h, ← patch-size, lt-ltb _ _ l) }
+    patch-23 l = record { means = rw (← e, not-false b h, idle, ← patch-size, lt-ltb _ _ l) }
 
     module _ (l : k + 2 ≤ n) (code : List ℕ) where
-      patch-all : patchOf c k a s ≡ patched c k a s
+      patch-all : patchOf running c k a s ≡ patched c k a s
       unfolding patchOf
-      patch-all = rw (← e, not-false b h, ← patch-size, le-ltb _ _ l)
+      patch-all = rw (← e, not-false b h, idle, ← patch-size, le-ltb _ _ l)
 
       patch-from : at + k ≡ start (codeWord (s .functions) (c .current)) + k
       unfolding codeWord
       patch-from = rw (ea, ew)
 
-      pub patched-main : c .current ≡ 0 → code ≡ written (s .main) (at + k) (u16 a) → Is (patchOf c k a s) (Done c 0) (withMain code (s .mainPlaces) s)
+      pub patched-main : c .current ≡ 0 → code ≡ written (s .main) (at + k) (u16 a) → Is (patchOf running c k a s) (Done c 0) (withMain code (s .mainPlaces) s)
       unfolding patched withCode codeHere placesHere
       patched-main z ec = record { means = sym (patch-all ∙ rw (← patch-from, eq-eqb _ _ z, ec)) }
 
-      pub patched-other : (c .current ≡ 0 → ⊥) → code ≡ written (s .other) (at + k) (u16 a) → Is (patchOf c k a s) (Done c 0) (withOther code (s .otherPlaces) s)
+      pub patched-other : (c .current ≡ 0 → ⊥) → code ≡ written (s .other) (at + k) (u16 a) → Is (patchOf running c k a s) (Done c 0) (withOther code (s .otherPlaces) s)
       unfolding patched withCode codeHere placesHere
       patched-other z ec = record { means = sym (patch-all ∙ rw (← patch-from, ne-eqb _ _ z, ec)) }

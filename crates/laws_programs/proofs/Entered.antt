@@ -1,12 +1,12 @@
 -- What each entry answers, way by way; and no second answer fits.
 use mathlib.Core.Path.{_≡_, sym, ap, _∙_}
-use mathlib.Core.Bool.{Bool, true, false, _&&_}
+use mathlib.Core.Bool.{Bool, true, false, not, _&&_}
 use mathlib.Core.List.{List, [], _∷_}
 use Prim.Native.Nat.{ℕ, _≤_}
 use lib.Dec.{leb}
 use lib.ListN.{length}
 use native.Mathlib.Omega.{arith}
-use borrow.Author.Tests.{leb-true}
+use borrow.Author.Tests.{leb-true, not-true, not-false}
 use Rattle.layout.proofs.Bools.{and-left, and-right}
 use Rattle.layout.proofs.Parts.{room-1, room-2}
 use Rattle.model.specs.declared.Counts.{Counts}
@@ -15,7 +15,7 @@ use Rattle.model.specs.declared.Emitted.the-variants.{Done, Refused}
 use Rattle.model.specs.declared.Told.the-variants as t
 use Rattle.model.specs.Values.{places, payloadAt, putWords}
 use Rattle.model.specs.Programs.{mainName}
-use Rattle.model.specs.Basics.{ascii}
+use Rattle.model.specs.Basics.{if_then_else_, ascii}
 use Rattle.model.specs.Stores.{Stores, size, pack, codeWord}
 use Rattle.model.specs.Orders.{countsOk, functionsOk}
 use Rattle.model.specs.Emission.{Res, counts, written, newOf, endFunctionOf, currentOffsetOf}
@@ -29,13 +29,28 @@ one-answer want r r' s s' p q =
 
 -- ---- end_function, current_offset
 
-pub ended : (c : Counts) (b : Bool) → b ≡ countsOk c → b ≡ true → Done (counts (c .constants) (c .structs) (c .functions) (c .text) 0) 0 ≡ endFunctionOf c
-unfolding endFunctionOf
-ended c b e h = rw (← e, h)
+module _ (running : Bool) (c : Counts) (b : Bool) (e : b ≡ countsOk c) where
+  pub end-19 : not b ≡ true → Refused 19 ≡ endFunctionOf running c
+  unfolding endFunctionOf
+  end-19 h = rw (← e, not-true b h)
 
-pub not-ended : (c : Counts) (b : Bool) → b ≡ countsOk c → b ≡ false → Refused 19 ≡ endFunctionOf c
+  pub end-25 : not b ≡ false → running ≡ true → Refused 25 ≡ endFunctionOf running c
+  unfolding endFunctionOf
+  end-25 h r = rw (← e, not-false b h, r)
+
+  pub ended : not b ≡ false → running ≡ false → Done (counts (c .constants) (c .structs) (c .functions) (c .text) 0) 0 ≡ endFunctionOf running c
+  unfolding endFunctionOf
+  ended h r = rw (← e, not-false b h, r)
+
+-- where it is done, main is current and nothing else has changed
+done-behind : (b running : Bool) (x d : Counts) (n : ℕ) → (if b then (if running then Refused 25 else Done x 0) else Refused 19) ≡ Done d n → x ≡ d
+done-behind true true x d n q = absurd (let z : _≡_ {A = ℕ} 0 1 = cc in let y : ⊥ = omega arith in y)
+done-behind true false x d n q = cc
+done-behind false running x d n q = absurd (let z : _≡_ {A = ℕ} 0 1 = cc in let y : ⊥ = omega arith in y)
+
+pub ended-in-main : (running : Bool) (c d : Counts) (n : ℕ) → endFunctionOf running c ≡ Done d n → counts (c .constants) (c .structs) (c .functions) (c .text) 0 ≡ d
 unfolding endFunctionOf
-not-ended c b e h = rw (← e, h)
+ended-in-main running c d n q = done-behind (countsOk c) running _ d n q
 
 module _ (c : Counts) (fs : List ℕ) (a b : Bool) (ea : a ≡ countsOk c) (eb : b ≡ functionsOk c fs) where
   pub offset-told : (a && b) ≡ true → (w n : ℕ) → w ≡ payloadAt fs (c .current) → n ≡ size w → t.Number n ≡ currentOffsetOf c fs

@@ -25,6 +25,7 @@ use Rattle.layout.proofs.Parts.{room-1, room-2, places-same, start-pack, size-p
 use Rattle.laws_programs.proofs.Every.{pass-all}
 use Rattle.laws_programs.proofs.Known.{Limited, limited, Structs, structs-known, structs-good, text-inside, constants-known, function-known, codes-behind}
 use Rattle.layout.proofs.Writing.{length-written, length-words}
+use Rattle.laws_programs.proofs.Entered.{ended-in-main}
 use Rattle.laws_programs.proofs.Adding.{start-below}
 use Rattle.laws_programs.proofs.Keeping.{Good, good-of, of-good, inside-back, function-good, Kept, kept-if, kept-refused}
 
@@ -226,12 +227,13 @@ module _ (c : Counts) (s : Stores) (g : Good c s) (few : c .constants < 65535) (
   added-kept k.FunctionReference lent = text-kept 3 lent (λ w. refl)
 
 -- add_constant keeps good order
-pub constant-keeps : (c : Counts) (x : Constant) (lent : List ℕ) (s : Stores) → programOk c s ≡ true → Kept (addConstantOf c x lent s)
+pub constant-keeps : (running : Bool) (c : Counts) (x : Constant) (lent : List ℕ) (s : Stores) → programOk c s ≡ true → Kept (addConstantOf running c x lent s)
 unfolding addConstantOf
-constant-keeps c x lent s e =
+constant-keeps running c x lent s e =
     kept-if (constantOrder c s) _ _ (λ _.
+    kept-if running _ _ (λ _. kept-refused 25 s) (λ _.
     kept-if (leb constantLimit (c .constants)) _ _ (λ _. kept-refused 22 s) (λ few.
-    kept-if (leb (places 2 (s .constants)) (c .constants)) _ _ (λ _. kept-refused 21 s) (λ fits. added-kept c s (good-of c s e) (leb-false _ _ few) (leb-false _ _ fits) x lent)))
+    kept-if (leb (places 2 (s .constants)) (c .constants)) _ _ (λ _. kept-refused 21 s) (λ fits. added-kept c s (good-of c s e) (leb-false _ _ few) (leb-false _ _ fits) x lent))))
     (λ _. kept-refused 19 s)
 
 -- ---- a patch, and the end of a function
@@ -240,12 +242,13 @@ codes-same : (c : Counts) (fs m o m' o' : List ℕ) → length m' ≡ length m �
 unfolding insideCodes
 codes-same c fs m o m' o' em eo e = rw (places-same 1 m' m em, places-same 1 o' o eo) e
 
-pub patch-keeps : (c : Counts) (at a : ℕ) (s : Stores) → programOk c s ≡ true → Kept (patchOf c at a s)
+pub patch-keeps : (running : Bool) (c : Counts) (at a : ℕ) (s : Stores) → programOk c s ≡ true → Kept (patchOf running c at a s)
 unfolding patchOf patched withCode codeHere placesHere
-patch-keeps c at a s e =
+patch-keeps running c at a s e =
     let g = good-of c s e in
     let w = start (codeWord (s .functions) (c .current)) + at in
     kept-if (patchOrder c s) _ _ (λ _.
+    kept-if running _ _ (λ _. kept-refused 25 s) (λ _.
     kept-if (ltb (sizeHere c s) (at + 2)) _ _ (λ _. kept-refused 23 s) (λ _. record {
       kept = λ d i q.
           let z : c ≡ d = cc in
@@ -270,16 +273,14 @@ patch-keeps c at a s e =
             places = g .places;
             codes = codes-same c (s .functions) (s .main) (s .other) (s .main) (written (s .other) w (u16 a)) refl (length-written (s .other) w (u16 a)) (g .codes);
           }))));
-    }))
+    })))
     (λ _. kept-refused 19 s)
 
-pub end-keeps : (c : Counts) (s : Stores) → programOk c s ≡ true → (d : Counts) (n : ℕ) → endFunctionOf c ≡ Done d n → programOk d s ≡ true
-unfolding endFunctionOf textOk constantsOk constantOk insideText structsOk functionsOk functionOk insideCodes otherTaken
-end-keeps c s e d n q =
+pub end-keeps : (running : Bool) (c : Counts) (s : Stores) → programOk c s ≡ true → (d : Counts) (n : ℕ) → endFunctionOf running c ≡ Done d n → programOk d s ≡ true
+unfolding textOk constantsOk constantOk insideText structsOk functionsOk functionOk insideCodes otherTaken
+end-keeps running c s e d n q =
     let g = good-of c s e in let l = limited c (g .counts) in
-    let f : Done (counts (c .constants) (c .structs) (c .functions) (c .text) 0) 0 ≡ Done d n = rw (g .counts) at q in
-    let z : counts (c .constants) (c .structs) (c .functions) (c .text) 0 ≡ d = cc in
-    rw (← z) (of-good _ _ (record {
+    rw (← (ended-in-main running c d n q)) (of-good _ _ (record {
       counts = counts-good (counts (c .constants) (c .structs) (c .functions) (c .text) 0) (l .constants) (l .structs) (l .some) (l .functions) (l .text) refl;
       text = g .text;
       constants = g .constants;

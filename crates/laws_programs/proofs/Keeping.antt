@@ -267,11 +267,12 @@ module _ (c : Counts) (bytes : List ℕ) (place : ℕ) (s : Stores) (g : Good c 
   append-kept = record { kept = λ c' i e. let z : c ≡ c' = cc in rw (← z) append-good }
 
 -- add_op to add_op3 keep good order
-pub emit-keeps : (c : Counts) (op : ℕ) (bytes : List ℕ) (place : ℕ) (s : Stores) → programOk c s ≡ true → Kept (emitOf c op bytes place s)
+pub emit-keeps : (running : Bool) (c : Counts) (op : ℕ) (bytes : List ℕ) (place : ℕ) (s : Stores) → programOk c s ≡ true → Kept (emitOf running c op bytes place s)
 unfolding emitOf emitIn
-emit-keeps c op bytes place s e =
+emit-keeps running c op bytes place s e =
     kept-if (codeOrder c s) _ _ (λ _.
+    kept-if running _ _ (λ _. kept-refused 25 s) (λ _.
     kept-if (ltb codeLimit (sizeHere c s + length bytes)) _ _ (λ _. kept-refused 22 s) (λ short.
     kept-if (ltb (codeRoom c s) (endHere c s + length bytes)) _ _ (λ _. kept-refused 21 s) (λ fits.
-    kept-if (leb 38 op) _ _ (λ _. kept-refused 1 s) (λ _. append-kept c bytes place s (good-of c s e) (ltb-false _ _ short) (ltb-false _ _ fits)))))
+    kept-if (leb 38 op) _ _ (λ _. kept-refused 1 s) (λ _. append-kept c bytes place s (good-of c s e) (ltb-false _ _ short) (ltb-false _ _ fits))))))
     (λ _. kept-refused 19 s)

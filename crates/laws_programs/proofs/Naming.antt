@@ -27,6 +27,7 @@ use Rattle.layout.proofs.Parts.{room-1, room-2, places-same, start-pack, size-p
 use Rattle.laws_programs.proofs.Known.{Limited, limited, Structs, structs-known, structs-good, text-inside, constants-known, function-known}
 use Rattle.layout.proofs.Writing.{length-written}
 use Rattle.laws_programs.proofs.Searching.{among-none, among-some}
+use Rattle.laws_programs.proofs.Entered.{ended-in-main}
 use Rattle.laws_programs.proofs.Adding.{start-below}
 use Rattle.laws_programs.proofs.Keeping.{Good, good-of, of-good, inside-back, function-good, Kept}
 use Rattle.laws_programs.proofs.Growing.{part-kept, part-new, inside-more, constants-more, functions-more, names-same, main-kept, words-here, words-other, counts-good, function-begun}
@@ -218,16 +219,20 @@ module _ (c : Counts) (lent : List ℕ) (s : Stores) (e : programOk c s ≡ true
   found-made (some i) q = made-done c i s good (rw (among-some 0 lent _ i q))
   found-made none q = added-made (among-none 0 lent _ q)
 
-  struct-made : Made (withName (programIn c s) lent) (addStructOf c lent s)
+  struct-made : (running : Bool) → Made (withName (programIn c s) lent) (addStructOf running c lent s)
   unfolding addStructOf structNames
-  struct-made = made-if (withName (programIn c s) lent) (structOrder c s) _ _ (λ _. found-made _ refl) (λ _. made-refused _ 19 s)
+  struct-made running =
+      let want = withName (programIn c s) lent in
+      made-if want (structOrder c s) _ _ (λ _.
+      made-if want running _ _ (λ _. made-refused want 25 s) (λ _. found-made _ refl))
+      (λ _. made-refused want 19 s)
 
-  -- add_struct_info
-  pub struct-keeps : Kept (addStructOf c lent s)
-  struct-keeps = kept-of struct-made
+-- add_struct_info
+pub struct-keeps : (running : Bool) (c : Counts) (lent : List ℕ) (s : Stores) → programOk c s ≡ true → Kept (addStructOf running c lent s)
+struct-keeps running c lent s e = kept-of (struct-made c lent s e running)
 
-  pub struct-reads : Reads (withName (programIn c s) lent) (addStructOf c lent s)
-  struct-reads = reads-of struct-made
+pub struct-reads : (running : Bool) (c : Counts) (lent : List ℕ) (s : Stores) → programOk c s ≡ true → Reads (withName (programIn c s) lent) (addStructOf running c lent s)
+struct-reads running c lent s e = reads-of (struct-made c lent s e running)
 
 -- ---- a new program
 
@@ -350,31 +355,29 @@ module _ (c : Counts) (s : Stores) (g : Good c s) (lent : List ℕ) (room : c .t
       names-same c c (omega arith) (s .structs) (s .text) _ (same c s g lent room) (c .structs) 0 (λ j l. structs-known c (s .structs) (s .text) (g .structs) .inside j (omega arith)) in
       rw (constants-kept c s g lent room, n, e)
 
-begin-made : (c : Counts) (name : List ℕ) (s : Stores) → programOk c s ≡ true → Made (withFunction (programIn c s) name) (beginFunctionOf c name s)
+begin-made : (running : Bool) (c : Counts) (name : List ℕ) (s : Stores) → programOk c s ≡ true → Made (withFunction (programIn c s) name) (beginFunctionOf running c name s)
 unfolding beginFunctionOf begun textRoom
-begin-made c name s e =
+begin-made running c name s e =
     let want = withFunction (programIn c s) name in let g = good-of c s e in
     made-if want (functionOrder c s) _ _ (λ _.
+    made-if want running _ _ (λ _. made-refused want 25 s) (λ _.
     made-if want (leb nameLimit (c .functions)) _ _ (λ _. made-refused want 22 s) (λ few.
     made-if want (leb (places 2 (s .functions)) (c .functions)) _ _ (λ _. made-refused want 21 s) (λ fits.
     made-if want (leb (c .text + length name) (places 1 (s .text))) _ _ (λ t.
     let room = leb-true _ _ t in
     made-done _ (c .functions) _ (function-begun c s g (leb-false _ _ few) (leb-false _ _ fits) (length name) _ (text-room c s g name room)
     (same c s g name room)) (begun-reads c s g name room (leb-false _ _ fits)))
-    (λ _. made-refused want 21 s))))
+    (λ _. made-refused want 21 s)))))
     (λ _. made-refused want 19 s)
 
 -- begin_function
-pub begin-keeps : (c : Counts) (name : List ℕ) (s : Stores) → programOk c s ≡ true → Kept (beginFunctionOf c name s)
-begin-keeps c name s e = kept-of (begin-made c name s e)
+pub begin-keeps : (running : Bool) (c : Counts) (name : List ℕ) (s : Stores) → programOk c s ≡ true → Kept (beginFunctionOf running c name s)
+begin-keeps running c name s e = kept-of (begin-made running c name s e)
 
-pub begin-reads : (c : Counts) (name : List ℕ) (s : Stores) → programOk c s ≡ true → Reads (withFunction (programIn c s) name) (beginFunctionOf c name s)
-begin-reads c name s e = reads-of (begin-made c name s e)
+pub begin-reads : (running : Bool) (c : Counts) (name : List ℕ) (s : Stores) → programOk c s ≡ true → Reads (withFunction (programIn c s) name) (beginFunctionOf running c name s)
+begin-reads running c name s e = reads-of (begin-made running c name s e)
 
 -- end_function changes no program
-pub end-reads : (c : Counts) (s : Stores) → programOk c s ≡ true → (d : Counts) (n : ℕ) → endFunctionOf c ≡ Done d n → programIn d s ≡ programIn c s
-unfolding endFunctionOf programIn
-end-reads c s e d n q =
-    let f : Done (counts (c .constants) (c .structs) (c .functions) (c .text) 0) 0 ≡ Done d n = rw (good-of c s e .counts) at q in
-    let z : counts (c .constants) (c .structs) (c .functions) (c .text) 0 ≡ d = cc in
-    rw (← z)
+pub end-reads : (running : Bool) (c : Counts) (s : Stores) → programOk c s ≡ true → (d : Counts) (n : ℕ) → endFunctionOf running c ≡ Done d n → programIn d s ≡ programIn c s
+unfolding programIn
+end-reads running c s e d n q = rw (← (ended-in-main running c d n q))

@@ -348,34 +348,37 @@ appended-done : (c : Counts) (bytes : List ℕ) (place : ℕ) (s : Stores) {want
 unfolding appended
 appended-done c bytes place s {want} e = record { reads = λ d i q. let z : c ≡ d = cc in rw (← z) e }
 
-pub emit-reads : (c : Counts) (op : ℕ) (bytes : List ℕ) (place : ℕ) (s : Stores) → programOk c s ≡ true
-    → Reads (changed (programIn c s) (c .current) (longerBy bytes (replicate (length bytes) place))) (emitOf c op bytes place s)
+pub emit-reads : (running : Bool) (c : Counts) (op : ℕ) (bytes : List ℕ) (place : ℕ) (s : Stores) → programOk c s ≡ true
+    → Reads (changed (programIn c s) (c .current) (longerBy bytes (replicate (length bytes) place))) (emitOf running c op bytes place s)
 unfolding emitOf emitIn
-emit-reads c op bytes place s e =
+emit-reads running c op bytes place s e =
     let want = changed (programIn c s) (c .current) (longerBy bytes (replicate (length bytes) place)) in
     reads-if want (codeOrder c s) _ _ (λ _.
+    reads-if want running _ _ (λ _. reads-refused want 25 s) (λ _.
     reads-if want (ltb codeLimit (sizeHere c s + length bytes)) _ _ (λ _. reads-refused want 22 s) (λ short.
     reads-if want (ltb (codeRoom c s) (endHere c s + length bytes)) _ _ (λ _. reads-refused want 21 s) (λ fits.
-    reads-if want (leb 38 op) _ _ (λ _. reads-refused want 1 s) (λ _. appended-done c bytes place s (appended-reads c bytes place s (good-of c s e) (ltb-false _ _ short) (ltb-false _ _ fits))))))
+    reads-if want (leb 38 op) _ _ (λ _. reads-refused want 1 s) (λ _. appended-done c bytes place s (appended-reads c bytes place s (good-of c s e) (ltb-false _ _ short) (ltb-false _ _ fits)))))))
     (λ _. reads-refused want 19 s)
 
 patched-done : (c : Counts) (at a : ℕ) (s : Stores) {want : Program} → programIn c (patched c at a s .stores) ≡ want → Reads want (patched c at a s)
 unfolding patched
 patched-done c at a s e = record { reads = λ d i q. let z : c ≡ d = cc in rw (← z) e }
 
-pub patch-reads : (c : Counts) (at a : ℕ) (s : Stores) → programOk c s ≡ true → Reads (changed (programIn c s) (c .current) (patchedBy at (u16 a))) (patchOf c at a s)
+pub patch-reads : (running : Bool) (c : Counts) (at a : ℕ) (s : Stores) → programOk c s ≡ true → Reads (changed (programIn c s) (c .current) (patchedBy at (u16 a))) (patchOf running c at a s)
 unfolding patchOf
-patch-reads c at a s e =
+patch-reads running c at a s e =
     let want = changed (programIn c s) (c .current) (patchedBy at (u16 a)) in
     reads-if want (patchOrder c s) _ _ (λ _.
-    reads-if want (ltb (sizeHere c s) (at + 2)) _ _ (λ _. reads-refused want 23 s) (λ f. patched-done c at a s (patched-reads c at a s (good-of c s e) (ltb-false _ _ f))))
+    reads-if want running _ _ (λ _. reads-refused want 25 s) (λ _.
+    reads-if want (ltb (sizeHere c s) (at + 2)) _ _ (λ _. reads-refused want 23 s) (λ f. patched-done c at a s (patched-reads c at a s (good-of c s e) (ltb-false _ _ f)))))
     (λ _. reads-refused want 19 s)
 
-pub add-constant-reads : (c : Counts) (x : Constant) (lent : List ℕ) (s : Stores) → programOk c s ≡ true → Reads (withOne (programIn c s) (meant x lent)) (addConstantOf c x lent s)
+pub add-constant-reads : (running : Bool) (c : Counts) (x : Constant) (lent : List ℕ) (s : Stores) → programOk c s ≡ true → Reads (withOne (programIn c s) (meant x lent)) (addConstantOf running c x lent s)
 unfolding addConstantOf
-add-constant-reads c x lent s e =
+add-constant-reads running c x lent s e =
     let want = withOne (programIn c s) (meant x lent) in
     reads-if want (constantOrder c s) _ _ (λ _.
+    reads-if want running _ _ (λ _. reads-refused want 25 s) (λ _.
     reads-if want (leb constantLimit (c .constants)) _ _ (λ _. reads-refused want 22 s) (λ _.
-    reads-if want (leb (places 2 (s .constants)) (c .constants)) _ _ (λ _. reads-refused want 21 s) (λ fits. added-reads c s (good-of c s e) (leb-false _ _ fits) x lent)))
+    reads-if want (leb (places 2 (s .constants)) (c .constants)) _ _ (λ _. reads-refused want 21 s) (λ fits. added-reads c s (good-of c s e) (leb-false _ _ fits) x lent))))
     (λ _. reads-refused want 19 s)

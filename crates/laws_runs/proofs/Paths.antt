@@ -3,10 +3,12 @@ use mathlib.Core.Path.{_≡_, refl, sym, ap, subst, _∙_}
 use mathlib.Core.Bool.{Bool, true, false}
 use Prim.Native.Nat.{ℕ, zero, suc, _+_, _≤_, _<_}
 use native.Mathlib.Omega.{arith}
+use borrow.Author.Tests.{ne-eqb}
 use Rattle.model.specs.declared.Value.{Value}
 use Rattle.model.specs.Steps.{World, State, Outcome, went, returned, faulted, short, stepOf}
 use Rattle.model.specs.Runs.{Progress, atStart, counted, Ended, ended, stopped, paused, over, endFrom, next, turn, runFor}
-use Rattle.laws_runs.specs.Paths.{Grows, Adds, Steps, none, on, ret, rootReturns, By, Marked}
+use Rattle.model.specs.Machines.{someLast}
+use Rattle.laws_runs.specs.Paths.{Grows, Adds, Steps, none, on, ret, rootReturns, By, Marked, AnswersReturns}
 use Rattle.laws_runs.proofs.Spends.{went-spends, returned-spends}
 use Rattle.laws_runs.proofs.Adds.{grows-none, grows-on, step-adds}
 use Rattle.laws_runs.proofs.Ends.{end-over, end-step}
@@ -17,6 +19,14 @@ marked s = record { last = refl; heap = grows-none (s .heap) }
 
 marked-again : (v : Value) (m : Progress) (s : State) → Marked (counted v m s) s
 marked-again v m s = record { last = refl; heap = grows-none (s .heap) }
+
+pub a-run-that-starts-has-no-value : (s : State) → AnswersReturns (atStart s)
+unfolding someLast
+a-run-that-starts-has-no-value s = refl
+
+returned-answers : (v : Value) (m : Progress) (s : State) → AnswersReturns (counted v m s)
+unfolding someLast
+returned-answers v m s = let some : suc (m .returns) ≡ 0 → ⊥ = λ e. omega (arith, e) in rw (ne-eqb _ _ some)
 
 module _ (w : World) where
   -- ---- from a run to its steps
@@ -85,6 +95,12 @@ module _ (w : World) where
   returns-counted none = omega arith
   returns-counted (on o q p) = returns-counted p
   returns-counted (ret o q p) = let z = returns-counted p in omega arith
+
+  -- it has a value to answer exactly if it has completed a root Return
+  pub a-run-has-a-value-exactly-behind-a-root-return : {n : ℕ} {m k : Progress} {s t : State} → AnswersReturns m → Steps w n m s k t → AnswersReturns k
+  a-run-has-a-value-exactly-behind-a-root-return a none = a
+  a-run-has-a-value-exactly-behind-a-root-return a (on o q p) = a-run-has-a-value-exactly-behind-a-root-return a p
+  a-run-has-a-value-exactly-behind-a-root-return a (ret {m = m} {s' = s'} {v = v} o q p) = a-run-has-a-value-exactly-behind-a-root-return (returned-answers v m s') p
 
   went-adds : (s s' : State) → stepOf w s ≡ went s' → Adds (s .heap) (s .last) (went s')
   went-adds s s' q = subst (Adds (s .heap) (s .last)) q (step-adds w s)

@@ -10,10 +10,10 @@ use Rattle.model.specs.declared.Fault.{Fault}
 use Rattle.model.specs.Steps.{World, State, went, returned, withUnits, stepOf}
 use Rattle.model.specs.Runs.{Machine, begin, Progress, atStart, counted, Ended, ended, stopped, paused, over, endFrom, endOf, traceable, cutAt, recovered, Under, Part, ends, pauses, partOf, beginOf, continueOf, abandonOf, givenUp, runOf}
 use Rattle.laws_runs.specs.Sane.{AllPlaced, SaneWorld, CallersFit, Rooted, Sane, SaneMark, Returns, Faults, Kept}
-use Rattle.laws_runs.specs.Paths.{Steps, none, on, ret, By, EndedBy, StoppedBy, PausedBy, Marked}
+use Rattle.laws_runs.specs.Paths.{Steps, none, on, ret, By, EndedBy, StoppedBy, PausedBy, Marked, AnswersReturns}
 use Rattle.laws_runs.specs.Parts.{SaneUnder, SanePart}
 use Rattle.laws_runs.proofs.Ends.{end-of}
-use Rattle.laws_runs.proofs.Paths.{run-by, run-path, path-spends, marked, mark-last, mark-grows}
+use Rattle.laws_runs.proofs.Paths.{run-by, run-path, path-spends, marked, mark-last, mark-grows, a-run-that-starts-has-no-value, a-run-has-a-value-exactly-behind-a-root-return}
 use Rattle.laws_runs.proofs.Placed.{all-grows}
 use Rattle.laws_runs.proofs.Keeps.{code-fits, cut-faults, step-keeps}
 
@@ -95,7 +95,7 @@ module _ (w : World) (good : SaneWorld w) where
 
   -- ---- a part of a run, from s, where the run had come as far as m and was given g units in all
 
-  module _ {m : Progress} {s : State} (start : List Value) {g : ℕ} (h : Sane w s) (k : SaneMark w m) (f : Marked m s) (l : length start ≤ w .stackRoom)
+  module _ {m : Progress} {s : State} (start : List Value) {g : ℕ} (h : Sane w s) (k : SaneMark w m) (f : Marked m s) (a : AnswersReturns m) (l : length start ≤ w .stackRoom)
       (p : AllPlaced (length (w .text)) (m .heap) start) (u : s .units ≤ g) where
     by-sane : (e : Ended) → By w m s e → SanePart w (partOf w start g e)
     unfolding partOf
@@ -109,19 +109,27 @@ module _ (w : World) (good : SaneWorld w) where
       placed = all-grows (length (w .text)) (mark-grows w f (r .path)) start p;
       mark = path-mark h k (r .path);
       marked = mark-last w f (r .path);
+      answer = a-run-has-a-value-exactly-behind-a-root-return w a (r .path);
     }
 
     -- what it leaves is in good order
-    pub part-sane : SanePart w (partOf w start g (endFrom w m s))
+    part-sane : SanePart w (partOf w start g (endFrom w m s))
     part-sane = by-sane (endFrom w m s) (run-by w m s)
 
+  -- from its start, given u units at once
+  pub first-part-sane : (m : Machine) (u : ℕ) → Sane w (begin m u) → SanePart w (partOf w (m .stack) u (endOf w (begin m u)))
+  unfolding endOf
+  first-part-sane m u h = part-sane (m .stack) h (mark-sane h) (marked (begin m u)) (a-run-that-starts-has-no-value (begin m u)) (h .stack) (h .placed) (omega arith)
+
   pub begun-sane : (m : Machine) → Sane w (begin m 0) → SanePart w (beginOf w m)
-  unfolding beginOf endOf
-  begun-sane m h = part-sane (m .stack) h (mark-sane h) (marked (begin m 0)) (h .stack) (h .placed) (omega arith)
+  unfolding beginOf
+  begun-sane m h = first-part-sane m 0 h
 
   pub continued-sane : (r : Under) → SaneUnder w r → (u : ℕ) → SanePart w (continueOf w r u)
   unfolding continueOf
-  continued-sane r h u = part-sane (r .start) (any-units (r .state) (h .state)) (h .mark) (record { last = h .marked .last; heap = h .marked .heap }) (h .start) (h .placed) (let z = h .units in omega arith)
+  continued-sane r h u =
+      part-sane (r .start) (any-units (r .state) (h .state)) (h .mark) (record { last = h .marked .last; heap = h .marked .heap }) (h .answer) (h .start) (h .placed)
+      (let z = h .units in omega arith)
 
   pub abandoned-sane : (r : Under) → SaneUnder w r → (i : ℕ) → Sane w (begin (abandonOf w r .machine) i)
   unfolding abandonOf
@@ -135,5 +143,5 @@ module _ (w : World) (good : SaneWorld w) where
 
   -- so is what one run leaves
   pub ran-sane : (m : Machine) (u : ℕ) → Sane w (begin m u) → (i : ℕ) → Sane w (begin (runOf w m u .machine) i)
-  unfolding runOf endOf
-  ran-sane m u h = given-up-sane _ (part-sane (m .stack) h (mark-sane h) (marked (begin m u)) (h .stack) (h .placed) (omega arith))
+  unfolding runOf
+  ran-sane m u h = given-up-sane _ (first-part-sane m u h)

@@ -7,7 +7,7 @@ use lib.ListN.{length}
 use Rattle.model.specs.Steps.{World}
 use Rattle.model.specs.Runs.{begin, over, Under, Part, ends, pauses, continueOf}
 use Rattle.laws_runs.specs.Sane.{AllPlaced, Sane, SaneMark}
-use Rattle.laws_runs.specs.Paths.{Marked}
+use Rattle.laws_runs.specs.Paths.{Marked, AnswersReturns}
 
 -- it stands before an instruction, and what abandoning it would leave is in good order
 pub record SaneUnder (w : World) (r : Under) : Type 0 where
@@ -18,6 +18,7 @@ pub record SaneUnder (w : World) (r : Under) : Type 0 where
   pub placed : AllPlaced (length (w .text)) (r .progress .heap) (r .start)
   pub mark : SaneMark w (r .progress)
   pub marked : Marked (r .progress) (r .state)
+  pub answer : AnswersReturns (r .progress)
 
 -- what a part leaves is in good order: the machine, for any later run, or the run under way
 abbrev pub SanePart : World → Part → Type 0

@@ -1,8 +1,9 @@
 -- The written steps of a run, one after another.
 use mathlib.Core.Path.{_≡_}
-use mathlib.Core.Bool.{true, false}
+use mathlib.Core.Bool.{true, false, not}
 use mathlib.Core.List.{List, _++_}
 use Prim.Native.Nat.{ℕ, suc, _+_, _≤_, _<_}
+use lib.Dec.{eqb}
 use Rattle.model.specs.declared.Value.{Value}
 use Rattle.model.specs.declared.Last.{Last}
 use Rattle.model.specs.declared.Last.the-variants.{Is}
@@ -10,6 +11,7 @@ use Rattle.model.specs.declared.Fault.{Fault}
 use Rattle.model.specs.Heap.{Cell}
 use Rattle.model.specs.Steps.{World, State, Outcome, went, returned, faulted, short, withUnits, stepOf}
 use Rattle.model.specs.Runs.{Progress, counted, Ended, ended, stopped, paused, over, endFrom}
+use Rattle.model.specs.Machines.{someLast}
 
 -- ---- what a step from s does to the units, the heap and the last result
 
@@ -77,6 +79,10 @@ By w m s (paused k t) = PausedBy w m s k t
 pub record Marked (m : Progress) (s : State) : Type 0 where
   pub last : m .last ≡ s .last
   pub heap : Grows (m .heap) (s .heap)
+
+-- a run that has come so far has a value to answer exactly if it has completed a root Return
+abbrev pub AnswersReturns : Progress → Type 0
+AnswersReturns m = someLast (m .answer) ≡ not (eqb (m .returns) 0)
 
 -- ---- more units
 

@@ -1,22 +1,23 @@
--- A run from its start: what the loop leans on, and that its end is the run's.
+-- A run that goes on: what the loop leans on, and that its end is the part's.
 --     Begins        what is at hand when the loop begins
---     begins-end    the end from there is the end of the run
+--     begins-end    the end from there is the end of the part
 --     run-under     the loop may begin
 -- Assumes nothing.
 use mathlib.Core.Path.{_≡_, refl}
-use Prim.Native.Nat.{ℕ, _-_, _<_, _^_}
+use Prim.Native.Nat.{ℕ, _+_, _-_}
 use native.Mathlib.Omega.{arith}
 use lib.ListN.{getD}
 use Rattle.model.specs.declared.Vm.{Vm}
 use Rattle.model.specs.Values.{places}
-use Rattle.model.specs.Steps.{State}
-use Rattle.model.specs.Runs.{begin, atStart, endOf, endFrom}
+use Rattle.model.specs.Steps.{State, withUnits}
+use Rattle.model.specs.Runs.{endFrom}
 use Rattle.model.specs.Stores.{Stores}
-use Rattle.model.specs.Machines.{Lent, frameRoom, machineIn, worldOf}
+use Rattle.model.specs.Machines.{Lent, frameRoom, machineIn, underIn, worldOf, continues}
+use Rattle.model.specs.Machines as mc
+use Rattle.laws_runs.specs.Sane.{Sane}
 use Rattle.laws_runs.specs.Ordered.{CodeBytes}
-use Rattle.laws_runs.proofs.Ends.{end-of}
 use Rattle.laws_runs.proofs.Programs.{parts-of}
-use Rattle.laws_runs.proofs.Ordered.{order-of, order-exact, order-sane}
+use Rattle.laws_runs.proofs.Ordered.{order-of, under-of, order-exact, order-sane}
 use Rattle.frames.specs.Links.{noFrame, callersOf}
 use Rattle.run_arms.specs.declared.Fixed.{Fixed}
 use Rattle.run_arms.specs.declared.Going.{Going}
@@ -31,22 +32,21 @@ use Rattle.machine.proofs.Granted.{lengths-of}
 use Rattle.machine.proofs.Lends.{FixedIn, text-taken, lent-is, coded-is}
 
 pub record Begins (m : Vm) (s : Stores) (l : Lent) (u : ℕ) (k : Fixed) (g : Going) : Type 0 where
-  pub granted : Granted m s l
+  pub granted : Granted (continues u) m s l
   pub bytes : CodeBytes s
   pub fixed : FixedIn m l k
-  pub fits : u < 2 ^ 64
-  pub begun : Begun m (getD (l .frames) (m .frames - 1) noFrame) u g
+  pub begun : Begun m (getD (l .frames) (m .frames - 1) noFrame) (m .run .given - m .run .spent + u) g
 
 module _ (m : Vm) (s : Stores) (l : Lent) (u : ℕ) (k : Fixed) (g : Going) (h : Begins m s l u k g) where
   abbrev start : State
   start = stateOf g (l .stack) (l .cells) (callersOf (g .callers) (l .frames))
 
-  -- the running machine stands for the machine that the run is of
-  start-is : begin (machineIn m l) u ≡ start
-  unfolding machineIn
+  -- the running machine stands for the run that is under way, with the units that are left and those that come to them
+  start-is : withUnits (underIn m l .state .units + u) (underIn m l .state) ≡ start
+  unfolding underIn machineIn
   start-is =
       let b = h .begun in
-      let n = lengths-of m s l (h .granted) in
+      let n = lengths-of m s l (h .granted .order) in
       rw (
         callers-are (m .frames) (l .frames) refl (let z = n .current in omega arith),
         innermost-is (m .frames) (l .frames) refl,
@@ -60,12 +60,13 @@ module _ (m : Vm) (s : Stores) (l : Lent) (u : ℕ) (k : Fixed) (g : Going) (h :
         b .last,
       )
 
-  same-progress : progressIn g (l .cells) ≡ atStart start
-  unfolding answerIn
-  same-progress = rw (h .begun .returns, h .begun .mark, h .begun .used)
+  same-progress : underIn m l .progress ≡ progressIn g (l .cells)
+  unfolding underIn mc.progressIn answerIn
+  same-progress = rw (h .begun .returns, h .begun .mark, h .begun .last)
 
-  pub begins-end : endOf (worldOf m s l) (begin (machineIn m l) u) ≡ endFrom (worldOf m s l) (progressIn g (l .cells)) start
-  begins-end = rw (start-is, same-progress) (end-of (worldOf m s l) start)
+  pub begins-end : endFrom (worldOf m s l) (underIn m l .progress) (withUnits (underIn m l .state .units + u) (underIn m l .state))
+      ≡ endFrom (worldOf m s l) (progressIn g (l .cells)) start
+  begins-end = rw (start-is, same-progress)
 
   pub run-under : Under (worldOf m s l) k g (m .program .text) (s .constants) (s .functions) (s .text) (s .main) (s .other) (l .stack) (l .cells) (l .frames)
   unfolding frameRoom places
@@ -74,7 +75,11 @@ module _ (m : Vm) (s : Stores) (l : Lent) (u : ℕ) (k : Fixed) (g : Going) (h :
       let b = h .begun in
       let x = h .fixed in
       let exact = order-exact m s l o in
-      let n = lengths-of m s l (h .granted) in
+      let n = lengths-of m s l o in
+      let r = under-of m s l o (h .granted .fits .0) in
+      let few = h .granted .fits .1 .1 in
+      let sane : Sane (worldOf m s l) (withUnits (underIn m l .state .units + u) (underIn m l .state)) =
+      unfold underIn in order-sane m s l o (m .run .given - m .run .spent + u) in
       record {
         taken = text-taken (m .program) s (parts-of (m .program) s (order-of m s l o .program));
         lent = lent-is m s l k x o (h .bytes);
@@ -83,8 +88,8 @@ module _ (m : Vm) (s : Stores) (l : Lent) (u : ℕ) (k : Fixed) (g : Going) (h :
         fits = record {
           stack = record { count = omega arith; room = omega arith; exact = rw (b .sp) (exact-all (m .stack) (l .stack) (exact .stack)); callers = omega arith };
           cells = record { count = rw (b .used) (n .cells); exact = rw (b .used) (exact .cells) };
-          mark = omega arith;
-          returns = omega (arith, b .returns, b .units, h .fits);
+          mark = omega (arith, b .mark, b .used, r .mark);
+          returns = omega (arith, b .returns, b .units, r .returns, r .spent);
         };
-        sane = rw start-is at (order-sane m s l o u);
+        sane = rw start-is at sane;
       }

@@ -1,20 +1,23 @@
 -- tests, records and answers in a walk
 pub mod Tests
 pub mod Rows
--- what a run is passed
-pub mod Parameters
--- a run as an entry: refused or granted
+-- a call of a run: refused or granted, and in what order
 pub mod Granted
+pub mod Refusals
 -- its copied stack
 pub mod Copies
--- its start, its backtrace, its end
+-- what it comes to, and leaves in good order
+pub mod Leaves
+-- a beginning
+pub mod Beginnings
+-- a continuing: its start, its backtrace, its end
 pub mod Lends
 pub mod Begins
 pub mod Traced
+pub mod Stops
 pub mod Settles
--- and all of it over the lent slices
-pub mod Slices
-pub mod Refusals
+-- an abandoning
+pub mod Abandons
 -- the backtrace as an entry
 pub mod Tracings
 -- making a machine

@@ -1,37 +1,41 @@
--- A run to its end: what the entry has done is what the rules say of the run.
+-- A part of a run to its end: what the entry has done is what the rules say of the part.
 --     Came                                          what is at hand when the loop has ended
 --     units-left, callers-small, callers-there      its counts are within bounds
---     copy-there, stack-there                       the stack can be put back
---     trace-ready                                   the backtrace of a run that has stopped can be written
---     run-ended, run-faulted                        the entry's contract where the run has ended, and where it has stopped
+--     answerable                                    it has a last result, where it has completed a root Return
+--     run-settled                                   the entry's contract where no fault has stopped the run
+--     stops                                         and what is at hand where one has
 -- Assumes nothing.
-use mathlib.Core.Path.{_≡_, refl, sym, ap, _∙_}
-use mathlib.Core.Bool.{true}
-use mathlib.Core.List.{List, [], _∷_}
-use Prim.Native.Nat.{ℕ, suc, _-_, _*_, _≤_, _<_, _^_}
+use mathlib.Core.Path.{_≡_, refl, sym, subst, _∙_}
+use mathlib.Core.Bool.{true, false, _||_, true≢false}
+use mathlib.Core.List.{List, []}
+use Prim.Native.Nat.{ℕ, suc, _+_, _-_, _≤_, _<_, _^_}
 use native.Mathlib.Omega.{arith}
-use lib.ListN.{length, getD, set, take, length-set}
-use lib.Seq.{getD-set-same, length-sets}
+use lib.Dec.{eqb}
+use lib.ListN.{length, set, length-set}
+use lib.Seq.{getD-set-same}
 use Rattle.model.specs.declared.Vm.{Vm}
 use Rattle.model.specs.declared.Last.{Last}
 use Rattle.model.specs.declared.Last.the-variants.{Nothing, Is}
+use Rattle.model.specs.declared.Value.{Value}
 use Rattle.model.specs.declared.Fault.{Fault}
 use Rattle.model.specs.declared.Fault.the-variants as f
 use Rattle.model.specs.declared.Frame.{Frame}
 use Rattle.model.specs.declared.Tally.{Tally}
-use Rattle.model.specs.declared.RunResult.{RunResult}
 use Rattle.model.specs.Basics.{written}
-use Rattle.model.specs.Values.{faultNumber, places, vals}
-use Rattle.model.specs.Programs.{functionAt}
-use Rattle.model.specs.Runs.{begin, machineOf, Ended, ended, endOf, root, traceOf, traceable, recovered, Ran, answered, fault, partOf, cutAt, abandonOf, givenUp, runOf}
-use Rattle.model.specs.Stores.{Stores, size, codeWord, functionsFrom, worldIn}
-use Rattle.model.specs.Machines.{Lent, frameRoom, innermost, callersIn, machineIn, worldOf, runOrder, ran, runAnswer, copyAfter, entryWords, traceOfReply, traceAfter, entriesIn, SameRooms, Left, RunPost}
+use Rattle.model.specs.Values.{faultNumber, vals}
+use Rattle.model.specs.Steps.{World, State, withUnits}
+use Rattle.model.specs.Runs.{Progress, machineOf, Ended, ended, paused, endFrom, answered, fault, ends, partOf, continueOf}
+use Rattle.model.specs.Stores.{Stores, worldIn}
+use Rattle.model.specs.Machines.{Lent, frameRoom, innermost, callersIn, machineIn, underIn, worldOf, continues, entryWords, traceOfReply, traceOfPart, SameRooms, Leaves, Left, RunPost}
 use Rattle.model.specs.Machines as mc
 use Rattle.cells.proofs.Stands.{exact-cut}
-use Rattle.laws_runs.specs.Ordered.{Exact}
-use Rattle.laws_runs.proofs.Programs.{Parts, parts-of, has-main, code-size}
-use Rattle.laws_runs.proofs.Ordered.{order-of, order-exact, run-order}
-use Rattle.frames.specs.Links.{noFrame, callersOf, traceWords, TraceFits}
+use Rattle.laws_runs.specs.Sane.{Sane}
+use Rattle.laws_runs.specs.Paths.{Steps, none, on, ret, rootReturns, EndedBy, StoppedBy, PausedBy}
+use Rattle.laws_runs.specs.Parts.{SaneUnder, SanePart}
+use Rattle.laws_runs.proofs.Paths.{run-path, path-spends, returns-counted, a-run-has-a-value-exactly-behind-a-root-return}
+use Rattle.laws_runs.proofs.Runs.{any-units}
+use Rattle.laws_runs.proofs.Ordered.{under-of, order-under, answer-to}
+use Rattle.frames.specs.Links.{noFrame, callersOf}
 use Rattle.run_arms.specs.declared.Fixed.{Fixed}
 use Rattle.run_arms.specs.declared.Going.{Going}
 use Rattle.run_arms.specs.Links.{frameIn, stateOf}
@@ -39,14 +43,16 @@ use Rattle.run_arms.proofs.Keeping.{exact-at}
 use Rattle.run_steps.specs.Links.{answerIn, progressIn}
 use Rattle.run_loop.specs.declared.Course.{Course}
 use Rattle.run_loop.specs.Links.{Ends, over, pause, stop, TurnsPost}
-use Rattle.run_ends.specs.Links.{vmEnded, resultBy, tallyOf, endedWith, vmFaulted, faultedWith}
-use Rattle.run_ends.proofs.Ruled.{an-end-leaves-the-machine-as-it-stands, an-end-answers-by-the-rules, a-fault-leaves-the-recovered-machine, a-fault-answers-by-the-rules}
+use Rattle.value.specs.Links.{lastIn}
+use Rattle.run_ends.specs.Links.{Answerable, vmEnded, resultBy, tallyOf, endedWith, vmPaused, pausedWith, settledWith}
+use Rattle.run_ends.proofs.Ruled.{an-end-leaves-the-machine-as-it-stands, an-end-answers-by-the-rules, a-paused-run-is-under-way, a-pause-answers-by-the-rules}
+use Rattle.run_ends.proofs.Leaving.{PausedExact}
 use Rattle.machine.specs.Links.{runLent, Granted}
-use Rattle.frames.proofs.Callers.{innermost-is, callers-are, callers-kept, length-callers}
-use Rattle.machine.proofs.Copies.{restored-at, same-kind, same-payload, same-vals}
-use Rattle.machine.proofs.Granted.{Lengths, lengths-of}
+use Rattle.frames.proofs.Callers.{innermost-is, callers-are, callers-kept}
+use Rattle.machine.proofs.Granted.{Saved, saved-of, trace-long}
 use Rattle.machine.proofs.Begins.{Begins, begins-end}
-use Rattle.machine.proofs.Traced.{traced-first, traced-at, readable, trace-told, length-trace, entries-told}
+use Rattle.machine.proofs.Leaves.{comesTo, posted, part-sane, leaves-idle, leaves-under}
+use Rattle.machine.proofs.Stops.{Stops}
 
 pub record Came (m : Vm) (s : Stores) (l : Lent) (u : ℕ) (k : Fixed) (g : Going) (c : Course) (stack cells : List ℕ) (frames : List Frame) : Type 0 where
   pub begins : Begins m s l u k g
@@ -57,7 +63,7 @@ pub record Came (m : Vm) (s : Stores) (l : Lent) (u : ℕ) (k : Fixed) (g : Goin
 
 -- ---- answers
 
-result-left : (s : Stores) (l l' : Lent) (a : Last) (m : Vm) (n : Tally) → runOrder m s l' ≡ true → Left s l (resultBy a m n) l'
+result-left : (s : Stores) (l l' : Lent) (a : Last) (m : Vm) (n : Tally) → Leaves false m s l' → Left s l (resultBy a m n) l'
 unfolding resultBy
 result-left s l l' Nothing m n e = e
 result-left s l l' (Is x) m n e = e
@@ -68,70 +74,80 @@ unfolding entryWords traceOfReply answered
 no-trace Nothing n = refl
 no-trace (Is x) n = refl
 
-some-fault : (x : Fault) → faultNumber x ≡ 0 → ⊥
+-- the number of a fault is neither 0 nor 13
+some-fault : (x : Fault) → (eqb (faultNumber x) 0 || eqb (faultNumber x) 13) ≡ false
 unfolding faultNumber
-some-fault f.UnknownOpcode e = omega arith
-some-fault f.NotCarried e = omega arith
-some-fault f.CodeEnds e = omega arith
-some-fault f.TooFewValues e = omega arith
-some-fault (f.WrongKind v) e = omega arith
-some-fault f.OutOfRange e = omega arith
-some-fault f.NoLastResult e = omega arith
-some-fault f.ZeroDivisor e = omega arith
-some-fault f.StackFull e = omega arith
-some-fault f.FramesFull e = omega arith
-some-fault f.CellsFull e = omega arith
-some-fault f.TooDeep e = omega arith
-some-fault f.NoFunction e = omega arith
+some-fault f.UnknownOpcode = refl
+some-fault f.NotCarried = refl
+some-fault f.CodeEnds = refl
+some-fault f.TooFewValues = refl
+some-fault (f.WrongKind v) = refl
+some-fault f.OutOfRange = refl
+some-fault f.NoLastResult = refl
+some-fault f.ZeroDivisor = refl
+some-fault f.StackFull = refl
+some-fault f.FramesFull = refl
+some-fault f.CellsFull = refl
+some-fault f.TooDeep = refl
+some-fault f.NoFunction = refl
+
+-- each root Return is a step
+returns-are-steps : {w : World} {n : ℕ} {p q : Progress} {s t : State} (z : Steps w n p s q t) → rootReturns z ≤ n
+unfolding rootReturns
+returns-are-steps none = omega arith
+returns-are-steps (on o e z) = let y = returns-are-steps z in omega arith
+returns-are-steps (ret o e z) = let y = returns-are-steps z in omega arith
+
+-- and spends a unit: a paused run has at least as many units spent as root Returns completed
+returns-spend : (w : World) (p : Progress) (s : State) {q : Progress} {t : State} → endFrom w p s ≡ paused q t → q .returns + t .units ≤ p .returns + s .units
+returns-spend w p s {q} {t} e =
+    let r : PausedBy w p s q t = run-path w p s e in
+    let a = returns-are-steps (r .path) in
+    let b = path-spends w (r .path) in
+    omega (arith, returns-counted w (r .path))
 
 -- ---- a run that was granted
-
-module _ (m : Vm) (s : Stores) (l : Lent) (u : ℕ) where
-  run-is : (e : Ended) → Granted m s l → endOf (worldOf m s l) (begin (machineIn m l) u) ≡ e → runAnswer m s l u ≡ ran (m .program) (givenUp (worldOf m s l) (partOf (worldOf m s l) (machineIn m l .stack) u e))
-  unfolding runAnswer runOf
-  run-is e g q = rw (g .order, g .long, q)
-
-  posted : (y : Ran) (r : RunResult) (l' : Lent) → runAnswer m s l u ≡ ran (m .program) y → mc.answerIn l' r ≡ ran (m .program) y
-      → l' .copy ≡ written (l .copy) 0 (take (2 * m .stack) (l .stack)) → l' .backtrace ≡ written (l .backtrace) 0 (entryWords (traceOfReply (y .reply)))
-      → SameRooms l l' → Left s l r l' → RunPost m s l u r l'
-  unfolding copyAfter traceAfter
-  posted y r l' q a c b x z = record {
-    answer = rw q a;
-    copy = rw q c;
-    backtrace = rw q b;
-    rooms = x;
-    left = z;
-  }
 
 module _ (m : Vm) (s : Stores) (l : Lent) (u : ℕ) (k : Fixed) (g : Going) (c : Course) (stack cells : List ℕ) (frames : List Frame) (h : Came m s l u k g c stack cells frames) where
   abbrev now : Going
   now = c .going
 
-  abbrev copied : List ℕ
-  copied = written (l .copy) 0 (take (2 * m .stack) (l .stack))
+  abbrev world : World
+  world = worldOf m s l
+
+  abbrev given : ℕ
+  given = m .run .given + u
+
+  abbrev start : List Value
+  start = vals (m .run .saved) (l .copy)
 
   abbrev callers : List Frame
   callers = callersOf (now .callers) frames
 
-  abbrev words : List ℕ
-  words = traceWords (s .functions) (s .mainPlaces) (s .otherPlaces) (frameIn now ∷ callers)
+  abbrev state : State
+  state = stateOf now stack cells callers
 
-  abbrev ranEnd : Ended
-  ranEnd = endOf (worldOf m s l) (begin (machineIn m l) u)
+  abbrev partEnd : Ended
+  partEnd = endFrom world (underIn m l .progress) (withUnits (underIn m l .state .units + u) (underIn m l .state))
 
-  lengths : Lengths m l
-  lengths = lengths-of m s l (h .begins .granted)
+  granted : Granted (continues u) m s l
+  granted = h .begins .granted
 
-  parts : Parts (m .program) s
-  parts = parts-of (m .program) s (order-of m s l (h .begins .granted .order) .program)
+  saved : Saved m l
+  saved = saved-of m s l (granted .order) (granted .fits .0)
 
-  ends : Ends (worldOf m s l) ranEnd c stack cells frames
-  ends = rw (begins-end m s l u k g (h .begins)) (h .turns .ends)
+  came : Ends world partEnd c stack cells frames
+  came = rw (begins-end m s l u k g (h .begins)) (h .turns .ends)
+
+  -- the part that it comes to
+  part-is : (e : Ended) → partEnd ≡ e → comesTo m s l (continues u) ≡ partOf world start given e
+  unfolding continueOf
+  part-is e q = rw q (unfold underIn in refl)
 
   few-callers : now .callers < frameRoom (l .frames)
   few-callers = let z = h .turns .fits .stack .callers in omega (arith, h .begins .fixed .frames)
 
-  pub units-left : now .units ≤ u
+  pub units-left : now .units ≤ given
   units-left = let z = h .turns .units in omega (arith, h .begins .begun .units)
 
   pub callers-small : now .callers < 2 ^ 32
@@ -142,177 +158,137 @@ module _ (m : Vm) (s : Stores) (l : Lent) (u : ℕ) (k : Fixed) (g : Going) (c :
   unfolding frameRoom
   callers-there = let z = few-callers in omega (arith, h .framesRoom)
 
-  pub copy-there : 2 * m .stack ≤ length copied
-  unfolding written
-  copy-there = omega (arith, length-sets (l .copy) 0 (take (2 * m .stack) (l .stack)), lengths .copy)
+  told : {n : ℕ} {t : State} → Steps world n (underIn m l .progress) (withUnits (underIn m l .state .units + u) (underIn m l .state)) (progressIn now cells) t → Answerable now
+  unfolding Answerable answerIn
+  told p =
+      answer-to (eqb (now .returns) 0) (lastIn (now .kind) (now .payload))
+      (a-run-has-a-value-exactly-behind-a-root-return world (order-under m s l (granted .order) (granted .fits .0) .answer) p)
 
-  pub stack-there : 2 * m .stack ≤ length stack
-  stack-there = omega (arith, h .stackRoom, lengths .stack)
+  answers-by : Ends world partEnd c stack cells frames → Answerable now
+  answers-by (over n e z) = let r : EndedBy world _ _ _ _ = run-path world _ _ e in told (r .path)
+  answers-by (pause n e z o) = let r : PausedBy world _ _ _ _ = run-path world _ _ e in told (r .path)
+  answers-by (stop x n e t) = let r : StoppedBy world _ _ _ _ _ = run-path world _ _ e in told (r .path)
 
-  -- ---- ended
+  pub answerable : Answerable now
+  answerable = answers-by came
 
-  module _ (no : c .fault ≡ 0) where
-    is-ended : Ends (worldOf m s l) ranEnd c stack cells frames → ranEnd ≡ ended (progressIn now cells) (stateOf now stack cells callers)
-    is-ended (over n e z) = e
-    is-ended (pause g n e t) = absurd (let z : ⊥ = omega (arith, ap (λ (x : Course). x .fault) n) in z)
-    is-ended (stop x n e t) = absurd (some-fault x (sym n ∙ no))
+  -- ---- no fault has stopped it: the current frame is put to its callers
 
-    abbrev framesEnded : List Frame
-    framesEnded = set frames (now .callers) (frameIn now)
+  abbrev framesLeft : List Frame
+  framesLeft = set frames (now .callers) (frameIn now)
 
-    abbrev lentEnded : Lent
-    lentEnded = runLent stack cells framesEnded copied (l .backtrace)
+  abbrev left : Lent
+  left = runLent stack cells framesLeft (l .copy) (l .backtrace)
 
-    one-less : suc (now .callers) - 1 ≡ now .callers
-    one-less = omega arith
+  one-less : suc (now .callers) - 1 ≡ now .callers
+  one-less = omega arith
 
-    current-put : innermost (suc (now .callers)) framesEnded ≡ frameIn now
-    current-put = innermost-is (suc (now .callers)) framesEnded one-less ∙ getD-set-same frames (now .callers) (frameIn now) noFrame callers-there
+  current-put : innermost (suc (now .callers)) framesLeft ≡ frameIn now
+  current-put = innermost-is (suc (now .callers)) framesLeft one-less ∙ getD-set-same frames (now .callers) (frameIn now) noFrame callers-there
 
-    callers-stay : callersIn (suc (now .callers)) framesEnded ≡ callers
-    callers-stay =
-        let there = callers-there in
-        callers-are (suc (now .callers)) framesEnded one-less (omega (arith, length-set frames (now .callers) (frameIn now)))
-        ∙ callers-kept (now .callers) (now .callers) frames (frameIn now) (omega arith)
+  callers-stay : callersIn (suc (now .callers)) framesLeft ≡ callers
+  callers-stay =
+      let there = callers-there in
+      callers-are (suc (now .callers)) framesLeft one-less (omega (arith, length-set frames (now .callers) (frameIn now)))
+      ∙ callers-kept (now .callers) (now .callers) frames (frameIn now) (omega arith)
 
-    machine-ended : machineIn (vmEnded m now) lentEnded ≡ machineOf (stateOf now stack cells callers)
+  rooms : SameRooms l left
+  unfolding runLent
+  rooms = record { stack = h .stackRoom; cells = h .cellRoom; frames = length-set frames (now .callers) (frameIn now) ∙ h .framesRoom }
+
+  -- ended
+
+  module _ (e : partEnd ≡ ended (progressIn now cells) state) (sane : Sane world state) where
+    machine-ended : machineIn (vmEnded m now) left ≡ machineOf state
     unfolding runLent
-    machine-ended = an-end-leaves-the-machine-as-it-stands m u now lentEnded current-put callers-stay
+    machine-ended = an-end-leaves-the-machine-as-it-stands m given now left current-put callers-stay
 
-    rooms-ended : SameRooms l lentEnded
-    unfolding runLent
-    rooms-ended = record { stack = h .stackRoom; cells = h .cellRoom; frames = length-set frames (now .callers) (frameIn now) ∙ h .framesRoom }
-
-    order-ended : runOrder (vmEnded m now) s lentEnded ≡ true
-    order-ended =
-        run-order s u (h .begins .granted .order) (h .begins .bytes)
-        (unfold vmEnded in record { program = refl; stack = rooms-ended .stack; cells = rooms-ended .cells; frames = rooms-ended .frames })
+    leaves-ended : Leaves false (vmEnded m now) s left
+    leaves-ended =
+        leaves-idle s (granted .order)
+        (unfold vmEnded in record { program = refl; stack = rooms .stack; cells = rooms .cells; frames = rooms .frames })
         (unfold vmEnded runLent in record { cells = h .turns .fits .cells .exact; stack = exact-at (now .sp) stack (h .turns .fits .stack .exact); frames = omega arith })
-        (machine-ended ∙ unfold runOf partOf givenUp in rw (is-ended ends))
+        (unfold vmEnded in refl)
+        (λ i. rw machine-ended (any-units state sane))
 
-    pub run-ended : RunPost m s l u (endedWith m u now) lentEnded
-    unfolding endedWith
+    run-ended : RunPost (continues u) m s l (endedWith m given now) left
     run-ended =
-        let q = run-is m s l u (ended (progressIn now cells) (stateOf now stack cells callers)) (h .begins .granted) (is-ended ends) in
-        posted m s l u _ (endedWith m u now) lentEnded q
-        (unfold runLent endedWith in an-end-answers-by-the-rules m u now lentEnded current-put callers-stay (worldOf m s l) (machineIn m l .stack))
+        posted m s l (continues u) granted (part-is _ e) (endedWith m given now) left
+        (unfold runLent in an-end-answers-by-the-rules m given now left current-put callers-stay world start)
         (unfold runLent in refl)
-        (unfold partOf givenUp runLent written in rw (no-trace (answerIn now) (tallyOf u now)))
-        rooms-ended
-        (result-left s l lentEnded (answerIn now) (vmEnded m now) (tallyOf u now) order-ended)
+        (unfold partOf traceOfPart runLent written in rw (no-trace (answerIn now) (tallyOf given now)))
+        rooms
+        (unfold endedWith in result-left s l left (answerIn now) (vmEnded m now) (tallyOf given now) leaves-ended)
 
-  -- ---- stopped
+  -- paused
 
-  module _ (some : c .fault ≡ 0 → ⊥) where
-    -- what one run then comes to: the fault that stopped it, or 13 where it was given up; and its backtrace stands
-    record Stop : Type 0 where
-      settles : givenUp (worldOf m s l) (partOf (worldOf m s l) (machineIn m l .stack) u ranEnd)
-          ≡ record {
-            reply = fault (c .fault) (tallyOf u now) (traceOf (functionsFrom (m .program .functions) 0 s) (frameIn now ∷ callers));
-            machine = recovered (worldOf m s l) (machineIn m l .stack) (progressIn now cells);
-          }
-      traced : traceable (functionsFrom (m .program .functions) 0 s) (frameIn now ∷ callers) ≡ true
+  module _ (e : partEnd ≡ paused (progressIn now cells) state) where
+    stands : underIn (vmPaused m given now) left ≡ record { given = given; start = start; progress = progressIn now cells; state = state }
+    stands = unfold runLent in a-paused-run-is-under-way m given now left current-put callers-stay units-left refl
 
-    is-stopped : Ends (worldOf m s l) ranEnd c stack cells frames → Stop
-    unfolding worldOf worldIn partOf givenUp abandonOf cutAt answerIn
-    is-stopped (over n e z) = absurd (some n)
-    is-stopped (pause g n e t) = let z : u - 0 ≡ u = omega arith in record { settles = rw (e, n, z); traced = rw n t }
-    is-stopped (stop x n e t) = record { settles = rw (e, n); traced = t }
+    under-sane : SaneUnder world (underIn (vmPaused m given now) left)
+    unfolding partOf
+    under-sane = rw stands (subst (SanePart world) (part-is _ e) (part-sane m s l (continues u) granted (h .begins .bytes)))
 
-    stops : Stop
-    stops = is-stopped ends
-
-    pub trace-ready : TraceFits (s .functions) (s .mainPlaces) (s .otherPlaces) (frameIn now) (now .callers) frames (length (l .backtrace))
-    unfolding frameRoom places
-    trace-ready =
-        let fs = functionsFrom (m .program .functions) 0 s in
-        let (first, rest) = traced-first fs (frameIn now) callers (stops .traced) in
-        let n = lengths in
-        let z = few-callers in
+    paused-exact : PausedExact (vmPaused m given now) left
+    unfolding vmPaused runLent
+    paused-exact =
+        let r = under-of m s l (granted .order) (granted .fits .0) in
+        let spends = returns-spend world (underIn m l .progress) (withUnits (underIn m l .state .units + u) (underIn m l .state)) e in
         record {
-          fits = omega arith;
-          there = let y = callers-there in omega arith;
-          first = readable (m .program) s parts (frameIn now) first;
-          each = (λ i l. readable (m .program) s parts (getD frames i noFrame) (traced-at fs (now .callers) frames rest i l));
-        }
-
-    abbrev framesStopped : List Frame
-    framesStopped = set frames 0 (root (size (codeWord (s .functions) 0)))
-
-    abbrev stackStopped : List ℕ
-    stackStopped = written stack 0 (take (2 * m .stack) copied)
-
-    abbrev traced : List ℕ
-    traced = written (l .backtrace) 0 words
-
-    abbrev lentStopped : Lent
-    lentStopped = runLent stackStopped cells framesStopped copied traced
-
-    same-words : (i : ℕ) → i < 2 * m .stack → getD stackStopped i 0 ≡ getD (l .stack) i 0
-    same-words = restored-at (2 * m .stack) (l .stack) (l .copy) stack (lengths .stack) (lengths .copy) stack-there
-
-    main-length : length (functionAt (functionsFrom (m .program .functions) 0 s) 0 .code) ≡ size (codeWord (s .functions) 0)
-    main-length = code-size (m .program) s parts 0 (has-main (m .program) s parts)
-
-    stack-put-back : vals (m .stack) stackStopped ≡ machineIn m l .stack
-    unfolding machineIn
-    stack-put-back = same-vals (m .stack) stackStopped (l .stack) same-words
-
-    main-put : innermost 1 framesStopped ≡ root (length (functionAt (worldOf m s l .functions) 0 .code))
-    unfolding worldOf worldIn
-    main-put =
-        let there : 0 < length frames = let z = callers-there in omega arith in
-        innermost-is 1 framesStopped (omega arith) ∙ getD-set-same frames 0 (root (size (codeWord (s .functions) 0))) noFrame there ∙ ap root (sym main-length)
-
-    no-callers : callersIn 1 framesStopped ≡ []
-    unfolding callersOf
-    no-callers = let z : 1 - 1 ≡ 0 = omega arith in callers-are 1 framesStopped z (omega arith)
-
-    machine-stopped : machineIn (vmFaulted m now) lentStopped ≡ recovered (worldOf m s l) (machineIn m l .stack) (progressIn now cells)
-    unfolding runLent
-    machine-stopped = a-fault-leaves-the-recovered-machine m u now lentStopped (worldOf m s l) stack-put-back main-put no-callers
-
-    rooms-stopped : SameRooms l lentStopped
-    unfolding runLent written
-    rooms-stopped = record {
-      stack = length-sets stack 0 (take (2 * m .stack) copied) ∙ h .stackRoom;
-      cells = h .cellRoom;
-      frames = length-set frames 0 (root (size (codeWord (s .functions) 0))) ∙ h .framesRoom;
-    }
-
-    exact-stopped : Exact (vmFaulted m now) lentStopped
-    unfolding vmFaulted runLent
-    exact-stopped =
-        let x = order-exact m s l (h .begins .granted .order) in
-        record {
+          spent = omega arith;
+          returns = let z = units-left in unfold underIn mc.progressIn in omega (arith, spends, r .returns, r .spent);
+          mark = h .turns .fits .mark;
+          saved = saved .slots;
           cells = exact-cut (now .used) (now .mark) cells (h .turns .fits .mark) (h .turns .fits .cells .exact);
-          stack = (λ i z. rw (same-kind (m .stack) stackStopped (l .stack) same-words i z, same-payload (m .stack) stackStopped (l .stack) same-words i z) (x .stack i z));
-          frames = omega arith;
+          copy = saved .exact;
         }
 
-    order-stopped : runOrder (vmFaulted m now) s lentStopped ≡ true
-    order-stopped =
-        run-order s u (h .begins .granted .order) (h .begins .bytes)
-        (unfold vmFaulted in record { program = refl; stack = rooms-stopped .stack; cells = rooms-stopped .cells; frames = rooms-stopped .frames })
-        exact-stopped
-        (machine-stopped ∙ unfold runOf in sym (ap (λ (x : Ran). x .machine) (stops .settles)))
+    leaves-paused : Leaves true (vmPaused m given now) s left
+    leaves-paused =
+        leaves-under s (granted .order)
+        (unfold vmPaused in record { program = refl; stack = rooms .stack; cells = rooms .cells; frames = rooms .frames })
+        (unfold vmPaused runLent in record { cells = h .turns .fits .cells .exact; stack = exact-at (now .sp) stack (h .turns .fits .stack .exact); frames = omega arith })
+        (unfold vmPaused in refl) paused-exact under-sane
 
-    told-words : words ≡ entryWords (traceOf (functionsFrom (m .program .functions) 0 s) (frameIn now ∷ callers))
-    told-words = trace-told (m .program) s parts (frameIn now ∷ callers) (stops .traced)
-
-    told-entries : entriesIn (suc (now .callers)) 0 traced ≡ traceOf (functionsFrom (m .program .functions) 0 s) (frameIn now ∷ callers)
-    told-entries =
-        let es = traceOf (functionsFrom (m .program .functions) 0 s) (frameIn now ∷ callers) in
-        let n : length es ≡ suc (now .callers) = length-trace (functionsFrom (m .program .functions) 0 s) (frameIn now ∷ callers) ∙ ap suc (length-callers (now .callers) frames) in
-        let z = trace-ready .fits in
-        rw (told-words, sym n) (entries-told es (l .backtrace) (omega arith))
-
-    pub run-faulted : RunPost m s l u (faultedWith m u now (c .fault)) lentStopped
-    run-faulted =
-        let q = run-is m s l u ranEnd (h .begins .granted) refl ∙ ap (ran (m .program)) (stops .settles) in
-        posted m s l u _ (faultedWith m u now (c .fault)) lentStopped q
-        (unfold runLent in a-fault-answers-by-the-rules m u now lentStopped (worldOf m s l) stack-put-back main-put no-callers (c .fault) told-entries)
+    run-paused : RunPost (continues u) m s l (pausedWith m given now) left
+    run-paused =
+        posted m s l (continues u) granted (part-is _ e) (pausedWith m given now) left
+        (unfold runLent in a-pause-answers-by-the-rules m given now left current-put callers-stay units-left refl world)
         (unfold runLent in refl)
-        (unfold runLent traceOfReply in rw told-words)
-        rooms-stopped
-        (unfold faultedWith in order-stopped)
+        (unfold partOf traceOfPart entryWords runLent written in refl)
+        rooms
+        (unfold pausedWith in leaves-paused)
+
+  settled-by : Ends world partEnd c stack cells frames → (eqb (c .fault) 0 || eqb (c .fault) 13) ≡ true → RunPost (continues u) m s l (settledWith m given now (c .fault)) left
+  unfolding settledWith
+  settled-by (over n e z) fine = rw n (run-ended e z)
+  settled-by (pause n e z o) fine = rw n (run-paused e)
+  settled-by (stop x n e t) fine = absurd (true≢false (sym fine ∙ rw n (some-fault x)))
+
+  pub run-settled : (eqb (c .fault) 0 || eqb (c .fault) 13) ≡ true → RunPost (continues u) m s l (settledWith m given now (c .fault)) left
+  run-settled fine = settled-by came fine
+
+  -- ---- a fault has stopped it
+
+  stopped-by : Ends world partEnd c stack cells frames → (eqb (c .fault) 0 || eqb (c .fault) 13) ≡ false → Stops (continues u) m s l given now (c .fault) stack cells frames
+  unfolding partOf worldOf worldIn
+  stopped-by (over n e z) bad = absurd (true≢false (sym (rw n) ∙ bad))
+  stopped-by (pause n e z o) bad = absurd (true≢false (sym (rw n) ∙ bad))
+  stopped-by (stop x n e t) bad = record {
+    granted = granted;
+    saved = saved;
+    long = trace-long l (granted .fits .1 .0);
+    copyStays = refl;
+    answer = part-is _ e ∙ rw n;
+    traced = t;
+    sane = subst (SanePart world) (part-is _ e) (part-sane m s l (continues u) granted (h .begins .bytes));
+    exactCells = exact-cut (now .used) (now .mark) cells (h .turns .fits .mark) (h .turns .fits .cells .exact);
+    few = few-callers;
+    stackRoom = h .stackRoom;
+    cellRoom = h .cellRoom;
+    framesRoom = h .framesRoom;
+  }
+
+  pub stops : (eqb (c .fault) 0 || eqb (c .fault) 13) ≡ false → Stops (continues u) m s l given now (c .fault) stack cells frames
+  stops bad = stopped-by came bad

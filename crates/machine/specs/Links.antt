@@ -2,13 +2,12 @@
 use mathlib.Core.Path.{_≡_}
 use mathlib.Core.Bool.{Bool, true, false}
 use mathlib.Core.List.{List, _∷_}
-use Prim.Native.Nat.{ℕ, _-_, _≤_}
+use Prim.Native.Nat.{ℕ, _+_, _-_, _≤_, _<_, _^_}
 use lib.Dec.{ltb}
 use lib.ListN.{length, getD}
 use Rattle.model.specs.declared.Counts.{Counts}
 use Rattle.model.specs.declared.Vm.{Vm}
 use Rattle.model.specs.declared.Frame.{Frame}
-use Rattle.model.specs.declared.RunResult.the-variants as r
 use Rattle.model.specs.declared.Told.the-variants as t
 use Rattle.model.specs.declared.Started.{Started}
 use Rattle.model.specs.declared.Started.the-variants as st
@@ -17,26 +16,23 @@ use Rattle.model.specs.Values.{places}
 use Rattle.model.specs.Stores.{Stores}
 use Rattle.model.specs.Orders.{traces, judgedBy}
 use Rattle.model.specs.Loading.{OutRes}
-use Rattle.model.specs.Machines.{Lent, runOrder, tooShort, RunPost, StartRes}
+use Rattle.model.specs.Machines.{Lent, runOrder, copyShort, traceShort, RunCall, begins, continues, abandons, StartRes}
 use Rattle.frames.specs.Links.{noFrame, callersOf, traceWords, written, traceGood, TraceFits}
 
 -- what a run is lent besides the program's stores
 unfoldable pub runLent : List ℕ → List ℕ → List Frame → List ℕ → List ℕ → Lent
 runLent stack cells frames copy backtrace = record { stack = stack; cells = cells; frames = frames; copy = copy; backtrace = backtrace }
 
--- a run that is not refused
-pub record Granted (m : Vm) (s : Stores) (l : Lent) : Type 0 where
+-- what a call of a run that is not refused has been judged for, besides its good order
+abbrev pub Fits : RunCall → Vm → Lent → Type 0
+Fits begins m l = (m .run .on ≡ false) × (copyShort l ≡ false)
+Fits (continues u) m l = (m .run .on ≡ true) × ((traceShort l ≡ false) × (m .run .given + u < 2 ^ 64))
+Fits abandons m l = (m .run .on ≡ true) × (traceShort l ≡ false)
+
+-- a call of a run that is not refused
+pub record Granted (c : RunCall) (m : Vm) (s : Stores) (l : Lent) : Type 0 where
   pub order : runOrder m s l ≡ true
-  pub long : tooShort l ≡ false
-
--- the number of a refusal, or 0: by the good order of all but the frames, that of the frames, and whether a store is too short
-unfoldable pub refusalBy : Bool → Bool → Bool → ℕ
-refusalBy good fine short = if good then (if fine then (if short then 17 else 0) else 19) else 19
-
--- what this number says of a run
-pub record RunJudged (m : Vm) (s : Stores) (l : Lent) (n : ℕ) : Type 0 where
-  pub grants : n ≡ 0 → Granted m s l
-  pub refuses : (n ≡ 0 → ⊥) → (u : ℕ) → RunPost m s l u (r.Refused n) l
+  pub fits : Fits c m l
 
 -- ---- the backtrace
 

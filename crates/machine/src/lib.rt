@@ -1,11 +1,14 @@
 // A machine over lent stores: the public entries.
-pub mod running; // running.rt: a run's judging, its two ends, and recovery
+pub mod running; // running.rt: a run's judging, its going on, its end, and recovery
 pub mod starting; // starting.rt: making a machine, all but its frame
 pub mod tracing; // tracing.rt: judging and writing a backtrace
 
+use crate::running::current;
+use crate::running::given_of;
 use crate::running::go;
 use crate::running::not_run;
-use crate::running::run_refusal;
+use crate::running::order;
+use crate::running::stop;
 use crate::starting::first_frame;
 use crate::starting::is_done;
 use crate::starting::load_program;
@@ -20,18 +23,69 @@ use model::RunResult;
 use model::Started;
 use model::Told;
 use model::Vm;
+use run_ends::abandon_refusal;
+use run_ends::abandoned;
+use run_ends::begin_refusal;
+use run_ends::begun;
+use run_ends::continue_refusal;
+use run_ends::copy_front;
 ghost use mathlib.Core.Path.{_≡_};
 ghost use mathlib.Core.List.{List};
 ghost use Prim.Native.Nat.{ℕ};
-ghost use Rattle.model.specs.Machines.{backtraceIn, RunPost, loadMachineOf, newMachineOf};
+ghost use Rattle.model.specs.Machines.{backtraceIn, begins, continues, abandons, RunPost, loadMachineOf, newMachineOf};
 ghost use Rattle.model.specs.Stores.{Stores};
 ghost use Rattle.layout.specs.Links.{namesLent};
 ghost use Rattle.model.specs.Stores.{storesOf as lent};
 ghost use Rattle.run_ends.specs.Links.{programLent};
 ghost use Rattle.machine.specs.Links.{runLent};
 
-// A run of the machine with `units`.
-pub fn run(
+// A run is begun: the stack is copied. It writes no backtrace, so its promise is of any store for one.
+pub fn begin(
+    m: Vm,
+    constants: &[u64],
+    structs: &[u64],
+    functions: &[u64],
+    text: &[u8],
+    main: &[u8],
+    main_places: &[u32],
+    other: &[u8],
+    other_places: &[u32],
+    stack: &[u64],
+    cells: &[u64],
+    frames: &[Frame],
+    copy: &mut [u64],
+) -> RunResult
+    ensures { λ r. ⌜ ((backtrace : List ℕ) → RunPost begins m (programLent (now (structs .entry)) (now (constants .entry)) (now (functions .entry)) (now (text .entry)) (now (main .entry)) (now («main_places» .entry)) (now (other .entry)) (now («other_places» .entry))) (runLent (now (stack .entry)) (now (cells .entry)) (now (frames .entry)) (now (copy .entry)) backtrace) r (runLent (now (stack .entry)) (now (cells .entry)) (now (frames .entry)) (now (copy .exit)) backtrace)) ⌝ }
+{
+    let good = order(
+        m,
+        constants,
+        structs,
+        functions,
+        text,
+        main,
+        main_places,
+        other,
+        other_places,
+        stack,
+        cells,
+        frames,
+        copy,
+    );
+    let why = begin_refusal(good, m, stack.len(), copy.len());
+    if why == 0 {
+        let n = m.stack;
+        copy_front(n, stack, copy);
+        let f = current(m, frames);
+        let answer = begun(m, f, functions);
+        return answer;
+    }
+    let answer = not_run(why);
+    answer
+}
+
+// The run that is under way goes on, with `units` more.
+pub fn continue_run(
     m: Vm,
     units: u64,
     constants: &[u64],
@@ -45,15 +99,13 @@ pub fn run(
     stack: &mut [u64],
     cells: &mut [u64],
     frames: &mut [Frame],
-    copy: &mut [u64],
+    copy: &[u64],
     backtrace: &mut [u32],
 ) -> RunResult
-    ensures { λ r. ⌜ RunPost m (programLent (now (structs .entry)) (now (constants .entry)) (now (functions .entry)) (now (text .entry)) (now (main .entry)) (now («main_places» .entry)) (now (other .entry)) (now («other_places» .entry))) (runLent (now (stack .entry)) (now (cells .entry)) (now (frames .entry)) (now (copy .entry)) (now (backtrace .entry))) units r (runLent (now (stack .exit)) (now (cells .exit)) (now (frames .exit)) (now (copy .exit)) (now (backtrace .exit))) ⌝ }
+    ensures { λ r. ⌜ RunPost (continues units) m (programLent (now (structs .entry)) (now (constants .entry)) (now (functions .entry)) (now (text .entry)) (now (main .entry)) (now («main_places» .entry)) (now (other .entry)) (now («other_places» .entry))) (runLent (now (stack .entry)) (now (cells .entry)) (now (frames .entry)) (now (copy .entry)) (now (backtrace .entry))) r (runLent (now (stack .exit)) (now (cells .exit)) (now (frames .exit)) (now (copy .entry)) (now (backtrace .exit))) ⌝ }
 {
-    let why = run_refusal(
+    let good = order(
         m,
-        copy.len(),
-        backtrace.len(),
         constants,
         structs,
         functions,
@@ -65,7 +117,9 @@ pub fn run(
         stack,
         cells,
         frames,
+        copy,
     );
+    let why = continue_refusal(good, m, units, frames.len(), backtrace.len());
     if why == 0 {
         let answer = go(
             m,
@@ -80,6 +134,64 @@ pub fn run(
             other_places,
             stack,
             cells,
+            frames,
+            copy,
+            backtrace,
+        );
+        return answer;
+    }
+    let answer = not_run(why);
+    answer
+}
+
+// The run that is under way is abandoned: fault 13.
+pub fn abandon(
+    m: Vm,
+    constants: &[u64],
+    structs: &[u64],
+    functions: &[u64],
+    text: &[u8],
+    main: &[u8],
+    main_places: &[u32],
+    other: &[u8],
+    other_places: &[u32],
+    stack: &mut [u64],
+    cells: &[u64],
+    frames: &mut [Frame],
+    copy: &[u64],
+    backtrace: &mut [u32],
+) -> RunResult
+    ensures { λ r. ⌜ RunPost abandons m (programLent (now (structs .entry)) (now (constants .entry)) (now (functions .entry)) (now (text .entry)) (now (main .entry)) (now («main_places» .entry)) (now (other .entry)) (now («other_places» .entry))) (runLent (now (stack .entry)) (now (cells .entry)) (now (frames .entry)) (now (copy .entry)) (now (backtrace .entry))) r (runLent (now (stack .exit)) (now (cells .entry)) (now (frames .exit)) (now (copy .entry)) (now (backtrace .exit))) ⌝ }
+{
+    let good = order(
+        m,
+        constants,
+        structs,
+        functions,
+        text,
+        main,
+        main_places,
+        other,
+        other_places,
+        stack,
+        cells,
+        frames,
+        copy,
+    );
+    let why = abandon_refusal(good, m, frames.len(), backtrace.len());
+    if why == 0 {
+        let f = current(m, frames);
+        let g = abandoned(m, f);
+        let given = given_of(m);
+        let answer = stop(
+            m,
+            given,
+            g,
+            13,
+            functions,
+            main_places,
+            other_places,
+            stack,
             frames,
             copy,
             backtrace,
@@ -126,11 +238,11 @@ pub fn backtrace(
     told
 }
 
-// A machine over a new program.
-pub fn new(functions: &mut [u64], text: &mut [u8], frames: &mut [Frame]) -> Started
-    ensures { λ r. ⌜ ((rest : Stores) → record { answer = r; stores = namesLent rest (now (functions .exit)) (now (text .exit)); frames = now (frames .exit) } ≡ newMachineOf (namesLent rest (now (functions .entry)) (now (text .entry))) (now (frames .entry))) ⌝ }
+// A machine over a new program, unless one with a run under way (`running`) stands there.
+pub fn new(running: bool, functions: &mut [u64], text: &mut [u8], frames: &mut [Frame]) -> Started
+    ensures { λ r. ⌜ ((rest : Stores) → record { answer = r; stores = namesLent rest (now (functions .exit)) (now (text .exit)); frames = now (frames .exit) } ≡ newMachineOf running (namesLent rest (now (functions .entry)) (now (text .entry))) (now (frames .entry))) ⌝ }
 {
-    let made = new_program(functions, text, frames.len());
+    let made = new_program(running, functions, text, frames.len());
     let done = is_done(made);
     if done {
         let f = first_frame();
@@ -140,8 +252,9 @@ pub fn new(functions: &mut [u64], text: &mut [u8], frames: &mut [Frame]) -> Star
     made
 }
 
-// A machine over the program of an image.
+// A machine over the program of an image, unless one with a run under way (`running`) stands there.
 pub fn load(
+    running: bool,
     image: &[u8],
     constants: &mut [u64],
     structs: &mut [u64],
@@ -153,9 +266,10 @@ pub fn load(
     other_places: &mut [u32],
     frames: &mut [Frame],
 ) -> Started
-    ensures { λ r. ⌜ record { answer = r; stores = lent (now (constants .exit)) (now (structs .exit)) (now (functions .exit)) (now (text .exit)) (now (main .exit)) (now («main_places» .exit)) (now (other .exit)) (now («other_places» .exit)); frames = now (frames .exit) } ≡ loadMachineOf (now (image .entry)) (lent (now (constants .entry)) (now (structs .entry)) (now (functions .entry)) (now (text .entry)) (now (main .entry)) (now («main_places» .entry)) (now (other .entry)) (now («other_places» .entry))) (now (frames .entry)) ⌝ }
+    ensures { λ r. ⌜ record { answer = r; stores = lent (now (constants .exit)) (now (structs .exit)) (now (functions .exit)) (now (text .exit)) (now (main .exit)) (now («main_places» .exit)) (now (other .exit)) (now («other_places» .exit)); frames = now (frames .exit) } ≡ loadMachineOf running (now (image .entry)) (lent (now (constants .entry)) (now (structs .entry)) (now (functions .entry)) (now (text .entry)) (now (main .entry)) (now («main_places» .entry)) (now (other .entry)) (now («other_places» .entry))) (now (frames .entry)) ⌝ }
 {
     let made = load_program(
+        running,
         image,
         constants,
         structs,

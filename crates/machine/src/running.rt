@@ -1,4 +1,5 @@
-// A run over lent stores: its judging, its beginning, its end, and what it leaves where a fault stops it.
+// A run in parts, over lent stores: its judging, its going on, its end, and what it leaves where a fault stops it.
+use crate::tracing::both;
 use crate::tracing::counted;
 use frames::backtrace::trace;
 use frames::order::frames_ok;
@@ -9,15 +10,17 @@ use model::Frame;
 use model::RunResult;
 use model::Vm;
 use run_arms::Going;
-use run_ends::begin;
+use run_ends::all_given;
 use run_ends::copy_front;
-use run_ends::ended;
 use run_ends::faulted;
 use run_ends::fixed;
 use run_ends::innermost_at;
 use run_ends::judge;
+use run_ends::part_ok;
+use run_ends::resumed;
 use run_ends::root_at;
-use run_ends::too_short;
+use run_ends::settled;
+use run_ends::unfaulted;
 use run_loop::frame_of;
 use run_loop::turns;
 ghost use mathlib.Core.Path.{_≡_};
@@ -28,33 +31,26 @@ ghost use Rattle.model.specs.declared.RunResult.the-variants as v;
 ghost use Rattle.model.specs.Runs.{root};
 ghost use Rattle.model.specs.Stores.{size, codeWord};
 ghost use Rattle.model.specs.Emission.{written};
-ghost use Rattle.model.specs.Machines.{RunPost};
+ghost use Rattle.model.specs.Machines.{runOrder, continues, RunPost};
 ghost use Rattle.run_arms.specs.Links.{frameIn};
 ghost use Rattle.frames.specs.Links.{noFrame, callersOf, traceWords, TraceFits};
-ghost use Rattle.run_ends.specs.Links.{programLent, Begun, endedWith, faultedWith};
-ghost use Rattle.machine.specs.Links.{runLent, Granted, refusalBy, RunJudged};
+ghost use Rattle.run_ends.specs.Links.{programLent, Answerable, faultedWith, settledWith};
+ghost use Rattle.machine.specs.Links.{runLent, Granted};
 
-// 19 or 17, or 0: by the good order of all but the frames, that of the frames, and whether a store is too short.
-fn refusal(good: bool, fine: bool, short: bool) -> u8
-    ensures { λ r. ⌜ r ≡ refusalBy good fine short ⌝ }
+// The frame that the machine is in: the innermost.
+pub fn current(m: Vm, frames: &[Frame]) -> Frame
+    requires { ⌜ m .frames - 1 < length (now frames) ⌝ }
+    ensures { λ r. ⌜ r ≡ getD (now (frames .entry)) (m .frames - 1) noFrame ⌝ }
 {
-    if good {
-        if fine {
-            if short {
-                return 17;
-            }
-            return 0;
-        }
-        return 19;
-    }
-    19
+    let n = m.frames;
+    let at = innermost_at(n);
+    let f = read_frame(frames, at);
+    f
 }
 
-// Why a run is refused, or 0. The copy and the backtrace store are judged by their lengths.
-pub fn run_refusal(
+// The good order that every call of a run judges: the machine's, its frames', and that of the run under way.
+pub fn order(
     m: Vm,
-    copies: usize,
-    entries: usize,
     constants: &[u64],
     structs: &[u64],
     functions: &[u64],
@@ -66,8 +62,9 @@ pub fn run_refusal(
     stack: &[u64],
     cells: &[u64],
     frames: &[Frame],
-) -> u8
-    ensures { λ r. ⌜ ((copy backtrace : List ℕ) → length copy ≡ copies → length backtrace ≡ entries → RunJudged m (programLent (now (structs .entry)) (now (constants .entry)) (now (functions .entry)) (now (text .entry)) (now (main .entry)) (now («main_places» .entry)) (now (other .entry)) (now («other_places» .entry))) (runLent (now (stack .entry)) (now (cells .entry)) (now (frames .entry)) copy backtrace) r) ⌝ }
+    copy: &[u64],
+) -> bool
+    ensures { λ r. ⌜ ((backtrace : List ℕ) → r ≡ runOrder m (programLent (now (structs .entry)) (now (constants .entry)) (now (functions .entry)) (now (text .entry)) (now (main .entry)) (now («main_places» .entry)) (now (other .entry)) (now («other_places» .entry))) (runLent (now (stack .entry)) (now (cells .entry)) (now (frames .entry)) (now (copy .entry)) backtrace)) ⌝ }
 {
     let n = m.frames;
     let good = judge(
@@ -86,23 +83,13 @@ pub fn run_refusal(
     let count = counted(good, m);
     let slots = room(stack.len(), 2);
     let fine = frames_ok(functions, count, slots, n, frames);
-    let short = too_short(stack.len(), frames.len(), copies, entries);
-    let why = refusal(good, fine, short);
-    why
-}
-
-// The beginning: the stack is copied, and the innermost frame is read.
-fn start(m: Vm, units: u64, stack: &[u64], frames: &[Frame], copy: &mut [u64]) -> Going
-    requires { ⌜ (2 * m .stack ≤ length (now stack)) × (2 * m .stack ≤ length (now copy)) × (m .frames - 1 < length (now frames)) ⌝ }
-    ensures { λ r. ⌜ Begun m (getD (now (frames .entry)) (m .frames - 1) noFrame) units r × (now (copy .exit) ≡ written (now (copy .entry)) 0 (take (2 * m .stack) (now (stack .entry)))) ⌝ }
-{
-    let n = m.stack;
-    copy_front(n, stack, copy);
-    let count = m.frames;
-    let at = innermost_at(count);
-    let f = read_frame(frames, at);
-    let g = begin(m, f, units);
-    g
+    let held = both(good, fine);
+    if held {
+        let f = current(m, frames);
+        let whole = part_ok(m, f, slots, functions, cells, copy);
+        return whole;
+    }
+    held
 }
 
 // How much of the text is taken.
@@ -112,15 +99,15 @@ fn text_of(m: Vm) -> usize
     m.program.text
 }
 
-// The end of a run that no fault stops: the innermost frame goes back to its store.
-fn finish(m: Vm, units: u64, g: Going, frames: &mut [Frame]) -> RunResult
-    requires { ⌜ (g .units ≤ units) × (g .callers < 2 ^ 32) × (g .callers < length (now frames)) ⌝ }
-    ensures { λ r. ⌜ (r ≡ endedWith m units g) × (now (frames .exit) ≡ set (now (frames .entry)) (g .callers) (frameIn g)) ⌝ }
+// The end of a part that no fault stops: the innermost frame goes back to its store.
+fn finish(m: Vm, given: u64, g: Going, fault: u8, frames: &mut [Frame]) -> RunResult
+    requires { ⌜ (g .units ≤ given) × (g .callers < 2 ^ 32) × (g .callers < length (now frames)) × Answerable g ⌝ }
+    ensures { λ r. ⌜ (r ≡ settledWith m given g fault) × (now (frames .exit) ≡ set (now (frames .entry)) (g .callers) (frameIn g)) ⌝ }
 {
     let f = frame_of(g);
     let at = g.callers;
     push_frame(frames, at, f);
-    let answer = ended(m, units, g);
+    let answer = settled(m, given, g, fault);
     answer
 }
 
@@ -142,10 +129,24 @@ fn recover(n: usize, functions: &[u64], stack: &mut [u64], frames: &mut [Frame],
     push_frame(frames, 0, f);
 }
 
-// The end of a run that a fault stops: its backtrace, then recovery.
-fn stop(
+// The units that the run under way was given in all.
+pub fn given_of(m: Vm) -> u64
+    ensures { λ r. ⌜ r ≡ m .run .given ⌝ }
+{
+    m.run.given
+}
+
+// How many values of the starting stack stand in the copy.
+fn saved_of(m: Vm) -> usize
+    ensures { λ r. ⌜ r ≡ m .run .saved ⌝ }
+{
+    m.run.saved
+}
+
+// The end of a run that a fault stops, or that is abandoned: its backtrace, then recovery.
+pub fn stop(
     m: Vm,
-    units: u64,
+    given: u64,
     g: Going,
     fault: u8,
     functions: &[u64],
@@ -156,8 +157,8 @@ fn stop(
     copy: &[u64],
     backtrace: &mut [u32],
 ) -> RunResult
-    requires { ⌜ (g .units ≤ units) × (g .callers < 2 ^ 32) × TraceFits (now functions) (now «main_places») (now «other_places») (frameIn g) (g .callers) (now frames) (length (now backtrace)) × (2 * m .stack ≤ length (now copy)) × (2 * m .stack ≤ length (now stack)) × (0 < length (now frames)) ⌝ }
-    ensures { λ r. ⌜ (r ≡ faultedWith m units g fault) × (now (backtrace .exit) ≡ written (now (backtrace .entry)) 0 (traceWords (now (functions .entry)) (now («main_places» .entry)) (now («other_places» .entry)) (frameIn g ∷ callersOf (g .callers) (now (frames .entry))))) × (now (stack .exit) ≡ written (now (stack .entry)) 0 (take (2 * m .stack) (now (copy .entry)))) × (now (frames .exit) ≡ set (now (frames .entry)) 0 (root (size (codeWord (now (functions .entry)) 0)))) ⌝ }
+    requires { ⌜ (g .units ≤ given) × (g .callers < 2 ^ 32) × TraceFits (now functions) (now «main_places») (now «other_places») (frameIn g) (g .callers) (now frames) (length (now backtrace)) × (2 * m .run .saved ≤ length (now copy)) × (2 * m .run .saved ≤ length (now stack)) × (0 < length (now frames)) ⌝ }
+    ensures { λ r. ⌜ (r ≡ faultedWith m given g fault) × (now (backtrace .exit) ≡ written (now (backtrace .entry)) 0 (traceWords (now (functions .entry)) (now («main_places» .entry)) (now («other_places» .entry)) (frameIn g ∷ callersOf (g .callers) (now (frames .entry))))) × (now (stack .exit) ≡ written (now (stack .entry)) 0 (take (2 * m .run .saved) (now (copy .entry)))) × (now (frames .exit) ≡ set (now (frames .entry)) 0 (root (size (codeWord (now (functions .entry)) 0)))) ⌝ }
 {
     let f = frame_of(g);
     let callers = g.callers;
@@ -170,13 +171,13 @@ fn stop(
         frames,
         backtrace,
     );
-    let n = m.stack;
+    let n = saved_of(m);
     recover(n, functions, stack, frames, copy);
-    let answer = faulted(m, units, g, fault);
+    let answer = faulted(m, given, g, fault);
     answer
 }
 
-// The run itself, in good order and with stores that are long enough. It is lent the struct names too, which it does not read, so that what it promises is
+// A run goes on, in good order and with stores that are long enough. It is lent the struct names too, which it does not read, so that what it promises is
 // of the whole program.
 pub fn go(
     m: Vm,
@@ -192,14 +193,16 @@ pub fn go(
     stack: &mut [u64],
     cells: &mut [u64],
     frames: &mut [Frame],
-    copy: &mut [u64],
+    copy: &[u64],
     backtrace: &mut [u32],
 ) -> RunResult
-    requires { ⌜ Granted m (programLent (now structs) (now constants) (now functions) (now text) (now main) (now «main_places») (now other) (now «other_places»)) (runLent (now stack) (now cells) (now frames) (now copy) (now backtrace)) ⌝ }
-    ensures { λ r. ⌜ RunPost m (programLent (now (structs .entry)) (now (constants .entry)) (now (functions .entry)) (now (text .entry)) (now (main .entry)) (now («main_places» .entry)) (now (other .entry)) (now («other_places» .entry))) (runLent (now (stack .entry)) (now (cells .entry)) (now (frames .entry)) (now (copy .entry)) (now (backtrace .entry))) units r (runLent (now (stack .exit)) (now (cells .exit)) (now (frames .exit)) (now (copy .exit)) (now (backtrace .exit))) ⌝ }
+    requires { ⌜ Granted (continues units) m (programLent (now structs) (now constants) (now functions) (now text) (now main) (now «main_places») (now other) (now «other_places»)) (runLent (now stack) (now cells) (now frames) (now copy) (now backtrace)) ⌝ }
+    ensures { λ r. ⌜ RunPost (continues units) m (programLent (now (structs .entry)) (now (constants .entry)) (now (functions .entry)) (now (text .entry)) (now (main .entry)) (now («main_places» .entry)) (now (other .entry)) (now («other_places» .entry))) (runLent (now (stack .entry)) (now (cells .entry)) (now (frames .entry)) (now (copy .entry)) (now (backtrace .entry))) r (runLent (now (stack .exit)) (now (cells .exit)) (now (frames .exit)) (now (copy .entry)) (now (backtrace .exit))) ⌝ }
 {
     let k = fixed(m, stack.len(), frames.len());
-    let begun = start(m, units, stack, frames, copy);
+    let f = current(m, frames);
+    let begun = resumed(m, f, units);
+    let given = all_given(m, units);
     let n = text_of(m);
     let c = turns(
         k,
@@ -216,13 +219,14 @@ pub fn go(
     );
     let g = c.going;
     let fault = c.fault;
-    if fault == 0 {
-        let answer = finish(m, units, g, frames);
+    let fine = unfaulted(fault);
+    if fine {
+        let answer = finish(m, given, g, fault, frames);
         return answer;
     }
     let answer = stop(
         m,
-        units,
+        given,
         g,
         fault,
         functions,
@@ -236,6 +240,7 @@ pub fn go(
     answer
 }
 
+// A call that is refused.
 pub fn not_run(n: u8) -> RunResult
     ensures { λ r. ⌜ r ≡ v.Refused n ⌝ }
 {

@@ -1,5 +1,5 @@
 // Making a machine that has not run: all but its frame.
-use emission_tables::functions::new;
+use emission_functions::new;
 use image_judge::Judgement;
 use image_judge::judge;
 use image_load::load;
@@ -12,6 +12,7 @@ use model::NAME_LIMIT;
 use model::Started;
 use run_ends::fresh_vm;
 ghost use mathlib.Core.Path.{_≡_};
+ghost use mathlib.Core.Bool.{false};
 ghost use Prim.Native.Nat.{ℕ};
 ghost use Rattle.model.specs.Runs.{root};
 ghost use Rattle.model.specs.Stores.{Stores};
@@ -43,7 +44,7 @@ pub fn is_done(r: Started) -> bool
 
 // What loading answers where there is no place for a frame: what is wrong with the image comes first.
 pub fn no_place(image: &[u8]) -> Started
-    ensures { λ r. ⌜ ((s : Stores) → Makes (loadMachineOf (now (image .entry)) s) 0 r s) ⌝ }
+    ensures { λ r. ⌜ ((s : Stores) → Makes (loadMachineOf false (now (image .entry)) s) 0 r s) ⌝ }
 {
     match judge(image) {
         Judgement::Broken(o) => Started::Broken(o),
@@ -60,8 +61,9 @@ pub fn no_place(image: &[u8]) -> Started
     }
 }
 
-// Loads the program; `frames` is how many places the frame store has.
+// Loads the program, unless a run is under way (`running`); `frames` is how many places the frame store has.
 pub fn load_program(
+    running: bool,
     image: &[u8],
     constants: &mut [u64],
     structs: &mut [u64],
@@ -73,8 +75,11 @@ pub fn load_program(
     other_places: &mut [u32],
     frames: usize,
 ) -> Started
-    ensures { λ r. ⌜ Makes (loadMachineOf (now (image .entry)) (lent (now (constants .entry)) (now (structs .entry)) (now (functions .entry)) (now (text .entry)) (now (main .entry)) (now («main_places» .entry)) (now (other .entry)) (now («other_places» .entry)))) frames r (lent (now (constants .exit)) (now (structs .exit)) (now (functions .exit)) (now (text .exit)) (now (main .exit)) (now («main_places» .exit)) (now (other .exit)) (now («other_places» .exit))) ⌝ }
+    ensures { λ r. ⌜ Makes (loadMachineOf running (now (image .entry)) (lent (now (constants .entry)) (now (structs .entry)) (now (functions .entry)) (now (text .entry)) (now (main .entry)) (now («main_places» .entry)) (now (other .entry)) (now («other_places» .entry)))) frames r (lent (now (constants .exit)) (now (structs .exit)) (now (functions .exit)) (now (text .exit)) (now (main .exit)) (now («main_places» .exit)) (now (other .exit)) (now («other_places» .exit))) ⌝ }
 {
+    if running {
+        return Started::Refused(25);
+    }
     if frames == 0 {
         return no_place(image);
     }
@@ -99,10 +104,13 @@ pub fn load_program(
     }
 }
 
-// Emits a new program; `frames` is how many places the frame store has.
-pub fn new_program(functions: &mut [u64], text: &mut [u8], frames: usize) -> Started
-    ensures { λ r. ⌜ ((rest : Stores) → Makes (newMachineOf (namesLent rest (now (functions .entry)) (now (text .entry)))) frames r (namesLent rest (now (functions .exit)) (now (text .exit)))) ⌝ }
+// Emits a new program, unless a run is under way (`running`); `frames` is how many places the frame store has.
+pub fn new_program(running: bool, functions: &mut [u64], text: &mut [u8], frames: usize) -> Started
+    ensures { λ r. ⌜ ((rest : Stores) → Makes (newMachineOf running (namesLent rest (now (functions .entry)) (now (text .entry)))) frames r (namesLent rest (now (functions .exit)) (now (text .exit)))) ⌝ }
 {
+    if running {
+        return Started::Refused(25);
+    }
     if frames == 0 {
         return Started::Refused(21);
     }

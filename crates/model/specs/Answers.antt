@@ -35,6 +35,7 @@ abbrev pub runNumber : RunResult → ℕ
 runNumber (r.Value m v t) = 0
 runNumber (r.Continue m t) = 0
 runNumber (r.Fault m n t j) = 0
+runNumber (r.Paused m) = 0
 runNumber (r.Refused n) = n
 
 abbrev pub toldNumber : Told → ℕ

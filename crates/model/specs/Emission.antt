@@ -1,4 +1,5 @@
--- [emission] Each emission entry: its refusals in order (19, 22, 21, then the rest), its answer, and what the stores then hold.
+-- [emission] Each emission entry: its refusals in order (19, 25, 22, 21, then the rest), its answer, and what the stores then hold.
+-- `running`: a run is under way on the machine whose program this is, and the program stays as it is (25).
 use mathlib.Core.Bool.{Bool, true, false, _&&_}
 use mathlib.Core.List.{List, [], _∷_, _++_}
 use mathlib.Core.Option.{Option, none, some}
@@ -93,20 +94,20 @@ emitIn c op bytes place s =
     (if leb 38 op then refuse 1 s else
     appended c bytes place s))
 
-unfoldable pub emitOf : Counts → ℕ → List ℕ → ℕ → Stores → Res
-emitOf c op bytes place s = if codeOrder c s then emitIn c op bytes place s else refuse 19 s
+unfoldable pub emitOf : (running : Bool) → Counts → ℕ → List ℕ → ℕ → Stores → Res
+emitOf running c op bytes place s = if codeOrder c s then (if running then refuse 25 s else emitIn c op bytes place s) else refuse 19 s
 
-unfoldable pub addOpOf : Counts → ℕ → ℕ → Stores → Res
-addOpOf c op place s = emitOf c op (op ∷ []) place s
+unfoldable pub addOpOf : (running : Bool) → Counts → ℕ → ℕ → Stores → Res
+addOpOf running c op place s = emitOf running c op (op ∷ []) place s
 
-unfoldable pub addOp1Of : Counts → ℕ → ℕ → ℕ → Stores → Res
-addOp1Of c op a place s = emitOf c op (op ∷ u16 a) place s
+unfoldable pub addOp1Of : (running : Bool) → Counts → ℕ → ℕ → ℕ → Stores → Res
+addOp1Of running c op a place s = emitOf running c op (op ∷ u16 a) place s
 
-unfoldable pub addOp2Of : Counts → ℕ → ℕ → ℕ → ℕ → Stores → Res
-addOp2Of c op a b place s = emitOf c op (op ∷ (u16 a ++ u16 b)) place s
+unfoldable pub addOp2Of : (running : Bool) → Counts → ℕ → ℕ → ℕ → ℕ → Stores → Res
+addOp2Of running c op a b place s = emitOf running c op (op ∷ (u16 a ++ u16 b)) place s
 
-unfoldable pub addOp3Of : Counts → ℕ → ℕ → ℕ → ℕ → ℕ → Stores → Res
-addOp3Of c op a b d place s = emitOf c op (op ∷ (u16 a ++ u16 b ++ u16 d)) place s
+unfoldable pub addOp3Of : (running : Bool) → Counts → ℕ → ℕ → ℕ → ℕ → ℕ → Stores → Res
+addOp3Of running c op a b d place s = emitOf running c op (op ∷ (u16 a ++ u16 b ++ u16 d)) place s
 
 unfoldable pub currentOffsetOf : Counts → List ℕ → Told
 currentOffsetOf c fs = if countsOk c && functionsOk c fs then t.Number (size (codeWord fs (c .current))) else t.Refused 19
@@ -119,8 +120,13 @@ patchOrder c s = judgedBy patches c s
 unfoldable pub patched : Counts → ℕ → ℕ → Stores → Res
 patched c at a s = done c 0 (withCode c (written (codeHere c s) (start (codeWord (s .functions) (c .current)) + at) (u16 a)) (placesHere c s) s)
 
-unfoldable pub patchOf : Counts → ℕ → ℕ → Stores → Res
-patchOf c at a s = if patchOrder c s then (if ltb (sizeHere c s) (at + 2) then refuse 23 s else patched c at a s) else refuse 19 s
+unfoldable pub patchOf : (running : Bool) → Counts → ℕ → ℕ → Stores → Res
+patchOf running c at a s =
+    if patchOrder c s then
+    (if running then refuse 25 s else
+    (if ltb (sizeHere c s) (at + 2) then refuse 23 s else
+    patched c at a s))
+    else refuse 19 s
 
 -- ---- [emission.constant] add_constant; a text is copied into the text store
 
@@ -143,12 +149,13 @@ constantAdded c k.FunctionReference lent s = withTextConstant c 3 lent s
 unfoldable pub constantOrder : Counts → Stores → Bool
 constantOrder c s = judgedBy adds-constant c s
 
-unfoldable pub addConstantOf : Counts → Constant → List ℕ → Stores → Res
-addConstantOf c x lent s =
+unfoldable pub addConstantOf : (running : Bool) → Counts → Constant → List ℕ → Stores → Res
+addConstantOf running c x lent s =
     if constantOrder c s then
+    (if running then refuse 25 s else
     (if leb constantLimit (c .constants) then refuse 22 s else
     (if leb (places 2 (s .constants)) (c .constants) then refuse 21 s else
-    constantAdded c x lent s))
+    constantAdded c x lent s)))
     else refuse 19 s
 
 -- ---- [emission.struct] add_struct_info: the number of a known name, else a new one
@@ -183,8 +190,12 @@ structFound c lent s none = structAdded c lent s
 unfoldable pub structOrder : Counts → Stores → Bool
 structOrder c s = judgedBy adds-struct c s
 
-unfoldable pub addStructOf : Counts → List ℕ → Stores → Res
-addStructOf c lent s = if structOrder c s then structFound c lent s (firstFrom 0 lent (structNames c s)) else refuse 19 s
+unfoldable pub addStructOf : (running : Bool) → Counts → List ℕ → Stores → Res
+addStructOf running c lent s =
+    if structOrder c s then
+    (if running then refuse 25 s else
+    structFound c lent s (firstFrom 0 lent (structNames c s)))
+    else refuse 19 s
 
 -- ---- [emission.function] begin_function, end_function, get_function_idx
 
@@ -198,16 +209,21 @@ begun c lent s =
     (withFunctions (putWords (s .functions) (c .functions) (pack (c .text) (length lent)) (pack (otherTaken c (s .functions)) 0))
     (withText (written (s .text) (c .text) lent) s))
 
-unfoldable pub beginFunctionOf : Counts → List ℕ → Stores → Res
-beginFunctionOf c lent s =
+unfoldable pub beginFunctionOf : (running : Bool) → Counts → List ℕ → Stores → Res
+beginFunctionOf running c lent s =
     if functionOrder c s then
+    (if running then refuse 25 s else
     (if leb nameLimit (c .functions) then refuse 22 s else
     (if leb (places 2 (s .functions)) (c .functions) then refuse 21 s else
-    (if textRoom c s (length lent) then begun c lent s else refuse 21 s)))
+    (if textRoom c s (length lent) then begun c lent s else refuse 21 s))))
     else refuse 19 s
 
-unfoldable pub endFunctionOf : Counts → Emitted
-endFunctionOf c = if countsOk c then Done (counts (c .constants) (c .structs) (c .functions) (c .text) 0) 0 else Refused 19
+unfoldable pub endFunctionOf : (running : Bool) → Counts → Emitted
+endFunctionOf running c =
+    if countsOk c then
+    (if running then Refused 25 else
+    Done (counts (c .constants) (c .structs) (c .functions) (c .text) 0) 0)
+    else Refused 19
 
 unfoldable pub namesFrom : ℕ → ℕ → Stores → List (List ℕ)
 namesFrom zero i s = []

@@ -201,7 +201,11 @@ examples =
     -- P4: the last result stays
     ∷ (shown (run p4 1000000) shows ran (fault 8 (did 5 1) (entry 0 10 ∷ [])) [] (frame 0 12 0 ∷ []) (Is (scalarOf n1)))
     -- P4 with its units dealt out: the root Return of the first part counts
-    ∷ (shown (inParts p4 loaded (2 ∷ 3 ∷ [])) shows ran (fault 8 (did 5 1) (entry 0 10 ∷ [])) [] (frame 0 12 0 ∷ []) (Is (scalarOf n1)))
+    ∷ (shown (inParts p4 loaded (2 ∷ 2 ∷ 1 ∷ [])) shows ran (fault 8 (did 5 1) (entry 0 10 ∷ [])) [] (frame 0 12 0 ∷ []) (Is (scalarOf n1)))
+    -- P4 abandoned behind its root Return: that has counted, and its last result stays
+    ∷ (shown (inParts p4 loaded (3 ∷ [])) shows ran (fault 13 (did 3 1) (entry 0 6 ∷ [])) [] (frame 0 12 0 ∷ []) (Is (scalarOf n1)))
+    -- P1 begun again at its end: "continue", though there is a last result
+    ∷ (shown (inParts p1 (run p1 1000000 .machine) []) shows ran (continue (did 0 0)) [] (frame 0 8 0 ∷ []) (Is (scalarOf n43)))
     -- P5
     ∷ (shown (run p5 1000000) shows ran (value (v.Boolean true) (did 10 1)) [] (frame 0 20 0 ∷ []) (Is (v.Boolean true)))
     -- given up: with 6 units before Equal, which was not fetched; with 7 and 8 in Equal, whose two pairs they do not pay for

@@ -30,3 +30,5 @@ pub mod Reports
 pub mod Examples
 -- for each of the mistakes that invite themselves, an answer that shows it
 pub mod Mistakes
+-- the calls of a run as entries
+pub mod Entries

@@ -1,16 +1,18 @@
--- [run] The entries of a machine, over what a host lends: a run, the backtrace, and making a machine.
+-- [parts] The entries of a machine, over what a host lends: a run in parts, the backtrace, and making a machine.
 use mathlib.Core.Path.{_≡_}
 use mathlib.Core.Bool.{Bool, true, false, _&&_, _||_}
 use mathlib.Core.List.{List, [], _∷_, reverse}
 use Prim.Native.Nat.{ℕ, zero, suc, _+_, _-_, _*_, min}
-use lib.Dec.{ltb}
+use lib.Dec.{ltb, leb, eqb}
 use lib.ListN.{length, getD, take}
 use Rattle.model.specs.declared.Counts.{Counts}
+use Rattle.model.specs.declared.Run.{Run}
 use Rattle.model.specs.declared.Vm.{Vm}
 use Rattle.model.specs.declared.RunResult.{RunResult}
 use Rattle.model.specs.declared.RunResult.the-variants as r
 use Rattle.model.specs.declared.Frame.{Frame}
-use Rattle.model.specs.declared.Last.the-variants.{Nothing}
+use Rattle.model.specs.declared.Last.{Last}
+use Rattle.model.specs.declared.Last.the-variants.{Nothing, Is}
 use Rattle.model.specs.declared.Emitted.{Emitted}
 use Rattle.model.specs.declared.Emitted.the-variants as e
 use Rattle.model.specs.declared.Loaded.{Loaded}
@@ -21,14 +23,15 @@ use Rattle.model.specs.declared.Started.the-variants as st
 use Rattle.model.specs.Basics.{if_then_else_}
 use Rattle.model.specs.Values.{places, mostPlaces, vals}
 use Rattle.model.specs.Heap.{heapOf}
+use Rattle.model.specs.Programs.{functionAt}
 use Rattle.model.specs.Steps.{World}
-use Rattle.model.specs.Runs.{Machine, root, Entry, entry, Traced, trace, untraced, backtraceOf, Reply, value, continue, fault, Ran, runOf}
+use Rattle.model.specs.Runs.{Machine, begin, Progress, root, Entry, entry, Traced, trace, untraced, backtraceOf, Reply, value, continue, fault, Under, Part, ends, pauses, beginOf, continueOf, abandonOf}
 use Rattle.model.specs.Stores.{Stores, worldIn, functionsFrom}
 use Rattle.model.specs.Orders.{traces, judgedBy, programOk, cellsOk, stackOk, lastOk, frameStoreOk}
 use Rattle.model.specs.Emission.{written, newOf}
 use Rattle.model.specs.Loading.{OutRes, loadOf}
 
--- what a host lends a run besides the program's stores
+-- what a host lends a machine besides the program's stores
 pub record Lent : Type 0 where
   pub stack : List ℕ
   pub cells : List ℕ
@@ -60,34 +63,136 @@ machineIn m l = record {
 unfoldable pub worldOf : Vm → Stores → Lent → World
 worldOf m s l = worldIn (m .program) s (places 2 (l .stack)) (frameRoom (l .frames)) (places 2 (l .cells))
 
+-- how far the run under way has come: the last result is that of its last root Return, if it had one
+unfoldable pub progressIn : Vm → Lent → Progress
+progressIn m l = record {
+  answer = if eqb (m .run .returns) 0 then Nothing else m .last;
+  returns = m .run .returns;
+  heap = heapOf (m .run .mark) (l .cells);
+  last = m .last;
+}
+
+-- the run under way; its starting stack stands in the copy store
+unfoldable pub underIn : Vm → Lent → Under
+underIn m l = record {
+  given = m .run .given;
+  start = vals (m .run .saved) (l .copy);
+  progress = progressIn m l;
+  state = begin (machineIn m l) (m .run .given - m .run .spent);
+}
+
 -- ---- [order.machine] the good order that a run judges: the whole program's, and then the machine's cells, stack, last result and frames
 
-unfoldable pub runOrder : Vm → Stores → Lent → Bool
-runOrder m s l =
+unfoldable pub machineOrder : Vm → Stores → Lent → Bool
+machineOrder m s l =
     programOk (m .program) s
     && cellsOk (m .program .text) (m .cells) (l .cells)
     && stackOk (m .program .text) (heapOf (m .cells) (l .cells)) (m .stack) (l .stack)
     && lastOk (m .program .text) (heapOf (m .cells) (l .cells)) (m .last)
     && frameStoreOk (functionsFrom (m .program .functions) 0 s) (places 2 (l .stack)) (m .frames) (l .frames)
 
--- 17: the copy store is shorter than the stack store, or the backtrace store than the frame store
-unfoldable pub tooShort : Lent → Bool
-tooShort l = ltb (places 2 (l .copy)) (places 2 (l .stack)) || ltb (places 2 (l .backtrace)) (frameRoom (l .frames))
+unfoldable pub someLast : Last → Bool
+someLast Nothing = false
+someLast (Is v) = true
 
--- ---- [run] as an entry: 19, 17, then the run
+-- [order.run] "the units spent be at most those given and the innermost position be below its code length"; what abandoning would leave, the copy's
+-- values, the last result and the cells of the mark, is in order; each root Return has spent a unit, and left a last result
+unfoldable pub underOrder : Vm → Stores → Lent → Bool
+underOrder m s l =
+    leb (m .run .spent) (m .run .given)
+    && leb (m .run .returns) (m .run .spent)
+    && (eqb (m .run .returns) 0 || someLast (m .last))
+    && leb (m .run .mark) (m .cells)
+    && leb (m .run .saved) (places 2 (l .stack))
+    && cellsOk (m .program .text) (m .run .mark) (l .cells)
+    && stackOk (m .program .text) (heapOf (m .run .mark) (l .cells)) (m .run .saved) (l .copy)
+    && lastOk (m .program .text) (heapOf (m .run .mark) (l .cells)) (m .last)
+    && ltb (innermost (m .frames) (l .frames) .position)
+    (length (functionAt (functionsFrom (m .program .functions) 0 s) (innermost (m .frames) (l .frames) .function) .code))
 
--- the program's counts, the reply and the machine; or a refusal
+-- a machine with no run under way has one form of it
+unfoldable pub idle : Run → Bool
+idle r = eqb (r .given) 0 && eqb (r .spent) 0 && eqb (r .returns) 0 && eqb (r .mark) 0 && eqb (r .saved) 0
+
+unfoldable pub partOrder : Vm → Stores → Lent → Bool
+partOrder m s l = if m .run .on then underOrder m s l else idle (m .run)
+
+unfoldable pub runOrder : Vm → Stores → Lent → Bool
+runOrder m s l = machineOrder m s l && partOrder m s l
+
+-- 17: the copy store is shorter than the stack store; the backtrace store is shorter than the frame store
+unfoldable pub copyShort : Lent → Bool
+copyShort l = ltb (places 2 (l .copy)) (places 2 (l .stack))
+
+unfoldable pub traceShort : Lent → Bool
+traceShort l = ltb (places 2 (l .backtrace)) (frameRoom (l .frames))
+
+-- ---- [begin], [continue], [abandon] as entries: 19, then 18 or 25, 17, 22, then the run
+
+-- the program's counts, and what the part comes to; or a refusal
 pub data RunAnswer : Type 0 where
-  ran : Counts → Ran → RunAnswer
+  ran : Counts → Part → RunAnswer
   refused : ℕ → RunAnswer
 
-unfoldable pub runAnswer : Vm → Stores → Lent → ℕ → RunAnswer
-runAnswer m s l u = if runOrder m s l then (if tooShort l then refused 17 else ran (m .program) (runOf (worldOf m s l) (machineIn m l) u)) else refused 19
+-- the number of a refusal; 0 where there is none
+unfoldable pub refusalOf : RunAnswer → ℕ
+refusalOf (ran c x) = 0
+refusalOf (refused n) = n
+
+-- "25, .. beginning while one is"
+unfoldable pub beginAnswer : Vm → Stores → Lent → RunAnswer
+beginAnswer m s l =
+    if runOrder m s l then
+    (if m .run .on then refused 25 else
+    (if copyShort l then refused 17 else
+    ran (m .program) (beginOf (worldOf m s l) (machineIn m l))))
+    else refused 19
+
+-- "18, continue or abandon with no run under way .. 22, units given in all above 64 bits, nothing run"
+unfoldable pub continueAnswer : Vm → Stores → Lent → (units : ℕ) → RunAnswer
+continueAnswer m s l u =
+    if runOrder m s l then
+    (if m .run .on then
+    (if traceShort l then refused 17 else
+    (if ltb 0xFFFF_FFFF_FFFF_FFFF (m .run .given + u) then refused 22 else
+    ran (m .program) (continueOf (worldOf m s l) (underIn m l) u)))
+    else refused 18)
+    else refused 19
+
+unfoldable pub abandonAnswer : Vm → Stores → Lent → RunAnswer
+abandonAnswer m s l =
+    if runOrder m s l then
+    (if m .run .on then
+    (if traceShort l then refused 17 else
+    ran (m .program) (ends (abandonOf (worldOf m s l) (underIn m l))))
+    else refused 18)
+    else refused 19
+
+-- why one run by these calls, begun, continued and abandoned where it is paused, is refused where the backtrace store is long enough; 0 where it is not
+unfoldable pub runRefusal : Vm → Stores → Lent → ℕ
+runRefusal m s l = if runOrder m s l then (if m .run .on then 25 else (if copyShort l then 17 else 0)) else 19
+
+-- the three calls of a run
+pub data RunCall : Type 0 where
+  begins : RunCall
+  continues : (units : ℕ) → RunCall
+  abandons : RunCall
+
+unfoldable pub runAnswer : RunCall → Vm → Stores → Lent → RunAnswer
+runAnswer begins m s l = beginAnswer m s l
+runAnswer (continues u) m s l = continueAnswer m s l u
+runAnswer abandons m s l = abandonAnswer m s l
 
 -- the starting stack at the front of the copy store, and nothing past it
-unfoldable pub copyAfter : Vm → Lent → RunAnswer → List ℕ
-copyAfter m l (ran c r) = written (l .copy) 0 (take (2 * m .stack) (l .stack))
-copyAfter m l (refused n) = l .copy
+unfoldable pub copied : Vm → Lent → RunAnswer → List ℕ
+copied m l (ran c x) = written (l .copy) 0 (take (2 * m .stack) (l .stack))
+copied m l (refused n) = l .copy
+
+-- a beginning copies the stack; the copy then stays as it is
+unfoldable pub copyAfter : RunCall → Vm → Stores → Lent → List ℕ
+copyAfter begins m s l = copied m l (beginAnswer m s l)
+copyAfter (continues u) m s l = l .copy
+copyAfter abandons m s l = l .copy
 
 unfoldable pub entryWords : List Entry → List ℕ
 entryWords [] = []
@@ -98,46 +203,57 @@ traceOfReply (value v t) = []
 traceOfReply (continue t) = []
 traceOfReply (fault n t es) = es
 
+unfoldable pub traceOfPart : Part → List Entry
+traceOfPart (ends x) = traceOfReply (x .reply)
+traceOfPart (pauses r) = []
+
 -- the backtrace at the front of its store, and nothing past it
 unfoldable pub traceAfter : Lent → RunAnswer → List ℕ
-traceAfter l (ran c r) = written (l .backtrace) 0 (entryWords (traceOfReply (r .reply)))
+traceAfter l (ran c x) = written (l .backtrace) 0 (entryWords (traceOfPart x))
 traceAfter l (refused n) = l .backtrace
 
--- ---- what a run's answer stands for, with the lent stores as they then are
+-- ---- what an answer stands for, with the lent stores as they then are
 
 unfoldable pub entriesIn : ℕ → ℕ → List ℕ → List Entry
 entriesIn zero i b = []
 entriesIn (suc n) i b = entry (getD b (2 * i) 0) (getD b (2 * i + 1) 0) ∷ entriesIn n (suc i) b
 
-abbrev pub ranAs : Vm → Lent → Reply → RunAnswer
-ranAs m l y = ran (m .program) (record { reply = y; machine = machineIn m l })
+abbrev pub endedAs : Vm → Lent → Reply → RunAnswer
+endedAs m l y = ran (m .program) (ends (record { reply = y; machine = machineIn m l }))
 
--- the reply and the machine that a result stands for, in the stores as the run left them
+-- the part that a result stands for, in the stores as it left them
 unfoldable pub answerIn : (left : Lent) → RunResult → RunAnswer
-answerIn l (r.Value m v n) = ranAs m l (value v n)
-answerIn l (r.Continue m n) = ranAs m l (continue n)
-answerIn l (r.Fault m k n j) = ranAs m l (fault k n (entriesIn j 0 (l .backtrace)))
+answerIn l (r.Value m v n) = endedAs m l (value v n)
+answerIn l (r.Continue m n) = endedAs m l (continue n)
+answerIn l (r.Fault m k n j) = endedAs m l (fault k n (entriesIn j 0 (l .backtrace)))
+answerIn l (r.Paused m) = ran (m .program) (pauses (underIn m l))
 answerIn l (r.Refused n) = refused n
 
--- ---- [run] in full: the answer; copy and backtrace whole; a machine in good order, in stores as long as before; a refusal changes nothing
+-- ---- the entries in full: the answer; copy and backtrace whole; a machine in good order, in stores as long as before; a refusal changes nothing
 
 pub record SameRooms (l l' : Lent) : Type 0 where
   pub stack : length (l' .stack) ≡ length (l .stack)
   pub cells : length (l' .cells) ≡ length (l .cells)
   pub frames : length (l' .frames) ≡ length (l .frames)
 
--- what a run leaves is in good order; a refusal leaves the stores as they were
+-- a machine in good order, with a run under way or not
+pub record Leaves (on : Bool) (m : Vm) (s : Stores) (l : Lent) : Type 0 where
+  pub order : runOrder m s l ≡ true
+  pub run : m .run .on ≡ on
+
+-- what a part leaves is in good order, and only a paused run is under way; a refusal leaves the stores as they were
 abbrev pub Left : Stores → (before : Lent) → RunResult → (after : Lent) → Type 0
-Left s l (r.Value m v n) l' = runOrder m s l' ≡ true
-Left s l (r.Continue m n) l' = runOrder m s l' ≡ true
-Left s l (r.Fault m k n j) l' = runOrder m s l' ≡ true
+Left s l (r.Value m v n) l' = Leaves false m s l'
+Left s l (r.Continue m n) l' = Leaves false m s l'
+Left s l (r.Fault m k n j) l' = Leaves false m s l'
+Left s l (r.Paused m) l' = Leaves true m s l'
 Left s l (r.Refused n) l' = l' ≡ l
 
--- m, s, l and u are the machine, the program, what was lent and the units; r is what comes back, and l' what was lent as it then is
-pub record RunPost (m : Vm) (s : Stores) (l : Lent) (u : ℕ) (r : RunResult) (l' : Lent) : Type 0 where
-  pub answer : answerIn l' r ≡ runAnswer m s l u
-  pub copy : l' .copy ≡ copyAfter m l (runAnswer m s l u)
-  pub backtrace : l' .backtrace ≡ traceAfter l (runAnswer m s l u)
+-- what a call of a run promises: s and l are the program and what was lent, r is what comes back, and l' what was lent as it then is
+pub record RunPost (c : RunCall) (m : Vm) (s : Stores) (l : Lent) (r : RunResult) (l' : Lent) : Type 0 where
+  pub answer : answerIn l' r ≡ runAnswer c m s l
+  pub copy : l' .copy ≡ copyAfter c m s l
+  pub backtrace : l' .backtrace ≡ traceAfter l (runAnswer c m s l)
   pub rooms : SameRooms l l'
   pub left : Left s l r l'
 
@@ -160,8 +276,11 @@ backtraceIn m s stack frames out =
 
 -- ---- [start] a machine that has not run: an empty stack, no last result, one frame: function 0, base 0, position 0
 
+abbrev pub noRun : Run
+noRun = record { on = false; given = 0; spent = 0; returns = 0; mark = 0; saved = 0 }
+
 unfoldable pub fresh : Counts → Vm
-fresh c = record { program = c; stack = 0; frames = 1; cells = 0; last = Nothing }
+fresh c = record { program = c; stack = 0; frames = 1; cells = 0; last = Nothing; run = noRun }
 
 pub record StartRes : Type 0 where
   pub answer : Started
@@ -175,18 +294,24 @@ startWith (l.Done c) s' s (r ∷ rs) = record { answer = st.Done (fresh c); stor
 startWith (l.Broken i) s' s rs = record { answer = st.Broken i; stores = s; frames = rs }
 startWith (l.Refused n) s' s rs = record { answer = st.Refused n; stores = s; frames = rs }
 
-unfoldable pub loadMachineOf : List ℕ → Stores → List Frame → StartRes
-loadMachineOf image s rs = startWith (loadOf image s .answer) (loadOf image s .stores) s rs
+-- "loading: 25 first": a machine with a run under way is not loaded over
+unfoldable pub unlessRunning : (running : Bool) → Stores → List Frame → StartRes → StartRes
+unlessRunning true s rs x = record { answer = st.Refused 25; stores = s; frames = rs }
+unlessRunning false s rs x = x
+
+unfoldable pub loadMachineOf : (running : Bool) → List ℕ → Stores → List Frame → StartRes
+loadMachineOf running image s rs = unlessRunning running s rs (startWith (loadOf image s .answer) (loadOf image s .stores) s rs)
 
 unfoldable pub asLoaded : Emitted → Loaded
 asLoaded (e.Done c n) = l.Done c
 asLoaded (e.Refused n) = l.Refused n
 
-unfoldable pub newMachineOf : Stores → List Frame → StartRes
-newMachineOf s rs = startWith (asLoaded (newOf s .answer)) (newOf s .stores) s rs
+unfoldable pub newMachineOf : (running : Bool) → Stores → List Frame → StartRes
+newMachineOf running s rs = unlessRunning running s rs (startWith (asLoaded (newOf s .answer)) (newOf s .stores) s rs)
 
 -- all that an example computes with here
 unfoldable pub computes : Type 1
-unfolding frameRoom innermost callersIn machineIn worldOf runOrder tooShort runAnswer copyAfter entryWords traceOfReply traceAfter entriesIn answerIn
-    traceOrder putTrace backtraceIn fresh startWith loadMachineOf asLoaded newMachineOf
+unfolding frameRoom innermost callersIn machineIn worldOf progressIn underIn machineOrder someLast underOrder idle partOrder runOrder copyShort traceShort beginAnswer continueAnswer
+    abandonAnswer refusalOf runRefusal runAnswer copied copyAfter entryWords traceOfReply traceOfPart traceAfter entriesIn answerIn traceOrder putTrace backtraceIn fresh startWith unlessRunning
+    loadMachineOf asLoaded newMachineOf
 computes = Type 0

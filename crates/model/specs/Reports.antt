@@ -2,11 +2,12 @@
 use mathlib.Core.Bool.{Bool, true, false}
 use mathlib.Core.List.{List, [], _∷_, _++_}
 use Prim.Native.Nat.{ℕ, zero, suc, _+_, _/_, _%_}
-use lib.Dec.{ltb}
+use lib.Dec.{ltb, eqb}
 use lib.Ieee.{binary64, toBits}
 use lib.ListN.{length, replicate}
 use Rattle.model.specs.declared.Frame.{Frame}
 use Rattle.model.specs.declared.Tally.{Tally}
+use Rattle.model.specs.declared.Vm.{Vm}
 use Rattle.model.specs.declared.Value.{Value}
 use Rattle.model.specs.declared.Value.the-variants as v
 use Rattle.model.specs.declared.Loaded.{Loaded}
@@ -17,10 +18,10 @@ use Rattle.model.specs.Basics.{if_then_else_, ascii}
 use Rattle.model.specs.Heap.{Cell, headIn}
 use Rattle.model.specs.Answers.{loadedNumber, startedNumber}
 use Rattle.model.specs.Listings.{Listed, text, unlisted, decimal, listingOf}
-use Rattle.model.specs.Runs.{Machine, root, Entry, Reply, value, continue, fault}
+use Rattle.model.specs.Runs.{Machine, root, Entry, Reply, value, continue, fault, Ran, runOf}
 use Rattle.model.specs.Stores.{Stores, programIn}
 use Rattle.model.specs.Loading.{loadOf}
-use Rattle.model.specs.Machines.{Lent, RunAnswer, ran, refused, runAnswer, StartRes, loadMachineOf}
+use Rattle.model.specs.Machines.{Lent, machineIn, worldOf, runRefusal, StartRes, loadMachineOf}
 
 -- ---- a value: `scalar` and 16 capital hex digits, `true`, `false`, `string N`, `function N`, `list N`, `struct S N`
 
@@ -61,9 +62,12 @@ replyLines (fault n t es) m = ascii "fault " ++ decimal n ++ ascii "\n" ++ spent
 unfoldable pub refusedLine : ℕ → List ℕ
 refusedLine n = ascii "refused " ++ decimal n ++ ascii "\n"
 
-unfoldable pub reportOf : RunAnswer → List ℕ
-reportOf (ran c r) = replyLines (r .reply) (r .machine)
-reportOf (refused n) = refusedLine n
+unfoldable pub ranLines : Ran → List ℕ
+ranLines r = replyLines (r .reply) (r .machine)
+
+-- one run of u units: begun, continued, and abandoned where it is paused
+unfoldable pub reportOf : Vm → Stores → Lent → (units : ℕ) → List ℕ
+reportOf m s l u = if eqb (runRefusal m s l) 0 then ranLines (runOf (worldOf m s l) (machineIn m l) u) else refusedLine (runRefusal m s l)
 
 -- ---- the runner's and the lister's stores: 1,024 values, 256 frames, 2,048 cells, 256 each of constants, structs and functions, 8,192 bytes of
 -- main, 8,192 of other code, 16,384 of text
@@ -86,7 +90,7 @@ emptyLent frames = record { stack = replicate 2048 0; cells = replicate 4096 0; 
 -- ---- [runner] an image of at most 16,384 bytes, run with 1,000,000 units
 
 unfoldable pub startedText : Started → Stores → List Frame → List ℕ
-startedText (st.Done m) s frames = reportOf (runAnswer m s (emptyLent frames) 1000000)
+startedText (st.Done m) s frames = reportOf m s (emptyLent frames) 1000000
 startedText (st.Broken i) s frames = refusedLine (startedNumber (st.Broken i))
 startedText (st.Refused n) s frames = refusedLine (startedNumber (st.Refused n))
 
@@ -94,7 +98,7 @@ unfoldable pub started : StartRes → List ℕ
 started r = startedText (r .answer) (r .stores) (r .frames)
 
 unfoldable pub runnerText : List ℕ → List ℕ
-runnerText image = if ltb 16384 (length image) then refusedLine 22 else started (loadMachineOf image emptyStores (replicate 256 (root 0)))
+runnerText image = if ltb 16384 (length image) then refusedLine 22 else started (loadMachineOf false image emptyStores (replicate 256 (root 0)))
 
 -- ---- [lister] likewise: each function's listing in order, or `refused N` alone
 
@@ -112,6 +116,6 @@ listerText image = if ltb 16384 (length image) then refusedLine 22 else loadedTe
 
 -- all that an example computes with here
 unfoldable pub computes : Type 1
-unfolding hexDigit hexFor booleanText valueText entryLines spentLines replyLines refusedLine reportOf emptyStores emptyLent startedText started
+unfolding hexDigit hexFor booleanText valueText entryLines spentLines replyLines refusedLine ranLines reportOf emptyStores emptyLent startedText started
     runnerText listedText loadedText listerText
 computes = Type 0

@@ -170,13 +170,26 @@ pub enum Told {
     Refused(u8),
 }
 
-// A machine between calls: how much of each store is taken, and the last result.
+// A run between its parts, if one is under way (`on`): the units that it was given in all and those that it has spent, the root Returns that it has
+// completed, how many cells were taken at the last of them, or at its start, and how many values stand in the copy of its starting stack. All zeros if
+// none is.
+pub struct Run {
+    pub on: bool,
+    pub given: u64,
+    pub spent: u64,
+    pub returns: u64,
+    pub mark: usize,
+    pub saved: usize,
+}
+
+// A machine between calls: how much of each store is taken, the last result, and the run that is under way.
 pub struct Vm {
     pub program: Counts,
     pub stack: usize,
     pub frames: usize,
     pub cells: usize,
     pub last: Last,
+    pub run: Run,
 }
 
 // What a run did: the units that it spent, and how many root Returns it completed. 0 returns: nothing has counted.
@@ -185,12 +198,13 @@ pub struct Tally {
     pub returns: u64,
 }
 
-// What a run answers, with the machine as it then is and what it did: a value, or "continue", or a fault's number and the length of its backtrace.
-// Or a refusal.
+// What a part of a run answers, with the machine as it then is. The run is over, and this is what it did: a value, or "continue", or a fault's number
+// and the length of its backtrace. Or it is paused, and under way in the machine. Or a refusal.
 pub enum RunResult {
     Value(Vm, Value, Tally),
     Continue(Vm, Tally),
     Fault(Vm, u8, Tally, usize),
+    Paused(Vm),
     Refused(u8),
 }
 

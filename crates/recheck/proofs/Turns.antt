@@ -6,7 +6,7 @@ use Prim.Native.Nat.{ℕ, _+_, _-_, _≤_}
 use lib.ListN.{length, take, drop}
 use Rattle.model.specs.Equality.{sameBytes}
 use Rattle.check_report.specs.Links.{Facts}
-use Rattle.replay_judge.proofs.Lines.{same-line}
+use Rattle.check_report.proofs.Saying.{said-taken, said-length}
 use Rattle.recheck.specs.declared.Ends.{Ends}
 use Rattle.recheck.specs.declared.Turn.the-variants.{Same, Differs}
 use Rattle.recheck.specs.Turns.{sizeAt, endsOf, Agrees, turnIf, Judged}
@@ -15,9 +15,14 @@ pub ends-read : (h : List ℕ) {i t : ℕ} → i ≡ sizeAt h 0 → t ≡ sizeAt
 unfolding endsOf
 ends-read h a b = rw (a, b)
 
-pub facts-agree : {image out out' : List ℕ} {n : ℕ} → Facts image out n out' → 16480 ≤ length out → (want : List ℕ) (r : Bool)
-    → r ≡ sameBytes (take n out') want → Agrees image want r
-facts-agree f h want r e = record { answer = f .answer; heights = f .heights; answers = f .answers; same = same-line (f .put) h want r e }
+module _ {image out out' : List ℕ} {n : ℕ} (f : Facts image out n out') where
+  module _ (h : 16480 ≤ length out) where
+    pub facts-length : n ≡ length (take n out')
+    facts-length = said-length (f .put) h
+
+    pub facts-agree : (want : List ℕ) (r : Bool) → r ≡ sameBytes (take n out') want → Agrees image want r
+    facts-agree want r e =
+        record { answer = f .answer; heights = f .heights; answers = f .answers; same = e ∙ ap (λ (l : List ℕ). sameBytes l want) (said-taken (f .put) h) }
 
 module _ (e : Ends) (body : List ℕ) {v : Bool} (a : Agrees (take (e .image) body) (take (e .text - e .image) (drop (e .image) body)) v) where
   pub agreeing : v ≡ true → Judged e body Same

@@ -1,8 +1,8 @@
 // Reads the oracle's records of checked images from standard input, up to its end, and says where the check answers something else.
 use check_report::check_facts;
+use layout::reads::same_bytes;
 use libc::STDIN_FILENO;
 use libc::STDOUT_FILENO;
-use replay_judge::same_front;
 ghost use mathlib.Core.Path.{_≡_};
 ghost use Prim.Native.Nat.{_+_, _*_, _≤_};
 ghost use lib.ListN.{length};
@@ -50,7 +50,7 @@ fn agrees(image: &[u8], want: &[u8]) -> bool
 {
     let mut out = [0u8; 16480];
     let n = check_facts(image, &mut out);
-    same_front(&out, n, want)
+    same_bytes(&out[..n], want)
 }
 
 // Says that record `at` differs.

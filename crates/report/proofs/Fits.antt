@@ -5,7 +5,7 @@ use mathlib.Core.List.{List, [], _∷_, _++_}
 use Prim.Native.Nat.{ℕ, zero, suc, _+_, _-_, _*_, _/_, _≤_, _<_}
 use native.Mathlib.Omega.{arith}
 use native.Mathlib.Nat.{mul-add}
-use lib.Dec.{ltb, leb}
+use lib.Dec.{ltb, leb, eqb}
 use lib.Ieee.{binary64, toBits}
 use lib.ListN.{length, getD, set, drop, replicate, length-append, length-replicate}
 use borrow.Author.Tests.{leb-true, ltb-true, ltb-false}
@@ -25,19 +25,19 @@ use Rattle.model.specs.Opcodes.{operands}
 use Rattle.model.specs.Programs.{Function, Program, functionAt, withinLimits, wordAt, behind, opcodeIn}
 use Rattle.model.specs.Images.{joined, counted, constantImage, textImage, runImage, runsOf, functionImage, imageOf, Judged, fine, broken, judge}
 use Rattle.model.specs.Listings.{operandsFrom, lineOf, headerLine, Listed, text, unlisted, inFront, knownThen, opcodeThen, lineThen, linesFor, codeLines, andListed, listingFrom, listingOf}
-use Rattle.model.specs.Runs.{Machine, root, Entry, Reply, value, continue, fault, Ran}
+use Rattle.model.specs.Runs.{Machine, root, Entry, Reply, value, continue, fault, runOf}
 use Rattle.model.specs.Stores.{Stores, programIn}
 use Rattle.model.specs.Emission.{written}
 use Rattle.model.specs.Loading.{mainOf, othersOf, laid, roomFor, loadJudged, loadOf}
-use Rattle.model.specs.Machines.{Lent, RunAnswer, ran, refused, runAnswer, fresh, startWith, loadMachineOf}
-use Rattle.model.specs.Reports.{hexFor, booleanText, valueText, entryLines, spentLines, replyLines, refusedLine, reportOf, emptyStores, emptyLent, startedText, started, runnerText, listedText, loadedText, listerText}
+use Rattle.model.specs.Machines.{Lent, machineIn, worldOf, traceShort, runRefusal, fresh, startWith, unlessRunning, loadMachineOf}
+use Rattle.model.specs.Reports.{hexFor, booleanText, valueText, entryLines, spentLines, replyLines, refusedLine, ranLines, reportOf, emptyStores, emptyLent, startedText, started, runnerText, listedText, loadedText, listerText}
 use Rattle.laws_runs.specs.Ordered.{CodeBytes}
 use Rattle.layout.proofs.Bools.{either-way}
 use Rattle.laws_images.proofs.Codecs.{bytes-front, bytes-rest}
 use Rattle.image.proofs.Trip.{image-only, loaded-as}
 use Rattle.listing.proofs.Names as names
 use Rattle.printing.proofs.Digits.{short, five}
-use Rattle.report.proofs.Shown.{run-trace}
+use Rattle.report.proofs.Shown.{runner-long, run-trace}
 
 -- ---- bytes
 
@@ -181,25 +181,27 @@ unfolding spentLines ascii
 spent-short n m = let a = short (n .spent) in let b = short (length (m .stack)) in simp length-append (omega arith)
 
 -- a report fits in 128 bytes, and 64 for each entry that its backtrace's store has room for
-module _ (m : Vm) (s : Stores) (bytes : CodeBytes s) (l : Lent) (u : ℕ) where
+module _ (m : Vm) (s : Stores) (bytes : CodeBytes s) (l : Lent) (long : traceShort l ≡ false) (u : ℕ) where
   abbrev Short : List ℕ → Type 0
   Short b = length b ≤ 128 + 32 * length (l .backtrace)
 
-  lines-short : (c : Counts) (x : Ran) → ran c x ≡ runAnswer m s l u → (y : Reply) → x .reply ≡ y → Short (replyLines y (x .machine))
+  lines-short : eqb (runRefusal m s l) 0 ≡ true → (y : Reply) → runOf (worldOf m s l) (machineIn m l) u .reply ≡ y → (x : Machine) → Short (replyLines y x)
   unfolding replyLines ascii
-  lines-short c x e (value w n) f = let a = value-short (x .machine .heap) w in let b = spent-short n (x .machine) in simp length-append (omega arith)
-  lines-short c x e (continue n) f = let b = spent-short n (x .machine) in omega arith
-  lines-short c x e (fault k n es) f =
+  lines-short granted (value w n) f x = let a = value-short (x .heap) w in let b = spent-short n x in simp length-append (omega arith)
+  lines-short granted (continue n) f x = let b = spent-short n x in omega arith
+  lines-short granted (fault k n es) f x =
       let a = short k in
-      let b = spent-short n (x .machine) in
+      let b = spent-short n x in
       let z = entries-short es in
-      let y = run-trace m s l u bytes c x e k n es f in
+      let y = run-trace m s l u bytes long granted k n es f in
       simp length-append (omega arith)
 
-  report-short : (a : RunAnswer) → a ≡ runAnswer m s l u → Short (reportOf a)
-  unfolding reportOf
-  report-short (ran c x) e = lines-short c x e (x .reply) refl
-  report-short (refused n) e = let z = refused-short n in omega arith
+  report-short : Short (reportOf m s l u)
+  unfolding reportOf ranLines
+  report-short =
+      let one = runOf (worldOf m s l) (machineIn m l) u in
+      either-way (eqb (runRefusal m s l) 0) (λ e. rw e (lines-short e (one .reply) refl (one .machine)))
+      (λ e. rw e (let z = refused-short (runRefusal m s l) in omega arith))
 
 -- ---- the lister's lines: 32 bytes at most for each byte of code
 
@@ -310,7 +312,7 @@ module _ (image : List ℕ) (bytes : Bytes image) where
       let s = loadOf image emptyStores .stores in
       let lent = emptyLent (replicate 256 (root 0)) in
       let k : length (lent .backtrace) ≡ 512 = (unfold emptyLent in length-replicate {A = ℕ} 512 0) in
-      let z = report-short (fresh c) s loaded-code lent 1000000 (runAnswer (fresh c) s lent 1000000) refl in
+      let z = report-short (fresh c) s loaded-code lent runner-long 1000000 in
       omega arith
   started-fits (l.Broken i) = let z = refused-short 20 in omega arith
   started-fits (l.Refused n) = let z = refused-short n in omega arith
@@ -328,7 +330,7 @@ module _ (image : List ℕ) (bytes : Bytes image) where
   loaded-fits h (l.Refused n) s e = let z = refused-short n in omega arith
 
   pub runner-fits : length (runnerText image) ≤ 32768
-  unfolding runnerText loadMachineOf
+  unfolding runnerText loadMachineOf unlessRunning
   runner-fits =
       either-way (ltb 16384 (length image)) (λ e. rw e (let z = refused-short 22 in omega arith))
       (λ e. rw e (started-fits (loadOf image emptyStores .answer)))

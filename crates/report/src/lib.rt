@@ -1,5 +1,5 @@
 // What the runner and the lister print, as bytes in a lent store.
-mod playing; // playing.rt: a run on call frames of its own
+mod playing; // playing.rt: one run on call frames of its own
 
 use crate::playing::play;
 use image_load::load;
@@ -13,13 +13,13 @@ ghost use mathlib.Core.Path.{_≡_};
 ghost use mathlib.Core.Bool.{true};
 ghost use lib.ListN.{replicate};
 ghost use Rattle.model.specs.Runs.{root};
-ghost use Rattle.model.specs.Machines.{runAnswer, fresh, startWith};
+ghost use Rattle.model.specs.Machines.{fresh, startWith};
 ghost use Rattle.model.specs.Reports.{reportOf, emptyStores, emptyLent, listerText, started, runnerText};
 ghost use Rattle.run_ends.specs.Links.{programLent};
 ghost use Rattle.report_lines.specs.Links.{printed};
 ghost use Rattle.report.specs.Links.{imageText};
 
-// The report of a program's run, in stores of its own.
+// The report of one run of a program, in stores of its own.
 fn run_program(
     c: Counts,
     constants: &[u64],
@@ -32,7 +32,7 @@ fn run_program(
     other_places: &[u32],
     out: &mut [u8],
 ) -> usize
-    ensures { λ r. ⌜ record { count = r; out = now (out .exit) } ≡ printed (reportOf (runAnswer (fresh c) (programLent (now (structs .entry)) (now (constants .entry)) (now (functions .entry)) (now (text .entry)) (now (main .entry)) (now («main_places» .entry)) (now (other .entry)) (now («other_places» .entry))) (emptyLent (replicate 256 (root 0))) 1000000)) (now (out .entry)) ⌝ }
+    ensures { λ r. ⌜ record { count = r; out = now (out .exit) } ≡ printed (reportOf (fresh c) (programLent (now (structs .entry)) (now (constants .entry)) (now (functions .entry)) (now (text .entry)) (now (main .entry)) (now («main_places» .entry)) (now (other .entry)) (now («other_places» .entry))) (emptyLent (replicate 256 (root 0))) 1000000) (now (out .entry)) ⌝ }
 {
     let mut stack = [0u64; 2048];
     let mut cells = [0u64; 4096];

@@ -5,6 +5,9 @@ use Prim.Native.Nat.{ℕ, zero, suc, _+_, _*_, _≤_, _<_}
 use native.Mathlib.Omega.{arith}
 use native.Mathlib.Numerals.{add-one}
 use lib.ListN.{length, getD}
+use denote.Enum.Declared.{tagOf}
+use types.Run.{OneOf, miss}
+use Rattle.model.proofs.RunResult.{the-type}
 use Rattle.model.specs.declared.Frame.{Frame}
 use Rattle.model.specs.declared.Value.{Value}
 use Rattle.model.specs.declared.Vm.{Vm}
@@ -16,9 +19,9 @@ use Rattle.model.specs.Heap.{heapOf}
 use Rattle.model.specs.Listings.{decimal}
 use Rattle.model.specs.Runs.{Entry, entry}
 use Rattle.model.specs.Machines.{Lent, machineIn, entriesIn, answerIn}
-use Rattle.model.specs.Reports.{valueText, entryLines, spentLines, replyLines, refusedLine, reportOf}
+use Rattle.model.specs.Reports.{valueText, entryLines, spentLines, replyLines, refusedLine, ranLines}
 use Rattle.value.proofs.Stores.{length-vals}
-use Rattle.report_lines.specs.Links.{Shows}
+use Rattle.report_lines.specs.Links.{Shows, answerLines}
 use Rattle.printing.specs.Links.{Put}
 use Rattle.printing.proofs.Puts.{is, within, both, nothing}
 
@@ -105,31 +108,39 @@ lent cells backtrace stack frames copy = record { stack = stack; cells = cells; 
 abbrev Reported : List ℕ → List ℕ → RunResult → List ℕ → List ℕ → ℕ → Type 0
 Reported cells backtrace x s t i =
     (stack : List ℕ) (frames : List Frame) (copy : List ℕ)
-    → Put (128 + 32 * length backtrace) (reportOf (answerIn (lent cells backtrace stack frames copy) x)) s 0 t i
+    → Put (128 + 32 * length backtrace) (answerLines (answerIn (lent cells backtrace stack frames copy) x)) s 0 t i
 
 spent-there : (m : Vm) (n : Tally) (l : Lent) {s s' : List ℕ} {i j : ℕ}
     → Put 54 (ascii "spent " ++ decimal (n .spent) ++ ascii "\nstack " ++ decimal (m .stack) ++ ascii "\n") s i s' j → Put 54 (spentLines n (machineIn m l)) s i s' j
 unfolding spentLines machineIn
 spent-there m n l p = rw (length-vals (m .stack) (l .stack)) p
 
+pub paused-report : (cells backtrace : List ℕ) (x : RunResult) → OneOf (3 ∷ []) (tagOf the-type x) → (s : List ℕ) → Reported cells backtrace x s s 0
+unfolding answerLines answerIn
+paused-report cells backtrace (r.Value m v n) o s = absurd (miss (3 ∷ []) 0 tt o)
+paused-report cells backtrace (r.Continue m n) o s = absurd (miss (3 ∷ []) 1 tt o)
+paused-report cells backtrace (r.Fault m k n j) o s = absurd (miss (3 ∷ []) 2 tt o)
+paused-report cells backtrace (r.Paused m) o s = λ stack frames copy. within (nothing s 0) (128 + 32 * length backtrace) (omega arith)
+paused-report cells backtrace (r.Refused n) o s = absurd (miss (3 ∷ []) 4 tt o)
+
 module _ (cells backtrace : List ℕ) {x : RunResult} {s₀ s₁ : List ℕ} {i₁ : ℕ} where
   pub refused-report : {n : ℕ} → x ≡ r.Refused n → Put 29 (refusedLine n) s₀ 0 s₁ i₁ → Reported cells backtrace x s₀ s₁ i₁
-  unfolding reportOf answerIn
+  unfolding answerLines answerIn
   refused-report e p stack frames copy = rw e (within p (128 + 32 * length backtrace) (omega arith))
 
   module _ (m : Vm) (n : Tally) {s₂ : List ℕ} {i₂ : ℕ} (q : Put 54 (ascii "spent " ++ decimal (n .spent) ++ ascii "\nstack " ++ decimal (m .stack) ++ ascii "\n") s₁ i₁ s₂ i₂) where
     pub value-report : {u : Value} → x ≡ r.Value m u n → Put 71 (ascii "value " ++ valueText (heapOf (m .cells) cells) u ++ ascii "\n") s₀ 0 s₁ i₁
         → Reported cells backtrace x s₀ s₂ i₂
-    unfolding reportOf answerIn replyLines machineIn
+    unfolding answerLines ranLines answerIn replyLines machineIn
     value-report e p stack frames copy = rw e (within (both p (spent-there m n (lent cells backtrace stack frames copy) q)) (128 + 32 * length backtrace) (omega arith))
 
     pub continue-report : x ≡ r.Continue m n → Put 9 (ascii "continue\n") s₀ 0 s₁ i₁ → Reported cells backtrace x s₀ s₂ i₂
-    unfolding reportOf answerIn replyLines
+    unfolding answerLines ranLines answerIn replyLines
     continue-report e p stack frames copy = rw e (within (both p (spent-there m n (lent cells backtrace stack frames copy) q)) (128 + 32 * length backtrace) (omega arith))
 
     pub fault-report : {k j : ℕ} → x ≡ r.Fault m k n j → 2 * j ≤ length backtrace → {s₃ : List ℕ} {i₃ : ℕ}
         → Put 27 (ascii "fault " ++ decimal k ++ ascii "\n") s₀ 0 s₁ i₁ → Put (64 * j) (entryLines (entriesIn j 0 backtrace)) s₂ i₂ s₃ i₃
         → Reported cells backtrace x s₀ s₃ i₃
-    unfolding reportOf answerIn replyLines
+    unfolding answerLines ranLines answerIn replyLines
     fault-report e h p z stack frames copy =
         rw e (within (both (both p (spent-there m n (lent cells backtrace stack frames copy) q)) z) (128 + 32 * length backtrace) (omega arith))

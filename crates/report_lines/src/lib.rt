@@ -11,8 +11,8 @@ ghost use mathlib.Core.List.{List};
 ghost use Prim.Native.Nat.{ℕ};
 ghost use Rattle.model.specs.declared.Frame.{Frame};
 ghost use Rattle.model.specs.Machines.{answerIn};
-ghost use Rattle.model.specs.Reports.{refusedLine, reportOf};
-ghost use Rattle.report_lines.specs.Links.{Shows, printed};
+ghost use Rattle.model.specs.Reports.{refusedLine};
+ghost use Rattle.report_lines.specs.Links.{Shows, answerLines, printed};
 
 // A refusal. It is measured first, with no room to write into.
 pub fn print_refused(n: u8, out: &mut [u8]) -> usize
@@ -29,7 +29,7 @@ pub fn print_refused(n: u8, out: &mut [u8]) -> usize
 // What a run answered, with the stores as it left them. Likewise measured first.
 pub fn print_report(r: RunResult, cells: &[u64], backtrace: &[u32], out: &mut [u8]) -> usize
     requires { ⌜ Shows r (now cells) (now backtrace) ⌝ }
-    ensures { λ n. ⌜ ((stack : List ℕ) (frames : List Frame) (copy : List ℕ) → record { count = n; out = now (out .exit) } ≡ printed (reportOf (answerIn (record { stack = stack; cells = now (cells .entry); frames = frames; copy = copy; backtrace = now (backtrace .entry) }) r)) (now (out .entry))) ⌝ }
+    ensures { λ n. ⌜ ((stack : List ℕ) (frames : List Frame) (copy : List ℕ) → record { count = n; out = now (out .exit) } ≡ printed (answerLines (answerIn (record { stack = stack; cells = now (cells .entry); frames = frames; copy = copy; backtrace = now (backtrace .entry) }) r)) (now (out .entry))) ⌝ }
 {
     let none = 0;
     let len = put_report(r, cells, backtrace, &mut out[..none]);

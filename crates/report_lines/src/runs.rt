@@ -14,8 +14,8 @@ ghost use Rattle.model.specs.Basics.{ascii};
 ghost use Rattle.model.specs.Heap.{heapOf};
 ghost use Rattle.model.specs.Listings.{decimal};
 ghost use Rattle.model.specs.Machines.{entriesIn, answerIn};
-ghost use Rattle.model.specs.Reports.{valueText, entryLines, refusedLine, reportOf};
-ghost use Rattle.report_lines.specs.Links.{Shows};
+ghost use Rattle.model.specs.Reports.{valueText, entryLines, refusedLine};
+ghost use Rattle.report_lines.specs.Links.{Shows, answerLines};
 ghost use Rattle.printing.specs.Links.{Put};
 
 // The units spent, and how many values are on the stack.
@@ -67,10 +67,10 @@ fn put_answer(v: Value, cells: &[u64], used: usize, out: &mut [u8]) -> usize
     put_byte(b'\n', out, end)
 }
 
-// What a run answered, with the stores as it left them.
+// What a run answered, with the stores as it left them. A run that is paused has no lines yet.
 pub fn put_report(r: RunResult, cells: &[u64], backtrace: &[u32], out: &mut [u8]) -> usize
     requires { ⌜ Shows r (now cells) (now backtrace) ⌝ }
-    ensures { λ p. ⌜ ((stack : List ℕ) (frames : List Frame) (copy : List ℕ) → Put (128 + 32 * length (now (backtrace .entry))) (reportOf (answerIn (record { stack = stack; cells = now (cells .entry); frames = frames; copy = copy; backtrace = now (backtrace .entry) }) r)) (now (out .entry)) 0 (now (out .exit)) p) ⌝ }
+    ensures { λ p. ⌜ ((stack : List ℕ) (frames : List Frame) (copy : List ℕ) → Put (128 + 32 * length (now (backtrace .entry))) (answerLines (answerIn (record { stack = stack; cells = now (cells .entry); frames = frames; copy = copy; backtrace = now (backtrace .entry) }) r)) (now (out .entry)) 0 (now (out .exit)) p) ⌝ }
 {
     match r {
         RunResult::Value(m, v, did) => {
@@ -86,6 +86,7 @@ pub fn put_report(r: RunResult, cells: &[u64], backtrace: &[u32], out: &mut [u8]
             let next = put_spent(did.spent, m.stack, out, spent);
             put_entries(j, backtrace, out, next)
         }
+        RunResult::Paused(_) => 0,
         RunResult::Refused(n) => put_refused(n, out),
     }
 }

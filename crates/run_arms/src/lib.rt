@@ -1,12 +1,10 @@
-// The arms: one function for each family of opcodes, over plain words and lent slices.
+// The arms: one function for each family of opcodes, over plain words and lent slices. What they share, and those that push a value or change the frame;
+// scalars and booleans are run_scalars, lists and structs run_blocks.
 use model::Fault;
 use model::Value;
 
 pub mod pushes; // pushes.rt: constants, slots, the last result
-pub mod scalars; // scalars.rt: arithmetic and orderings
-pub mod logic; // logic.rt: booleans and jumps
 pub mod frames; // frames.rt: calls and returns; the frames themselves are the run's
-pub mod blocks; // blocks.rt: equality, lists and structs
 
 // What no step changes: the counts of the program, and the rooms of stack and frames.
 pub struct Fixed {

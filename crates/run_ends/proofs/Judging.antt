@@ -5,23 +5,25 @@ use mathlib.Core.List.{List}
 use Prim.Native.Nat.{ℕ, _*_, _≤_, _<_, min}
 use native.Mathlib.Omega.{arith}
 use borrow.Author.Tests.{leb-true, le-leb, lt-leb}
-use lib.Dec.{leb, ltb}
+use lib.Dec.{leb, ltb, eqb}
 use lib.ListN.{length}
 use Rattle.model.specs.declared.Counts.{Counts}
+use Rattle.model.specs.declared.Run.{Run}
 use Rattle.model.specs.declared.Vm.{Vm}
+use Rattle.model.specs.declared.Frame.{Frame}
 use Rattle.model.specs.declared.Value.{Value}
 use Rattle.model.specs.declared.Last.{Last}
 use Rattle.model.specs.declared.Last.the-variants.{Nothing, Is}
 use Rattle.model.specs.Values.{places, kindAt, payloadAt, valueOf, valueAt, exactValue}
 use Rattle.model.specs.Heap.{Cell, heapOf, heapOk, exactCells, placedBelow}
-use Rattle.model.specs.Stores.{Stores}
+use Rattle.model.specs.Stores.{Stores, size, codeWord}
 use Rattle.model.specs.Orders.{programOk, cellsOk, stackOk, lastOk}
-use Rattle.model.specs.Machines.{frameRoom, tooShort}
+use Rattle.model.specs.Machines.{Lent, frameRoom, someLast, idle, copyShort, traceShort}
 use Rattle.cells.proofs.Stands.{length-heap}
 use Rattle.layout.specs.Links.{WholeIs}
 use Rattle.layout.proofs.Bools.{and-left}
 use Rattle.laws_programs.proofs.Every.{Judged}
-use Rattle.run_ends.specs.Links.{programLent, restOrder, ShortPost}
+use Rattle.run_ends.specs.Links.{programLent, valuesOk, restOrder, countsBy, partBy}
 
 -- ---- the program
 
@@ -77,22 +79,57 @@ pub stack-judged : (t : ℕ) (H : List Cell) (n : ℕ) (stack : List ℕ)
 unfolding stackOk
 stack-judged t H n stack = record { says = refl }
 
--- ---- all of it
+-- ---- cells, a stack and a last result
+
+module _ (t n : ℕ) (cells : List ℕ) (k : ℕ) (stack : List ℕ) (last : Last) {a : Bool} (ea : a ≡ cellsOk t n cells) where
+  pub not-exact : a ≡ false → false ≡ valuesOk t n cells k stack last
+  unfolding valuesOk
+  not-exact h = rw (← ea, h)
+
+  pub values-are : a ≡ true → {b c : Bool} → b ≡ stackOk t (heapOf n cells) k stack → c ≡ lastOk t (heapOf n cells) last → (b && c) ≡ valuesOk t n cells k stack last
+  unfolding valuesOk
+  values-are h eb ec = rw (← ea, h, ← eb, ← ec)
+
+-- ---- all but the frames and the run that is under way
 
 module _ (m : Vm) (s : Stores) (stack cells : List ℕ) {a : Bool} (ea : a ≡ programOk (m .program) s) where
   pub not-whole : a ≡ false → false ≡ restOrder m s stack cells
   unfolding restOrder
   not-whole h = rw (← ea, h)
 
-  module _ (ha : a ≡ true) {b : Bool} (eb : b ≡ cellsOk (m .program .text) (m .cells) cells) where
-    pub not-exact : b ≡ false → false ≡ restOrder m s stack cells
-    unfolding restOrder
-    not-exact h = rw (← ea, ha, ← eb, h)
+  pub rest-is : a ≡ true → {b : Bool} → b ≡ valuesOk (m .program .text) (m .cells) cells (m .stack) stack (m .last) → b ≡ restOrder m s stack cells
+  unfolding restOrder valuesOk
+  rest-is h eb = rw (← ea, h) eb
 
-    pub rest-is : b ≡ true → {c d : Bool} → c ≡ stackOk (m .program .text) (heapOf (m .cells) cells) (m .stack) stack → d ≡ lastOk (m .program .text) (heapOf (m .cells) cells) (m .last)
-        → (c && d) ≡ restOrder m s stack cells
-    unfolding restOrder
-    rest-is hb ec ed = rw (← ea, ha, ← eb, hb, ← ec, ← ed)
+-- ---- the run that is under way
+
+pub no-result : {last : Last} → last ≡ Nothing → false ≡ someLast last
+unfolding someLast
+no-result e = rw e
+
+pub some-result : {last : Last} {v : Value} → last ≡ Is v → true ≡ someLast last
+unfolding someLast
+some-result e = rw e
+
+pub counts-are : (r : Run) (last : Last) (cells slots : ℕ) {some : Bool} → some ≡ someLast last
+    → (leb (r .spent) (r .given) && leb (r .returns) (r .spent) && (eqb (r .returns) 0 || some) && leb (r .mark) cells && leb (r .saved) slots) ≡ countsBy r last cells slots
+unfolding countsBy
+counts-are r last cells slots e = rw e
+
+module _ (m : Vm) (f : Frame) (slots : ℕ) (words cells copy : List ℕ) where
+  pub none-is : m .run .on ≡ false → {b : Bool} → b ≡ idle (m .run) → b ≡ partBy m f slots words cells copy
+  unfolding partBy
+  none-is off e = rw e (rw off)
+
+  module _ (on : m .run .on ≡ true) {a : Bool} (ea : a ≡ countsBy (m .run) (m .last) (m .cells) slots) where
+    pub not-counted : a ≡ false → false ≡ partBy m f slots words cells copy
+    unfolding partBy
+    not-counted h = rw (← ea, h, on)
+
+    pub part-is : a ≡ true → {b : Bool} → b ≡ valuesOk (m .program .text) (m .run .mark) cells (m .run .saved) copy (m .last)
+        → {w n : ℕ} → w ≡ payloadAt words (f .function) → n ≡ size w → (b && ltb (f .position) n) ≡ partBy m f slots words cells copy
+    unfolding partBy codeWord
+    part-is h eb ew en = rw (← ea, h, ← eb, on, en, ew)
 
 -- ---- 17
 
@@ -100,6 +137,10 @@ module _ (m : Vm) (s : Stores) (stack cells : List ℕ) {a : Bool} (ea : a ≡ p
 abbrev pub Room : ℕ → ℕ → Type 0
 Room n r = (s : List ℕ) → length s ≡ n → r ≡ places 2 s
 
-pub short-is : (a b c d : ℕ) {ra rb rc rd : ℕ} → Room a ra → rb ≡ min b 0xFFFF_FFFF → Room c rc → Room d rd → ShortPost a b c d (ltb rc ra || ltb rd rb)
-unfolding tooShort frameRoom
-short-is a b c d ha hb hc hd = record { means = λ l ea eb ec ed. rw (ha (l .stack) ea, hc (l .copy) ec, hd (l .backtrace) ed, hb, eb) }
+pub copy-short-is : (a c : ℕ) {ra rc : ℕ} → Room a ra → Room c rc → (l : Lent) → length (l .stack) ≡ a → length (l .copy) ≡ c → ltb rc ra ≡ copyShort l
+unfolding copyShort
+copy-short-is a c ha hc l ea ec = rw (ha (l .stack) ea, hc (l .copy) ec)
+
+pub trace-short-is : (b d : ℕ) {rb rd : ℕ} → rb ≡ min b 0xFFFF_FFFF → Room d rd → (l : Lent) → length (l .frames) ≡ b → length (l .backtrace) ≡ d → ltb rd rb ≡ traceShort l
+unfolding traceShort frameRoom
+trace-short-is b d hb hd l eb ed = rw (hd (l .backtrace) ed, hb, eb)

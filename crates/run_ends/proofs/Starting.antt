@@ -1,17 +1,21 @@
 -- The copy of a stack, what no step changes, and the machine at its start.
-use mathlib.Core.Path.{_≡_, refl, sym}
+use mathlib.Core.Path.{_≡_, refl, sym, subst}
 use mathlib.Core.List.{List}
-use Prim.Native.Nat.{ℕ, _+_, _≤_, _<_, min}
+use Prim.Native.Nat.{ℕ, _+_, _-_, _≤_, _<_, min}
+use native.Mathlib.Numerals.{add-one}
 use native.Mathlib.Omega.{arith}
+use borrow.Author.Tests.{ne-eqb}
 use lib.ListN.{length, getD, set, take}
 use lib.Seq.{getD-take, length-take-le}
 use Rattle.model.specs.declared.Vm.{Vm}
+use Rattle.model.specs.declared.Frame.{Frame}
 use Rattle.model.specs.declared.Last.{Last}
 use Rattle.model.specs.Emission.{written}
 use Rattle.model.specs.Machines.{frameRoom}
 use Rattle.value.specs.Links.{lastIn, lastKind}
 use Rattle.layout.proofs.Writing.{Writing, another, whole}
-use Rattle.run_ends.specs.Links.{FixedPost}
+use Rattle.run_arms.specs.declared.Going.{Going}
+use Rattle.run_ends.specs.Links.{FixedPost, Begun, cutFrame}
 use Rattle.run_ends.proofs.Judging.{Room}
 
 -- ---- the first n words of one store at the front of another
@@ -34,3 +38,17 @@ fixed-is m a b ha hb = record { constants = refl; structs = refl; functions = re
 
 pub last-back : {last : Last} (k a : ℕ) → k ≡ lastKind last → lastIn (lastKind last) a ≡ last → lastIn k a ≡ last
 last-back k a e f = rw e f
+
+-- ---- where an abandoned run is cut
+
+module _ (m : Vm) (f : Frame) where
+  pub cut-unfetched : m .run .given ≤ m .run .spent → f ≡ cutFrame m f
+  unfolding cutFrame
+  cut-unfetched h = let z : m .run .given - m .run .spent ≡ 0 = omega arith in rw z
+
+  pub cut-fetched : m .run .spent < m .run .given → record { function = f .function; position = f .position + 1; base = f .base } ≡ cutFrame m f
+  unfolding cutFrame
+  cut-fetched h = rw (ne-eqb _ _ (λ (z : m .run .given - m .run .spent ≡ 0). let y : ⊥ = omega arith in y), add-one)
+
+pub begun-at : {m : Vm} {f f' : Frame} {u : ℕ} {g : Going} → f ≡ f' → Begun m f u g → Begun m f' u g
+begun-at {m} {u = u} {g = g} e b = subst (λ (x : Frame). Begun m x u g) e b

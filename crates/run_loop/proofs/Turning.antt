@@ -14,10 +14,9 @@ use Rattle.model.specs.declared.Frame.{Frame}
 use Rattle.model.specs.Values.{payloadAt}
 use Rattle.model.specs.Heap.{heapOf}
 use Rattle.model.specs.Steps.{World, State, withFrames}
-use Rattle.model.specs.Runs.{Ended, ended, stopped, paused, endFrom, cutAt, traceable}
+use Rattle.model.specs.Runs.{Ended, ended, stopped, paused, over, endFrom, traceable}
 use Rattle.model.specs.Stores.{part, codeWord}
 use Rattle.laws_runs.specs.Sane.{Sane}
-use Rattle.laws_runs.proofs.Keeps.{cut-faults}
 use Rattle.frames.specs.Links.{noFrame, callersOf}
 use Rattle.frames.proofs.Orders.{is-true, is-false}
 use Rattle.frames.proofs.Callers.{length-callers, callers-more, callers-first}
@@ -29,7 +28,7 @@ use Rattle.run_steps.specs.declared.Event.the-variants.{Over, Call, Back, Stopp
 use Rattle.run_steps.specs.Links.{Ready, answerIn, progressIn, backIn, afterEvent, SaneBack, goingAt, ExecPost}
 use Rattle.run_steps.proofs.Following.{lent-on}
 use Rattle.run_loop.specs.declared.Course.{Course}
-use Rattle.run_loop.specs.Links.{codeIn, Under, Ends, TurnsPost, goesOn, isOver, isStopped, cutIn, isGivenUp, inFrame}
+use Rattle.run_loop.specs.Links.{codeIn, Under, Ends, TurnsPost, goesOn, isOver, isStopped, isPaused, inFrame}
 use Rattle.run_loop.specs.Links as ends
 
 -- ---- what the steps inside a function are lent
@@ -90,8 +89,8 @@ over-less c is on = let a = ap weight is in let b = weight-on c on in omega arit
 pub stopped-less : (c : Course) {r : Course} {m : Going} (f : Fault) → r ≡ isStopped m f → T (c .on) → weight r < weight c
 stopped-less c f is on = let a = ap weight is in let b = weight-on c on in omega arith
 
-pub paused-less : (c : Course) {r : Course} (m : Going) → r ≡ isGivenUp m → T (c .on) → weight r < weight c
-paused-less c m is on = let a = ap weight is in let b = weight-on c on in omega arith
+pub paused-less : (c : Course) {r : Course} {m : Going} → r ≡ isPaused m → T (c .on) → weight r < weight c
+paused-less c is on = let a = ap weight is in let b = weight-on c on in omega arith
 
 module _ (k : Fixed) (n : ℕ) (constants functions text main other : List ℕ) where
   -- the run goes on in h, s', x', frames' as it did in g, s, x, frames
@@ -211,19 +210,14 @@ module _ (k : Fixed) (n : ℕ) (constants functions text main other : List ℕ) 
         before = p .before;
       }
 
-      ends-paused : {m : Going} → ExecPost w (callersOf (g .callers) frames) k g s x (Paused m) s' x' → TurnsPost w k g s x frames (isGivenUp m) s' x' frames
+      ends-paused : {m : Going} → ExecPost w (callersOf (g .callers) frames) k g s x (Paused m) s' x' → TurnsPost w k g s x frames (isPaused m) s' x' frames
       unfolding afterEvent
       ends-paused {m} p = record {
-        ends = ends.pause m refl (p .means ∙ ap (λ (i : ℕ). paused (progressIn m x') (stateOf m s' x' (callersOf i frames))) (sym (p .callers)))
-            (subst (λ (i : ℕ). traceable (w .functions) (frameIn (cutIn m) ∷ callersOf i frames) ≡ true) (sym (p .callers))
-            (unfold cutAt in cut-faults w (stateOf m s' x' (callersOf (g .callers) frames)) (p .sane .0) (p .sane .1) .traced));
-        fits = record {
-          stack = record { count = p .fits .stack .count; room = p .fits .stack .room; exact = p .fits .stack .exact; callers = p .fits .stack .callers };
-          cells = record { count = p .fits .cells .count; exact = p .fits .cells .exact };
-          mark = p .fits .mark;
-          returns = let z = p .fits .returns in omega arith;
-        };
-        units = omega arith;
+        ends = ends.pause refl (p .means ∙ ap (λ (i : ℕ). paused (progressIn m x') (stateOf m s' x' (callersOf i frames))) (sym (p .callers)))
+            (subst (λ (i : ℕ). Sane w (stateOf m s' x' (callersOf i frames))) (sym (p .callers)) (p .sane .0))
+            (subst (λ (i : ℕ). over w (stateOf m s' x' (callersOf i frames)) ≡ false) (sym (p .callers)) (p .sane .1));
+        fits = p .fits;
+        units = p .units;
         mark = p .mark;
         before = p .before;
       }
@@ -275,7 +269,7 @@ module _ (k : Fixed) (n : ℕ) (constants functions text main other : List ℕ) 
         stopped-on {m} {f} said is = subst (λ (r : Course). Ways (r .on) g₀ s₀ x₀ frames₀ r s' x' frames) (sym is)
             (λ w at. let z = ways w at in ended-on z (ends-stopped (z .under) e (said w _ (ready (z .under)))))
 
-        pub paused-on : {m : Going} → Said (c .going) s x (Paused m) s' x' → r ≡ isGivenUp m → Ways (r .on) g₀ s₀ x₀ frames₀ r s' x' frames
+        pub paused-on : {m : Going} → Said (c .going) s x (Paused m) s' x' → r ≡ isPaused m → Ways (r .on) g₀ s₀ x₀ frames₀ r s' x' frames
         paused-on {m} said is = subst (λ (r : Course). Ways (r .on) g₀ s₀ x₀ frames₀ r s' x' frames) (sym is)
             (λ w at. let z = ways w at in ended-on z (ends-paused (z .under) e (said w _ (ready (z .under)))))
 
@@ -304,10 +298,6 @@ module _ (k : Fixed) (n : ℕ) (constants functions text main other : List ℕ) 
             let p = said w _ (ready (ways w at .under)) in
             let l = some-caller w (callersOf (c .going .callers) frames) (stateOf m s' x' (callersOf (c .going .callers) frames)) (p .sane .1) in
             let a = length-callers (c .going .callers) frames in let b = p .callers in omega arith
-
-        -- a paused machine stands at a position that fits a word
-        pub fetchable : {m : Going} → Said (c .going) s x (Paused m) s' x' → m .position < 0x1_0000_0000
-        fetchable said = let z = said w _ (ready (ways w at .under)) .sane .0 .frame .position in omega arith
 
         pub call-less : {m : Going} {i b : ℕ} {r : Course} → Said (c .going) s x (Call m i b) s' x' → r ≡ goesOn (inFrame m (m .callers + 1) (entered i b)) → T (c .on) → weight r < weight c
         call-less said is on = let l = said w _ (ready (ways w at .under)) .sane .0 in let a = ap weight is in let b = weight-on c on in omega arith

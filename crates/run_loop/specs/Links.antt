@@ -2,7 +2,7 @@
 use mathlib.Core.Path.{_≡_}
 use mathlib.Core.Bool.{true, false}
 use mathlib.Core.List.{List, _∷_}
-use Prim.Native.Nat.{ℕ, suc, _≤_, _<_}
+use Prim.Native.Nat.{ℕ, _≤_, _<_}
 use lib.Dec.{eqb}
 use lib.ListN.{length, take}
 use Rattle.model.specs.declared.Fault.{Fault}
@@ -35,35 +35,16 @@ pub record Under (w : World) (k : Fixed) (g : Going) (n : ℕ) (constants functi
   pub fits : Fits k g s x
   pub sane : Sane w (stateOf g s x (callersOf (g .callers) frames))
 
--- where a run that is paused is cut: no unit is left, and a comparison that units were left for had been fetched
-abbrev pub cutIn : Going → Going
-cutIn g = record {
-  sp = g .sp;
-  function = g .function;
-  position = if eqb (g .units) 0 then g .position else suc (g .position);
-  base = g .base;
-  callers = g .callers;
-  used = g .used;
-  units = 0;
-  kind = g .kind;
-  payload = g .payload;
-  mark = g .mark;
-  returns = g .returns;
-}
-
-abbrev pub isGivenUp : Going → Course
-isGivenUp g = record { going = cutIn g; on = false; fault = 13 }
-
 -- the end e of a run as its course says it, with the stores and the frames as they then are
 pub data Ends (w : World) (e : Ended) (c : Course) (s x : List ℕ) (frames : List Frame) : Type 0 where
   over : c .fault ≡ 0
       → e ≡ ended (progressIn (c .going) x) (stateOf (c .going) s x (callersOf (c .going .callers) frames))
       → Sane w (stateOf (c .going) s x (callersOf (c .going .callers) frames))
       → Ends w e c s x frames
-  -- g is the machine before the instruction that its units do not pay for
-  pause : (g : Going) → c ≡ isGivenUp g
-      → e ≡ paused (progressIn g x) (stateOf g s x (callersOf (g .callers) frames))
-      → traceable (w .functions) (frameIn (cutIn g) ∷ callersOf (g .callers) frames) ≡ true
+  pause : c .fault ≡ 13
+      → e ≡ paused (progressIn (c .going) x) (stateOf (c .going) s x (callersOf (c .going .callers) frames))
+      → Sane w (stateOf (c .going) s x (callersOf (c .going .callers) frames))
+      → isEnd w (stateOf (c .going) s x (callersOf (c .going .callers) frames)) ≡ false
       → Ends w e c s x frames
   stop : (f : Fault) → c .fault ≡ faultNumber f
       → e ≡ stopped f (stateOf (c .going) s x (callersOf (c .going .callers) frames)) (progressIn (c .going) x)
@@ -87,6 +68,9 @@ isOver g = record { going = g; on = false; fault = 0 }
 
 abbrev pub isStopped : Going → Fault → Course
 isStopped g f = record { going = g; on = false; fault = faultNumber f }
+
+abbrev pub isPaused : Going → Course
+isPaused g = record { going = g; on = false; fault = 13 }
 
 -- the machine in the frame f, with n callers
 abbrev pub inFrame : Going → ℕ → Frame → Going

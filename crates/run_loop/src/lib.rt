@@ -16,10 +16,10 @@ ghost use Rattle.model.specs.Values.{faultNumber};
 ghost use Rattle.model.specs.Steps.{World};
 ghost use Rattle.run_arms.specs.Links.{frameIn, entered};
 ghost use Rattle.run_steps.specs.Links.{Ready, ExecPost};
-ghost use Rattle.run_loop.specs.Links.{codeIn, goesOn, isOver, isStopped, cutIn, isGivenUp, inFrame, Under, TurnsPost};
+ghost use Rattle.run_loop.specs.Links.{codeIn, goesOn, isOver, isStopped, isPaused, inFrame, Under, TurnsPost};
 
 // How far a run has come: the machine, whether it goes on, and the number of the fault that has stopped it (0: none). 13 is none of a step: the run
-// is given up before an instruction that its units do not pay for.
+// is paused before an instruction that its units do not pay for.
 pub struct Course {
     pub going: Going,
     pub on: bool,
@@ -153,37 +153,18 @@ fn stopped(g: Going, f: Fault) -> Course
     }
 }
 
-// Where a run that is paused is cut: no unit is left, and a comparison that units were left for had been fetched.
-fn cut(g: Going) -> Going
-    requires { ⌜ g .position < 0x1_0000_0000 ⌝ }
-    ensures { λ r. ⌜ r ≡ cutIn g ⌝ }
+// A run that is paused.
+fn paused(g: Going) -> Course
+    ensures { λ r. ⌜ r ≡ isPaused g ⌝ }
 {
-    let units = g.units;
-    if units == 0 {
-        return g;
-    }
-    let fetched = g.position + 1;
-    Going {
-        position: fetched,
-        units: 0,
-        ..g
-    }
-}
-
-// A run that is paused, and given up.
-fn given_up(g: Going) -> Course
-    requires { ⌜ g .position < 0x1_0000_0000 ⌝ }
-    ensures { λ r. ⌜ r ≡ isGivenUp g ⌝ }
-{
-    let going = cut(g);
     Course {
-        going,
+        going: g,
         on: false,
         fault: 13,
     }
 }
 
-// The run from start on, up to its end or a fault; where its units do not reach it is given up.
+// The run from start on, up to its end or a fault, or as far as its units reach.
 pub fn turns(
     k: Fixed,
     start: Going,
@@ -235,7 +216,7 @@ pub fn turns(
                 c = next;
             }
             Event::Paused(g) => {
-                let next = given_up(g);
+                let next = paused(g);
                 c = next;
             }
         }

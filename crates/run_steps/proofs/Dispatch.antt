@@ -19,7 +19,7 @@ use Rattle.run_arms.specs.declared.Fixed.{Fixed}
 use Rattle.run_arms.specs.declared.Going.{Going}
 use Rattle.run_arms.specs.declared.Answer.{Answer}
 use Rattle.run_arms.specs.Links.{stateOf, ArmPost, BlockPost, CellsWithin, verdictBy}
-use Rattle.run_arms.proofs.Cellwise.{same-block, arm-block, equal-is, not-equal-is}
+use Rattle.run_blocks.proofs.Cellwise.{same-block, arm-block, equal-is, not-equal-is}
 
 -- two bytes are a word
 pub word-is : (code : List ℕ) (i : ℕ) {j a b r : ℕ} → j ≡ i + 1 → a ≡ getD code i 0 → b ≡ getD code j 0 → r ≡ a + 256 * b → r ≡ wordAt code i

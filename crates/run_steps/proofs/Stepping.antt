@@ -34,7 +34,7 @@ use Rattle.run_arms.specs.declared.Answer.{Answer}
 use Rattle.run_arms.specs.declared.Answer.the-variants.{Stopped, Short}
 use Rattle.run_arms.specs.Links.{stateOf, Within, CellsWithin, Blocks, BlockPost}
 use Rattle.run_arms.proofs.Posts.{refused}
-use Rattle.run_arms.proofs.Cellwise.{arm-block}
+use Rattle.run_blocks.proofs.Cellwise.{arm-block}
 use Rattle.run_steps.specs.Links.{Ready}
 
 -- the machine at position i, with u units left

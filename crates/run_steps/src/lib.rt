@@ -6,11 +6,10 @@ use run_arms::Answer;
 use run_arms::Completed;
 use run_arms::Fixed;
 use run_arms::Going;
-use run_arms::blocks;
 use run_arms::frames;
-use run_arms::logic;
 use run_arms::pushes;
-use run_arms::scalars;
+use run_scalars::logic;
+use run_scalars::scalars;
 use value::words;
 ghost use mathlib.Core.Path.{_≡_};
 ghost use mathlib.Core.Bool.{true, false};
@@ -110,7 +109,7 @@ fn execute(
         Op::Ordering(which) => scalars::ordering(k, g, which, stack),
         Op::Equal | Op::NotEqual => {
             let not = is_not_equal(o);
-            blocks::equal(k, g, not, text, cells, stack)
+            run_blocks::equal(k, g, not, text, cells, stack)
         }
         Op::LogicalAnd => logic::logical(k, g, true, stack),
         Op::LogicalOr => logic::logical(k, g, false, stack),
@@ -119,9 +118,9 @@ fn execute(
         Op::Jump => logic::jump(k, g, a, stack),
         Op::Call => frames::call(k, g, a, b, stack),
         Op::CallCallable => frames::call_callable(k, g, a, functions, text, stack),
-        Op::BuildStructInstance => blocks::build_struct(k, g, a, b, cells, stack),
-        Op::AccessStructField => blocks::access_struct_field(k, g, a, cells, stack),
-        Op::BuildList => blocks::build_list(k, g, a, cells, stack),
+        Op::BuildStructInstance => run_blocks::build_struct(k, g, a, b, cells, stack),
+        Op::AccessStructField => run_blocks::access_struct_field(k, g, a, cells, stack),
+        Op::BuildList => run_blocks::build_list(k, g, a, cells, stack),
         Op::Return => frames::go_back(k, g, stack),
     }
 }

@@ -6,6 +6,7 @@ fn told(outcome: Outcome) -> String {
         Answer::Value(value) => format!("value {value:?}"),
         Answer::Continue => "continue".to_owned(),
         Answer::Fault(number) => format!("fault {number}"),
+        Answer::Paused => "paused".to_owned(),
     };
     let Outcome { spent, returns, .. } = outcome;
     format!("{answer}, spent {spent}, returns {returns}")
@@ -22,16 +23,24 @@ fn main() -> Result<(), Refused> {
     let path = std::env::args().nth(1).expect("story STORY.img");
     let image = std::fs::read(path).expect("the image can be read");
     let mut machine = Machine::load(&image)?;
-    let outcome = machine.run(1_000_000)?;
+    let outcome = machine.whole_run(1_000_000)?;
     println!("{}, last result {}", told(outcome), last(&machine));
-    println!("run again: {}", told(machine.run(1_000_000)?));
+    println!("run again: {}", told(machine.whole_run(1_000_000)?));
+    let mut parts = Machine::load(&image)?;
+    println!("begun: {}", told(parts.begin()?));
+    for (units, words) in [(5, "given 5 units"), (4, "given 4 more")] {
+        let outcome = told(parts.continue_run(units)?);
+        println!("{words}: {outcome}, last result {}", last(&parts));
+    }
     let mut fresh = Machine::load(&image)?;
-    let outcome = fresh.run(5)?;
+    let outcome = told(fresh.whole_run(5)?);
     println!(
-        "with 5 units: {}, last result {}",
-        told(outcome),
+        "given 5 units and abandoned: {outcome}, last result {}",
         last(&fresh)
     );
+    if let Err(Refused(number)) = fresh.abandon() {
+        println!("refused {number}");
+    }
     if let Err(Refused(number)) = Machine::load(b"no image") {
         println!("refused {number}");
     }

@@ -9,11 +9,21 @@ extern "C" {
         image: *const u8, _: usize, vm: *mut u64, _: usize, constants: *mut u64, _: usize, structs: *mut u64, _: usize,
         functions: *mut u64, _: usize, text: *mut u8, _: usize, main: *mut u8, _: usize, main_places: *mut u32, _: usize,
         other: *mut u8, _: usize, other_places: *mut u32, _: usize, frames: *mut Frame, _: usize, answer: *mut u64, _: usize) -> u32;
-    fn chaffwheel_run(
+    fn chaffwheel_begin(
+        vm: *mut u64, _: usize, constants: *const u64, _: usize, structs: *const u64, _: usize,
+        functions: *const u64, _: usize, text: *const u8, _: usize, main: *const u8, _: usize, main_places: *const u32, _: usize,
+        other: *const u8, _: usize, other_places: *const u32, _: usize, stack: *const u64, _: usize, cells: *const u64, _: usize,
+        frames: *const Frame, _: usize, copy: *mut u64, _: usize, answer: *mut u64, _: usize) -> u32;
+    fn chaffwheel_continue(
         units: u64, vm: *mut u64, _: usize, constants: *const u64, _: usize, structs: *const u64, _: usize,
         functions: *const u64, _: usize, text: *const u8, _: usize, main: *const u8, _: usize, main_places: *const u32, _: usize,
         other: *const u8, _: usize, other_places: *const u32, _: usize, stack: *mut u64, _: usize, cells: *mut u64, _: usize,
-        frames: *mut Frame, _: usize, copy: *mut u64, _: usize, trace: *mut u32, _: usize, answer: *mut u64, _: usize) -> u32;
+        frames: *mut Frame, _: usize, copy: *const u64, _: usize, trace: *mut u32, _: usize, answer: *mut u64, _: usize) -> u32;
+    fn chaffwheel_abandon(
+        vm: *mut u64, _: usize, constants: *const u64, _: usize, structs: *const u64, _: usize,
+        functions: *const u64, _: usize, text: *const u8, _: usize, main: *const u8, _: usize, main_places: *const u32, _: usize,
+        other: *const u8, _: usize, other_places: *const u32, _: usize, stack: *mut u64, _: usize, cells: *const u64, _: usize,
+        frames: *mut Frame, _: usize, copy: *const u64, _: usize, trace: *mut u32, _: usize, answer: *mut u64, _: usize) -> u32;
 }
 
 #[repr(C)]
@@ -51,9 +61,11 @@ pub enum Answer {
     Value(Value),
     Continue,
     Fault(u64),
+    /// Out of units, and under way: the others end the run.
+    Paused,
 }
 
-/// What a run answered. Whether it has counted is told by `returns` alone (docs/RETRY.md).
+/// What a part of a run answered; `spent` and `returns` are the whole run's, so far. Whether it has counted is told by `returns` alone (docs/RETRY.md).
 #[derive(Clone, Copy, Debug, PartialEq)]
 pub struct Outcome {
     pub answer: Answer,
@@ -61,9 +73,25 @@ pub struct Outcome {
     pub returns: u64,
 }
 
+impl Outcome {
+    fn of([outcome, spent, returns, first, second]: [u64; 5]) -> Outcome {
+        let answer = match outcome {
+            1 => Answer::Value(Value::of(first, second)),
+            2 => Answer::Continue,
+            3 => Answer::Fault(first),
+            _ => Answer::Paused,
+        };
+        Outcome {
+            answer,
+            spent,
+            returns,
+        }
+    }
+}
+
 /// The stores have the runner's sizes. Constants, structs, functions, the stack, its copy and the cells have two words to a place.
 pub struct Machine {
-    vm: [u64; 10],
+    vm: [u64; 16],
     constants: [u64; 512],
     structs: [u64; 512],
     functions: [u64; 512],
@@ -90,7 +118,7 @@ impl Machine {
     /// Loads a rule.
     pub fn load(image: &[u8]) -> Result<Box<Machine>, Refused> {
         let mut m = Box::new(Machine {
-            vm: [0; 10],
+            vm: [0; 16],
             constants: [0; 512],
             structs: [0; 512],
             functions: [0; 512],
@@ -109,32 +137,58 @@ impl Machine {
         // Each store is lent whole, with its own count, and none twice.
         #[rustfmt::skip]
         done(unsafe { chaffwheel_load(
-            image.as_ptr(), image.len(), m.vm.as_mut_ptr(), 10, m.constants.as_mut_ptr(), 512, m.structs.as_mut_ptr(), 512,
+            image.as_ptr(), image.len(), m.vm.as_mut_ptr(), 16, m.constants.as_mut_ptr(), 512, m.structs.as_mut_ptr(), 512,
             m.functions.as_mut_ptr(), 512, m.text.as_mut_ptr(), 16384, m.main.as_mut_ptr(), 8192, m.main_places.as_mut_ptr(), 8192,
             m.other.as_mut_ptr(), 8192, m.other_places.as_mut_ptr(), 8192, m.frames.as_mut_ptr(), 256, answer.as_mut_ptr(), 5) })?;
         Ok(m)
     }
 
-    /// Runs the machine with at most this many units.
-    pub fn run(&mut self, units: u64) -> Result<Outcome, Refused> {
+    /// Begins a run; it takes no units.
+    pub fn begin(&mut self) -> Result<Outcome, Refused> {
         let mut answer = [0; 5];
         #[rustfmt::skip]
-        done(unsafe { chaffwheel_run(
-            units, self.vm.as_mut_ptr(), 10, self.constants.as_ptr(), 512, self.structs.as_ptr(), 512,
+        done(unsafe { chaffwheel_begin(
+            self.vm.as_mut_ptr(), 16, self.constants.as_ptr(), 512, self.structs.as_ptr(), 512,
+            self.functions.as_ptr(), 512, self.text.as_ptr(), 16384, self.main.as_ptr(), 8192, self.main_places.as_ptr(), 8192,
+            self.other.as_ptr(), 8192, self.other_places.as_ptr(), 8192, self.stack.as_ptr(), 2048, self.cells.as_ptr(), 4096,
+            self.frames.as_ptr(), 256, self.copy.as_mut_ptr(), 2048, answer.as_mut_ptr(), 5) })?;
+        Ok(Outcome::of(answer))
+    }
+
+    /// Gives the run under way so many units more.
+    pub fn continue_run(&mut self, units: u64) -> Result<Outcome, Refused> {
+        let mut answer = [0; 5];
+        #[rustfmt::skip]
+        done(unsafe { chaffwheel_continue(
+            units, self.vm.as_mut_ptr(), 16, self.constants.as_ptr(), 512, self.structs.as_ptr(), 512,
             self.functions.as_ptr(), 512, self.text.as_ptr(), 16384, self.main.as_ptr(), 8192, self.main_places.as_ptr(), 8192,
             self.other.as_ptr(), 8192, self.other_places.as_ptr(), 8192, self.stack.as_mut_ptr(), 2048, self.cells.as_mut_ptr(), 4096,
-            self.frames.as_mut_ptr(), 256, self.copy.as_mut_ptr(), 2048, self.trace.as_mut_ptr(), 512, answer.as_mut_ptr(), 5) })?;
-        let [outcome, spent, returns, first, second] = answer;
-        let answer = match outcome {
-            1 => Answer::Value(Value::of(first, second)),
-            2 => Answer::Continue,
-            _ => Answer::Fault(first),
-        };
-        Ok(Outcome {
-            answer,
-            spent,
-            returns,
-        })
+            self.frames.as_mut_ptr(), 256, self.copy.as_ptr(), 2048, self.trace.as_mut_ptr(), 512, answer.as_mut_ptr(), 5) })?;
+        Ok(Outcome::of(answer))
+    }
+
+    /// Ends the run under way: fault 13.
+    pub fn abandon(&mut self) -> Result<Outcome, Refused> {
+        let mut answer = [0; 5];
+        #[rustfmt::skip]
+        done(unsafe { chaffwheel_abandon(
+            self.vm.as_mut_ptr(), 16, self.constants.as_ptr(), 512, self.structs.as_ptr(), 512,
+            self.functions.as_ptr(), 512, self.text.as_ptr(), 16384, self.main.as_ptr(), 8192, self.main_places.as_ptr(), 8192,
+            self.other.as_ptr(), 8192, self.other_places.as_ptr(), 8192, self.stack.as_mut_ptr(), 2048, self.cells.as_ptr(), 4096,
+            self.frames.as_mut_ptr(), 256, self.copy.as_ptr(), 2048, self.trace.as_mut_ptr(), 512, answer.as_mut_ptr(), 5) })?;
+        Ok(Outcome::of(answer))
+    }
+
+    /// A whole run: begun, continued once, and abandoned where it is then paused.
+    pub fn whole_run(&mut self, units: u64) -> Result<Outcome, Refused> {
+        let mut outcome = self.begin()?;
+        if outcome.answer == Answer::Paused {
+            outcome = self.continue_run(units)?;
+        }
+        if outcome.answer == Answer::Paused {
+            outcome = self.abandon()?;
+        }
+        Ok(outcome)
     }
 
     /// None before the first root Return.

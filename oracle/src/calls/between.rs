@@ -36,7 +36,7 @@ impl Story<'_> {
                 self.code(Op::Return, &[]);
             }
             if round == 0 {
-                self.line(PLENTY);
+                self.run_with(PLENTY);
             } else {
                 self.run();
             }
@@ -59,7 +59,7 @@ impl Story<'_> {
                 }
                 self.load(one);
                 self.code(Op::BuildStructInstance, &[number, 1]);
-                self.line(PLENTY);
+                self.run_with(PLENTY);
                 self.look();
             }
         }
@@ -90,7 +90,7 @@ impl Story<'_> {
             }
             _ => self.load(one),
         }
-        self.line(PLENTY);
+        self.run_with(PLENTY);
         self.look();
         for _ in 0..self.rng.between(1, 3) {
             match self.rng.below(3) {
@@ -126,12 +126,28 @@ impl Story<'_> {
                 self.code(Op::BuildList, &[0]);
             }
         }
-        self.line(PLENTY);
+        self.run_with(PLENTY);
         for _ in 0..self.rng.between(1, 3) {
             self.put_frames();
             self.run();
             self.look();
         }
+        // In a pause too: the run goes on with them, if they are in good order.
+        self.put_frames();
+        self.line("start");
+        if self.is_under_way() {
+            let units = self.rng.below(4) as u64;
+            self.go_on(units);
+        }
+        if self.is_under_way() {
+            self.put_frames();
+            let line = self
+                .rng
+                .pick(&["continue 0", "trace", "continue 100", "abandon"]);
+            self.line(line);
+        }
+        self.give_up();
+        self.look();
         self.retry();
     }
 
@@ -166,7 +182,7 @@ impl Story<'_> {
         self.code(Op::Return, &[]);
         self.load(times);
         self.code(Op::Call, &[1, 1]);
-        self.line(PLENTY);
+        self.run_with(PLENTY);
         self.line("begin 67");
         self.code(Op::Return, &[]);
         let image = self.machine().save();

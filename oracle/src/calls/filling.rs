@@ -23,7 +23,8 @@ impl Story<'_> {
             self.line(format!("{} {}", sorts[index], "79".repeat(rest[index])));
         }
         self.lines(&["string 00", "reference 00", "struct 00", "begin 00", "end"]);
-        self.lines(&["string", "struct", "begin", "end", "op1 0 0 1", "run 9"]);
+        self.lines(&["string", "struct", "begin", "end", "op1 0 0 1"]);
+        self.lines(&["start", "continue 9"]);
         self.line(format!("text 0 {}", long - 1));
         self.line("save");
     }
@@ -57,7 +58,7 @@ impl Story<'_> {
         if others {
             self.lines(&["op2 28 2 0 1", "begin 68", "op 37 1", "end"]);
         }
-        self.lines(&["run 99", "trace", "frame 0", "list"]);
+        self.lines(&["start", "continue 99", "trace", "frame 0", "list"]);
         self.line("save");
     }
 
@@ -80,7 +81,8 @@ impl Story<'_> {
             self.line(if number % 2 == 0 { "begin 66" } else { "begin" });
         }
         self.lines(&["op1 0 255 7", "op 37 8", "find 66", "find", "end"]);
-        self.lines(&["op2 34 255 0 1", "op2 28 255 0 2", "run 9", "trace", "last"]);
+        self.lines(&["op2 34 255 0 1", "op2 28 255 0 2", "start"]);
+        self.lines(&["continue 9", "trace", "last"]);
         self.look();
     }
 }

@@ -2,21 +2,20 @@
 
 use super::Story;
 use crate::generate::Rng;
-use crate::limits::Stores;
 use crate::op::{Op, OPS};
 
-/// A run with more units than any needs that comes to its end.
-pub(super) const PLENTY: &str = "run 1000000";
+/// More units than any run of a story needs that comes to its end.
+pub(super) const PLENTY: u64 = 1_000_000;
 
 impl Story<'_> {
+    pub(super) fn is_under_way(&self) -> bool {
+        self.machine().under_way.is_some()
+    }
+
     /// The units that a run would spend, if it is not refused.
     pub(super) fn needed(&self) -> u64 {
-        let said = self.console.clone().obey(0, PLENTY.as_bytes());
-        let said = String::from_utf8(said.expect("as above")).expect("letters");
-        let spent = said
-            .split(", ")
-            .find_map(|part| part.strip_prefix("spent "));
-        spent.map_or(0, |spent| spent.parse().expect("a number"))
+        let machine = self.console.as_lent();
+        machine.map_or(0, |mut machine| machine.run(PLENTY).spent)
     }
 
     /// Units: few, many, or just about as many as are needed.
@@ -28,28 +27,31 @@ impl Story<'_> {
             2 => self.rng.below(needed as usize + 1) as u64,
             3 => needed.saturating_sub(1),
             4 => needed,
-            5 => u64::MAX,
-            _ => 1_000_000,
+            5 if needed < PLENTY => u64::MAX,
+            _ => PLENTY,
         }
     }
 
-    /// A run, perhaps after one whose copy store is too short.
+    /// A run, its units dealt out by chance; if it is paused at last it gets
+    /// what it needs, or is abandoned.
     pub(super) fn run(&mut self) {
+        let needed = self.needed();
         let units = self.units();
-        match self.rng.below(8) {
-            0 => {
-                let room = self.rng.pick(&[0, 1, Stores::RUNNER.values - 1]);
-                self.line(format!("run {units} {room}"));
-                self.line(format!("run {units}"));
-            }
-            1 => {
-                let room = Stores::RUNNER.values + self.rng.below(2);
-                self.line(format!("run {units} {room}"));
-            }
-            _ => {
-                self.line(format!("run {units}"));
-            }
+        self.start();
+        self.deal(units);
+        if self.is_under_way() && needed < PLENTY && self.rng.chance(50) {
+            self.go_on(needed);
         }
+        self.give_up();
+    }
+
+    /// A run with so many units at once, abandoned if it is then paused.
+    pub(super) fn run_with(&mut self, units: u64) {
+        self.line("start");
+        if self.is_under_way() {
+            self.go_on(units);
+        }
+        self.give_up();
     }
 
     /// Code is added behind what has run, and run too; some more times.

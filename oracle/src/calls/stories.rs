@@ -17,6 +17,8 @@ pub(super) struct Descent {
     listed: bool,
     /// Left when it is at 0.
     at_end: usize,
+    /// Whether it returns from there: if not, the run ends in the last callee.
+    returning: bool,
     /// Left by main before it.
     before: usize,
     lists_before: usize,
@@ -55,7 +57,8 @@ impl Story<'_> {
     pub(super) fn loaded(&mut self) {
         self.line("#! An image is loaded");
         // So that a machine is there even if the image is broken.
-        self.lines(&["new", "scalar 0000000000000000", "op1 0 0 1", "run 9"]);
+        self.lines(&["new", "scalar 0000000000000000", "op1 0 0 1"]);
+        self.run_with(9);
         let bytes = match self.rng.below(10) {
             0 => vec![],
             1..=5 => image(&short(self.rng, 250)),
@@ -85,7 +88,7 @@ impl Story<'_> {
             self.load(text);
             self.load(one);
             self.code(Op::BuildList, &[2]);
-            self.line("run 3");
+            self.run_with(3);
         }
         if self.rng.chance(50) && fault != 7 {
             self.load(one);
@@ -100,12 +103,14 @@ impl Story<'_> {
         if calling {
             self.line("end");
         }
-        let units = match fault {
+        let short = match fault {
             13 => self.rng.between(1, 3) as u64,
             _ => 0,
         };
-        let units = self.needed().max(units) - units;
-        self.line(format!("run {units}"));
+        let units = self.needed().saturating_sub(short);
+        self.start();
+        self.deal(units);
+        self.give_up();
         self.look();
         self.retry();
     }
@@ -198,9 +203,10 @@ impl Story<'_> {
                 shape.at_end = 2 + self.rng.below(3) - shape.before;
             }
             // Main, and one call more than it counts.
-            "frames" => shape.times = 253 + self.rng.below(3),
+            "frames" => shape.times = self.rng.pick(&[253, 254, 255, 255]),
             _ => shape = Descent::to_cells(7 + self.rng.below(3)),
         }
+        shape.returning = self.rng.chance(40);
         let times = self.descending(&shape);
         if self.rng.chance(50) {
             self.load(times);
@@ -242,8 +248,7 @@ impl Story<'_> {
         for _ in 0..shape.at_end {
             self.load(one);
         }
-        // Without a Return the run ends in the last callee.
-        if self.rng.chance(40) {
+        if shape.returning {
             self.code(Op::GetLocal, &[0]);
             self.code(Op::Return, &[]);
         }
@@ -270,10 +275,10 @@ impl Story<'_> {
         for _ in usize::from(empty)..MAX_DEPTH {
             self.around();
         }
-        self.line(PLENTY);
+        self.run_with(PLENTY);
         self.look();
         self.around();
-        self.line(PLENTY);
+        self.run_with(PLENTY);
         self.look();
         self.retry();
     }
@@ -297,6 +302,7 @@ impl Story<'_> {
         }
         let bits = scalar(self.rng);
         self.constant(&Constant::Scalar(bits));
+        self.constant(&Constant::FunctionReference(b"f".to_vec()));
         for _ in 0..self.rng.between(1, 3) {
             let mut height = 0;
             for _ in 0..self.rng.between(2, 7) {
@@ -312,7 +318,7 @@ impl Story<'_> {
                         height -= usize::from(taken);
                     }
                     _ => {
-                        let constant = self.rng.below(count + 1) as u16;
+                        let constant = self.rng.below(count + 2) as u16;
                         self.load(constant);
                     }
                 }
@@ -340,12 +346,23 @@ impl Story<'_> {
         self.line("end");
         self.run();
         for _ in 0..self.rng.between(2, 5) {
+            // In a pause, too: then the innermost position is to be below its
+            // code length.
+            if self.rng.chance(50) {
+                self.lines(&["frame 0 0 0 0", "count frames 1", "start"]);
+                let units = self.rng.below(4) as u64;
+                self.go_on(units);
+            }
             self.damage();
             for _ in 0..self.rng.between(1, 2) {
                 let line = self.rng.pick(&[
-                    "run 1000",
-                    "run 1",
-                    "run 1000 0",
+                    "start",
+                    "start 0",
+                    "continue 1000",
+                    "continue 1",
+                    "continue 1000 0",
+                    "abandon",
+                    "abandon 0",
                     "trace",
                     "trace 0",
                     "trace 2",
@@ -353,7 +370,12 @@ impl Story<'_> {
                 ]);
                 self.line(line);
             }
-            if self.rng.chance(50) {
+            if self.is_under_way() {
+                self.mend();
+                let line = self.rng.pick(&["trace", "continue 0", "continue 1", "new"]);
+                self.line(line);
+                self.give_up();
+            } else if self.rng.chance(50) {
                 // Mended: at the end of main, or at its start again.
                 let end = self.machine().program.functions[0].code.len();
                 let position = self.rng.pick(&[0, end]);
@@ -472,7 +494,7 @@ impl Story<'_> {
     /// Lines that are not understood, among some that are.
     pub(super) fn not_understood(&mut self) {
         self.lines(&["#! Lines that are not understood", "new"]);
-        const LINES: [&str; 48] = [
+        const LINES: [&str; 55] = [
             "jump 5",
             "New",
             "new 1",
@@ -482,13 +504,20 @@ impl Story<'_> {
             "#!  something  more",
             "",
             "   ",
-            "run",
-            "run x",
-            "run 1 x",
-            "run 1 2 3",
-            "run -1",
-            "run 18446744073709551616",
-            "run 00000000000000000000001",
+            "run 1",
+            "start x",
+            "start 1 2",
+            "start 0",
+            "continue",
+            "continue x",
+            "continue 1 x",
+            "continue 1 2 3",
+            "continue -1",
+            "continue 18446744073709551616",
+            "continue 00000000000000000000001",
+            "abandon x",
+            "abandon 1 2",
+            "abandon 0",
             "trace x",
             "op",
             "op 37",

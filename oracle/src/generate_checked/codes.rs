@@ -1,36 +1,24 @@
 //! Code as instructions, to be altered.
 
 use crate::image::{Function, MAIN};
-use crate::op::Op;
+use crate::op::{Op, OPS};
 
 /// The carried opcodes but CallCallable, which no program that passes has.
-pub const CARRIED: [Op; 25] = [
-    Op::LoadConstant,
-    Op::GetLocal,
-    Op::GetUpvalue,
-    Op::GetLastResult,
-    Op::Negate,
-    Op::Add,
-    Op::Subtract,
-    Op::Multiply,
-    Op::Divide,
-    Op::LessThan,
-    Op::GreaterThan,
-    Op::LessOrEqual,
-    Op::GreatorOrEqual,
-    Op::Equal,
-    Op::NotEqual,
-    Op::LogicalAnd,
-    Op::LogicalOr,
-    Op::LogicalNeg,
-    Op::JumpIfFalse,
-    Op::Jump,
-    Op::Call,
-    Op::BuildStructInstance,
-    Op::AccessStructField,
-    Op::BuildList,
-    Op::Return,
-];
+pub const CARRIED: [Op; 25] = {
+    let mut carried = [Op::LoadConstant; 25];
+    let mut count = 0;
+    let mut number = 0;
+    while number < OPS.len() {
+        let op = OPS[number];
+        if op.is_carried() && !matches!(op, Op::CallCallable) {
+            carried[count] = op;
+            count += 1;
+        }
+        number += 1;
+    }
+    assert!(count == carried.len());
+    carried
+};
 
 /// Where the instructions of a code begin, as far as it is a row of them.
 pub fn instructions(code: &[u8]) -> Vec<(usize, Op)> {

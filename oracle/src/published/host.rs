@@ -8,7 +8,7 @@ use super::values::{text, their_constant};
 use super::{machine, plain_of};
 use crate::command::Command;
 use crate::console::Console;
-use crate::limits::Stores;
+use crate::limits::{Machine, Part, Report, Stores};
 use crate::plain::quietly;
 
 /// A host of two machines, which gets the same calls for both.
@@ -18,6 +18,10 @@ pub(super) struct Host<'a> {
     /// Whether the published machine is what the console's is. It is not after
     /// a panic or past a limit, or when the host has put frames.
     in_step: bool,
+    /// What the machine was when the run under way was begun: the published
+    /// machine makes the run when it is over, as it has no parts. None if
+    /// there is none, or frames were put in a pause.
+    begun: Option<State>,
     counted: &'a mut Count,
 }
 
@@ -27,36 +31,64 @@ impl Host<'_> {
             console: Console::new(),
             published: Published::new(),
             in_step: true,
+            begun: None,
             counted,
         }
     }
 
     pub(super) fn line(&mut self, at: &str, line: &[u8]) {
         let command = Command::read(line);
-        if let Command::Run(units, room) = command {
-            if room >= Stores::RUNNER.values {
-                self.run(at, units);
-            }
+        if let Some((machine, report)) = self.part(&command) {
+            self.over(at, &machine, &report);
         }
         let said = self.console.obey(0, line).expect("a script is understood");
         let said = String::from_utf8_lossy(&said).into_owned();
         self.emission(at, command, said.trim_end());
     }
 
-    fn run(&mut self, at: &str, units: u64) {
-        let Some(mut machine) = self.console.as_lent() else {
+    /// The end of a run, if this call brings it, and the machine then.
+    fn part(&mut self, command: &Command) -> Option<(Machine, Report)> {
+        let rooms = Stores::RUNNER;
+        let (machine, part) = match *command {
+            Command::Start(room) if room >= rooms.values => {
+                let mut machine = self.console.as_lent()?;
+                let begun = State::of_machine(&machine);
+                let part = machine.begin_run().ok()?;
+                self.begun = Some(begun);
+                (machine, part)
+            }
+            Command::Continue(units, room) if room >= rooms.frames => {
+                let mut machine = self.console.as_lent()?;
+                let part = machine.continue_run(units).ok()?;
+                (machine, part)
+            }
+            Command::Abandon(room) if room >= rooms.frames => {
+                let mut machine = self.console.as_lent()?;
+                let report = machine.abandon_run().ok()?;
+                (machine, Part::Over(report))
+            }
+            _ => return None,
+        };
+        match part {
+            Part::Over(report) => Some((machine, report)),
+            Part::Paused { .. } => None,
+        }
+    }
+
+    /// A run is over: the published machine makes it from where it was begun.
+    fn over(&mut self, at: &str, machine: &Machine, report: &Report) {
+        let Some(before) = self.begun.take() else {
+            self.in_step = false;
             return;
         };
-        let before = State::of_machine(&machine);
         if !self.in_step {
             before.put_into_published(&mut self.published);
         }
         let mut plain = plain_of(&machine.program);
         before.put_into_plain(&mut plain);
-        let report = machine.run(units);
         let ruled = Ruled {
-            report: &report,
-            after: State::of_machine(&machine),
+            report,
+            after: State::of_machine(machine),
             program: &machine.program,
         };
         let counted = &mut self.counted;
@@ -80,8 +112,9 @@ impl Host<'_> {
                 self.in_step = true;
                 return;
             }
-            Command::PutFrame(..) | Command::CountFrames(_) => {
+            Command::PutFrame(..) | Command::CountFrames(_) | Command::PutRun(..) => {
                 self.in_step = false;
+                self.begun = None;
                 return;
             }
             Command::Offset => format!("number {}", vm.current_offset()),

@@ -1,7 +1,7 @@
 -- `print_checked`: measured, then put.
 use borrow.Author.Needs.{needs}
 use mathlib.Core.Path.{refl}
-use Rattle.report.proofs.Prints.{no-room, room-for}
+use Rattle.report_lines.proofs.Prints.{no-room, room-for}
 use Rattle.check_report.proofs.print_checked.Statement.{statement}
 use Rattle.check_report.proofs.print_checked.Tie as tie
 
@@ -21,7 +21,9 @@ same-length : tie.Need-same-length
 same-length c = search needs
 
 returns : tie.Need-returns
-returns c = no-room _ _ (search needs) (c .before .before .before .before .put-checked .ensures) _ (c .before .room .ensures _ refl) (c .if1 .taken)
+returns c =
+    let at-put-checked = c .before .before .before .before in
+    no-room _ _ (search needs) (at-put-checked .put-checked .ensures) _ (c .before .room .ensures _ refl) (c .if1 .taken)
 
 put-checked-requires-2 : tie.Need-put-checked-requires-2
 put-checked-requires-2 c κs = search needs

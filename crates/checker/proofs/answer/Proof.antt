@@ -3,7 +3,7 @@ use borrow.Author.Needs.{needs}
 use mathlib.Core.Path.{sym}
 use native.Mathlib.Omega.{arith}
 use lib.Seq.{length-take-le}
-use Rattle.report.proofs.Prints.{inside}
+use Rattle.report_lines.proofs.Prints.{inside}
 use Rattle.streams.proofs.Told.{bytes-counted, read-answered, failed-answered}
 use Rattle.checker.proofs.answer.Statement.{statement}
 use Rattle.checker.proofs.answer.Tie as tie

@@ -12,7 +12,7 @@ same-bytes-requires c κs = search needs
 
 returns : tie.Need-returns
 unfolding ascii withProgram changed unchanged programWith
-returns c = rw (← c .before .same-bytes .ensures, c .if1 .taken)
+returns c = rw (← c .before .before .same-bytes .ensures, c .before .if1 .taken)
 
 slice-aggregate-same-bytes-2 : tie.Need-slice-aggregate-same-bytes-2
 slice-aggregate-same-bytes-2 c = search needs
@@ -23,9 +23,9 @@ same-bytes-requires-2 c κs = search needs
 returns-2 : tie.Need-returns-2
 unfolding ascii withProgram changed unchanged programWith
 returns-2 c =
-    let at-if1 = c .before .before .before in
+    let at-if1 = c .before .before .before .before in
     let at-same-bytes = at-if1 .before in
-    rw (← at-same-bytes .same-bytes .ensures, at-if1 .if1 .left, ← c .before .same-bytes2 .ensures, c .if2 .taken)
+    rw (← at-same-bytes .same-bytes .ensures, at-if1 .if1 .left, ← c .before .before .same-bytes2 .ensures, c .before .if2 .taken)
 
 slice-aggregate-same-bytes-3 : tie.Need-slice-aggregate-same-bytes-3
 slice-aggregate-same-bytes-3 c = search needs
@@ -36,7 +36,7 @@ same-bytes-requires-3 c κs = search needs
 returns-3 : tie.Need-returns-3
 unfolding ascii withProgram changed unchanged programWith
 returns-3 c =
-    let at-if2 = c .before .before .before in
+    let at-if2 = c .before .before .before .before in
     let at-same-bytes2 = at-if2 .before in
     let at-if1 = at-same-bytes2 .before .before in
     let at-same-bytes = at-if1 .before in
@@ -45,8 +45,8 @@ returns-3 c =
       at-if1 .if1 .left,
       ← at-same-bytes2 .same-bytes2 .ensures,
       at-if2 .if2 .left,
-      ← c .before .same-bytes3 .ensures,
-      c .if3 .taken,
+      ← c .before .before .same-bytes3 .ensures,
+      c .before .if3 .taken,
     )
 
 slice-aggregate-same-bytes-4 : tie.Need-slice-aggregate-same-bytes-4
@@ -58,7 +58,7 @@ same-bytes-requires-4 c κs = search needs
 returns-4 : tie.Need-returns-4
 unfolding ascii withProgram changed unchanged programWith
 returns-4 c =
-    let at-if3 = c .before .before .before in
+    let at-if3 = c .before .before .before .before in
     let at-same-bytes3 = at-if3 .before in
     let at-if2 = at-same-bytes3 .before .before in
     let at-same-bytes2 = at-if2 .before in
@@ -71,8 +71,8 @@ returns-4 c =
       at-if2 .if2 .left,
       ← at-same-bytes3 .same-bytes3 .ensures,
       at-if3 .if3 .left,
-      ← c .before .same-bytes4 .ensures,
-      c .if4 .taken,
+      ← c .before .before .same-bytes4 .ensures,
+      c .before .if4 .taken,
     )
 
 slice-aggregate-same-bytes-5 : tie.Need-slice-aggregate-same-bytes-5
@@ -84,7 +84,7 @@ same-bytes-requires-5 c κs = search needs
 returns-5 : tie.Need-returns-5
 unfolding ascii withProgram changed unchanged programWith
 returns-5 c =
-    let at-if4 = c .before .before .before in
+    let at-if4 = c .before .before .before .before in
     let at-same-bytes4 = at-if4 .before in
     let at-if3 = at-same-bytes4 .before .before in
     let at-same-bytes3 = at-if3 .before in
@@ -101,8 +101,8 @@ returns-5 c =
       at-if3 .if3 .left,
       ← at-same-bytes4 .same-bytes4 .ensures,
       at-if4 .if4 .left,
-      ← c .before .same-bytes5 .ensures,
-      c .if5 .taken,
+      ← c .before .before .same-bytes5 .ensures,
+      c .before .if5 .taken,
     )
 
 returns-6 : tie.Need-returns-6

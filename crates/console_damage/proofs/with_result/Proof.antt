@@ -11,7 +11,10 @@ value-of-requires c κs = search needs
 
 returns : tie.Need-returns
 unfolding changed lastWith resultArgs resultAsked
-returns c = rw (← c .before .before .before .read-args .ensures, c .before .before .if1 .taken, c .before .value-of .ensures)
+returns c =
+    let at-if1 = c .before .before .before in
+    let at-read-args = at-if1 .before in
+    rw (← at-read-args .read-args .ensures, at-if1 .if1 .taken, c .before .before .value-of .ensures)
 
 returns-2 : tie.Need-returns-2
 unfolding unchanged resultArgs resultAsked

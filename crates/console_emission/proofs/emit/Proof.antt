@@ -33,24 +33,24 @@ returns : tie.Need-returns
 unfolding codeLent
 returns c =
     let at-told = c .before .before .before .before .before .before in
-    code-emitted _ _ _ _ (at-told .enum-told .given .1) _ _ _ _ _
+    code-emitted _ _ _ _ _ (at-told .enum-told .given .1) _ _ _ _ _
     (c .emit-code .ensures)
 
 returns-2 : tie.Need-returns-2
 unfolding codeLent bytesLent
 returns-2 c =
     let at-told = c .before .before .before .before in
-    patch-emitted _ _ _ _ (at-told .enum-told2 .given .1) _ _ (c .emit-patch .ensures)
+    patch-emitted _ _ _ _ _ (at-told .enum-told2 .given .1) _ _ (c .emit-patch .ensures)
 
 returns-3 : tie.Need-returns-3
 unfolding constantsLent
-returns-3 c = constant-emitted _ _ _ _ (c .before .before .before .enum-told3 .given .1) _ _ (c .emit-constant .ensures)
+returns-3 c = constant-emitted _ _ _ _ _ (c .before .before .before .enum-told3 .given .1) _ _ (c .emit-constant .ensures)
 
 returns-4 : tie.Need-returns-4
 unfolding allNames
 returns-4 c =
     let at-told = c .before .before .before .before in
-    name-emitted _ _ _ _ (at-told .enum-told4 .given .1) _ _ _ (c .emit-name .ensures)
+    name-emitted _ _ _ _ _ (at-told .enum-told4 .given .1) _ _ _ (c .emit-name .ensures)
 
 pub emit-spec : {M : Type 1} → statement M
 emit-spec =

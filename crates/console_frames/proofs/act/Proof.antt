@@ -1,21 +1,22 @@
 -- `act` meets its contract: a walk of its MIR, by hand. The frames are laid, the entry is called, and the frames are kept.
 -- Assumes nothing.
-use Rattle.laws_walks.proofs.Walk.{_≡_, refl, sym, subst, true, false, List, [], _∷_, Option, none, some, ℕ, length, URA, w64, Val, vunit, vint, vptr, SProp, ent, id⊢, Memory, Routine, Heap, Tables, WpFn, Atoms, Lfts, Shares, Fun, givenOf, tables, tablesOf, FmC, fmOf}
-use Rattle.laws_walks.proofs.Walk.{Given, Sq, ‵, ⋆, runs, atRet, _$_, _∵_, !, qed, by, keep, suffices, frame, done, agg, addr, of-opd, Is, Nothing, uint-makes, u8, u32, u64, now, Room, owned, onEntry, tripleOf, Contract, Triple, cited, says, walkOf, ends-at}
+use Rattle.laws_walks.proofs.Walk.{_≡_, refl, sym, subst, Bool, true, false, List, [], _∷_, Option, none, some, ℕ, length, URA, w64, Val, vunit, vbool, vint, vptr, SProp, ent, id⊢, Memory, Routine, Heap, Tables, WpFn, Atoms, Lfts, Shares, Fun, givenOf, tables, tablesOf, FmC, fmOf}
+use Rattle.laws_walks.proofs.Walk.{Given, Sq, ‵, ⋆, runs, atRet, _$_, _∵_, !, qed, by, keep, suffices, frame, done, agg, addr, of-opd, Is, Nothing, Boolean, bool-tells, uint-makes, u8, u32, u64, now, Room, owned, onEntry, tripleOf, Contract, Triple, cited, says, walkOf, ends-at}
 use Rattle.laws_walks.proofs.Walk.{Blocks, envAt, Locals, of, ofs, behind, sets, lands-in, enters, leaves, Sl, sl, sval, Arg, val, shr, mut, peek, Holds, Toks, Owns, lfts, shares, denots, valss, values, passing, lent, takes, gives, Rule, call-with, unasked, unneeded, calls-on, tag-of, payload-of, Kind, own, shared, unique, stays, Passed, Known, closed}
+use denote.Plain.{bool-makes}
 use Rattle.model.specs.declared.Vm.{Vm}
 use Rattle.model.specs.declared.Frame.{Frame}
 use Rattle.model.specs.declared.Started.{Started}
 use Rattle.model.specs.declared.RunResult.{RunResult}
 use Rattle.model.specs.declared.Told.{Told}
 use Rattle.model.specs.Stores.{Stores}
-use Rattle.model.specs.Machines.{backtraceIn, RunPost, loadMachineOf, newMachineOf}
+use Rattle.model.specs.Machines.{backtraceIn, begins, continues, abandons, RunPost, loadMachineOf, newMachineOf}
 use Rattle.layout.specs.Links.{namesLent}
 use Rattle.model.specs.Stores.{storesOf as imageLent}
 use Rattle.run_ends.specs.Links.{programLent}
 use Rattle.machine.specs.Links.{runLent}
 use Rattle.console_frames.specs.declared.Call.{Call}
-use Rattle.console_frames.specs.declared.Call.the-variants.{New, Load, Run, Trace}
+use Rattle.console_frames.specs.declared.Call.the-variants.{New, Load, Begin, Continue, Abandon, Trace}
 use Rattle.console_frames.specs.declared.Answer.{Answer}
 use Rattle.console_frames.specs.declared.Answer.the-variants as ans
 use Rattle.frames.proofs.Frames.{R}
@@ -23,8 +24,8 @@ use Rattle.machine.proofs.Rows.{VmRow, vmVal, vm-tells, vm-typed, vm-makes, Sta
 use Rattle.laws_walks.proofs.Branches.{returns-match}
 use Rattle.console_frames.specs.Resting.{allLaid, allKept}
 use Rattle.console_frames.specs.Calls.{Held, held, Called}
-use Rattle.console_frames.proofs.Answers.{new-called, load-called, run-called, trace-called}
-use Rattle.console_frames.proofs.Calls.{CallRow, callVal, IsCall, call-tells, call-typed, call-makes, AnswerRow, answerVal, IsAnswer, answer-tells, answer-typed, answer-makes, run-fits}
+use Rattle.console_frames.proofs.Answers.{new-called, load-called, begin-called, continue-called, abandon-called, trace-called}
+use Rattle.console_frames.proofs.Calls.{CallRow, callVal, IsCall, call-tells, call-typed, call-makes, AnswerRow, answerVal, IsAnswer, answer-tells, answer-typed, answer-makes, units-fit}
 use Rattle.console_frames.proofs.lay as lay-of
 use Rattle.console_frames.proofs.lay.Symbol as lay-def
 use Rattle.console_frames.proofs.lay.Symbol.{name as #lay}
@@ -41,14 +42,26 @@ use Rattle.machine.proofs.load as load-of
 use Rattle.machine.proofs.load.Symbol as load-def
 use Rattle.machine.proofs.load.Symbol.{name as #load}
 use Rattle.machine.proofs.load.Met as load-thm
-use Rattle.machine.proofs.run as go-of
-use Rattle.machine.proofs.run.Symbol as go-def
-use Rattle.machine.proofs.run.Symbol.{name as #go}
-use Rattle.machine.proofs.run.Met as go-thm
+use Rattle.machine.proofs.begin as begin-of
+use Rattle.machine.proofs.begin.Symbol as begin-def
+use Rattle.machine.proofs.begin.Symbol.{name as #begin}
+use Rattle.machine.proofs.begin.Met as begin-thm
+use Rattle.machine.proofs.continue_run as more-of
+use Rattle.machine.proofs.continue_run.Symbol as more-def
+use Rattle.machine.proofs.continue_run.Symbol.{name as #more}
+use Rattle.machine.proofs.continue_run.Met as more-thm
+use Rattle.machine.proofs.abandon as end-of
+use Rattle.machine.proofs.abandon.Symbol as end-def
+use Rattle.machine.proofs.abandon.Symbol.{name as #end}
+use Rattle.machine.proofs.abandon.Met as end-thm
 use Rattle.machine.proofs.backtrace as back-of
 use Rattle.machine.proofs.backtrace.Symbol as back-def
 use Rattle.machine.proofs.backtrace.Symbol.{name as #back}
 use Rattle.machine.proofs.backtrace.Met as back-thm
+use Rattle.console_frames.proofs.under_way as running-of
+use Rattle.console_frames.proofs.under_way.Symbol as running-def
+use Rattle.console_frames.proofs.under_way.Symbol.{name as #running}
+use Rattle.console_frames.proofs.under_way.Met as running-thm
 use Rattle.console_frames.proofs.made as made-of
 use Rattle.console_frames.proofs.made.Symbol as made-def
 use Rattle.console_frames.proofs.made.Symbol.{name as #made}
@@ -86,11 +99,20 @@ module _ {M : Type 1} (𝓤 : URA M) (H : Heap 𝓤) (A : Atoms 𝓤) (W : Given
   abbrev ToLoad : Contract 𝓤
   ToLoad = tripleOf 𝓤 H A load-of.signature (load-of.spec 𝓤 H A mem run)
 
-  abbrev ToGo : Contract 𝓤
-  ToGo = tripleOf 𝓤 H A go-of.signature (go-of.spec 𝓤 H A mem run)
+  abbrev ToBegin : Contract 𝓤
+  ToBegin = tripleOf 𝓤 H A begin-of.signature (begin-of.spec 𝓤 H A mem run)
+
+  abbrev ToMore : Contract 𝓤
+  ToMore = tripleOf 𝓤 H A more-of.signature (more-of.spec 𝓤 H A mem run)
+
+  abbrev ToEnd : Contract 𝓤
+  ToEnd = tripleOf 𝓤 H A end-of.signature (end-of.spec 𝓤 H A mem run)
 
   abbrev ToBack : Contract 𝓤
   ToBack = tripleOf 𝓤 H A back-of.signature (back-of.spec 𝓤 H A mem run)
+
+  abbrev ToRunning : Contract 𝓤
+  ToRunning = tripleOf 𝓤 H A running-of.signature (running-of.spec 𝓤 H A mem run)
 
   abbrev ToMade : Contract 𝓤
   ToMade = tripleOf 𝓤 H A made-of.signature (made-of.spec 𝓤 H A mem run)
@@ -129,8 +151,10 @@ module _ {M : Type 1} (𝓤 : URA M) (H : Heap 𝓤) (A : Atoms 𝓤) (W : Given
       (told-makes 𝓤 H A W x _ isx, tt) tt
 
   module _ (𝓣 : Tables 𝓤 H) (known-lay : Triple 𝓤 (𝓣 .C #lay) ToLay) (known-keep : Triple 𝓤 (𝓣 .C #keep) ToKeep) (known-new : Triple 𝓤 (𝓣 .C #new) ToNew)
-      (known-load : Triple 𝓤 (𝓣 .C #load) ToLoad) (known-go : Triple 𝓤 (𝓣 .C #go) ToGo) (known-back : Triple 𝓤 (𝓣 .C #back) ToBack)
-      (known-made : Triple 𝓤 (𝓣 .C #made) ToMade) (known-ran : Triple 𝓤 (𝓣 .C #ran) ToRan) (known-traced : Triple 𝓤 (𝓣 .C #traced) ToTraced)
+      (known-load : Triple 𝓤 (𝓣 .C #load) ToLoad) (known-begin : Triple 𝓤 (𝓣 .C #begin) ToBegin) (known-more : Triple 𝓤 (𝓣 .C #more) ToMore) (known-end : Triple
+      𝓤 (𝓣 .C #end) ToEnd) (known-back : Triple 𝓤 (𝓣 .C #back) ToBack)
+      (known-running : Triple 𝓤 (𝓣 .C #running) ToRunning) (known-made : Triple 𝓤 (𝓣 .C #made) ToMade) (known-ran : Triple 𝓤 (𝓣 .C #ran) ToRan) (known-traced :
+      Triple 𝓤 (𝓣 .C #traced) ToTraced)
       (κs : Lfts 15) (qs : Shares 15) (a : Passed kinds AnswerRow κs) (is : Known kinds AnswerRow κs a) where
     abbrev m : Vm
     m = a .0
@@ -321,7 +345,8 @@ module _ {M : Type 1} (𝓤 : URA M) (H : Heap 𝓤) (A : Atoms 𝓤) (W : Given
         → Called m call image laid before r frames′ (held constants′ structs′ functions′ text′ main′ mainPlaces′ other′ otherPlaces′ stack′ cells′ copy′ trace′ words′)
         → ent 𝓤 (⋆ 𝓤 H A (‵ (Holds (slices constants′ structs′ functions′ text′ main′ mainPlaces′ other′ otherPlaces′ stack′ cells′ frames′ copy′ trace′ words′)) ∷ []))
         (Post (answerVal r))
-    exits r constants′ structs′ functions′ text′ main′ mainPlaces′ other′ otherPlaces′ stack′ cells′ frames′ copy′ trace′ words′ isr len-constants len-structs len-functions len-text len-main len-mainPlaces len-other len-otherPlaces len-stack len-cells len-frames len-copy len-trace len-words said =
+    exits r constants′ structs′ functions′ text′ main′ mainPlaces′ other′ otherPlaces′ stack′ cells′ frames′ copy′ trace′ words′ isr len-constants len-structs
+        len-functions len-text len-main len-mainPlaces len-other len-otherPlaces len-stack len-cells len-frames len-copy len-trace len-words said =
         qed W
         (‵
         (Holds
@@ -413,45 +438,53 @@ module _ {M : Type 1} (𝓤 : URA M) (H : Heap 𝓤) (A : Atoms 𝓤) (W : Given
         (λ ns. unasked W (lent (to-keep frames′ words′) ns)) (λ ns w. id⊢ 𝓤 _) tt
         ((len-frames, room11), ((len-words, room14), tt))
 
-    abbrev to-new : List Frame → List Arg
-    to-new frames′ = mut u64 s3 functions ∷ mut u8 s4 text ∷ mut R s11 frames′ ∷ []
+    abbrev to-running : List Arg
+    to-running = val VmRow m (vmVal m) ∷ []
 
-    call-new : (frames′ : List Frame) → length frames′ ≡ s11 .count
-        → Rule 𝓤 H A W (to-new frames′) ToNew StartedRow startedVal
-        (λ r zs. ((rest : Stores) → record { answer = r; stores = namesLent rest (zs .0) (zs .1 .0); frames = (zs .1 .1 .0) } ≡ newMachineOf
+    call-running : Rule 𝓤 H A W to-running ToRunning Boolean vbool (λ b zs. b ≡ m .run .on)
+    call-running =
+        call-with 𝓤 H A W to-running ToRunning Boolean vbool (λ b zs. b ≡ m .run .on) bool-tells (λ ns. passing (lent to-running ns)) (λ ns. refl)
+        (λ ns. unasked W (lent to-running ns)) (λ ns w. id⊢ 𝓤 _) (vm-makes 𝓤 H A W m _ is-m, tt) tt
+
+    abbrev to-new : Bool → List Frame → List Arg
+    to-new b frames′ = val Boolean b (vbool b) ∷ mut u64 s3 functions ∷ mut u8 s4 text ∷ mut R s11 frames′ ∷ []
+
+    call-new : (b : Bool) → Is Boolean b (vbool b ∷ []) → (frames′ : List Frame) → length frames′ ≡ s11 .count
+        → Rule 𝓤 H A W (to-new b frames′) ToNew StartedRow startedVal
+        (λ r zs. ((rest : Stores) → record { answer = r; stores = namesLent rest (zs .1 .0) (zs .1 .1 .0); frames = (zs .1 .1 .1 .0) } ≡ newMachineOf b
         (namesLent rest functions text) frames′))
-    call-new frames′ len-frames =
-        call-with 𝓤 H A W (to-new frames′) ToNew StartedRow startedVal
-        (λ r zs. ((rest : Stores) → record { answer = r; stores = namesLent rest (zs .0) (zs .1 .0); frames = (zs .1 .1 .0) } ≡
-        newMachineOf (namesLent rest functions text) frames′)) started-tells (λ ns. passing (lent (to-new frames′) ns))
-        (λ ns. refl) (λ ns. unasked W (lent (to-new frames′) ns)) (λ ns w. id⊢ 𝓤 _) tt
+    call-new b isb frames′ len-frames =
+        call-with 𝓤 H A W (to-new b frames′) ToNew StartedRow startedVal
+        (λ r zs. ((rest : Stores) → record { answer = r; stores = namesLent rest (zs .1 .0) (zs .1 .1 .0); frames = (zs .1 .1 .1 .0) } ≡
+        newMachineOf b (namesLent rest functions text) frames′)) started-tells (λ ns. passing (lent (to-new b frames′) ns))
+        (λ ns. refl) (λ ns. unasked W (lent (to-new b frames′) ns)) (λ ns w. id⊢ 𝓤 _) (bool-makes 𝓤 H A W b _ isb, tt)
         ((refl, room3), ((refl, room4), ((len-frames, room11), tt)))
 
-    abbrev to-load : List Frame → List Arg
-    to-load frames′ =
-        shr u8 s0 image ∷ mut u64 s1 constants ∷ mut u64 s2 structs ∷ mut u64 s3 functions ∷ mut u8 s4 text ∷ mut u8 s5 main ∷ mut
+    abbrev to-load : Bool → List Frame → List Arg
+    to-load b frames′ =
+        val Boolean b (vbool b) ∷ shr u8 s0 image ∷ mut u64 s1 constants ∷ mut u64 s2 structs ∷ mut u64 s3 functions ∷ mut u8 s4 text ∷ mut u8 s5 main ∷ mut
         u32 s6 mainPlaces ∷ mut u8 s7 other ∷ mut u32 s8 otherPlaces ∷ mut R s11 frames′ ∷ []
 
-    call-load : (frames′ : List Frame) → length frames′ ≡ s11 .count
-        → Rule 𝓤 H A W (to-load frames′) ToLoad StartedRow startedVal
+    call-load : (b : Bool) → Is Boolean b (vbool b ∷ []) → (frames′ : List Frame) → length frames′ ≡ s11 .count
+        → Rule 𝓤 H A W (to-load b frames′) ToLoad StartedRow startedVal
         (λ r zs. record {
           answer = r;
-          stores = (imageLent (zs .1 .0) (zs .1 .1 .0) (zs .1 .1 .1 .0) (zs .1 .1 .1 .1 .0) (zs .1 .1 .1 .1 .1 .0)
-              (zs .1 .1 .1 .1 .1 .1 .0) (zs .1 .1 .1 .1 .1 .1 .1 .0) (zs .1 .1 .1 .1 .1 .1 .1 .1 .0));
-          frames = (zs .1 .1 .1 .1 .1 .1 .1 .1 .1 .0);
-        } ≡ loadMachineOf image
+          stores = (imageLent (zs .1 .1 .0) (zs .1 .1 .1 .0) (zs .1 .1 .1 .1 .0) (zs .1 .1 .1 .1 .1 .0) (zs .1 .1 .1 .1 .1 .1 .0)
+              (zs .1 .1 .1 .1 .1 .1 .1 .0) (zs .1 .1 .1 .1 .1 .1 .1 .1 .0) (zs .1 .1 .1 .1 .1 .1 .1 .1 .1 .0));
+          frames = (zs .1 .1 .1 .1 .1 .1 .1 .1 .1 .1 .0);
+        } ≡ loadMachineOf b image
         (imageLent constants structs functions text main mainPlaces other otherPlaces) frames′)
-    call-load frames′ len-frames =
-        call-with 𝓤 H A W (to-load frames′) ToLoad StartedRow startedVal
+    call-load b isb frames′ len-frames =
+        call-with 𝓤 H A W (to-load b frames′) ToLoad StartedRow startedVal
         (λ r zs. record {
           answer = r;
           stores =
-              (imageLent (zs .1 .0) (zs .1 .1 .0) (zs .1 .1 .1 .0) (zs .1 .1 .1 .1 .0) (zs .1 .1 .1 .1 .1 .0)
-              (zs .1 .1 .1 .1 .1 .1 .0) (zs .1 .1 .1 .1 .1 .1 .1 .0) (zs .1 .1 .1 .1 .1 .1 .1 .1 .0));
-          frames = (zs .1 .1 .1 .1 .1 .1 .1 .1 .1 .0);
-        } ≡ loadMachineOf image (imageLent constants structs functions text main mainPlaces other otherPlaces) frames′)
-        started-tells (λ ns. passing (lent (to-load frames′) ns)) (λ ns. refl) (λ ns. unasked W (lent (to-load frames′) ns))
-        (λ ns w. id⊢ 𝓤 _) tt (
+              (imageLent (zs .1 .1 .0) (zs .1 .1 .1 .0) (zs .1 .1 .1 .1 .0) (zs .1 .1 .1 .1 .1 .0) (zs .1 .1 .1 .1 .1 .1 .0)
+              (zs .1 .1 .1 .1 .1 .1 .1 .0) (zs .1 .1 .1 .1 .1 .1 .1 .1 .0) (zs .1 .1 .1 .1 .1 .1 .1 .1 .1 .0));
+          frames = (zs .1 .1 .1 .1 .1 .1 .1 .1 .1 .1 .0);
+        } ≡ loadMachineOf b image (imageLent constants structs functions text main mainPlaces other otherPlaces) frames′)
+        started-tells (λ ns. passing (lent (to-load b frames′) ns)) (λ ns. refl) (λ ns. unasked W (lent (to-load b frames′) ns))
+        (λ ns w. id⊢ 𝓤 _) (bool-makes 𝓤 H A W b _ isb, tt) (
           (refl, room0),
           (
             (refl, room1),
@@ -465,25 +498,65 @@ module _ {M : Type 1} (𝓤 : URA M) (H : Heap 𝓤) (A : Atoms 𝓤) (W : Given
           ),
         )
 
-    abbrev to-go : ℕ → List Frame → List Arg
-    to-go units frames′ =
-        val VmRow m (vmVal m) ∷ val u64 units (vint w64 units) ∷ peek u64 s1 constants ∷ peek u64 s2 structs ∷ peek u64 s3
-        functions ∷ peek u8 s4 text ∷ peek u8 s5 main ∷ peek u32 s6 mainPlaces ∷ peek u8 s7 other ∷ peek u32 s8 otherPlaces ∷ mut
-        u64 s9 stack ∷ mut u64 s10 cells ∷ mut R s11 frames′ ∷ mut u64 s12 copy ∷ mut u32 s13 trace ∷ []
+    abbrev to-begin : List Frame → List Arg
+    to-begin frames′ = val VmRow m (vmVal m) ∷ peek u64 s1 constants ∷ peek u64 s2 structs ∷ peek u64 s3 functions ∷ peek u8 s4 text ∷ peek u8 s5 main ∷
+        peek u32 s6 mainPlaces ∷ peek u8 s7 other ∷ peek u32 s8 otherPlaces ∷ peek u64 s9 stack ∷ peek u64 s10 cells ∷ peek R s11 frames′ ∷ mut u64 s12 copy ∷
+        []
 
-    call-go : (units : ℕ) → Is u64 units (vint w64 units ∷ []) → (frames′ : List Frame) → length frames′ ≡ s11 .count
-        → Rule 𝓤 H A W (to-go units frames′) ToGo ResultRow resultVal
-        (λ r zs. (RunPost m (programLent structs constants functions text main mainPlaces other otherPlaces) (runLent stack cells frames′ copy trace) units r
-        (runLent (zs .1 .1 .1 .1 .1 .1 .1 .1 .1 .1 .0) (zs .1 .1 .1 .1 .1 .1 .1 .1 .1 .1 .1 .0) (zs .1 .1 .1 .1 .1 .1 .1 .1 .1 .1 .1 .1 .0)
-        (zs .1 .1 .1 .1 .1 .1 .1 .1 .1 .1 .1 .1 .1 .0) (zs .1 .1 .1 .1 .1 .1 .1 .1 .1 .1 .1 .1 .1 .1 .0))))
-    call-go units is-units frames′ len-frames =
-        call-with 𝓤 H A W (to-go units frames′) ToGo ResultRow resultVal
-        (λ r zs. (RunPost m (programLent structs constants functions text main mainPlaces other otherPlaces)
-        (runLent stack cells frames′ copy trace) units r
-        (runLent (zs .1 .1 .1 .1 .1 .1 .1 .1 .1 .1 .0) (zs .1 .1 .1 .1 .1 .1 .1 .1 .1 .1 .1 .0)
-        (zs .1 .1 .1 .1 .1 .1 .1 .1 .1 .1 .1 .1 .0) (zs .1 .1 .1 .1 .1 .1 .1 .1 .1 .1 .1 .1 .1 .0)
-        (zs .1 .1 .1 .1 .1 .1 .1 .1 .1 .1 .1 .1 .1 .1 .0)))) result-tells (λ ns. passing (lent (to-go units frames′) ns))
-        (λ ns. refl) (λ ns. unasked W (lent (to-go units frames′) ns)) (λ ns w. id⊢ 𝓤 _)
+    call-begin : (frames′ : List Frame) → length frames′ ≡ s11 .count
+        → Rule 𝓤 H A W (to-begin frames′) ToBegin ResultRow resultVal (λ r zs. ((backtrace : List ℕ) → RunPost begins m (programLent structs constants functions
+        text main mainPlaces other otherPlaces) (runLent stack cells frames′ copy backtrace) r
+        (runLent stack cells frames′ (zs .1 .1 .1 .1 .1 .1 .1 .1 .1 .1 .1 .1 .0) backtrace)))
+    call-begin frames′ len-frames =
+        call-with 𝓤 H A W (to-begin frames′) ToBegin ResultRow resultVal (λ r zs. ((backtrace : List ℕ) → RunPost begins m (programLent structs constants
+        functions text main mainPlaces other otherPlaces) (runLent stack cells frames′ copy backtrace) r
+        (runLent stack cells frames′ (zs .1 .1 .1 .1 .1 .1 .1 .1 .1 .1 .1 .1 .0) backtrace)))
+        result-tells (λ ns. passing (lent (to-begin frames′) ns)) (λ ns. refl) (λ ns. unasked W (lent (to-begin frames′) ns)) (λ ns w. id⊢ 𝓤 _)
+        (vm-makes 𝓤 H A W m _ is-m, tt) (
+          (refl, room1),
+          (
+            (refl, room2),
+            (
+              (refl, room3),
+              (
+                (refl, room4),
+                (
+                  (refl, room5),
+                  (
+                    (refl, room6),
+                    (
+                      (refl, room7),
+                      (
+                        (refl, room8),
+                        (
+                          (refl, room9),
+                          ((refl, room10), ((len-frames, room11), ((refl, room12), tt))),
+                        ),
+                      ),
+                    ),
+                  ),
+                ),
+              ),
+            ),
+          ),
+        )
+
+    abbrev to-more : ℕ → List Frame → List Arg
+    to-more units frames′ = val VmRow m (vmVal m) ∷ val u64 units (vint w64 units) ∷ peek u64 s1 constants ∷ peek u64 s2 structs ∷ peek u64 s3 functions ∷
+        peek u8 s4 text ∷ peek u8 s5 main ∷ peek u32 s6 mainPlaces ∷ peek u8 s7 other ∷ peek u32 s8 otherPlaces ∷ mut u64 s9 stack ∷ mut u64 s10 cells ∷
+        mut R s11 frames′ ∷ peek u64 s12 copy ∷ mut u32 s13 trace ∷ []
+
+    call-more : (units : ℕ) → Is u64 units (vint w64 units ∷ []) → (frames′ : List Frame) → length frames′ ≡ s11 .count
+        → Rule 𝓤 H A W (to-more units frames′) ToMore ResultRow resultVal (λ r zs. RunPost (continues units) m (programLent structs constants functions text
+        main mainPlaces other otherPlaces) (runLent stack cells frames′ copy trace) r
+        (runLent (zs .1 .1 .1 .1 .1 .1 .1 .1 .1 .1 .0) (zs .1 .1 .1 .1 .1 .1 .1 .1 .1 .1 .1 .0) (zs .1 .1 .1 .1 .1 .1 .1 .1 .1 .1 .1 .1 .0) copy
+        (zs .1 .1 .1 .1 .1 .1 .1 .1 .1 .1 .1 .1 .1 .1 .0)))
+    call-more units is-units frames′ len-frames =
+        call-with 𝓤 H A W (to-more units frames′) ToMore ResultRow resultVal (λ r zs. RunPost (continues units) m (programLent structs constants functions text
+        main mainPlaces other otherPlaces) (runLent stack cells frames′ copy trace) r
+        (runLent (zs .1 .1 .1 .1 .1 .1 .1 .1 .1 .1 .0) (zs .1 .1 .1 .1 .1 .1 .1 .1 .1 .1 .1 .0) (zs .1 .1 .1 .1 .1 .1 .1 .1 .1 .1 .1 .1 .0) copy
+        (zs .1 .1 .1 .1 .1 .1 .1 .1 .1 .1 .1 .1 .1 .1 .0)))
+        result-tells (λ ns. passing (lent (to-more units frames′) ns)) (λ ns. refl) (λ ns. unasked W (lent (to-more units frames′) ns)) (λ ns w. id⊢ 𝓤 _)
         (vm-makes 𝓤 H A W m _ is-m, (uint-makes 𝓤 H A W w64 units _ is-units, tt)) (
           (refl, room1),
           (
@@ -500,7 +573,53 @@ module _ {M : Type 1} (𝓤 : URA M) (H : Heap 𝓤) (A : Atoms 𝓤) (W : Given
                       (refl, room7),
                       (
                         (refl, room8),
-                        ((refl, room9), ((refl, room10), ((len-frames, room11), ((refl, room12), ((refl, room13), tt))))),
+                        (
+                          (refl, room9),
+                          ((refl, room10), ((len-frames, room11), ((refl, room12), ((refl, room13), tt)))),
+                        ),
+                      ),
+                    ),
+                  ),
+                ),
+              ),
+            ),
+          ),
+        )
+
+    abbrev to-end : List Frame → List Arg
+    to-end frames′ = val VmRow m (vmVal m) ∷ peek u64 s1 constants ∷ peek u64 s2 structs ∷ peek u64 s3 functions ∷ peek u8 s4 text ∷ peek u8 s5 main ∷
+        peek u32 s6 mainPlaces ∷ peek u8 s7 other ∷ peek u32 s8 otherPlaces ∷ mut u64 s9 stack ∷ peek u64 s10 cells ∷ mut R s11 frames′ ∷ peek u64 s12 copy ∷
+        mut u32 s13 trace ∷ []
+
+    call-end : (frames′ : List Frame) → length frames′ ≡ s11 .count
+        → Rule 𝓤 H A W (to-end frames′) ToEnd ResultRow resultVal (λ r zs. RunPost abandons m (programLent structs constants functions text main mainPlaces
+        other otherPlaces) (runLent stack cells frames′ copy trace) r
+        (runLent (zs .1 .1 .1 .1 .1 .1 .1 .1 .1 .0) cells (zs .1 .1 .1 .1 .1 .1 .1 .1 .1 .1 .1 .0) copy (zs .1 .1 .1 .1 .1 .1 .1 .1 .1 .1 .1 .1 .1 .0)))
+    call-end frames′ len-frames =
+        call-with 𝓤 H A W (to-end frames′) ToEnd ResultRow resultVal (λ r zs. RunPost abandons m (programLent structs constants functions text main mainPlaces
+        other otherPlaces) (runLent stack cells frames′ copy trace) r
+        (runLent (zs .1 .1 .1 .1 .1 .1 .1 .1 .1 .0) cells (zs .1 .1 .1 .1 .1 .1 .1 .1 .1 .1 .1 .0) copy (zs .1 .1 .1 .1 .1 .1 .1 .1 .1 .1 .1 .1 .1 .0)))
+        result-tells (λ ns. passing (lent (to-end frames′) ns)) (λ ns. refl) (λ ns. unasked W (lent (to-end frames′) ns)) (λ ns w. id⊢ 𝓤 _)
+        (vm-makes 𝓤 H A W m _ is-m, tt) (
+          (refl, room1),
+          (
+            (refl, room2),
+            (
+              (refl, room3),
+              (
+                (refl, room4),
+                (
+                  (refl, room5),
+                  (
+                    (refl, room6),
+                    (
+                      (refl, room7),
+                      (
+                        (refl, room8),
+                        (
+                          (refl, room9),
+                          ((refl, room10), ((len-frames, room11), ((refl, room12), ((refl, room13), tt)))),
+                        ),
                       ),
                     ),
                   ),
@@ -544,8 +663,7 @@ module _ {M : Type 1} (𝓤 : URA M) (H : Heap 𝓤) (A : Atoms 𝓤) (W : Given
       slots c =
           none ∷ some (vmVal m) ∷ some (callVal c) ∷ some (sval s0) ∷ some (sval s1) ∷ some (sval s2) ∷ some (sval s3) ∷ some
           (sval s4) ∷ some (sval s5) ∷ some (sval s6) ∷ some (sval s7) ∷ some (sval s8) ∷ some (sval s9) ∷ some (sval s10) ∷ some
-          (sval s11) ∷ some (sval s12) ∷ some (sval s13) ∷ some (sval s14) ∷ none ∷ none ∷ none ∷ none ∷ none ∷ none ∷ none ∷ none
-          ∷ none ∷ some vunit ∷ some (vptr (s11 .block) (s11 .offset)) ∷ some (sval s11) ∷ some (vptr (s14 .block) (s14 .offset))
+          (sval s11) ∷ some (sval s12) ∷ some (sval s13) ∷ some (sval s14) ∷ none ∷ none ∷ none ∷ none ∷ none ∷ none ∷ none ∷ none ∷ none ∷ none ∷ none ∷ none ∷ none ∷ none ∷ none ∷ some vunit ∷ some (vptr (s11 .block) (s11 .offset)) ∷ some (sval s11) ∷ some (vptr (s14 .block) (s14 .offset))
           ∷ some (sval s14) ∷ []
 
       answers : (c : Call) → c ≡ call → IsCall c → (fs : List Frame) → length fs ≡ s11 .count → fs ≡ laid
@@ -554,38 +672,42 @@ module _ {M : Type 1} (𝓤 : URA M) (H : Heap 𝓤) (A : Atoms 𝓤) (W : Given
           (runs (𝓣 .C) (𝓣 .Λ) (envAt (code.function .locals) ls) cm.t-6 (atRet (envAt (code.function .locals) ls) Post))
       answers New e isc fs len el =
           returns-match ! 𝓣 (tag-of ! refl refl refl refl) refl
-          (sets ! (addr ! (behind ! refl refl)) (tt, tt) $ sets ! (agg ! (ofs ! refl))
+          (calls-on ! [] (slices constants structs functions text main mainPlaces other otherPlaces stack cells fs copy trace words) call-running
+          (λ zs. slices constants structs functions text main mainPlaces other otherPlaces stack cells fs copy trace words) refl (λ zs. refl) (λ zs. refl) fm
+          known-running refl (λ b zs₀ eb lens₀ isb. lands-in ! (tt, tt) $ sets ! (addr ! (behind ! refl refl)) (tt, tt) $ sets ! (agg ! (ofs ! refl))
           (tt, (tt, (record { fits = room3 .0 }, tt))) $ sets ! (addr ! (behind ! refl refl)) (tt, tt) $ sets !
           (agg ! (ofs ! refl)) (tt, (tt, (record { fits = room4 .0 }, tt))) $ sets ! (addr ! (behind ! refl refl)) (tt, tt) $ sets
           ! (agg ! (ofs ! refl)) (tt, (tt, (record { fits = room11 .0 }, tt))) $ calls-on !
           (false ∷ false ∷ false ∷ true ∷ true ∷ false ∷ false ∷ false ∷ false ∷ false ∷ false ∷ true ∷ [])
           (slices constants structs functions text main mainPlaces other otherPlaces stack cells fs copy trace words)
-          (call-new fs len)
-          (λ zs. (slices constants structs (zs .0) (zs .1 .0) main mainPlaces other otherPlaces stack cells (zs .1 .1 .0) copy
+          (call-new b isb fs len)
+          (λ zs. (slices constants structs (zs .1 .0) (zs .1 .1 .0) main mainPlaces other otherPlaces stack cells (zs .1 .1 .1 .0) copy
           trace words)) refl (λ zs. refl) (λ zs. refl) fm known-new refl
           (λ x zs₁ said₁ lens₁ isx. lands-in ! (started-typed 𝓤 H A W x isx) $ sets ! (addr ! (behind ! refl refl)) (tt, tt) $
           sets ! (agg ! (ofs ! refl)) (tt, (tt, (record { fits = room11 .0 }, tt))) $ sets ! (addr ! (behind ! refl refl))
           (tt, tt) $ sets ! (agg ! (ofs ! refl)) (tt, (tt, (record { fits = room14 .0 }, tt))) $ calls-on !
           (false ∷ false ∷ false ∷ false ∷ false ∷ false ∷ false ∷ false ∷ false ∷ false ∷ false ∷ true ∷ false ∷ false ∷ true ∷
           [])
-          (slices constants structs (zs₁ .0) (zs₁ .1 .0) main mainPlaces other otherPlaces stack cells (zs₁ .1 .1 .0) copy trace
-          words) (call-keep (zs₁ .1 .1 .0) words (lens₁ .1 .1 .0) refl)
-          (λ zs. (slices constants structs (zs₁ .0) (zs₁ .1 .0) main mainPlaces other otherPlaces stack cells (zs₁ .1 .1 .0) copy
+          (slices constants structs (zs₁ .1 .0) (zs₁ .1 .1 .0) main mainPlaces other otherPlaces stack cells (zs₁ .1 .1 .1 .0) copy trace
+          words) (call-keep (zs₁ .1 .1 .1 .0) words (lens₁ .1 .1 .0) refl)
+          (λ zs. (slices constants structs (zs₁ .1 .0) (zs₁ .1 .1 .0) main mainPlaces other otherPlaces stack cells (zs₁ .1 .1 .1 .0) copy
           trace (zs .1 .0))) refl (λ zs. refl) (λ zs. refl) fm known-keep refl
           (λ u zs₂ said₂ lens₂ isu. lands-in ! (tt, tt) $ calls-on ! []
-          (slices constants structs (zs₁ .0) (zs₁ .1 .0) main mainPlaces other otherPlaces stack cells (zs₁ .1 .1 .0) copy trace
+          (slices constants structs (zs₁ .1 .0) (zs₁ .1 .1 .0) main mainPlaces other otherPlaces stack cells (zs₁ .1 .1 .1 .0) copy trace
           (zs₂ .1 .0)) (call-made x isx)
-          (λ zs. (slices constants structs (zs₁ .0) (zs₁ .1 .0) main mainPlaces other otherPlaces stack cells (zs₁ .1 .1 .0) copy
+          (λ zs. (slices constants structs (zs₁ .1 .0) (zs₁ .1 .1 .0) main mainPlaces other otherPlaces stack cells (zs₁ .1 .1 .1 .0) copy
           trace (zs₂ .1 .0))) refl (λ zs. refl) (λ zs. refl) fm known-made refl
           (λ r zs₉ er lens₉ isr. lands-in ! (answer-typed 𝓤 H A W r isr) $ sets ! (of-opd ! (of ! refl))
           (answer-typed 𝓤 H A W r isr) $ leaves ! refl $ by !
-          (exits r constants structs (zs₁ .0) (zs₁ .1 .0) main mainPlaces other otherPlaces stack cells (zs₁ .1 .1 .0) copy trace
+          (exits r constants structs (zs₁ .1 .0) (zs₁ .1 .1 .0) main mainPlaces other otherPlaces stack cells (zs₁ .1 .1 .1 .0) copy trace
           (zs₂ .1 .0) isr refl refl (lens₁ .0) (lens₁ .1 .0) refl refl refl refl refl refl (lens₁ .1 .1 .0) refl refl (lens₂ .0)
           (as-asked New e fs el _ _ _ (new-called m image constants structs functions text main mainPlaces other otherPlaces stack cells copy trace words
-          fs (zs₁ .0) (zs₁ .1 .0) said₁ said₂ er)))))))
+          fs eb (zs₁ .1 .0) (zs₁ .1 .1 .0) said₁ said₂ er))))))))
       answers Load e isc fs len el =
           returns-match ! 𝓣 (tag-of ! refl refl refl refl) refl
-          (sets ! (addr ! (behind ! refl refl)) (tt, tt) $ sets ! (agg ! (ofs ! refl))
+          (calls-on ! [] (slices constants structs functions text main mainPlaces other otherPlaces stack cells fs copy trace words) call-running
+          (λ zs. slices constants structs functions text main mainPlaces other otherPlaces stack cells fs copy trace words) refl (λ zs. refl) (λ zs. refl) fm
+          known-running refl (λ b zs₀ eb lens₀ isb. lands-in ! (tt, tt) $ sets ! (addr ! (behind ! refl refl)) (tt, tt) $ sets ! (agg ! (ofs ! refl))
           (tt, (tt, (record { fits = room1 .0 }, tt))) $ sets ! (addr ! (behind ! refl refl)) (tt, tt) $ sets !
           (agg ! (ofs ! refl)) (tt, (tt, (record { fits = room2 .0 }, tt))) $ sets ! (addr ! (behind ! refl refl)) (tt, tt) $ sets
           ! (agg ! (ofs ! refl)) (tt, (tt, (record { fits = room3 .0 }, tt))) $ sets ! (addr ! (behind ! refl refl)) (tt, tt) $
@@ -598,94 +720,164 @@ module _ {M : Type 1} (𝓤 : URA M) (H : Heap 𝓤) (A : Atoms 𝓤) (W : Given
           (tt, (tt, (record { fits = room11 .0 }, tt))) $ calls-on !
           (true ∷ true ∷ true ∷ true ∷ true ∷ true ∷ true ∷ true ∷ true ∷ false ∷ false ∷ true ∷ [])
           (slices constants structs functions text main mainPlaces other otherPlaces stack cells fs copy trace words)
-          (call-load fs len)
-          (λ zs. (slices (zs .1 .0) (zs .1 .1 .0) (zs .1 .1 .1 .0) (zs .1 .1 .1 .1 .0) (zs .1 .1 .1 .1 .1 .0)
-          (zs .1 .1 .1 .1 .1 .1 .0) (zs .1 .1 .1 .1 .1 .1 .1 .0) (zs .1 .1 .1 .1 .1 .1 .1 .1 .0) stack cells
-          (zs .1 .1 .1 .1 .1 .1 .1 .1 .1 .0) copy trace words)) refl (λ zs. refl) (λ zs. refl) fm known-load refl
+          (call-load b isb fs len)
+          (λ zs. (slices (zs .1 .1 .0) (zs .1 .1 .1 .0) (zs .1 .1 .1 .1 .0) (zs .1 .1 .1 .1 .1 .0) (zs .1 .1 .1 .1 .1 .1 .0)
+          (zs .1 .1 .1 .1 .1 .1 .1 .0) (zs .1 .1 .1 .1 .1 .1 .1 .1 .0) (zs .1 .1 .1 .1 .1 .1 .1 .1 .1 .0) stack cells
+          (zs .1 .1 .1 .1 .1 .1 .1 .1 .1 .1 .0) copy trace words)) refl (λ zs. refl) (λ zs. refl) fm known-load refl
           (λ x zs₁ said₁ lens₁ isx. lands-in ! (started-typed 𝓤 H A W x isx) $ sets ! (addr ! (behind ! refl refl)) (tt, tt) $
           sets ! (agg ! (ofs ! refl)) (tt, (tt, (record { fits = room11 .0 }, tt))) $ sets ! (addr ! (behind ! refl refl))
           (tt, tt) $ sets ! (agg ! (ofs ! refl)) (tt, (tt, (record { fits = room14 .0 }, tt))) $ calls-on !
           (false ∷ false ∷ false ∷ false ∷ false ∷ false ∷ false ∷ false ∷ false ∷ false ∷ false ∷ true ∷ false ∷ false ∷ true ∷
           [])
-          (slices (zs₁ .1 .0) (zs₁ .1 .1 .0) (zs₁ .1 .1 .1 .0) (zs₁ .1 .1 .1 .1 .0) (zs₁ .1 .1 .1 .1 .1 .0)
-          (zs₁ .1 .1 .1 .1 .1 .1 .0) (zs₁ .1 .1 .1 .1 .1 .1 .1 .0) (zs₁ .1 .1 .1 .1 .1 .1 .1 .1 .0) stack cells
-          (zs₁ .1 .1 .1 .1 .1 .1 .1 .1 .1 .0) copy trace words)
-          (call-keep (zs₁ .1 .1 .1 .1 .1 .1 .1 .1 .1 .0) words (lens₁ .1 .1 .1 .1 .1 .1 .1 .1 .0) refl)
-          (λ zs. (slices (zs₁ .1 .0) (zs₁ .1 .1 .0) (zs₁ .1 .1 .1 .0) (zs₁ .1 .1 .1 .1 .0) (zs₁ .1 .1 .1 .1 .1 .0)
-          (zs₁ .1 .1 .1 .1 .1 .1 .0) (zs₁ .1 .1 .1 .1 .1 .1 .1 .0) (zs₁ .1 .1 .1 .1 .1 .1 .1 .1 .0) stack cells
-          (zs₁ .1 .1 .1 .1 .1 .1 .1 .1 .1 .0) copy trace (zs .1 .0))) refl (λ zs. refl) (λ zs. refl) fm known-keep refl
+          (slices (zs₁ .1 .1 .0) (zs₁ .1 .1 .1 .0) (zs₁ .1 .1 .1 .1 .0) (zs₁ .1 .1 .1 .1 .1 .0) (zs₁ .1 .1 .1 .1 .1 .1 .0)
+          (zs₁ .1 .1 .1 .1 .1 .1 .1 .0) (zs₁ .1 .1 .1 .1 .1 .1 .1 .1 .0) (zs₁ .1 .1 .1 .1 .1 .1 .1 .1 .1 .0) stack cells
+          (zs₁ .1 .1 .1 .1 .1 .1 .1 .1 .1 .1 .0) copy trace words)
+          (call-keep (zs₁ .1 .1 .1 .1 .1 .1 .1 .1 .1 .1 .0) words (lens₁ .1 .1 .1 .1 .1 .1 .1 .1 .0) refl)
+          (λ zs. (slices (zs₁ .1 .1 .0) (zs₁ .1 .1 .1 .0) (zs₁ .1 .1 .1 .1 .0) (zs₁ .1 .1 .1 .1 .1 .0) (zs₁ .1 .1 .1 .1 .1 .1 .0)
+          (zs₁ .1 .1 .1 .1 .1 .1 .1 .0) (zs₁ .1 .1 .1 .1 .1 .1 .1 .1 .0) (zs₁ .1 .1 .1 .1 .1 .1 .1 .1 .1 .0) stack cells
+          (zs₁ .1 .1 .1 .1 .1 .1 .1 .1 .1 .1 .0) copy trace (zs .1 .0))) refl (λ zs. refl) (λ zs. refl) fm known-keep refl
           (λ u zs₂ said₂ lens₂ isu. lands-in ! (tt, tt) $ calls-on ! []
-          (slices (zs₁ .1 .0) (zs₁ .1 .1 .0) (zs₁ .1 .1 .1 .0) (zs₁ .1 .1 .1 .1 .0) (zs₁ .1 .1 .1 .1 .1 .0)
-          (zs₁ .1 .1 .1 .1 .1 .1 .0) (zs₁ .1 .1 .1 .1 .1 .1 .1 .0) (zs₁ .1 .1 .1 .1 .1 .1 .1 .1 .0) stack cells
-          (zs₁ .1 .1 .1 .1 .1 .1 .1 .1 .1 .0) copy trace (zs₂ .1 .0)) (call-made x isx)
-          (λ zs. (slices (zs₁ .1 .0) (zs₁ .1 .1 .0) (zs₁ .1 .1 .1 .0) (zs₁ .1 .1 .1 .1 .0) (zs₁ .1 .1 .1 .1 .1 .0)
-          (zs₁ .1 .1 .1 .1 .1 .1 .0) (zs₁ .1 .1 .1 .1 .1 .1 .1 .0) (zs₁ .1 .1 .1 .1 .1 .1 .1 .1 .0) stack cells
-          (zs₁ .1 .1 .1 .1 .1 .1 .1 .1 .1 .0) copy trace (zs₂ .1 .0))) refl (λ zs. refl) (λ zs. refl) fm known-made refl
+          (slices (zs₁ .1 .1 .0) (zs₁ .1 .1 .1 .0) (zs₁ .1 .1 .1 .1 .0) (zs₁ .1 .1 .1 .1 .1 .0) (zs₁ .1 .1 .1 .1 .1 .1 .0)
+          (zs₁ .1 .1 .1 .1 .1 .1 .1 .0) (zs₁ .1 .1 .1 .1 .1 .1 .1 .1 .0) (zs₁ .1 .1 .1 .1 .1 .1 .1 .1 .1 .0) stack cells
+          (zs₁ .1 .1 .1 .1 .1 .1 .1 .1 .1 .1 .0) copy trace (zs₂ .1 .0)) (call-made x isx)
+          (λ zs. (slices (zs₁ .1 .1 .0) (zs₁ .1 .1 .1 .0) (zs₁ .1 .1 .1 .1 .0) (zs₁ .1 .1 .1 .1 .1 .0) (zs₁ .1 .1 .1 .1 .1 .1 .0)
+          (zs₁ .1 .1 .1 .1 .1 .1 .1 .0) (zs₁ .1 .1 .1 .1 .1 .1 .1 .1 .0) (zs₁ .1 .1 .1 .1 .1 .1 .1 .1 .1 .0) stack cells
+          (zs₁ .1 .1 .1 .1 .1 .1 .1 .1 .1 .1 .0) copy trace (zs₂ .1 .0))) refl (λ zs. refl) (λ zs. refl) fm known-made refl
           (λ r zs₉ er lens₉ isr. lands-in ! (answer-typed 𝓤 H A W r isr) $ sets ! (of-opd ! (of ! refl))
           (answer-typed 𝓤 H A W r isr) $ leaves ! refl $ by !
-          (exits r (zs₁ .1 .0) (zs₁ .1 .1 .0) (zs₁ .1 .1 .1 .0) (zs₁ .1 .1 .1 .1 .0) (zs₁ .1 .1 .1 .1 .1 .0)
-          (zs₁ .1 .1 .1 .1 .1 .1 .0) (zs₁ .1 .1 .1 .1 .1 .1 .1 .0) (zs₁ .1 .1 .1 .1 .1 .1 .1 .1 .0) stack cells
-          (zs₁ .1 .1 .1 .1 .1 .1 .1 .1 .1 .0) copy trace (zs₂ .1 .0) isr (lens₁ .0) (lens₁ .1 .0) (lens₁ .1 .1 .0)
+          (exits r (zs₁ .1 .1 .0) (zs₁ .1 .1 .1 .0) (zs₁ .1 .1 .1 .1 .0) (zs₁ .1 .1 .1 .1 .1 .0) (zs₁ .1 .1 .1 .1 .1 .1 .0)
+          (zs₁ .1 .1 .1 .1 .1 .1 .1 .0) (zs₁ .1 .1 .1 .1 .1 .1 .1 .1 .0) (zs₁ .1 .1 .1 .1 .1 .1 .1 .1 .1 .0) stack cells
+          (zs₁ .1 .1 .1 .1 .1 .1 .1 .1 .1 .1 .0) copy trace (zs₂ .1 .0) isr (lens₁ .0) (lens₁ .1 .0) (lens₁ .1 .1 .0)
           (lens₁ .1 .1 .1 .0) (lens₁ .1 .1 .1 .1 .0) (lens₁ .1 .1 .1 .1 .1 .0) (lens₁ .1 .1 .1 .1 .1 .1 .0)
           (lens₁ .1 .1 .1 .1 .1 .1 .1 .0) refl refl (lens₁ .1 .1 .1 .1 .1 .1 .1 .1 .0) refl refl (lens₂ .0)
           (as-asked Load e fs el _ _ _ (load-called m image constants structs functions text main mainPlaces other otherPlaces stack cells copy trace words
-          fs said₁ said₂ er)))))))
-      answers (Run units) e isc fs len el =
+          fs eb said₁ said₂ er))))))))
+      answers Begin e isc fs len el =
           returns-match ! 𝓣 (tag-of ! refl refl refl refl) refl
-          (sets ! (of-opd ! (payload-of ! refl refl refl refl refl refl)) (tt, record { fits = run-fits units isc .1 }) $ sets !
-          (addr ! (behind ! refl refl)) (tt, tt) $ sets ! (agg ! (ofs ! refl)) (tt, (tt, (record { fits = room1 .0 }, tt))) $ sets
-          ! (addr ! (behind ! refl refl)) (tt, tt) $ sets ! (agg ! (ofs ! refl)) (tt, (tt, (record { fits = room2 .0 }, tt))) $
-          sets ! (addr ! (behind ! refl refl)) (tt, tt) $ sets ! (agg ! (ofs ! refl)) (tt, (tt, (record { fits = room3 .0 }, tt)))
-          $ sets ! (addr ! (behind ! refl refl)) (tt, tt) $ sets ! (agg ! (ofs ! refl))
-          (tt, (tt, (record { fits = room4 .0 }, tt))) $ sets ! (addr ! (behind ! refl refl)) (tt, tt) $ sets !
-          (agg ! (ofs ! refl)) (tt, (tt, (record { fits = room5 .0 }, tt))) $ sets ! (addr ! (behind ! refl refl)) (tt, tt) $ sets
-          ! (agg ! (ofs ! refl)) (tt, (tt, (record { fits = room6 .0 }, tt))) $ sets ! (addr ! (behind ! refl refl)) (tt, tt) $
-          sets ! (agg ! (ofs ! refl)) (tt, (tt, (record { fits = room7 .0 }, tt))) $ sets ! (addr ! (behind ! refl refl)) (tt, tt)
-          $ sets ! (agg ! (ofs ! refl)) (tt, (tt, (record { fits = room8 .0 }, tt))) $ sets ! (addr ! (behind ! refl refl))
-          (tt, tt) $ sets ! (agg ! (ofs ! refl)) (tt, (tt, (record { fits = room9 .0 }, tt))) $ sets !
-          (addr ! (behind ! refl refl)) (tt, tt) $ sets ! (agg ! (ofs ! refl)) (tt, (tt, (record { fits = room10 .0 }, tt))) $
-          sets ! (addr ! (behind ! refl refl)) (tt, tt) $ sets ! (agg ! (ofs ! refl))
-          (tt, (tt, (record { fits = room11 .0 }, tt))) $ sets ! (addr ! (behind ! refl refl)) (tt, tt) $ sets !
-          (agg ! (ofs ! refl)) (tt, (tt, (record { fits = room12 .0 }, tt))) $ sets ! (addr ! (behind ! refl refl)) (tt, tt) $
-          sets ! (agg ! (ofs ! refl)) (tt, (tt, (record { fits = room13 .0 }, tt))) $ calls-on !
-          (false ∷ true ∷ true ∷ true ∷ true ∷ true ∷ true ∷ true ∷ true ∷ true ∷ true ∷ true ∷ true ∷ true ∷ [])
+          (sets ! (addr ! (behind ! refl refl)) (tt, tt) $ sets ! (agg ! (ofs ! refl)) (tt, (tt, (record { fits = room1 .0 }, tt))) $
+          sets ! (addr ! (behind ! refl refl)) (tt, tt) $ sets ! (agg ! (ofs ! refl)) (tt, (tt, (record { fits = room2 .0 }, tt))) $
+          sets ! (addr ! (behind ! refl refl)) (tt, tt) $ sets ! (agg ! (ofs ! refl)) (tt, (tt, (record { fits = room3 .0 }, tt))) $
+          sets ! (addr ! (behind ! refl refl)) (tt, tt) $ sets ! (agg ! (ofs ! refl)) (tt, (tt, (record { fits = room4 .0 }, tt))) $
+          sets ! (addr ! (behind ! refl refl)) (tt, tt) $ sets ! (agg ! (ofs ! refl)) (tt, (tt, (record { fits = room5 .0 }, tt))) $
+          sets ! (addr ! (behind ! refl refl)) (tt, tt) $ sets ! (agg ! (ofs ! refl)) (tt, (tt, (record { fits = room6 .0 }, tt))) $
+          sets ! (addr ! (behind ! refl refl)) (tt, tt) $ sets ! (agg ! (ofs ! refl)) (tt, (tt, (record { fits = room7 .0 }, tt))) $
+          sets ! (addr ! (behind ! refl refl)) (tt, tt) $ sets ! (agg ! (ofs ! refl)) (tt, (tt, (record { fits = room8 .0 }, tt))) $
+          sets ! (addr ! (behind ! refl refl)) (tt, tt) $ sets ! (agg ! (ofs ! refl)) (tt, (tt, (record { fits = room9 .0 }, tt))) $
+          sets ! (addr ! (behind ! refl refl)) (tt, tt) $ sets ! (agg ! (ofs ! refl)) (tt, (tt, (record { fits = room10 .0 }, tt))) $
+          sets ! (addr ! (behind ! refl refl)) (tt, tt) $ sets ! (agg ! (ofs ! refl)) (tt, (tt, (record { fits = room11 .0 }, tt))) $
+          sets ! (addr ! (behind ! refl refl)) (tt, tt) $ sets ! (agg ! (ofs ! refl)) (tt, (tt, (record { fits = room12 .0 }, tt))) $
+          calls-on ! (false ∷ true ∷ true ∷ true ∷ true ∷ true ∷ true ∷ true ∷ true ∷ true ∷ true ∷ true ∷ true ∷ [])
           (slices constants structs functions text main mainPlaces other otherPlaces stack cells fs copy trace words)
-          (call-go units (run-fits units isc) fs len)
-          (λ zs. (slices constants structs functions text main mainPlaces other otherPlaces (zs .1 .1 .1 .1 .1 .1 .1 .1 .1 .1 .0)
-          (zs .1 .1 .1 .1 .1 .1 .1 .1 .1 .1 .1 .0) (zs .1 .1 .1 .1 .1 .1 .1 .1 .1 .1 .1 .1 .0)
-          (zs .1 .1 .1 .1 .1 .1 .1 .1 .1 .1 .1 .1 .1 .0) (zs .1 .1 .1 .1 .1 .1 .1 .1 .1 .1 .1 .1 .1 .1 .0) words)) refl
-          (λ zs. refl) (λ zs. refl) fm known-go refl
-          (λ x zs₁ said₁ lens₁ isx. lands-in ! (result-typed 𝓤 H A W x isx) $ sets ! (addr ! (behind ! refl refl)) (tt, tt) $ sets
-          ! (agg ! (ofs ! refl)) (tt, (tt, (record { fits = room11 .0 }, tt))) $ sets ! (addr ! (behind ! refl refl)) (tt, tt) $
-          sets ! (agg ! (ofs ! refl)) (tt, (tt, (record { fits = room14 .0 }, tt))) $ calls-on !
-          (false ∷ false ∷ false ∷ false ∷ false ∷ false ∷ false ∷ false ∷ false ∷ false ∷ false ∷ true ∷ false ∷ false ∷ true ∷
-          [])
+          (call-begin fs len) (λ zs. (slices constants structs functions text main mainPlaces other otherPlaces stack cells fs (zs .1 .1 .1 .1 .1 .1 .1 .1 .1 .1 .1 .1 .0) trace words))
+          refl (λ zs. refl) (λ zs. refl) fm known-begin refl
+          (λ x zs₁ said₁ lens₁ isx. lands-in ! (result-typed 𝓤 H A W x isx) $
+          sets ! (addr ! (behind ! refl refl)) (tt, tt) $ sets ! (agg ! (ofs ! refl)) (tt, (tt, (record { fits = room11 .0 }, tt))) $
+          sets ! (addr ! (behind ! refl refl)) (tt, tt) $ sets ! (agg ! (ofs ! refl)) (tt, (tt, (record { fits = room14 .0 }, tt))) $
+          calls-on ! (false ∷ false ∷ false ∷ false ∷ false ∷ false ∷ false ∷ false ∷ false ∷ false ∷ false ∷ true ∷ false ∷ false ∷ true ∷ [])
+          (slices constants structs functions text main mainPlaces other otherPlaces stack cells fs (zs₁ .1 .1 .1 .1 .1 .1 .1 .1 .1 .1 .1 .1 .0) trace words)
+          (call-keep fs words len refl) (λ zs. (slices constants structs functions text main mainPlaces other otherPlaces stack cells fs
+          (zs₁ .1 .1 .1 .1 .1 .1 .1 .1 .1 .1 .1 .1 .0) trace (zs .1 .0)))
+          refl (λ zs. refl) (λ zs. refl) fm known-keep refl
+          (λ u zs₂ said₂ lens₂ isu. lands-in ! (tt, tt) $ calls-on ! []
+          (slices constants structs functions text main mainPlaces other otherPlaces stack cells fs (zs₁ .1 .1 .1 .1 .1 .1 .1 .1 .1 .1 .1 .1 .0) trace (zs₂ .1 .0)) (call-ran x isx)
+          (λ zs. (slices constants structs functions text main mainPlaces other otherPlaces stack cells fs (zs₁ .1 .1 .1 .1 .1 .1 .1 .1 .1 .1 .1 .1 .0) trace
+          (zs₂ .1 .0))) refl (λ zs. refl) (λ zs. refl) fm known-ran refl
+          (λ r zs₉ er lens₉ isr. lands-in ! (answer-typed 𝓤 H A W r isr) $ sets ! (of-opd ! (of ! refl))
+          (answer-typed 𝓤 H A W r isr) $ leaves ! refl $ by !
+          (exits r constants structs functions text main mainPlaces other otherPlaces stack cells fs (zs₁ .1 .1 .1 .1 .1 .1 .1 .1 .1 .1 .1 .1 .0) trace (zs₂ .1 .0) isr
+          refl refl refl refl refl refl refl refl refl refl len (lens₁ .0) refl (lens₂ .0)
+          (as-asked Begin e fs el _ _ _ (begin-called m image constants structs functions text main mainPlaces other otherPlaces stack cells copy trace words
+          fs (zs₁ .1 .1 .1 .1 .1 .1 .1 .1 .1 .1 .1 .1 .0) said₁ said₂ er)))))))
+      answers (Continue units) e isc fs len el =
+          returns-match ! 𝓣 (tag-of ! refl refl refl refl) refl
+          (sets ! (of-opd ! (payload-of ! refl refl refl refl refl refl)) (tt, record { fits = units-fit units isc .1 }) $
+          sets ! (addr ! (behind ! refl refl)) (tt, tt) $ sets ! (agg ! (ofs ! refl)) (tt, (tt, (record { fits = room1 .0 }, tt))) $
+          sets ! (addr ! (behind ! refl refl)) (tt, tt) $ sets ! (agg ! (ofs ! refl)) (tt, (tt, (record { fits = room2 .0 }, tt))) $
+          sets ! (addr ! (behind ! refl refl)) (tt, tt) $ sets ! (agg ! (ofs ! refl)) (tt, (tt, (record { fits = room3 .0 }, tt))) $
+          sets ! (addr ! (behind ! refl refl)) (tt, tt) $ sets ! (agg ! (ofs ! refl)) (tt, (tt, (record { fits = room4 .0 }, tt))) $
+          sets ! (addr ! (behind ! refl refl)) (tt, tt) $ sets ! (agg ! (ofs ! refl)) (tt, (tt, (record { fits = room5 .0 }, tt))) $
+          sets ! (addr ! (behind ! refl refl)) (tt, tt) $ sets ! (agg ! (ofs ! refl)) (tt, (tt, (record { fits = room6 .0 }, tt))) $
+          sets ! (addr ! (behind ! refl refl)) (tt, tt) $ sets ! (agg ! (ofs ! refl)) (tt, (tt, (record { fits = room7 .0 }, tt))) $
+          sets ! (addr ! (behind ! refl refl)) (tt, tt) $ sets ! (agg ! (ofs ! refl)) (tt, (tt, (record { fits = room8 .0 }, tt))) $
+          sets ! (addr ! (behind ! refl refl)) (tt, tt) $ sets ! (agg ! (ofs ! refl)) (tt, (tt, (record { fits = room9 .0 }, tt))) $
+          sets ! (addr ! (behind ! refl refl)) (tt, tt) $ sets ! (agg ! (ofs ! refl)) (tt, (tt, (record { fits = room10 .0 }, tt))) $
+          sets ! (addr ! (behind ! refl refl)) (tt, tt) $ sets ! (agg ! (ofs ! refl)) (tt, (tt, (record { fits = room11 .0 }, tt))) $
+          sets ! (addr ! (behind ! refl refl)) (tt, tt) $ sets ! (agg ! (ofs ! refl)) (tt, (tt, (record { fits = room12 .0 }, tt))) $
+          sets ! (addr ! (behind ! refl refl)) (tt, tt) $ sets ! (agg ! (ofs ! refl)) (tt, (tt, (record { fits = room13 .0 }, tt))) $
+          calls-on ! (false ∷ true ∷ true ∷ true ∷ true ∷ true ∷ true ∷ true ∷ true ∷ true ∷ true ∷ true ∷ true ∷ true ∷ [])
+          (slices constants structs functions text main mainPlaces other otherPlaces stack cells fs copy trace words)
+          (call-more units (units-fit units isc) fs len) (λ zs. (slices constants structs functions text main mainPlaces other otherPlaces
+          (zs .1 .1 .1 .1 .1 .1 .1 .1 .1 .1 .0) (zs .1 .1 .1 .1 .1 .1 .1 .1 .1 .1 .1 .0) (zs .1 .1 .1 .1 .1 .1 .1 .1 .1 .1 .1 .1 .0) copy
+          (zs .1 .1 .1 .1 .1 .1 .1 .1 .1 .1 .1 .1 .1 .1 .0) words))
+          refl (λ zs. refl) (λ zs. refl) fm known-more refl
+          (λ x zs₁ said₁ lens₁ isx. lands-in ! (result-typed 𝓤 H A W x isx) $
+          sets ! (addr ! (behind ! refl refl)) (tt, tt) $ sets ! (agg ! (ofs ! refl)) (tt, (tt, (record { fits = room11 .0 }, tt))) $
+          sets ! (addr ! (behind ! refl refl)) (tt, tt) $ sets ! (agg ! (ofs ! refl)) (tt, (tt, (record { fits = room14 .0 }, tt))) $
+          calls-on ! (false ∷ false ∷ false ∷ false ∷ false ∷ false ∷ false ∷ false ∷ false ∷ false ∷ false ∷ true ∷ false ∷ false ∷ true ∷ [])
           (slices constants structs functions text main mainPlaces other otherPlaces (zs₁ .1 .1 .1 .1 .1 .1 .1 .1 .1 .1 .0)
-          (zs₁ .1 .1 .1 .1 .1 .1 .1 .1 .1 .1 .1 .0) (zs₁ .1 .1 .1 .1 .1 .1 .1 .1 .1 .1 .1 .1 .0)
-          (zs₁ .1 .1 .1 .1 .1 .1 .1 .1 .1 .1 .1 .1 .1 .0) (zs₁ .1 .1 .1 .1 .1 .1 .1 .1 .1 .1 .1 .1 .1 .1 .0) words)
-          (call-keep (zs₁ .1 .1 .1 .1 .1 .1 .1 .1 .1 .1 .1 .1 .0) words (lens₁ .1 .1 .0) refl)
-          (λ zs. (slices constants structs functions text main mainPlaces other otherPlaces (zs₁ .1 .1 .1 .1 .1 .1 .1 .1 .1 .1 .0)
-          (zs₁ .1 .1 .1 .1 .1 .1 .1 .1 .1 .1 .1 .0) (zs₁ .1 .1 .1 .1 .1 .1 .1 .1 .1 .1 .1 .1 .0)
-          (zs₁ .1 .1 .1 .1 .1 .1 .1 .1 .1 .1 .1 .1 .1 .0) (zs₁ .1 .1 .1 .1 .1 .1 .1 .1 .1 .1 .1 .1 .1 .1 .0) (zs .1 .0))) refl
-          (λ zs. refl) (λ zs. refl) fm known-keep refl
+          (zs₁ .1 .1 .1 .1 .1 .1 .1 .1 .1 .1 .1 .0) (zs₁ .1 .1 .1 .1 .1 .1 .1 .1 .1 .1 .1 .1 .0) copy (zs₁ .1 .1 .1 .1 .1 .1 .1 .1 .1 .1 .1 .1 .1 .1 .0) words)
+          (call-keep (zs₁ .1 .1 .1 .1 .1 .1 .1 .1 .1 .1 .1 .1 .0) words (lens₁ .1 .1 .0) refl) (λ zs. (slices constants structs functions text main mainPlaces
+          other otherPlaces (zs₁ .1 .1 .1 .1 .1 .1 .1 .1 .1 .1 .0) (zs₁ .1 .1 .1 .1 .1 .1 .1 .1 .1 .1 .1 .0) (zs₁ .1 .1 .1 .1 .1 .1 .1 .1 .1 .1 .1 .1 .0) copy
+          (zs₁ .1 .1 .1 .1 .1 .1 .1 .1 .1 .1 .1 .1 .1 .1 .0) (zs .1 .0)))
+          refl (λ zs. refl) (λ zs. refl) fm known-keep refl
           (λ u zs₂ said₂ lens₂ isu. lands-in ! (tt, tt) $ calls-on ! []
           (slices constants structs functions text main mainPlaces other otherPlaces (zs₁ .1 .1 .1 .1 .1 .1 .1 .1 .1 .1 .0)
-          (zs₁ .1 .1 .1 .1 .1 .1 .1 .1 .1 .1 .1 .0) (zs₁ .1 .1 .1 .1 .1 .1 .1 .1 .1 .1 .1 .1 .0)
-          (zs₁ .1 .1 .1 .1 .1 .1 .1 .1 .1 .1 .1 .1 .1 .0) (zs₁ .1 .1 .1 .1 .1 .1 .1 .1 .1 .1 .1 .1 .1 .1 .0) (zs₂ .1 .0))
-          (call-ran x isx)
+          (zs₁ .1 .1 .1 .1 .1 .1 .1 .1 .1 .1 .1 .0) (zs₁ .1 .1 .1 .1 .1 .1 .1 .1 .1 .1 .1 .1 .0) copy (zs₁ .1 .1 .1 .1 .1 .1 .1 .1 .1 .1 .1 .1 .1 .1 .0)
+          (zs₂ .1 .0)) (call-ran x isx)
           (λ zs. (slices constants structs functions text main mainPlaces other otherPlaces (zs₁ .1 .1 .1 .1 .1 .1 .1 .1 .1 .1 .0)
-          (zs₁ .1 .1 .1 .1 .1 .1 .1 .1 .1 .1 .1 .0) (zs₁ .1 .1 .1 .1 .1 .1 .1 .1 .1 .1 .1 .1 .0)
-          (zs₁ .1 .1 .1 .1 .1 .1 .1 .1 .1 .1 .1 .1 .1 .0) (zs₁ .1 .1 .1 .1 .1 .1 .1 .1 .1 .1 .1 .1 .1 .1 .0) (zs₂ .1 .0))) refl
-          (λ zs. refl) (λ zs. refl) fm known-ran refl
+          (zs₁ .1 .1 .1 .1 .1 .1 .1 .1 .1 .1 .1 .0) (zs₁ .1 .1 .1 .1 .1 .1 .1 .1 .1 .1 .1 .1 .0) copy (zs₁ .1 .1 .1 .1 .1 .1 .1 .1 .1 .1 .1 .1 .1 .1 .0)
+          (zs₂ .1 .0))) refl (λ zs. refl) (λ zs. refl) fm known-ran refl
           (λ r zs₉ er lens₉ isr. lands-in ! (answer-typed 𝓤 H A W r isr) $ sets ! (of-opd ! (of ! refl))
           (answer-typed 𝓤 H A W r isr) $ leaves ! refl $ by !
           (exits r constants structs functions text main mainPlaces other otherPlaces (zs₁ .1 .1 .1 .1 .1 .1 .1 .1 .1 .1 .0)
-          (zs₁ .1 .1 .1 .1 .1 .1 .1 .1 .1 .1 .1 .0) (zs₁ .1 .1 .1 .1 .1 .1 .1 .1 .1 .1 .1 .1 .0)
-          (zs₁ .1 .1 .1 .1 .1 .1 .1 .1 .1 .1 .1 .1 .1 .0) (zs₁ .1 .1 .1 .1 .1 .1 .1 .1 .1 .1 .1 .1 .1 .1 .0) (zs₂ .1 .0) isr refl
-          refl refl refl refl refl refl refl (lens₁ .0) (lens₁ .1 .0) (lens₁ .1 .1 .0) (lens₁ .1 .1 .1 .0) (lens₁ .1 .1 .1 .1 .0)
-          (lens₂ .0)
-          (as-asked (Run units) e fs el _ _ _ (run-called m image constants structs functions text main mainPlaces other otherPlaces stack cells copy trace words
-          fs units _ _ _ _ _ said₁ said₂ er)))))))
+          (zs₁ .1 .1 .1 .1 .1 .1 .1 .1 .1 .1 .1 .0) (zs₁ .1 .1 .1 .1 .1 .1 .1 .1 .1 .1 .1 .1 .0) copy (zs₁ .1 .1 .1 .1 .1 .1 .1 .1 .1 .1 .1 .1 .1 .1 .0)
+          (zs₂ .1 .0) isr
+          refl refl refl refl refl refl refl refl (lens₁ .0) (lens₁ .1 .0) (lens₁ .1 .1 .0) refl (lens₁ .1 .1 .1 .0) (lens₂ .0)
+          (as-asked (Continue units) e fs el _ _ _ (continue-called m image constants structs functions text main mainPlaces other otherPlaces stack cells copy trace words
+          fs units _ _ _ _ said₁ said₂ er)))))))
+      answers Abandon e isc fs len el =
+          returns-match ! 𝓣 (tag-of ! refl refl refl refl) refl
+          (sets ! (addr ! (behind ! refl refl)) (tt, tt) $ sets ! (agg ! (ofs ! refl)) (tt, (tt, (record { fits = room1 .0 }, tt))) $
+          sets ! (addr ! (behind ! refl refl)) (tt, tt) $ sets ! (agg ! (ofs ! refl)) (tt, (tt, (record { fits = room2 .0 }, tt))) $
+          sets ! (addr ! (behind ! refl refl)) (tt, tt) $ sets ! (agg ! (ofs ! refl)) (tt, (tt, (record { fits = room3 .0 }, tt))) $
+          sets ! (addr ! (behind ! refl refl)) (tt, tt) $ sets ! (agg ! (ofs ! refl)) (tt, (tt, (record { fits = room4 .0 }, tt))) $
+          sets ! (addr ! (behind ! refl refl)) (tt, tt) $ sets ! (agg ! (ofs ! refl)) (tt, (tt, (record { fits = room5 .0 }, tt))) $
+          sets ! (addr ! (behind ! refl refl)) (tt, tt) $ sets ! (agg ! (ofs ! refl)) (tt, (tt, (record { fits = room6 .0 }, tt))) $
+          sets ! (addr ! (behind ! refl refl)) (tt, tt) $ sets ! (agg ! (ofs ! refl)) (tt, (tt, (record { fits = room7 .0 }, tt))) $
+          sets ! (addr ! (behind ! refl refl)) (tt, tt) $ sets ! (agg ! (ofs ! refl)) (tt, (tt, (record { fits = room8 .0 }, tt))) $
+          sets ! (addr ! (behind ! refl refl)) (tt, tt) $ sets ! (agg ! (ofs ! refl)) (tt, (tt, (record { fits = room9 .0 }, tt))) $
+          sets ! (addr ! (behind ! refl refl)) (tt, tt) $ sets ! (agg ! (ofs ! refl)) (tt, (tt, (record { fits = room10 .0 }, tt))) $
+          sets ! (addr ! (behind ! refl refl)) (tt, tt) $ sets ! (agg ! (ofs ! refl)) (tt, (tt, (record { fits = room11 .0 }, tt))) $
+          sets ! (addr ! (behind ! refl refl)) (tt, tt) $ sets ! (agg ! (ofs ! refl)) (tt, (tt, (record { fits = room12 .0 }, tt))) $
+          sets ! (addr ! (behind ! refl refl)) (tt, tt) $ sets ! (agg ! (ofs ! refl)) (tt, (tt, (record { fits = room13 .0 }, tt))) $
+          calls-on ! (false ∷ true ∷ true ∷ true ∷ true ∷ true ∷ true ∷ true ∷ true ∷ true ∷ true ∷ true ∷ true ∷ true ∷ [])
+          (slices constants structs functions text main mainPlaces other otherPlaces stack cells fs copy trace words)
+          (call-end fs len) (λ zs. (slices constants structs functions text main mainPlaces other otherPlaces (zs .1 .1 .1 .1 .1 .1 .1 .1 .1 .0) cells
+          (zs .1 .1 .1 .1 .1 .1 .1 .1 .1 .1 .1 .0) copy (zs .1 .1 .1 .1 .1 .1 .1 .1 .1 .1 .1 .1 .1 .0) words))
+          refl (λ zs. refl) (λ zs. refl) fm known-end refl
+          (λ x zs₁ said₁ lens₁ isx. lands-in ! (result-typed 𝓤 H A W x isx) $
+          sets ! (addr ! (behind ! refl refl)) (tt, tt) $ sets ! (agg ! (ofs ! refl)) (tt, (tt, (record { fits = room11 .0 }, tt))) $
+          sets ! (addr ! (behind ! refl refl)) (tt, tt) $ sets ! (agg ! (ofs ! refl)) (tt, (tt, (record { fits = room14 .0 }, tt))) $
+          calls-on ! (false ∷ false ∷ false ∷ false ∷ false ∷ false ∷ false ∷ false ∷ false ∷ false ∷ false ∷ true ∷ false ∷ false ∷ true ∷ [])
+          (slices constants structs functions text main mainPlaces other otherPlaces (zs₁ .1 .1 .1 .1 .1 .1 .1 .1 .1 .0) cells
+          (zs₁ .1 .1 .1 .1 .1 .1 .1 .1 .1 .1 .1 .0) copy (zs₁ .1 .1 .1 .1 .1 .1 .1 .1 .1 .1 .1 .1 .1 .0) words)
+          (call-keep (zs₁ .1 .1 .1 .1 .1 .1 .1 .1 .1 .1 .1 .0) words (lens₁ .1 .0) refl) (λ zs. (slices constants structs functions text main mainPlaces other
+          otherPlaces (zs₁ .1 .1 .1 .1 .1 .1 .1 .1 .1 .0) cells (zs₁ .1 .1 .1 .1 .1 .1 .1 .1 .1 .1 .1 .0) copy (zs₁ .1 .1 .1 .1 .1 .1 .1 .1 .1 .1 .1 .1 .1 .0)
+          (zs .1 .0)))
+          refl (λ zs. refl) (λ zs. refl) fm known-keep refl
+          (λ u zs₂ said₂ lens₂ isu. lands-in ! (tt, tt) $ calls-on ! []
+          (slices constants structs functions text main mainPlaces other otherPlaces (zs₁ .1 .1 .1 .1 .1 .1 .1 .1 .1 .0) cells
+          (zs₁ .1 .1 .1 .1 .1 .1 .1 .1 .1 .1 .1 .0) copy (zs₁ .1 .1 .1 .1 .1 .1 .1 .1 .1 .1 .1 .1 .1 .0) (zs₂ .1 .0)) (call-ran x isx)
+          (λ zs. (slices constants structs functions text main mainPlaces other otherPlaces (zs₁ .1 .1 .1 .1 .1 .1 .1 .1 .1 .0) cells
+          (zs₁ .1 .1 .1 .1 .1 .1 .1 .1 .1 .1 .1 .0) copy (zs₁ .1 .1 .1 .1 .1 .1 .1 .1 .1 .1 .1 .1 .1 .0) (zs₂ .1 .0))) refl (λ zs. refl) (λ zs. refl) fm
+          known-ran refl
+          (λ r zs₉ er lens₉ isr. lands-in ! (answer-typed 𝓤 H A W r isr) $ sets ! (of-opd ! (of ! refl))
+          (answer-typed 𝓤 H A W r isr) $ leaves ! refl $ by !
+          (exits r constants structs functions text main mainPlaces other otherPlaces (zs₁ .1 .1 .1 .1 .1 .1 .1 .1 .1 .0) cells
+          (zs₁ .1 .1 .1 .1 .1 .1 .1 .1 .1 .1 .1 .0) copy (zs₁ .1 .1 .1 .1 .1 .1 .1 .1 .1 .1 .1 .1 .1 .0) (zs₂ .1 .0) isr
+          refl refl refl refl refl refl refl refl (lens₁ .0) refl (lens₁ .1 .0) refl (lens₁ .1 .1 .0) (lens₂ .0)
+          (as-asked Abandon e fs el _ _ _ (abandon-called m image constants structs functions text main mainPlaces other otherPlaces stack cells copy trace words
+          fs _ _ _ said₁ said₂ er)))))))
       answers Trace e isc fs len el =
           returns-match ! 𝓣 (tag-of ! refl refl refl refl) refl
           (sets ! (addr ! (behind ! refl refl)) (tt, tt) $ sets ! (agg ! (ofs ! refl))
@@ -793,9 +985,16 @@ act-spec 𝓤 H 𝓜 𝓖 𝓡 =
     (new-thm.met 𝓤 H 𝓜 𝓖 𝓡))
     (cited 𝓤 H (ToLoad 𝓤 H (𝓖 .A) W (𝓜 .mem) (𝓡 .run)) 𝓜 𝓡 code.env #load load-def.routine code.calls-machine·load
     (load-thm.met 𝓤 H 𝓜 𝓖 𝓡))
-    (cited 𝓤 H (ToGo 𝓤 H (𝓖 .A) W (𝓜 .mem) (𝓡 .run)) 𝓜 𝓡 code.env #go go-def.routine code.calls-machine·run (go-thm.met 𝓤 H 𝓜 𝓖 𝓡))
+    (cited 𝓤 H (ToBegin 𝓤 H (𝓖 .A) W (𝓜 .mem) (𝓡 .run)) 𝓜 𝓡 code.env #begin begin-def.routine code.calls-machine·begin
+    (begin-thm.met 𝓤 H 𝓜 𝓖 𝓡))
+    (cited 𝓤 H (ToMore 𝓤 H (𝓖 .A) W (𝓜 .mem) (𝓡 .run)) 𝓜 𝓡 code.env #more more-def.routine code.calls-machine·continue-run
+    (more-thm.met 𝓤 H 𝓜 𝓖 𝓡))
+    (cited 𝓤 H (ToEnd 𝓤 H (𝓖 .A) W (𝓜 .mem) (𝓡 .run)) 𝓜 𝓡 code.env #end end-def.routine code.calls-machine·abandon
+    (end-thm.met 𝓤 H 𝓜 𝓖 𝓡))
     (cited 𝓤 H (ToBack 𝓤 H (𝓖 .A) W (𝓜 .mem) (𝓡 .run)) 𝓜 𝓡 code.env #back back-def.routine code.calls-machine·backtrace
     (back-thm.met 𝓤 H 𝓜 𝓖 𝓡))
+    (cited 𝓤 H (ToRunning 𝓤 H (𝓖 .A) W (𝓜 .mem) (𝓡 .run)) 𝓜 𝓡 code.env #running running-def.routine code.calls-console-frames·under-way
+    (running-thm.met 𝓤 H 𝓜 𝓖 𝓡))
     (cited 𝓤 H (ToMade 𝓤 H (𝓖 .A) W (𝓜 .mem) (𝓡 .run)) 𝓜 𝓡 code.env #made made-def.routine code.calls-console-frames·made
     (made-thm.met 𝓤 H 𝓜 𝓖 𝓡))
     (cited 𝓤 H (ToRan 𝓤 H (𝓖 .A) W (𝓜 .mem) (𝓡 .run)) 𝓜 𝓡 code.env #ran ran-def.routine code.calls-console-frames·ran

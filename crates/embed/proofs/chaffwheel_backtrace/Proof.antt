@@ -349,7 +349,7 @@ module _ {M : Type 1} (𝓤 : URA M) (H : Heap 𝓤) (A : Atoms 𝓤) (W : Given
         sets ! (of-opd ! (of ! refl)) (tt, record { fits = isk .1 }) $ leaves ! refl $
         by ! (exits k out answer isk refl refl (λ structs constants. out-refused vm answer out
         (λ (y : Vm). backtraceIn y (programLent structs constants functions text main mainPlaces other otherPlaces) stack frames out) n ew
-        (not-zero n off) m em g
+        (not-zero n off) m em (if g then 0 else 19)
         (trace-says m (programLent structs constants functions text main mainPlaces other otherPlaces) stack frames out g (eg structs constants)) k ek)))))))))
       where
         fm : FmC 𝓤 H (W .laws) (𝓣 .C)

@@ -3,9 +3,10 @@
 use Rattle.laws_walks.proofs.Walk.{_≡_, refl, true, false, List, [], _∷_, ℕ, length, URA, w32, w64, Val, vint, SProp, ent, id⊢, Memory, Routine, Heap, Tables, WpFn, Atoms, Lfts, Shares, Fun, givenOf, tables, tablesOf, FmC, fmOf}
 use Rattle.laws_walks.proofs.Walk.{Given, ‵, ⋆, _$_, _∵_, !, qed, by, keep, suffices, frame, done, agg, addr, of-opd, bin, Is, uint-makes, u8, u32, u64, usize, now, Room, owned, onEntry, tripleOf, Contract, Triple, cited, says, walkOf, ends-at}
 use Rattle.laws_walks.proofs.Walk.{of, ofs, behind, sets, lands-in, enters, leaves, Sl, sl, Arg, val, shr, mut, peek, Holds, Toks, Owns, lfts, shares, denots, valss, values, passing, lent, takes, gives, Rule, call-with, unasked, unneeded, calls-on, returns-if, Kind, number, shared, unique, stays, Passed, Known, closed}
+use Rattle.laws_walks.proofs.Walk.{vbool, Boolean}
 use Rattle.model.specs.declared.Frame.{Frame}
 use Rattle.model.specs.declared.Started.{Started}
-use denote.Plain.{uint-tells}
+use denote.Plain.{uint-tells, bool-makes}
 use native.Mathlib.Omega.{arith}
 use Rattle.frames.proofs.Frames.{R, tells}
 use Rattle.machine.proofs.Rows.{StartedRow, startedVal, IsStarted, started-tells, started-typed, started-makes}
@@ -192,7 +193,7 @@ module _ {M : Type 1} (𝓤 : URA M) (H : Heap 𝓤) (A : Atoms 𝓤) (W : Given
           frames = frames′;
         } ≡ startThrough vm answer
         (stored constants structs functions text main mainPlaces other otherPlaces) frames
-        (loadMachineOf image (stored constants structs functions text main mainPlaces other otherPlaces) frames)
+        (loadMachineOf false image (stored constants structs functions text main mainPlaces other otherPlaces) frames)
         → ent 𝓤 (⋆ 𝓤 H A (‵ (Holds (slices vm′ constants′ structs′ functions′ text′ main′ mainPlaces′ other′ otherPlaces′ frames′ answer′)) ∷ []))
         (Post (vint w32 r))
     exits r vm′ constants′ structs′ functions′ text′ main′ mainPlaces′ other′ otherPlaces′ frames′ answer′ isr len-vm len-constants len-structs len-functions len-text len-main len-mainPlaces len-other len-otherPlaces len-frames len-answer said =
@@ -240,26 +241,26 @@ module _ {M : Type 1} (𝓤 : URA M) (H : Heap 𝓤) (A : Atoms 𝓤) (W : Given
 
     abbrev to-entry : List Arg
     to-entry =
-        shr u8 s0 image ∷ mut u64 s2 constants ∷ mut u64 s3 structs ∷ mut u64 s4 functions ∷ mut u8 s5 text ∷ mut u8 s6 main ∷ mut
+        val Boolean false (vbool false) ∷ shr u8 s0 image ∷ mut u64 s2 constants ∷ mut u64 s3 structs ∷ mut u64 s4 functions ∷ mut u8 s5 text ∷ mut u8 s6 main ∷ mut
         u32 s7 mainPlaces ∷ mut u8 s8 other ∷ mut u32 s9 otherPlaces ∷ mut R s10 frames ∷ []
 
     call-entry : Rule 𝓤 H A W to-entry Entry StartedRow startedVal
         (λ x zs. record {
           answer = x;
-          stores = (stored (zs .1 .0) (zs .1 .1 .0) (zs .1 .1 .1 .0) (zs .1 .1 .1 .1 .0) (zs .1 .1 .1 .1 .1 .0)
-              (zs .1 .1 .1 .1 .1 .1 .0) (zs .1 .1 .1 .1 .1 .1 .1 .0) (zs .1 .1 .1 .1 .1 .1 .1 .1 .0));
-          frames = (zs .1 .1 .1 .1 .1 .1 .1 .1 .1 .0);
-        } ≡ loadMachineOf image (stored constants structs functions text main mainPlaces other otherPlaces) frames)
+          stores = (stored (zs .1 .1 .0) (zs .1 .1 .1 .0) (zs .1 .1 .1 .1 .0) (zs .1 .1 .1 .1 .1 .0) (zs .1 .1 .1 .1 .1 .1 .0)
+              (zs .1 .1 .1 .1 .1 .1 .1 .0) (zs .1 .1 .1 .1 .1 .1 .1 .1 .0) (zs .1 .1 .1 .1 .1 .1 .1 .1 .1 .0));
+          frames = (zs .1 .1 .1 .1 .1 .1 .1 .1 .1 .1 .0);
+        } ≡ loadMachineOf false image (stored constants structs functions text main mainPlaces other otherPlaces) frames)
     call-entry =
         call-with 𝓤 H A W to-entry Entry StartedRow startedVal
         (λ x zs. record {
           answer = x;
           stores =
-              (stored (zs .1 .0) (zs .1 .1 .0) (zs .1 .1 .1 .0) (zs .1 .1 .1 .1 .0) (zs .1 .1 .1 .1 .1 .0)
-              (zs .1 .1 .1 .1 .1 .1 .0) (zs .1 .1 .1 .1 .1 .1 .1 .0) (zs .1 .1 .1 .1 .1 .1 .1 .1 .0));
-          frames = (zs .1 .1 .1 .1 .1 .1 .1 .1 .1 .0);
-        } ≡ loadMachineOf image (stored constants structs functions text main mainPlaces other otherPlaces) frames) started-tells
-        (λ ns. passing (lent to-entry ns)) (λ ns. refl) (λ ns. unasked W (lent to-entry ns)) (λ ns w. id⊢ 𝓤 _) tt (
+              (stored (zs .1 .1 .0) (zs .1 .1 .1 .0) (zs .1 .1 .1 .1 .0) (zs .1 .1 .1 .1 .1 .0) (zs .1 .1 .1 .1 .1 .1 .0)
+              (zs .1 .1 .1 .1 .1 .1 .1 .0) (zs .1 .1 .1 .1 .1 .1 .1 .1 .0) (zs .1 .1 .1 .1 .1 .1 .1 .1 .1 .0));
+          frames = (zs .1 .1 .1 .1 .1 .1 .1 .1 .1 .1 .0);
+        } ≡ loadMachineOf false image (stored constants structs functions text main mainPlaces other otherPlaces) frames) started-tells
+        (λ ns. passing (lent to-entry ns)) (λ ns. refl) (λ ns. unasked W (lent to-entry ns)) (λ ns w. id⊢ 𝓤 _) (bool-makes 𝓤 H A W false _ refl, tt) (
           (refl, room0),
           (
             (refl, room2),
@@ -288,11 +289,11 @@ module _ {M : Type 1} (𝓤 : URA M) (H : Heap 𝓤) (A : Atoms 𝓤) (W : Given
 
     call-not : (n : ℕ) → Is u32 n (vint w32 n ∷ []) → Rule 𝓤 H A W (to-not n) Not u32 (vint w32)
         (λ k zs. ((w : List ℕ) (s : Stores) (fs : List Frame)
-        → record { number = k; vm = w; answer = (zs .1 .1 .0) } ≡ unmade n (loadMachineOf image s fs .answer) w answer))
+        → record { number = k; vm = w; answer = (zs .1 .1 .0) } ≡ unmade n (loadMachineOf false image s fs .answer) w answer))
     call-not n isn =
         call-with 𝓤 H A W (to-not n) Not u32 (vint w32)
         (λ k zs. ((w : List ℕ) (s : Stores) (fs : List Frame)
-        → record { number = k; vm = w; answer = (zs .1 .1 .0) } ≡ unmade n (loadMachineOf image s fs .answer) w answer)) (uint-tells w32)
+        → record { number = k; vm = w; answer = (zs .1 .1 .0) } ≡ unmade n (loadMachineOf false image s fs .answer) w answer)) (uint-tells w32)
         (λ ns. passing (lent (to-not n) ns)) (λ ns. refl) (λ ns. unasked W (lent (to-not n) ns)) (λ ns w. id⊢ 𝓤 _)
         (uint-makes 𝓤 H A W w32 n _ isn, tt) ((refl, room0), ((refl, room11), tt))
 
@@ -354,26 +355,26 @@ module _ {M : Type 1} (𝓤 : URA M) (H : Heap 𝓤) (A : Atoms 𝓤) (W : Given
         sets ! (addr ! (behind ! refl refl)) (tt, tt) $ sets ! (agg ! (ofs ! refl)) (tt, (tt, (record { fits = room10 .0 }, tt))) $
         calls-on ! (true ∷ false ∷ true ∷ true ∷ true ∷ true ∷ true ∷ true ∷ true ∷ true ∷ true ∷ [])
         (slices vm constants structs functions text main mainPlaces other otherPlaces frames answer) (call-entry)
-        (λ zs. slices vm (zs .1 .0) (zs .1 .1 .0) (zs .1 .1 .1 .0) (zs .1 .1 .1 .1 .0) (zs .1 .1 .1 .1 .1 .0) (zs .1 .1 .1 .1 .1 .1 .0)
-        (zs .1 .1 .1 .1 .1 .1 .1 .0) (zs .1 .1 .1 .1 .1 .1 .1 .1 .0) (zs .1 .1 .1 .1 .1 .1 .1 .1 .1 .0) answer) refl (λ zs. refl)
+        (λ zs. slices vm (zs .1 .1 .0) (zs .1 .1 .1 .0) (zs .1 .1 .1 .1 .0) (zs .1 .1 .1 .1 .1 .0) (zs .1 .1 .1 .1 .1 .1 .0) (zs .1 .1 .1 .1 .1 .1 .1 .0)
+        (zs .1 .1 .1 .1 .1 .1 .1 .1 .0) (zs .1 .1 .1 .1 .1 .1 .1 .1 .1 .0) (zs .1 .1 .1 .1 .1 .1 .1 .1 .1 .1 .0) answer) refl (λ zs. refl)
         (λ zs. refl) fm known-entry refl (λ x zs₂ ex lens₂ isx. lands-in ! (started-typed 𝓤 H A W x isx) $
         sets ! (addr ! (behind ! refl refl)) (tt, tt) $ sets ! (agg ! (ofs ! refl)) (tt, (tt, (record { fits = room1 .0 }, tt))) $
         sets ! (addr ! (behind ! refl refl)) (tt, tt) $ sets ! (agg ! (ofs ! refl)) (tt, (tt, (record { fits = room11 .0 }, tt))) $
         calls-on ! (false ∷ true ∷ false ∷ false ∷ false ∷ false ∷ false ∷ false ∷ false ∷ false ∷ false ∷ true ∷ [])
-        (slices vm (zs₂ .1 .0) (zs₂ .1 .1 .0) (zs₂ .1 .1 .1 .0) (zs₂ .1 .1 .1 .1 .0) (zs₂ .1 .1 .1 .1 .1 .0) (zs₂ .1 .1 .1 .1 .1 .1 .0)
-        (zs₂ .1 .1 .1 .1 .1 .1 .1 .0) (zs₂ .1 .1 .1 .1 .1 .1 .1 .1 .0) (zs₂ .1 .1 .1 .1 .1 .1 .1 .1 .1 .0) answer) (call-tells x isx)
-        (λ zs. slices (zs .1 .0) (zs₂ .1 .0) (zs₂ .1 .1 .0) (zs₂ .1 .1 .1 .0) (zs₂ .1 .1 .1 .1 .0) (zs₂ .1 .1 .1 .1 .1 .0) (zs₂ .1 .1 .1 .1 .1 .1 .0)
-        (zs₂ .1 .1 .1 .1 .1 .1 .1 .0) (zs₂ .1 .1 .1 .1 .1 .1 .1 .1 .0) (zs₂ .1 .1 .1 .1 .1 .1 .1 .1 .1 .0) (zs .1 .1 .0)) refl (λ zs. refl)
+        (slices vm (zs₂ .1 .1 .0) (zs₂ .1 .1 .1 .0) (zs₂ .1 .1 .1 .1 .0) (zs₂ .1 .1 .1 .1 .1 .0) (zs₂ .1 .1 .1 .1 .1 .1 .0) (zs₂ .1 .1 .1 .1 .1 .1 .1 .0)
+        (zs₂ .1 .1 .1 .1 .1 .1 .1 .1 .0) (zs₂ .1 .1 .1 .1 .1 .1 .1 .1 .1 .0) (zs₂ .1 .1 .1 .1 .1 .1 .1 .1 .1 .1 .0) answer) (call-tells x isx)
+        (λ zs. slices (zs .1 .0) (zs₂ .1 .1 .0) (zs₂ .1 .1 .1 .0) (zs₂ .1 .1 .1 .1 .0) (zs₂ .1 .1 .1 .1 .1 .0) (zs₂ .1 .1 .1 .1 .1 .1 .0) (zs₂ .1 .1 .1 .1 .1 .1 .1 .0)
+        (zs₂ .1 .1 .1 .1 .1 .1 .1 .1 .0) (zs₂ .1 .1 .1 .1 .1 .1 .1 .1 .1 .0) (zs₂ .1 .1 .1 .1 .1 .1 .1 .1 .1 .1 .0) (zs .1 .1 .0)) refl (λ zs. refl)
         (λ zs. refl) fm known-tells refl (λ k zs₃ ek lens₃ isk. lands-in ! (tt, record { fits = isk .1 }) $
         sets ! (of-opd ! (of ! refl)) (tt, record { fits = isk .1 }) $ leaves ! refl $
-        by ! (exits k (zs₃ .1 .0) (zs₂ .1 .0) (zs₂ .1 .1 .0) (zs₂ .1 .1 .1 .0) (zs₂ .1 .1 .1 .1 .0) (zs₂ .1 .1 .1 .1 .1 .0) (zs₂ .1 .1 .1 .1 .1 .1 .0)
-        (zs₂ .1 .1 .1 .1 .1 .1 .1 .0) (zs₂ .1 .1 .1 .1 .1 .1 .1 .1 .0) (zs₂ .1 .1 .1 .1 .1 .1 .1 .1 .1 .0) (zs₃ .1 .1 .0) isk (lens₃ .0) (lens₂ .0)
+        by ! (exits k (zs₃ .1 .0) (zs₂ .1 .1 .0) (zs₂ .1 .1 .1 .0) (zs₂ .1 .1 .1 .1 .0) (zs₂ .1 .1 .1 .1 .1 .0) (zs₂ .1 .1 .1 .1 .1 .1 .0) (zs₂ .1 .1 .1 .1 .1 .1 .1 .0)
+        (zs₂ .1 .1 .1 .1 .1 .1 .1 .1 .0) (zs₂ .1 .1 .1 .1 .1 .1 .1 .1 .1 .0) (zs₂ .1 .1 .1 .1 .1 .1 .1 .1 .1 .1 .0) (zs₃ .1 .1 .0) isk (lens₃ .0) (lens₂ .0)
         (lens₂ .1 .0) (lens₂ .1 .1 .0) (lens₂ .1 .1 .1 .0) (lens₂ .1 .1 .1 .1 .0) (lens₂ .1 .1 .1 .1 .1 .0) (lens₂ .1 .1 .1 .1 .1 .1 .0)
         (lens₂ .1 .1 .1 .1 .1 .1 .1 .0) (lens₂ .1 .1 .1 .1 .1 .1 .1 .1 .0) (lens₃ .1 .0)
         (start-through vm answer (stored constants structs functions text main mainPlaces other otherPlaces) frames
-        (loadMachineOf image (stored constants structs functions text main mainPlaces other otherPlaces) frames) n ew (is-zero n on) x
-        (stored (zs₂ .1 .0) (zs₂ .1 .1 .0) (zs₂ .1 .1 .1 .0) (zs₂ .1 .1 .1 .1 .0) (zs₂ .1 .1 .1 .1 .1 .0) (zs₂ .1 .1 .1 .1 .1 .1 .0)
-        (zs₂ .1 .1 .1 .1 .1 .1 .1 .0) (zs₂ .1 .1 .1 .1 .1 .1 .1 .1 .0)) (zs₂ .1 .1 .1 .1 .1 .1 .1 .1 .1 .0) ex
+        (loadMachineOf false image (stored constants structs functions text main mainPlaces other otherPlaces) frames) n ew (is-zero n on) x
+        (stored (zs₂ .1 .1 .0) (zs₂ .1 .1 .1 .0) (zs₂ .1 .1 .1 .1 .0) (zs₂ .1 .1 .1 .1 .1 .0) (zs₂ .1 .1 .1 .1 .1 .1 .0) (zs₂ .1 .1 .1 .1 .1 .1 .1 .0)
+        (zs₂ .1 .1 .1 .1 .1 .1 .1 .1 .0) (zs₂ .1 .1 .1 .1 .1 .1 .1 .1 .1 .0)) (zs₂ .1 .1 .1 .1 .1 .1 .1 .1 .1 .1 .0) ex
         (record { number = k; vm = (zs₃ .1 .0); answer = (zs₃ .1 .1 .0) }) ek)))))
         (λ off. sets ! (addr ! (behind ! refl refl)) (tt, tt) $ sets ! (agg ! (ofs ! refl)) (tt, (tt, (record { fits = room11 .0 }, tt))) $
         calls-on ! (true ∷ false ∷ false ∷ false ∷ false ∷ false ∷ false ∷ false ∷ false ∷ false ∷ false ∷ true ∷ [])
@@ -383,7 +384,7 @@ module _ {M : Type 1} (𝓤 : URA M) (H : Heap 𝓤) (A : Atoms 𝓤) (W : Given
         sets ! (of-opd ! (of ! refl)) (tt, record { fits = isk .1 }) $ leaves ! refl $
         by ! (exits k vm constants structs functions text main mainPlaces other otherPlaces frames (zs₄ .1 .1 .0) isk refl refl refl refl refl refl refl refl refl refl
         (lens₄ .0) (start-refused vm answer (stored constants structs functions text main mainPlaces other otherPlaces) frames
-        (loadMachineOf image (stored constants structs functions text main mainPlaces other otherPlaces) frames) n ew (not-zero n off)
+        (loadMachineOf false image (stored constants structs functions text main mainPlaces other otherPlaces) frames) n ew (not-zero n off)
         (record { number = k; vm = vm; answer = (zs₄ .1 .1 .0) })
         (ek vm (stored constants structs functions text main mainPlaces other otherPlaces) frames))))))))
       where

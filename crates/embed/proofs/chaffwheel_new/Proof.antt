@@ -3,9 +3,10 @@
 use Rattle.laws_walks.proofs.Walk.{_≡_, refl, true, false, List, [], _∷_, ℕ, length, URA, w32, w64, Val, vint, SProp, ent, id⊢, Memory, Routine, Heap, Tables, WpFn, Atoms, Lfts, Shares, Fun, givenOf, tables, tablesOf, FmC, fmOf}
 use Rattle.laws_walks.proofs.Walk.{Given, ‵, ⋆, _$_, _∵_, !, qed, by, keep, suffices, frame, done, agg, addr, of-opd, bin, Is, uint-makes, u8, u32, u64, usize, now, Room, owned, onEntry, tripleOf, Contract, Triple, cited, says, walkOf, ends-at}
 use Rattle.laws_walks.proofs.Walk.{of, ofs, behind, sets, lands-in, enters, leaves, Sl, sl, Arg, val, mut, peek, Holds, Toks, Owns, lfts, shares, denots, valss, values, passing, lent, takes, gives, Rule, call-with, unasked, unneeded, calls-on, returns-if, Kind, number, unique, stays, Passed, Known, closed}
+use Rattle.laws_walks.proofs.Walk.{vbool, Boolean}
 use Rattle.model.specs.declared.Frame.{Frame}
 use Rattle.model.specs.declared.Started.{Started}
-use denote.Plain.{uint-tells}
+use denote.Plain.{uint-tells, bool-makes}
 use native.Mathlib.Omega.{arith}
 use Rattle.frames.proofs.Frames.{R, tells}
 use Rattle.machine.proofs.Rows.{StartedRow, startedVal, IsStarted, started-tells, started-typed, started-makes}
@@ -110,7 +111,7 @@ module _ {M : Type 1} (𝓤 : URA M) (H : Heap 𝓤) (A : Atoms 𝓤) (W : Given
           coded = record { number = r; vm = vm′; answer = answer′ };
           stores = (namesLent rest functions′ text′);
           frames = frames′;
-        } ≡ startThrough vm answer (namesLent rest functions text) frames (newMachineOf (namesLent rest functions text) frames))
+        } ≡ startThrough vm answer (namesLent rest functions text) frames (newMachineOf false (namesLent rest functions text) frames))
         → ent 𝓤 (⋆ 𝓤 H A (‵ (Holds (slices vm′ functions′ text′ frames′ answer′)) ∷ [])) (Post (vint w32 r))
     exits r vm′ functions′ text′ frames′ answer′ isr len-vm len-functions len-text len-frames len-answer said =
         qed W (‵ (Holds (slices vm′ functions′ text′ frames′ answer′)) ∷ []) ∵ suffices ! _
@@ -131,16 +132,16 @@ module _ {M : Type 1} (𝓤 : URA M) (H : Heap 𝓤) (A : Atoms 𝓤) (W : Given
         (uint-makes 𝓤 H A W w64 1 _ (refl, omega arith), tt) ((refl, room0), ((refl, room4), tt))
 
     abbrev to-entry : List Arg
-    to-entry = mut u64 s1 functions ∷ mut u8 s2 text ∷ mut R s3 frames ∷ []
+    to-entry = val Boolean false (vbool false) ∷ mut u64 s1 functions ∷ mut u8 s2 text ∷ mut R s3 frames ∷ []
 
     call-entry : Rule 𝓤 H A W to-entry Entry StartedRow startedVal
-        (λ x zs. ((rest : Stores) → record { answer = x; stores = (namesLent rest (zs .0) (zs .1 .0)); frames = (zs .1 .1 .0) } ≡ newMachineOf
+        (λ x zs. ((rest : Stores) → record { answer = x; stores = (namesLent rest (zs .1 .0) (zs .1 .1 .0)); frames = (zs .1 .1 .1 .0) } ≡ newMachineOf false
         (namesLent rest functions text) frames))
     call-entry =
         call-with 𝓤 H A W to-entry Entry StartedRow startedVal
-        (λ x zs. ((rest : Stores) → record { answer = x; stores = (namesLent rest (zs .0) (zs .1 .0)); frames = (zs .1 .1 .0) } ≡
-        newMachineOf (namesLent rest functions text) frames)) started-tells (λ ns. passing (lent to-entry ns)) (λ ns. refl)
-        (λ ns. unasked W (lent to-entry ns)) (λ ns w. id⊢ 𝓤 _) tt ((refl, room1), ((refl, room2), ((refl, room3), tt)))
+        (λ x zs. ((rest : Stores) → record { answer = x; stores = (namesLent rest (zs .1 .0) (zs .1 .1 .0)); frames = (zs .1 .1 .1 .0) } ≡
+        newMachineOf false (namesLent rest functions text) frames)) started-tells (λ ns. passing (lent to-entry ns)) (λ ns. refl)
+        (λ ns. unasked W (lent to-entry ns)) (λ ns w. id⊢ 𝓤 _) (bool-makes 𝓤 H A W false _ refl, tt) ((refl, room1), ((refl, room2), ((refl, room3), tt)))
 
     abbrev to-tells : Started → List Arg
     to-tells x = val StartedRow x (startedVal x) ∷ mut u64 s0 vm ∷ mut u64 s4 answer ∷ []
@@ -175,20 +176,20 @@ module _ {M : Type 1} (𝓤 : URA M) (H : Heap 𝓤) (A : Atoms 𝓤) (W : Given
         sets ! (addr ! (behind ! refl refl)) (tt, tt) $ sets ! (agg ! (ofs ! refl)) (tt, (tt, (record { fits = room2 .0 }, tt))) $
         sets ! (addr ! (behind ! refl refl)) (tt, tt) $ sets ! (agg ! (ofs ! refl)) (tt, (tt, (record { fits = room3 .0 }, tt))) $
         calls-on ! (false ∷ true ∷ true ∷ true ∷ []) (slices vm functions text frames answer) (call-entry)
-        (λ zs. slices vm (zs .0) (zs .1 .0) (zs .1 .1 .0) answer) refl (λ zs. refl) (λ zs. refl) fm known-entry refl
+        (λ zs. slices vm (zs .1 .0) (zs .1 .1 .0) (zs .1 .1 .1 .0) answer) refl (λ zs. refl) (λ zs. refl) fm known-entry refl
         (λ x zs₂ ex lens₂ isx. lands-in ! (started-typed 𝓤 H A W x isx) $
         sets ! (addr ! (behind ! refl refl)) (tt, tt) $ sets ! (agg ! (ofs ! refl)) (tt, (tt, (record { fits = room0 .0 }, tt))) $
         sets ! (addr ! (behind ! refl refl)) (tt, tt) $ sets ! (agg ! (ofs ! refl)) (tt, (tt, (record { fits = room4 .0 }, tt))) $
-        calls-on ! (true ∷ false ∷ false ∷ false ∷ true ∷ []) (slices vm (zs₂ .0) (zs₂ .1 .0) (zs₂ .1 .1 .0) answer) (call-tells x isx)
-        (λ zs. slices (zs .1 .0) (zs₂ .0) (zs₂ .1 .0) (zs₂ .1 .1 .0) (zs .1 .1 .0)) refl (λ zs. refl) (λ zs. refl) fm known-tells refl
+        calls-on ! (true ∷ false ∷ false ∷ false ∷ true ∷ []) (slices vm (zs₂ .1 .0) (zs₂ .1 .1 .0) (zs₂ .1 .1 .1 .0) answer) (call-tells x isx)
+        (λ zs. slices (zs .1 .0) (zs₂ .1 .0) (zs₂ .1 .1 .0) (zs₂ .1 .1 .1 .0) (zs .1 .1 .0)) refl (λ zs. refl) (λ zs. refl) fm known-tells refl
         (λ k zs₃ ek lens₃ isk. lands-in ! (tt, record { fits = isk .1 }) $
         sets ! (of-opd ! (of ! refl)) (tt, record { fits = isk .1 }) $ leaves ! refl $
-        by ! (exits k (zs₃ .1 .0) (zs₂ .0) (zs₂ .1 .0) (zs₂ .1 .1 .0) (zs₃ .1 .1 .0) isk (lens₃ .0) (lens₂ .0) (lens₂ .1 .0) (lens₂ .1 .1 .0) (lens₃ .1 .0)
-        (λ rest. start-through vm answer (namesLent rest functions text) frames (newMachineOf (namesLent rest functions text) frames) n ew (is-zero n on) x
-        (namesLent rest (zs₂ .0) (zs₂ .1 .0)) (zs₂ .1 .1 .0) (ex rest) (record { number = k; vm = (zs₃ .1 .0); answer = (zs₃ .1 .1 .0) }) ek)))))
+        by ! (exits k (zs₃ .1 .0) (zs₂ .1 .0) (zs₂ .1 .1 .0) (zs₂ .1 .1 .1 .0) (zs₃ .1 .1 .0) isk (lens₃ .0) (lens₂ .0) (lens₂ .1 .0) (lens₂ .1 .1 .0) (lens₃ .1 .0)
+        (λ rest. start-through vm answer (namesLent rest functions text) frames (newMachineOf false (namesLent rest functions text) frames) n ew (is-zero n on) x
+        (namesLent rest (zs₂ .1 .0) (zs₂ .1 .1 .0)) (zs₂ .1 .1 .1 .0) (ex rest) (record { number = k; vm = (zs₃ .1 .0); answer = (zs₃ .1 .1 .0) }) ek)))))
         (λ off. sets ! (of-opd ! (of ! refl)) (tt, record { fits = isn .1 }) $ leaves ! refl $
         by ! (exits n vm functions text frames answer isn refl refl refl refl refl
-        (λ rest. start-refused vm answer (namesLent rest functions text) frames (newMachineOf (namesLent rest functions text) frames) n ew
+        (λ rest. start-refused vm answer (namesLent rest functions text) frames (newMachineOf false (namesLent rest functions text) frames) n ew
         (not-zero n off) (record { number = n; vm = vm; answer = answer }) (new-unmade (namesLent rest functions text) frames n vm answer)))))))
       where
         fm : FmC 𝓤 H (W .laws) (𝓣 .C)

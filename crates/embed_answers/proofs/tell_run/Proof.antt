@@ -1,6 +1,6 @@
 -- `embed_answers::tell_run` meets its contract.
 use borrow.Author.Needs.{needs}
-use Rattle.embed_answers.proofs.Answers.{told-continue, told-fault, told-refused, told-value}
+use Rattle.embed_answers.proofs.Answers.{told-continue, told-fault, told-paused, told-refused, told-value}
 use Rattle.embed_answers.proofs.tell_run.Statement.{statement}
 use Rattle.embed_answers.proofs.tell_run.Tie as tie
 
@@ -43,6 +43,15 @@ put-run-requires-3 c κs = search
 enum-known-result-4 : tie.Need-enum-known-result-4
 enum-known-result-4 c = search
 
+put-vm-requires-4 : tie.Need-put-vm-requires-4
+put-vm-requires-4 c κs = search
+
+put-run-requires-4 : tie.Need-put-run-requires-4
+put-run-requires-4 c κs = search
+
+enum-known-result-5 : tie.Need-enum-known-result-5
+enum-known-result-5 c = search
+
 cast-result : tie.Need-cast-result
 cast-result c = search needs
 
@@ -73,8 +82,17 @@ same-length-6 c = search
 returns-3 : tie.Need-returns-3
 returns-3 c = search told-fault
 
+same-length-7 : tie.Need-same-length-7
+same-length-7 c = search
+
+same-length-8 : tie.Need-same-length-8
+same-length-8 c = search
+
 returns-4 : tie.Need-returns-4
-returns-4 c = search told-refused
+returns-4 c = search told-paused
+
+returns-5 : tie.Need-returns-5
+returns-5 c = search told-refused
 
 pub tell-run-spec : {M : Type 1} → statement M
 tell-run-spec =
@@ -93,6 +111,9 @@ tell-run-spec =
     cast-put-run
     put-run-requires-3
     enum-known-result-4
+    put-vm-requires-4
+    put-run-requires-4
+    enum-known-result-5
     cast-result
     same-length
     same-length-2
@@ -103,4 +124,7 @@ tell-run-spec =
     same-length-5
     same-length-6
     returns-3
-    returns-4)
+    same-length-7
+    same-length-8
+    returns-4
+    returns-5)

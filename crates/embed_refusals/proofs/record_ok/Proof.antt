@@ -13,8 +13,11 @@ word-requires-2 c κs = search
 last-exact-requires : tie.Need-last-exact-requires
 last-exact-requires c κs = search
 
+word-requires-3 : tie.Need-word-requires-3
+word-requires-3 c κs = search
+
 returns : tie.Need-returns
 returns c = search record-is
 
 pub record-ok-spec : {M : Type 1} → statement M
-record-ok-spec = tie.close (tie.spec word-requires word-requires-2 last-exact-requires returns)
+record-ok-spec = tie.close (tie.spec word-requires word-requires-2 last-exact-requires word-requires-3 returns)

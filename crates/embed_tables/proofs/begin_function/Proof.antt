@@ -41,8 +41,8 @@ returns c =
 function-order-requires : tie.Need-function-order-requires
 function-order-requires c κs = search
 
-crossed-order-requires : tie.Need-crossed-order-requires
-crossed-order-requires c κs = search
+crossed-running-requires : tie.Need-crossed-running-requires
+crossed-running-requires c κs = search
 
 same-length-5 : tie.Need-same-length-5
 same-length-5 c = search
@@ -62,7 +62,7 @@ returns-2 c =
     let at-vm-of = at-if1 .before .before in
     let at-slices-refusal = at-vm-of .before .before in
     λ rest. emit-refused _ _ _ (at-slices-refusal .slices-refusal .ensures) _ _ (at-if1 .if1 .left) (at-vm-of .vm-of .ensures) _
-    (begin-says _ _ _ (c .before .function-order .ensures rest) _) (c .crossed-order .ensures)
+    (begin-says _ _ _ _ (c .before .function-order .ensures rest) _) (c .crossed-running .ensures)
 
 pub begin-function-spec : {M : Type 1} → statement M
 begin-function-spec =
@@ -78,7 +78,7 @@ begin-function-spec =
     same-length-4
     returns
     function-order-requires
-    crossed-order-requires
+    crossed-running-requires
     same-length-5
     same-length-6
     same-length-7

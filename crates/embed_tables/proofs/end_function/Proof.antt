@@ -1,4 +1,5 @@
 -- `embed_tables::end_function` meets its contract.
+use Rattle.model.specs.declared.Vm.{Vm}
 use Rattle.model.specs.Emission.{endFunctionOf}
 use Rattle.laws_embed.proofs.Says.{end-says}
 use Rattle.laws_embed.proofs.Through.{emits, emits-not}
@@ -30,14 +31,14 @@ returns c =
     let at-if1 = at-end-function .before in
     let at-vm-of = at-if1 .before .before in
     let at-slices-refusal = at-vm-of .before .before in
-    emits _ _ _ (at-slices-refusal .slices-refusal .ensures) (at-vm-of .vm-of .ensures) endFunctionOf (at-if1 .if1 .taken)
+    emits _ _ _ (at-slices-refusal .slices-refusal .ensures) (at-vm-of .vm-of .ensures) (λ (x : Vm). endFunctionOf (x .run .on) (x .program)) (at-if1 .if1 .taken)
     (at-end-function .end-function .ensures) (at-tell-emitted .tell-emitted .ensures)
 
 counts-ok-requires : tie.Need-counts-ok-requires
 counts-ok-requires c κs = search
 
-crossed-order-requires : tie.Need-crossed-order-requires
-crossed-order-requires c κs = search
+crossed-running-requires : tie.Need-crossed-running-requires
+crossed-running-requires c κs = search
 
 same-length-3 : tie.Need-same-length-3
 same-length-3 c = search
@@ -49,8 +50,9 @@ returns-2 : tie.Need-returns-2
 returns-2 c =
     let at-vm-of = c .before .before .before .before in
     let at-slices-refusal = at-vm-of .before .before in
-    emits-not _ _ _ (at-slices-refusal .slices-refusal .ensures) (at-vm-of .vm-of .ensures) endFunctionOf
-    (c .before .before .if1 .left) _ (end-says _ _ (c .before .counts-ok .ensures)) (c .crossed-order .ensures)
+    emits-not _ _ _ (at-slices-refusal .slices-refusal .ensures) (at-vm-of .vm-of .ensures)
+    (λ (x : Vm). endFunctionOf (x .run .on) (x .program))
+    (c .before .before .if1 .left) _ (end-says _ _ _ (c .before .counts-ok .ensures)) (c .crossed-running .ensures)
 
 pub end-function-spec : {M : Type 1} → statement M
 end-function-spec =
@@ -64,7 +66,7 @@ end-function-spec =
     same-length-2
     returns
     counts-ok-requires
-    crossed-order-requires
+    crossed-running-requires
     same-length-3
     same-length-4
     returns-2)

@@ -27,9 +27,13 @@ put-requires-4 c κs = search
 put-requires-5 : tie.Need-put-requires-5
 put-requires-5 c κs = search
 
+put-run-requires : tie.Need-put-run-requires
+put-run-requires c κs = search
+
 same-length : tie.Need-same-length
 same-length c =
-    let at-put4 = c .before .before .before .before .before .before in
+    let at-put5 = c .before .before .before .before .before .before in
+    let at-put4 = at-put5 .before .before .before .before in
     let at-put3 = at-put4 .before .before .before .before in
     let at-put2 = at-put3 .before .before .before .before in
     let at-put = at-put2 .before .before .before .before in
@@ -39,11 +43,13 @@ same-length c =
     let at-start = at-last-kind .before .before in
     vm-put-length (at-start .args .m) (at-start .args .vm .now) (at-last-kind .last-kind .ensures)
     (at-last-payload .last-payload .ensures .0) (at-put-counts .put-counts .ensures) (at-put .put .ensures)
-    (at-put2 .put2 .ensures) (at-put3 .put3 .ensures) (at-put4 .put4 .ensures) (c .before .before .put5 .ensures)
+    (at-put2 .put2 .ensures) (at-put3 .put3 .ensures) (at-put4 .put4 .ensures) (at-put5 .put5 .ensures)
+    (c .before .before .put-run .ensures)
 
 returns : tie.Need-returns
 returns c =
-    let at-put4 = c .before .before .before .before .before .before in
+    let at-put5 = c .before .before .before .before .before .before in
+    let at-put4 = at-put5 .before .before .before .before in
     let at-put3 = at-put4 .before .before .before .before in
     let at-put2 = at-put3 .before .before .before .before in
     let at-put = at-put2 .before .before .before .before in
@@ -53,7 +59,8 @@ returns c =
     let at-start = at-last-kind .before .before in
     vm-put (at-start .args .m) (at-start .args .vm .now) (at-last-kind .last-kind .ensures)
     (at-last-payload .last-payload .ensures .0) (at-put-counts .put-counts .ensures) (at-put .put .ensures)
-    (at-put2 .put2 .ensures) (at-put3 .put3 .ensures) (at-put4 .put4 .ensures) (c .before .before .put5 .ensures)
+    (at-put2 .put2 .ensures) (at-put3 .put3 .ensures) (at-put4 .put4 .ensures) (at-put5 .put5 .ensures)
+    (c .before .before .put-run .ensures)
 
 pub put-vm-spec : {M : Type 1} → statement M
 put-vm-spec =
@@ -67,5 +74,6 @@ put-vm-spec =
     put-requires-3
     put-requires-4
     put-requires-5
+    put-run-requires
     same-length
     returns)

@@ -15,6 +15,9 @@ word-requires-2 c κs = search
 last-in-requires : tie.Need-last-in-requires
 last-in-requires c κs = search
 
+run-of-requires : tie.Need-run-of-requires
+run-of-requires c κs = search
+
 word-requires-3 : tie.Need-word-requires-3
 word-requires-3 c κs = search
 
@@ -35,6 +38,7 @@ vm-of-spec =
     word-requires
     word-requires-2
     last-in-requires
+    run-of-requires
     word-requires-3
     word-requires-4
     word-requires-5

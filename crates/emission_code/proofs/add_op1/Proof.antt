@@ -4,11 +4,11 @@ use borrow.Author.Needs.{needs}
 use Rattle.emission_code.proofs.add_op1.Statement.{statement}
 use Rattle.emission_code.proofs.add_op1.Tie as tie
 
-cast-t12 : tie.Need-cast-t12
-cast-t12 c = search needs
+cast-t13 : tie.Need-cast-t13
+cast-t13 c = search needs
 
-cast-t14 : tie.Need-cast-t14
-cast-t14 c = search needs
+cast-t15 : tie.Need-cast-t15
+cast-t15 c = search needs
 
 slice-aggregate-emit : tie.Need-slice-aggregate-emit
 slice-aggregate-emit c = search
@@ -41,8 +41,8 @@ pub add-op1-spec : {M : Type 1} → statement M
 add-op1-spec =
     tie.close
     (tie.spec
-    cast-t12
-    cast-t14
+    cast-t13
+    cast-t15
     slice-aggregate-emit
     emit-requires
     same-length

@@ -4,17 +4,17 @@ use borrow.Author.Needs.{needs}
 use Rattle.emission_code.proofs.add_op2.Statement.{statement}
 use Rattle.emission_code.proofs.add_op2.Tie as tie
 
-cast-t13 : tie.Need-cast-t13
-cast-t13 c = search needs
+cast-t14 : tie.Need-cast-t14
+cast-t14 c = search needs
 
-cast-t15 : tie.Need-cast-t15
-cast-t15 c = search needs
+cast-t16 : tie.Need-cast-t16
+cast-t16 c = search needs
 
-cast-t17 : tie.Need-cast-t17
-cast-t17 c = search needs
+cast-t18 : tie.Need-cast-t18
+cast-t18 c = search needs
 
-cast-t19 : tie.Need-cast-t19
-cast-t19 c = search needs
+cast-t20 : tie.Need-cast-t20
+cast-t20 c = search needs
 
 slice-aggregate-emit : tie.Need-slice-aggregate-emit
 slice-aggregate-emit c = search
@@ -47,10 +47,10 @@ pub add-op2-spec : {M : Type 1} → statement M
 add-op2-spec =
     tie.close
     (tie.spec
-    cast-t13
-    cast-t15
-    cast-t17
-    cast-t19
+    cast-t14
+    cast-t16
+    cast-t18
+    cast-t20
     slice-aggregate-emit
     emit-requires
     same-length

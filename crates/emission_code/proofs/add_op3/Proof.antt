@@ -4,23 +4,23 @@ use borrow.Author.Needs.{needs}
 use Rattle.emission_code.proofs.add_op3.Statement.{statement}
 use Rattle.emission_code.proofs.add_op3.Tie as tie
 
-cast-t14 : tie.Need-cast-t14
-cast-t14 c = search needs
+cast-t15 : tie.Need-cast-t15
+cast-t15 c = search needs
 
-cast-t16 : tie.Need-cast-t16
-cast-t16 c = search needs
+cast-t17 : tie.Need-cast-t17
+cast-t17 c = search needs
 
-cast-t18 : tie.Need-cast-t18
-cast-t18 c = search needs
+cast-t19 : tie.Need-cast-t19
+cast-t19 c = search needs
 
-cast-t20 : tie.Need-cast-t20
-cast-t20 c = search needs
+cast-t21 : tie.Need-cast-t21
+cast-t21 c = search needs
 
-cast-t22 : tie.Need-cast-t22
-cast-t22 c = search needs
+cast-t23 : tie.Need-cast-t23
+cast-t23 c = search needs
 
-cast-t24 : tie.Need-cast-t24
-cast-t24 c = search needs
+cast-t25 : tie.Need-cast-t25
+cast-t25 c = search needs
 
 slice-aggregate-emit : tie.Need-slice-aggregate-emit
 slice-aggregate-emit c = search
@@ -53,12 +53,12 @@ pub add-op3-spec : {M : Type 1} → statement M
 add-op3-spec =
     tie.close
     (tie.spec
-    cast-t14
-    cast-t16
-    cast-t18
-    cast-t20
-    cast-t22
-    cast-t24
+    cast-t15
+    cast-t17
+    cast-t19
+    cast-t21
+    cast-t23
+    cast-t25
     slice-aggregate-emit
     emit-requires
     same-length

@@ -2,9 +2,10 @@
 -- Assumes nothing.
 use Rattle.laws_walks.proofs.Walk.{_≡_, refl, sym, ap, _∙_, Bool, true, false, List, [], _∷_, ℕ, _<_, length, set, URA, w64, Val, vbool, vint, SProp, ent, id⊢, Memory, Routine, Heap, Tables, WpFn, Atoms, Lfts, Shares, Fun, givenOf, tables, tablesOf, FmC, fmOf}
 use Rattle.laws_walks.proofs.Walk.{Given, ‵, ⋆, _$_, _∵_, !, qed, by, keep, suffices, frame, done, agg, addr, of-opd, Is, Boolean, bool-tells, uint-makes, u8, u32, u64, usize, now, Room, owned, onEntry, tripleOf, Contract, Triple, cited, says, walkOf, ends-at}
-use Rattle.laws_walks.proofs.Walk.{of, ofs, behind, sets, lands-in, enters, leaves, Sl, sl, Arg, val, shr, mut, Holds, Toks, Owns, lfts, shares, denots, valss, values, passing, lent, takes, gives, Rule, call-with, unasked, unneeded, calls-on, returns-if, Kind, shared, unique, stays, Passed, Known, closed}
+use Rattle.laws_walks.proofs.Walk.{of, ofs, behind, sets, lands-in, enters, leaves, Sl, sl, Arg, val, shr, mut, Holds, Toks, Owns, lfts, shares, denots, valss, values, passing, lent, takes, gives, Rule, call-with, unasked, unneeded, calls-on, returns-if, Kind, own, shared, unique, stays, Passed, Known, closed}
 use Rattle.model.specs.declared.Frame.{Frame}
 use Rattle.model.specs.declared.Started.{Started}
+use denote.Plain.{bool-makes}
 use native.Mathlib.Omega.{arith}
 use Rattle.frames.proofs.Orders.{is-true, is-false}
 use Rattle.frames.proofs.Frames.{R, fval, tells, frame-typed}
@@ -37,7 +38,8 @@ use Rattle.machine.proofs.load.Code as code
 
 abbrev kinds : List (Kind 10)
 kinds =
-    shared 0 tt u8 ∷ unique 1 tt u64 ∷ unique 2 tt u64 ∷ unique 3 tt u64 ∷ unique 4 tt u8 ∷ unique 5 tt u8 ∷ unique 6 tt u32 ∷
+    own Boolean vbool bool-tells (λ x f. refl) ∷ shared 0 tt u8 ∷ unique 1 tt u64 ∷ unique 2 tt u64 ∷ unique 3 tt u64 ∷ unique 4 tt u8
+    ∷ unique 5 tt u8 ∷ unique 6 tt u32 ∷
     unique 7 tt u8 ∷ unique 8 tt u32 ∷ unique 9 tt R ∷ []
 
 module _ {M : Type 1} (𝓤 : URA M) (H : Heap 𝓤) (A : Atoms 𝓤) (W : Given 𝓤 H A) (mem : Memory → SProp 𝓤) (run : Routine → Fun 𝓤) where
@@ -54,95 +56,98 @@ module _ {M : Type 1} (𝓤 : URA M) (H : Heap 𝓤) (A : Atoms 𝓤) (W : Given
       (known-writef : Triple 𝓤 (𝓣 .C #writef) (Write 𝓤 H A W mem run))
       (κs : Lfts 10) (qs : Shares 10) (a : Passed kinds StartedRow κs) (is : Known kinds StartedRow κs a) where
     -- the parameters
+    abbrev running : Bool
+    running = a .0
+
     abbrev s0 : Sl
-    s0 = sl (κs .0) (qs .0) (a .0)
+    s0 = sl (κs .0) (qs .0) (a .1 .0)
 
     abbrev s1 : Sl
-    s1 = sl (κs .1 .0) (qs .1 .0) (a .1 .0)
+    s1 = sl (κs .1 .0) (qs .1 .0) (a .1 .1 .0)
 
     abbrev s2 : Sl
-    s2 = sl (κs .1 .1 .0) (qs .1 .1 .0) (a .1 .1 .0)
+    s2 = sl (κs .1 .1 .0) (qs .1 .1 .0) (a .1 .1 .1 .0)
 
     abbrev s3 : Sl
-    s3 = sl (κs .1 .1 .1 .0) (qs .1 .1 .1 .0) (a .1 .1 .1 .0)
+    s3 = sl (κs .1 .1 .1 .0) (qs .1 .1 .1 .0) (a .1 .1 .1 .1 .0)
 
     abbrev s4 : Sl
-    s4 = sl (κs .1 .1 .1 .1 .0) (qs .1 .1 .1 .1 .0) (a .1 .1 .1 .1 .0)
+    s4 = sl (κs .1 .1 .1 .1 .0) (qs .1 .1 .1 .1 .0) (a .1 .1 .1 .1 .1 .0)
 
     abbrev s5 : Sl
-    s5 = sl (κs .1 .1 .1 .1 .1 .0) (qs .1 .1 .1 .1 .1 .0) (a .1 .1 .1 .1 .1 .0)
+    s5 = sl (κs .1 .1 .1 .1 .1 .0) (qs .1 .1 .1 .1 .1 .0) (a .1 .1 .1 .1 .1 .1 .0)
 
     abbrev s6 : Sl
-    s6 = sl (κs .1 .1 .1 .1 .1 .1 .0) (qs .1 .1 .1 .1 .1 .1 .0) (a .1 .1 .1 .1 .1 .1 .0)
+    s6 = sl (κs .1 .1 .1 .1 .1 .1 .0) (qs .1 .1 .1 .1 .1 .1 .0) (a .1 .1 .1 .1 .1 .1 .1 .0)
 
     abbrev s7 : Sl
-    s7 = sl (κs .1 .1 .1 .1 .1 .1 .1 .0) (qs .1 .1 .1 .1 .1 .1 .1 .0) (a .1 .1 .1 .1 .1 .1 .1 .0)
+    s7 = sl (κs .1 .1 .1 .1 .1 .1 .1 .0) (qs .1 .1 .1 .1 .1 .1 .1 .0) (a .1 .1 .1 .1 .1 .1 .1 .1 .0)
 
     abbrev s8 : Sl
-    s8 = sl (κs .1 .1 .1 .1 .1 .1 .1 .1 .0) (qs .1 .1 .1 .1 .1 .1 .1 .1 .0) (a .1 .1 .1 .1 .1 .1 .1 .1 .0)
+    s8 = sl (κs .1 .1 .1 .1 .1 .1 .1 .1 .0) (qs .1 .1 .1 .1 .1 .1 .1 .1 .0) (a .1 .1 .1 .1 .1 .1 .1 .1 .1 .0)
 
     abbrev s9 : Sl
-    s9 = sl (κs .1 .1 .1 .1 .1 .1 .1 .1 .1 .0) (qs .1 .1 .1 .1 .1 .1 .1 .1 .1 .0) (a .1 .1 .1 .1 .1 .1 .1 .1 .1 .0)
+    s9 = sl (κs .1 .1 .1 .1 .1 .1 .1 .1 .1 .0) (qs .1 .1 .1 .1 .1 .1 .1 .1 .1 .0) (a .1 .1 .1 .1 .1 .1 .1 .1 .1 .1 .0)
 
     abbrev image : List ℕ
-    image = now (a .0)
+    image = now (a .1 .0)
 
     abbrev constants : List ℕ
-    constants = now (a .1 .0)
+    constants = now (a .1 .1 .0)
 
     abbrev structs : List ℕ
-    structs = now (a .1 .1 .0)
+    structs = now (a .1 .1 .1 .0)
 
     abbrev functions : List ℕ
-    functions = now (a .1 .1 .1 .0)
+    functions = now (a .1 .1 .1 .1 .0)
 
     abbrev text : List ℕ
-    text = now (a .1 .1 .1 .1 .0)
+    text = now (a .1 .1 .1 .1 .1 .0)
 
     abbrev main : List ℕ
-    main = now (a .1 .1 .1 .1 .1 .0)
+    main = now (a .1 .1 .1 .1 .1 .1 .0)
 
     abbrev mainPlaces : List ℕ
-    mainPlaces = now (a .1 .1 .1 .1 .1 .1 .0)
+    mainPlaces = now (a .1 .1 .1 .1 .1 .1 .1 .0)
 
     abbrev other : List ℕ
-    other = now (a .1 .1 .1 .1 .1 .1 .1 .0)
+    other = now (a .1 .1 .1 .1 .1 .1 .1 .1 .0)
 
     abbrev otherPlaces : List ℕ
-    otherPlaces = now (a .1 .1 .1 .1 .1 .1 .1 .1 .0)
+    otherPlaces = now (a .1 .1 .1 .1 .1 .1 .1 .1 .1 .0)
 
     abbrev frames : List Frame
-    frames = now (a .1 .1 .1 .1 .1 .1 .1 .1 .1 .0)
+    frames = now (a .1 .1 .1 .1 .1 .1 .1 .1 .1 .1 .0)
 
     abbrev room0 : Room u8 (s0 .count)
-    room0 = is .0 .0 .1
+    room0 = is .1 .0 .0 .1
 
     abbrev room1 : Room u64 (s1 .count)
-    room1 = is .1 .0 .0 .1
+    room1 = is .1 .1 .0 .0 .1
 
     abbrev room2 : Room u64 (s2 .count)
-    room2 = is .1 .1 .0 .0 .1
+    room2 = is .1 .1 .1 .0 .0 .1
 
     abbrev room3 : Room u64 (s3 .count)
-    room3 = is .1 .1 .1 .0 .0 .1
+    room3 = is .1 .1 .1 .1 .0 .0 .1
 
     abbrev room4 : Room u8 (s4 .count)
-    room4 = is .1 .1 .1 .1 .0 .0 .1
+    room4 = is .1 .1 .1 .1 .1 .0 .0 .1
 
     abbrev room5 : Room u8 (s5 .count)
-    room5 = is .1 .1 .1 .1 .1 .0 .0 .1
+    room5 = is .1 .1 .1 .1 .1 .1 .0 .0 .1
 
     abbrev room6 : Room u32 (s6 .count)
-    room6 = is .1 .1 .1 .1 .1 .1 .0 .0 .1
+    room6 = is .1 .1 .1 .1 .1 .1 .1 .0 .0 .1
 
     abbrev room7 : Room u8 (s7 .count)
-    room7 = is .1 .1 .1 .1 .1 .1 .1 .0 .0 .1
+    room7 = is .1 .1 .1 .1 .1 .1 .1 .1 .0 .0 .1
 
     abbrev room8 : Room u32 (s8 .count)
-    room8 = is .1 .1 .1 .1 .1 .1 .1 .1 .0 .0 .1
+    room8 = is .1 .1 .1 .1 .1 .1 .1 .1 .1 .0 .0 .1
 
     abbrev room9 : Room R (s9 .count)
-    room9 = is .1 .1 .1 .1 .1 .1 .1 .1 .1 .0 .0 .1
+    room9 = is .1 .1 .1 .1 .1 .1 .1 .1 .1 .1 .0 .0 .1
 
     abbrev slices : List ℕ → List ℕ → List ℕ → List ℕ → List ℕ → List ℕ → List ℕ → List ℕ → List Frame → List Arg
     slices constants′ structs′ functions′ text′ main′ mainPlaces′ other′ otherPlaces′ frames′ =
@@ -151,7 +156,7 @@ module _ {M : Type 1} (𝓤 : URA M) (H : Heap 𝓤) (A : Atoms 𝓤) (W : Given
 
     abbrev xs : List ℕ → List ℕ → List ℕ → List ℕ → List ℕ → List ℕ → List ℕ → List ℕ → List Frame → List Arg
     xs constants′ structs′ functions′ text′ main′ mainPlaces′ other′ otherPlaces′ frames′ =
-        slices constants′ structs′ functions′ text′ main′ mainPlaces′ other′ otherPlaces′ frames′
+        val Boolean running (vbool running) ∷ slices constants′ structs′ functions′ text′ main′ mainPlaces′ other′ otherPlaces′ frames′
 
     abbrev Post : Val → SProp 𝓤
     Post =
@@ -166,43 +171,50 @@ module _ {M : Type 1} (𝓤 : URA M) (H : Heap 𝓤) (A : Atoms 𝓤) (W : Given
           answer = r;
           stores = stored constants′ structs′ functions′ text′ main′ mainPlaces′ other′ otherPlaces′;
           frames = frames′;
-        } ≡ loadMachineOf image (stored constants structs functions text main mainPlaces other otherPlaces) frames)
+        } ≡ loadMachineOf running image (stored constants structs functions text main mainPlaces other otherPlaces) frames)
         → ent 𝓤 (⋆ 𝓤 H A (‵ (Holds (slices constants′ structs′ functions′ text′ main′ mainPlaces′ other′ otherPlaces′ frames′)) ∷ [])) (Post (startedVal r))
-    exits r constants′ structs′ functions′ text′ main′ mainPlaces′ other′ otherPlaces′ frames′ isr len-constants len-structs len-functions len-text len-main len-mainPlaces len-other len-otherPlaces len-frames said =
+    exits r constants′ structs′ functions′ text′ main′ mainPlaces′ other′ otherPlaces′ frames′ isr len-constants len-structs len-functions len-text
+        len-main len-mainPlaces len-other len-otherPlaces len-frames said =
         qed W (‵ (Holds (slices constants′ structs′ functions′ text′ main′ mainPlaces′ other′ otherPlaces′ frames′)) ∷ []) ∵
         suffices ! _
         (ends-at 𝓤 H A me.ended (stays kinds) (me.clauses 𝓤 H A mem run) W
         (passing (xs constants structs functions text main mainPlaces other otherPlaces frames)) (startedVal r) r
-        (tt, (constants′, (structs′, (functions′, (text′, (main′, (mainPlaces′, (other′, (otherPlaces′, (frames′, tt)))))))))) (
+        (tt, (tt, (constants′, (structs′, (functions′, (text′, (main′, (mainPlaces′, (other′, (otherPlaces′, (frames′, tt))))))))))) (
           tt,
           (
-            len-constants,
+            tt,
             (
-              len-structs,
-              (len-functions, (len-text, (len-main, (len-mainPlaces, (len-other, (len-otherPlaces, (len-frames, tt))))))),
+              len-constants,
+              (
+                len-structs,
+                (len-functions, (len-text, (len-main, (len-mainPlaces, (len-other, (len-otherPlaces, (len-frames, tt))))))),
+              ),
             ),
           ),
-        )) $ says ! said $ gives ! (xs constants′ structs′ functions′ text′ main′ mainPlaces′ other′ otherPlaces′ frames′) tt
+        )) $ says ! said $ gives ! (xs constants′ structs′ functions′ text′ main′ mainPlaces′ other′ otherPlaces′ frames′)
+        (bool-makes 𝓤 H A W running _ (is .0), tt)
         (frame ! $ owned ! StartedRow (Is StartedRow) (started-makes 𝓤 H A W) r _ isr $ keep ! (1 ∷ 0 ∷ []) $ done !)
 
     -- the calls
     abbrev to-made : List Arg
     to-made =
-        shr u8 s0 image ∷ mut u64 s1 constants ∷ mut u64 s2 structs ∷ mut u64 s3 functions ∷ mut u8 s4 text ∷ mut u8 s5 main ∷ mut
+        val Boolean running (vbool running) ∷ shr u8 s0 image ∷ mut u64 s1 constants ∷ mut u64 s2 structs ∷ mut u64 s3 functions ∷ mut u8 s4 text
+        ∷ mut u8 s5 main ∷ mut
         u32 s6 mainPlaces ∷ mut u8 s7 other ∷ mut u32 s8 otherPlaces ∷ val usize (s9 .count) (vint w64 (s9 .count)) ∷ []
 
     call-made : Rule 𝓤 H A W to-made Made StartedRow startedVal (λ r zs. Makes
-        (loadMachineOf image (stored constants structs functions text main mainPlaces other otherPlaces)) (s9 .count) r
-        (stored (zs .1 .0) (zs .1 .1 .0) (zs .1 .1 .1 .0) (zs .1 .1 .1 .1 .0) (zs .1 .1 .1 .1 .1 .0) (zs .1 .1 .1 .1 .1 .1 .0) (zs .1 .1 .1 .1 .1 .1 .1 .0)
-        (zs .1 .1 .1 .1 .1 .1 .1 .1 .0)))
+        (loadMachineOf running image (stored constants structs functions text main mainPlaces other otherPlaces)) (s9 .count) r
+        (stored (zs .1 .1 .0) (zs .1 .1 .1 .0) (zs .1 .1 .1 .1 .0) (zs .1 .1 .1 .1 .1 .0) (zs .1 .1 .1 .1 .1 .1 .0) (zs .1 .1 .1 .1 .1 .1 .1 .0)
+        (zs .1 .1 .1 .1 .1 .1 .1 .1 .0)
+        (zs .1 .1 .1 .1 .1 .1 .1 .1 .1 .0)))
     call-made =
         call-with 𝓤 H A W to-made Made StartedRow startedVal
-        (λ r zs. Makes (loadMachineOf image (stored constants structs functions text main mainPlaces other otherPlaces))
+        (λ r zs. Makes (loadMachineOf running image (stored constants structs functions text main mainPlaces other otherPlaces))
         (s9 .count) r
-        (stored (zs .1 .0) (zs .1 .1 .0) (zs .1 .1 .1 .0) (zs .1 .1 .1 .1 .0) (zs .1 .1 .1 .1 .1 .0) (zs .1 .1 .1 .1 .1 .1 .0)
-        (zs .1 .1 .1 .1 .1 .1 .1 .0) (zs .1 .1 .1 .1 .1 .1 .1 .1 .0))) started-tells (λ ns. passing (lent to-made ns))
+        (stored (zs .1 .1 .0) (zs .1 .1 .1 .0) (zs .1 .1 .1 .1 .0) (zs .1 .1 .1 .1 .1 .0) (zs .1 .1 .1 .1 .1 .1 .0) (zs .1 .1 .1 .1 .1 .1 .1 .0)
+        (zs .1 .1 .1 .1 .1 .1 .1 .1 .0) (zs .1 .1 .1 .1 .1 .1 .1 .1 .1 .0))) started-tells (λ ns. passing (lent to-made ns))
         (λ ns. refl) (λ ns. unasked W (lent to-made ns)) (λ ns w. id⊢ 𝓤 _)
-        (uint-makes 𝓤 H A W w64 (s9 .count) _ (refl, room9 .0), tt) (
+        (bool-makes 𝓤 H A W running _ (is .0), (uint-makes 𝓤 H A W w64 (s9 .count) _ (refl, room9 .0), tt)) (
           (refl, room0),
           (
             (refl, room1),
@@ -239,22 +251,25 @@ module _ {M : Type 1} (𝓤 : URA M) (H : Heap 𝓤) (A : Atoms 𝓤) (W : Given
         ∷ ‵ (Owns (xs constants structs functions text main mainPlaces other otherPlaces frames)) ∷ []) ∵
         takes ! (xs constants structs functions text main mainPlaces other otherPlaces frames)
         (enters ! (𝓣 .C) (𝓣 .Λ) code.function (values (xs constants structs functions text main mainPlaces other otherPlaces frames)) Post (
-          (tt, (tt, (record { fits = room0 .0 }, tt))),
+          (tt, tt),
           (
-            (tt, (tt, (record { fits = room1 .0 }, tt))),
+            (tt, (tt, (record { fits = room0 .0 }, tt))),
             (
-              (tt, (tt, (record { fits = room2 .0 }, tt))),
+              (tt, (tt, (record { fits = room1 .0 }, tt))),
               (
-                (tt, (tt, (record { fits = room3 .0 }, tt))),
+                (tt, (tt, (record { fits = room2 .0 }, tt))),
                 (
-                  (tt, (tt, (record { fits = room4 .0 }, tt))),
+                  (tt, (tt, (record { fits = room3 .0 }, tt))),
                   (
-                    (tt, (tt, (record { fits = room5 .0 }, tt))),
+                    (tt, (tt, (record { fits = room4 .0 }, tt))),
                     (
-                      (tt, (tt, (record { fits = room6 .0 }, tt))),
+                      (tt, (tt, (record { fits = room5 .0 }, tt))),
                       (
-                        (tt, (tt, (record { fits = room7 .0 }, tt))),
-                        ((tt, (tt, (record { fits = room8 .0 }, tt))), ((tt, (tt, (record { fits = room9 .0 }, tt))), tt)),
+                        (tt, (tt, (record { fits = room6 .0 }, tt))),
+                        (
+                          (tt, (tt, (record { fits = room7 .0 }, tt))),
+                          ((tt, (tt, (record { fits = room8 .0 }, tt))), ((tt, (tt, (record { fits = room9 .0 }, tt))), tt)),
+                        ),
                       ),
                     ),
                   ),
@@ -274,75 +289,77 @@ module _ {M : Type 1} (𝓤 : URA M) (H : Heap 𝓤) (A : Atoms 𝓤) (W : Given
         sets ! (of-opd ! (of ! refl)) (tt, record { fits = room9 .0 }) $
         calls-on ! (true ∷ true ∷ true ∷ true ∷ true ∷ true ∷ true ∷ true ∷ true ∷ [])
         (slices constants structs functions text main mainPlaces other otherPlaces frames) (call-made)
-        (λ zs. slices (zs .1 .0) (zs .1 .1 .0) (zs .1 .1 .1 .0) (zs .1 .1 .1 .1 .0) (zs .1 .1 .1 .1 .1 .0) (zs .1 .1 .1 .1 .1 .1 .0)
-        (zs .1 .1 .1 .1 .1 .1 .1 .0) (zs .1 .1 .1 .1 .1 .1 .1 .1 .0) frames) refl (λ zs. refl) (λ zs. refl) fm known-made refl
+        (λ zs. slices (zs .1 .1 .0) (zs .1 .1 .1 .0) (zs .1 .1 .1 .1 .0) (zs .1 .1 .1 .1 .1 .0) (zs .1 .1 .1 .1 .1 .1 .0) (zs .1 .1 .1 .1 .1 .1 .1 .0)
+        (zs .1 .1 .1 .1 .1 .1 .1 .1 .0) (zs .1 .1 .1 .1 .1 .1 .1 .1 .1 .0) frames) refl (λ zs. refl) (λ zs. refl) fm known-made refl
         (λ r zs er lens isr. lands-in ! (started-typed 𝓤 H A W r isr) $
-        calls-on ! [] (slices (zs .1 .0) (zs .1 .1 .0) (zs .1 .1 .1 .0) (zs .1 .1 .1 .1 .0) (zs .1 .1 .1 .1 .1 .0) (zs .1 .1 .1 .1 .1 .1 .0)
-        (zs .1 .1 .1 .1 .1 .1 .1 .0) (zs .1 .1 .1 .1 .1 .1 .1 .1 .0) frames) (call-done r isr)
-        (λ zs′. slices (zs .1 .0) (zs .1 .1 .0) (zs .1 .1 .1 .0) (zs .1 .1 .1 .1 .0) (zs .1 .1 .1 .1 .1 .0) (zs .1 .1 .1 .1 .1 .1 .0)
-        (zs .1 .1 .1 .1 .1 .1 .1 .0) (zs .1 .1 .1 .1 .1 .1 .1 .1 .0) frames) refl (λ zs. refl) (λ zs. refl) fm known-done refl
+        calls-on ! [] (slices (zs .1 .1 .0) (zs .1 .1 .1 .0) (zs .1 .1 .1 .1 .0) (zs .1 .1 .1 .1 .1 .0) (zs .1 .1 .1 .1 .1 .1 .0) (zs .1 .1 .1 .1 .1 .1 .1 .0)
+        (zs .1 .1 .1 .1 .1 .1 .1 .1 .0) (zs .1 .1 .1 .1 .1 .1 .1 .1 .1 .0) frames) (call-done r isr)
+        (λ zs′. slices (zs .1 .1 .0) (zs .1 .1 .1 .0) (zs .1 .1 .1 .1 .0) (zs .1 .1 .1 .1 .1 .0) (zs .1 .1 .1 .1 .1 .1 .0) (zs .1 .1 .1 .1 .1 .1 .1 .0)
+        (zs .1 .1 .1 .1 .1 .1 .1 .1 .0) (zs .1 .1 .1 .1 .1 .1 .1 .1 .1 .0) frames) refl (λ zs. refl) (λ zs. refl) fm known-done refl
         (λ b zs₁ eb lens₁ isb. lands-in ! (tt, tt) $
         sets ! (of-opd ! (of ! refl)) (tt, tt) $ returns-if ! 𝓣 (of ! refl)
-        (λ on. calls-on ! [] (slices (zs .1 .0) (zs .1 .1 .0) (zs .1 .1 .1 .0) (zs .1 .1 .1 .1 .0) (zs .1 .1 .1 .1 .1 .0) (zs .1 .1 .1 .1 .1 .1 .0)
-        (zs .1 .1 .1 .1 .1 .1 .1 .0) (zs .1 .1 .1 .1 .1 .1 .1 .1 .0) frames) (call-first)
-        (λ zs′. slices (zs .1 .0) (zs .1 .1 .0) (zs .1 .1 .1 .0) (zs .1 .1 .1 .1 .0) (zs .1 .1 .1 .1 .1 .0) (zs .1 .1 .1 .1 .1 .1 .0)
-        (zs .1 .1 .1 .1 .1 .1 .1 .0) (zs .1 .1 .1 .1 .1 .1 .1 .1 .0) frames) refl (λ zs. refl) (λ zs. refl) fm known-first refl
+        (λ on. calls-on ! [] (slices (zs .1 .1 .0) (zs .1 .1 .1 .0) (zs .1 .1 .1 .1 .0) (zs .1 .1 .1 .1 .1 .0) (zs .1 .1 .1 .1 .1 .1 .0)
+        (zs .1 .1 .1 .1 .1 .1 .1 .0)
+        (zs .1 .1 .1 .1 .1 .1 .1 .1 .0) (zs .1 .1 .1 .1 .1 .1 .1 .1 .1 .0) frames) (call-first)
+        (λ zs′. slices (zs .1 .1 .0) (zs .1 .1 .1 .0) (zs .1 .1 .1 .1 .0) (zs .1 .1 .1 .1 .1 .0) (zs .1 .1 .1 .1 .1 .1 .0) (zs .1 .1 .1 .1 .1 .1 .1 .0)
+        (zs .1 .1 .1 .1 .1 .1 .1 .1 .0) (zs .1 .1 .1 .1 .1 .1 .1 .1 .1 .0) frames) refl (λ zs. refl) (λ zs. refl) fm known-first refl
         (λ f zs₂ ef lens₂ isf. lands-in ! (frame-typed 𝓤 H A W f isf) $
         sets ! (addr ! (behind ! refl refl)) (tt, tt) $ sets ! (agg ! (ofs ! refl)) (tt, (tt, (record { fits = room9 .0 }, tt))) $
         calls-on ! (false ∷ false ∷ false ∷ false ∷ false ∷ false ∷ false ∷ false ∷ false ∷ true ∷ [])
-        (slices (zs .1 .0) (zs .1 .1 .0) (zs .1 .1 .1 .0) (zs .1 .1 .1 .1 .0) (zs .1 .1 .1 .1 .1 .0) (zs .1 .1 .1 .1 .1 .1 .0) (zs .1 .1 .1 .1 .1 .1 .1 .0)
-        (zs .1 .1 .1 .1 .1 .1 .1 .1 .0) frames) (call-write 𝓤 H A W mem run s9 frames refl room9 0 (omega arith)
-        (place r b (zs .1 .0) (zs .1 .1 .0) (zs .1 .1 .1 .0) (zs .1 .1 .1 .1 .0) (zs .1 .1 .1 .1 .1 .0) (zs .1 .1 .1 .1 .1 .1 .0)
-        (zs .1 .1 .1 .1 .1 .1 .1 .0) (zs .1 .1 .1 .1 .1 .1 .1 .1 .0) er eb (is-true b on)) f isf)
-        (λ zs′. slices (zs .1 .0) (zs .1 .1 .0) (zs .1 .1 .1 .0) (zs .1 .1 .1 .1 .0) (zs .1 .1 .1 .1 .1 .0) (zs .1 .1 .1 .1 .1 .1 .0)
-        (zs .1 .1 .1 .1 .1 .1 .1 .0) (zs .1 .1 .1 .1 .1 .1 .1 .1 .0) (zs′ .0)) refl (λ zs. refl) (λ zs. refl) fm known-writef refl
+        (slices (zs .1 .1 .0) (zs .1 .1 .1 .0) (zs .1 .1 .1 .1 .0) (zs .1 .1 .1 .1 .1 .0) (zs .1 .1 .1 .1 .1 .1 .0) (zs .1 .1 .1 .1 .1 .1 .1 .0)
+        (zs .1 .1 .1 .1 .1 .1 .1 .1 .0)
+        (zs .1 .1 .1 .1 .1 .1 .1 .1 .1 .0) frames) (call-write 𝓤 H A W mem run s9 frames refl room9 0 (omega arith)
+        (place r b (zs .1 .1 .0) (zs .1 .1 .1 .0) (zs .1 .1 .1 .1 .0) (zs .1 .1 .1 .1 .1 .0) (zs .1 .1 .1 .1 .1 .1 .0) (zs .1 .1 .1 .1 .1 .1 .1 .0)
+        (zs .1 .1 .1 .1 .1 .1 .1 .1 .0) (zs .1 .1 .1 .1 .1 .1 .1 .1 .1 .0) er eb (is-true b on)) f isf)
+        (λ zs′. slices (zs .1 .1 .0) (zs .1 .1 .1 .0) (zs .1 .1 .1 .1 .0) (zs .1 .1 .1 .1 .1 .0) (zs .1 .1 .1 .1 .1 .1 .0) (zs .1 .1 .1 .1 .1 .1 .1 .0)
+        (zs .1 .1 .1 .1 .1 .1 .1 .1 .0) (zs .1 .1 .1 .1 .1 .1 .1 .1 .1 .0) (zs′ .0)) refl (λ zs. refl) (λ zs. refl) fm known-writef refl
         (λ u zs₃ ew lens₃ isu. lands-in ! (tt, tt) $
         sets ! (of-opd ! (of ! refl)) (started-typed 𝓤 H A W r isr) $ leaves ! refl $
-        by ! (exits r (zs .1 .0) (zs .1 .1 .0) (zs .1 .1 .1 .0) (zs .1 .1 .1 .1 .0) (zs .1 .1 .1 .1 .1 .0) (zs .1 .1 .1 .1 .1 .1 .0)
-        (zs .1 .1 .1 .1 .1 .1 .1 .0) (zs .1 .1 .1 .1 .1 .1 .1 .1 .0) (zs₃ .0) isr (lens .0) (lens .1 .0) (lens .1 .1 .0) (lens .1 .1 .1 .0)
+        by ! (exits r (zs .1 .1 .0) (zs .1 .1 .1 .0) (zs .1 .1 .1 .1 .0) (zs .1 .1 .1 .1 .1 .0) (zs .1 .1 .1 .1 .1 .1 .0) (zs .1 .1 .1 .1 .1 .1 .1 .0)
+        (zs .1 .1 .1 .1 .1 .1 .1 .1 .0) (zs .1 .1 .1 .1 .1 .1 .1 .1 .1 .0) (zs₃ .0) isr (lens .0) (lens .1 .0) (lens .1 .1 .0) (lens .1 .1 .1 .0)
         (lens .1 .1 .1 .1 .0) (lens .1 .1 .1 .1 .1 .0) (lens .1 .1 .1 .1 .1 .1 .0) (lens .1 .1 .1 .1 .1 .1 .1 .0) (lens₃ .0)
-        (laid-all r b (zs .1 .0) (zs .1 .1 .0) (zs .1 .1 .1 .0) (zs .1 .1 .1 .1 .0) (zs .1 .1 .1 .1 .1 .0) (zs .1 .1 .1 .1 .1 .1 .0)
-        (zs .1 .1 .1 .1 .1 .1 .1 .0) (zs .1 .1 .1 .1 .1 .1 .1 .1 .0) (zs₃ .0) er eb (is-true b on) (ew ∙ ap (set frames 0) ef))))))
+        (laid-all r b (zs .1 .1 .0) (zs .1 .1 .1 .0) (zs .1 .1 .1 .1 .0) (zs .1 .1 .1 .1 .1 .0) (zs .1 .1 .1 .1 .1 .1 .0) (zs .1 .1 .1 .1 .1 .1 .1 .0)
+        (zs .1 .1 .1 .1 .1 .1 .1 .1 .0) (zs .1 .1 .1 .1 .1 .1 .1 .1 .1 .0) (zs₃ .0) er eb (is-true b on) (ew ∙ ap (set frames 0) ef))))))
         (λ off. sets ! (of-opd ! (of ! refl)) (started-typed 𝓤 H A W r isr) $ leaves ! refl $
-        by ! (exits r (zs .1 .0) (zs .1 .1 .0) (zs .1 .1 .1 .0) (zs .1 .1 .1 .1 .0) (zs .1 .1 .1 .1 .1 .0) (zs .1 .1 .1 .1 .1 .1 .0)
-        (zs .1 .1 .1 .1 .1 .1 .1 .0) (zs .1 .1 .1 .1 .1 .1 .1 .1 .0) frames isr (lens .0) (lens .1 .0) (lens .1 .1 .0) (lens .1 .1 .1 .0)
+        by ! (exits r (zs .1 .1 .0) (zs .1 .1 .1 .0) (zs .1 .1 .1 .1 .0) (zs .1 .1 .1 .1 .1 .0) (zs .1 .1 .1 .1 .1 .1 .0) (zs .1 .1 .1 .1 .1 .1 .1 .0)
+        (zs .1 .1 .1 .1 .1 .1 .1 .1 .0) (zs .1 .1 .1 .1 .1 .1 .1 .1 .1 .0) frames isr (lens .0) (lens .1 .0) (lens .1 .1 .0) (lens .1 .1 .1 .0)
         (lens .1 .1 .1 .1 .0) (lens .1 .1 .1 .1 .1 .0) (lens .1 .1 .1 .1 .1 .1 .0) (lens .1 .1 .1 .1 .1 .1 .1 .0) refl
-        (kept-all r b (zs .1 .0) (zs .1 .1 .0) (zs .1 .1 .1 .0) (zs .1 .1 .1 .1 .0) (zs .1 .1 .1 .1 .1 .0) (zs .1 .1 .1 .1 .1 .1 .0)
-        (zs .1 .1 .1 .1 .1 .1 .1 .0) (zs .1 .1 .1 .1 .1 .1 .1 .1 .0) er eb (is-false b off))))))))
+        (kept-all r b (zs .1 .1 .0) (zs .1 .1 .1 .0) (zs .1 .1 .1 .1 .0) (zs .1 .1 .1 .1 .1 .0) (zs .1 .1 .1 .1 .1 .1 .0) (zs .1 .1 .1 .1 .1 .1 .1 .0)
+        (zs .1 .1 .1 .1 .1 .1 .1 .1 .0) (zs .1 .1 .1 .1 .1 .1 .1 .1 .1 .0) er eb (is-false b off))))))))
       where
         fm : FmC 𝓤 H (W .laws) (𝓣 .C)
         fm = fmOf 𝓤 H (W .laws) 𝓣
 
         place : (r : Started) (b : Bool) (constants′ structs′ functions′ text′ main′ mainPlaces′ other′ otherPlaces′ : List ℕ)
-            → (Makes (loadMachineOf image (stored constants structs functions text main mainPlaces other otherPlaces)) (s9 .count) r
+            → (Makes (loadMachineOf running image (stored constants structs functions text main mainPlaces other otherPlaces)) (s9 .count) r
             (stored constants′ structs′ functions′ text′ main′ mainPlaces′ other′ otherPlaces′)) → b ≡ isDone r → b ≡ true → 0 < length frames
         place r b constants′ structs′ functions′ text′ main′ mainPlaces′ other′ otherPlaces′ er eb on =
             place-there (sym eb ∙ on)
-            (load-starts image (stored constants structs functions text main mainPlaces other otherPlaces) frames er)
+            (load-starts running image (stored constants structs functions text main mainPlaces other otherPlaces) frames er)
 
         laid-all : (r : Started) (b : Bool) (constants′ structs′ functions′ text′ main′ mainPlaces′ other′ otherPlaces′ : List ℕ) (fs : List Frame)
-            → (Makes (loadMachineOf image (stored constants structs functions text main mainPlaces other otherPlaces)) (s9 .count) r
+            → (Makes (loadMachineOf running image (stored constants structs functions text main mainPlaces other otherPlaces)) (s9 .count) r
             (stored constants′ structs′ functions′ text′ main′ mainPlaces′ other′ otherPlaces′)) → b ≡ isDone r → b ≡ true → fs ≡ set frames 0 (root 0)
             → record {
               answer = r;
               stores = stored constants′ structs′ functions′ text′ main′ mainPlaces′ other′ otherPlaces′;
               frames = fs;
-            } ≡ loadMachineOf image (stored constants structs functions text main mainPlaces other otherPlaces) frames
+            } ≡ loadMachineOf running image (stored constants structs functions text main mainPlaces other otherPlaces) frames
         laid-all r b constants′ structs′ functions′ text′ main′ mainPlaces′ other′ otherPlaces′ fs er eb on ef =
             frame-laid (sym eb ∙ on) ef
-            (load-starts image (stored constants structs functions text main mainPlaces other otherPlaces) frames er)
+            (load-starts running image (stored constants structs functions text main mainPlaces other otherPlaces) frames er)
 
         kept-all : (r : Started) (b : Bool) (constants′ structs′ functions′ text′ main′ mainPlaces′ other′ otherPlaces′ : List ℕ)
-            → (Makes (loadMachineOf image (stored constants structs functions text main mainPlaces other otherPlaces)) (s9 .count) r
+            → (Makes (loadMachineOf running image (stored constants structs functions text main mainPlaces other otherPlaces)) (s9 .count) r
             (stored constants′ structs′ functions′ text′ main′ mainPlaces′ other′ otherPlaces′)) → b ≡ isDone r → b ≡ false
             → record {
               answer = r;
               stores = stored constants′ structs′ functions′ text′ main′ mainPlaces′ other′ otherPlaces′;
               frames = frames;
-            } ≡ loadMachineOf image (stored constants structs functions text main mainPlaces other otherPlaces) frames
+            } ≡ loadMachineOf running image (stored constants structs functions text main mainPlaces other otherPlaces) frames
         kept-all r b constants′ structs′ functions′ text′ main′ mainPlaces′ other′ otherPlaces′ er eb off =
             frame-not (sym eb ∙ off)
-            (load-starts image (stored constants structs functions text main mainPlaces other otherPlaces) frames er)
+            (load-starts running image (stored constants structs functions text main mainPlaces other otherPlaces) frames er)
 
 pub load-spec : {M : Type 1} → stated.statement M
 unfolding code.routine tablesOf

@@ -1,6 +1,6 @@
 -- `run_ends::ended` meets its contract.
 use borrow.Author.Needs.{needs}
-use Rattle.run_ends.proofs.Answering.{ends-unanswered, ends-none, ends-some}
+use Rattle.run_ends.proofs.Answering.{ends-unanswered, ends-answered}
 use Rattle.run_ends.proofs.ended.Statement.{statement}
 use Rattle.run_ends.proofs.ended.Tie as tie
 
@@ -19,17 +19,11 @@ tally-requires c κs = search
 returns : tie.Need-returns
 returns c = search ends-unanswered
 
-enum-told : tie.Need-enum-told
-enum-told c = search
-
-enum-known-last : tie.Need-enum-known-last
-enum-known-last c = search
+value-of-requires : tie.Need-value-of-requires
+value-of-requires c κs = search
 
 returns-2 : tie.Need-returns-2
-returns-2 c = search ends-none
-
-returns-3 : tie.Need-returns-3
-returns-3 c = search ends-some
+returns-2 c = search ends-answered
 
 pub ended-spec : {M : Type 1} → statement M
 ended-spec =
@@ -40,7 +34,5 @@ ended-spec =
     vm-with-requires
     tally-requires
     returns
-    enum-told
-    enum-known-last
-    returns-2
-    returns-3)
+    value-of-requires
+    returns-2)

@@ -34,8 +34,8 @@ use Rattle.frames.proofs.push_frame.Symbol as write-def
 use Rattle.frames.proofs.push_frame.Symbol.{name as #write}
 use Rattle.frames.proofs.push_frame.Met as write-thm
 use Rattle.run_loop.specs.declared.Course.{Course}
-use Rattle.run_loop.specs.Links.{codeIn, goesOn, isOver, isStopped, isGivenUp, inFrame, Under}
-use Rattle.run_loop.proofs.Turning.{Ways, Said, weight, over-less, stopped-less, paused-less, a-run-goes-on, gone-none, goes, ends-so, asks, roomy, over-on, stopped-on, paused-on, call-on, back-on, within, some-back, fetchable, call-less, back-less}
+use Rattle.run_loop.specs.Links.{codeIn, goesOn, isOver, isStopped, isPaused, inFrame, Under}
+use Rattle.run_loop.proofs.Turning.{Ways, Said, weight, over-less, stopped-less, paused-less, a-run-goes-on, gone-none, goes, ends-so, asks, roomy, over-on, stopped-on, paused-on, call-on, back-on, within, some-back, call-less, back-less}
 use Rattle.run_loop.proofs.Course as TC
 use Rattle.run_loop.proofs.Course.Laws as TC′
 use Rattle.run_loop.proofs.begun as begun
@@ -50,10 +50,10 @@ use Rattle.run_loop.proofs.over as over
 use Rattle.run_loop.proofs.over.Symbol as over-def
 use Rattle.run_loop.proofs.over.Symbol.{name as #over}
 use Rattle.run_loop.proofs.over.Met as over-thm
-use Rattle.run_loop.proofs.given_up as pause
-use Rattle.run_loop.proofs.given_up.Symbol as pause-def
-use Rattle.run_loop.proofs.given_up.Symbol.{name as #pause}
-use Rattle.run_loop.proofs.given_up.Met as pause-thm
+use Rattle.run_loop.proofs.paused as pause
+use Rattle.run_loop.proofs.paused.Symbol as pause-def
+use Rattle.run_loop.proofs.paused.Symbol.{name as #pause}
+use Rattle.run_loop.proofs.paused.Met as pause-thm
 use Rattle.run_loop.proofs.frame_of as frame-of
 use Rattle.run_loop.proofs.frame_of.Symbol as frame-of-def
 use Rattle.run_loop.proofs.frame_of.Symbol.{name as #frame-of}
@@ -200,10 +200,10 @@ module _ {M : Type 1} (𝓤 : URA M) (H : Heap 𝓤) (A : Atoms 𝓤) (W : Given
         call-with 𝓤 H A W it Overs TC.the-row cval (λ r zs. r ≡ isOver g) (TC′.lowers .val-is) (λ ns. passing (lent it ns))
         (λ ns. refl) (λ ns. unasked W (lent it ns)) (λ ns w. id⊢ 𝓤 _) (LL.makes TG.the-type TG′.the-plain 𝓤 H A g _ is, tt) tt
 
-    call-pause : g .position < 0x1_0000_0000 → Rule 𝓤 H A W it Pause TC.the-row cval (λ r zs. r ≡ isGivenUp g)
-    call-pause ask =
-        call-with 𝓤 H A W it Pause TC.the-row cval (λ r zs. r ≡ isGivenUp g) (TC′.lowers .val-is) (λ ns. passing (lent it ns))
-        (λ ns. refl) (λ ns. asked W (lent it ns) ask) (λ ns w. id⊢ 𝓤 _) (LL.makes TG.the-type TG′.the-plain 𝓤 H A g _ is, tt) tt
+    call-pause : Rule 𝓤 H A W it Pause TC.the-row cval (λ r zs. r ≡ isPaused g)
+    call-pause =
+        call-with 𝓤 H A W it Pause TC.the-row cval (λ r zs. r ≡ isPaused g) (TC′.lowers .val-is) (λ ns. passing (lent it ns))
+        (λ ns. refl) (λ ns. unasked W (lent it ns)) (λ ns w. id⊢ 𝓤 _) (LL.makes TG.the-type TG′.the-plain 𝓤 H A g _ is, tt) tt
 
     call-frame-of : Rule 𝓤 H A W it FrameOf R fval (λ r zs. r ≡ frameIn g)
     call-frame-of = call-with 𝓤 H A W it FrameOf R fval (λ r zs. r ≡ frameIn g) tells (λ ns. passing (lent it ns)) (λ ns. refl)
@@ -517,7 +517,7 @@ module _ {M : Type 1} (𝓤 : URA M) (H : Heap 𝓤) (A : Atoms 𝓤) (W : Given
                 (stopped-less c f er on))
             | Paused g ↦ λ ts said lens ise. lands-in ! (event-typed (Paused g) ise) $ matches ! (tag-of ! refl refl refl refl) refl $
                 sets ! (of-opd ! (payload-of ! refl refl refl refl refl refl)) (going-typed g (paused-is g ise)) $
-                nothing ! $ move ! (1 ∷ []) $ call-pause g (paused-is g ise) (fetchable k n constants functions text main other c (way on) under said) .calls ! fm k-pause refl (λ r us er lens′ isr. lands-in ! (course-typed r isr) $ move ! (1 ∷ []) $ drop ! $
+                nothing ! $ move ! (1 ∷ []) $ call-pause g (paused-is g ise) .calls ! fm k-pause refl (λ r us er lens′ isr. lands-in ! (course-typed r isr) $ move ! (1 ∷ []) $ drop ! $
                 sets-last ! (of-opd ! (of ! refl)) (course-typed r isr) $ trims ! 13 $
                 again ! loop (c, st, cs, fs, (isc, e5, e6, e7, came)) (
                   r,
@@ -526,7 +526,7 @@ module _ {M : Type 1} (𝓤 : URA M) (H : Heap 𝓤) (A : Atoms 𝓤) (W : Given
                   fs,
                   (isr, lens .0, lens .1 .0, e7, paused-on k n constants functions text main other c (way on) (lens .1 .0 ∙ sym e6) said er),
                 )
-                (paused-less c g er on))
+                (paused-less c er on))
           ]))
           (λ off. sets ! (of-opd ! (of ! refl)) (course-typed c isc) $ leaves ! refl $ by ! (exits c st cs fs isc e5 e6 e7 (ends-so k n constants functions text main other c came off)))
         where
@@ -606,7 +606,7 @@ turns-spec 𝓤 H 𝓜 𝓖 𝓡 =
     (advance-thm.met 𝓤 H 𝓜 𝓖 𝓡))
     (cited 𝓤 H (Overs 𝓤 H (𝓖 .A) W (𝓜 .mem) (𝓡 .run)) 𝓜 𝓡 code.env #over over-def.routine code.calls-run-loop·over
     (over-thm.met 𝓤 H 𝓜 𝓖 𝓡))
-    (cited 𝓤 H (Pause 𝓤 H (𝓖 .A) W (𝓜 .mem) (𝓡 .run)) 𝓜 𝓡 code.env #pause pause-def.routine code.calls-run-loop·given-up
+    (cited 𝓤 H (Pause 𝓤 H (𝓖 .A) W (𝓜 .mem) (𝓡 .run)) 𝓜 𝓡 code.env #pause pause-def.routine code.calls-run-loop·paused
     (pause-thm.met 𝓤 H 𝓜 𝓖 𝓡))
     (cited 𝓤 H (FrameOf 𝓤 H (𝓖 .A) W (𝓜 .mem) (𝓡 .run)) 𝓜 𝓡 code.env #frame-of frame-of-def.routine code.calls-run-loop·frame-of
     (frame-of-thm.met 𝓤 H 𝓜 𝓖 𝓡))

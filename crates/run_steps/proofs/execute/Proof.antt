@@ -4,7 +4,7 @@ use borrow.Author.Needs.{needs}
 use Rattle.model.specs.Steps.{execOf}
 use Rattle.layout.specs.Links.{namesLent}
 use Rattle.run_arms.specs.Links.{connective}
-use Rattle.run_arms.proofs.Cellwise.{same-block}
+use Rattle.run_blocks.proofs.Cellwise.{same-block}
 use Rattle.run_steps.proofs.Dispatch.{by-arm, by-block, equalities, equality-is}
 use Rattle.run_steps.proofs.execute.Statement.{statement}
 use Rattle.run_steps.proofs.execute.Tie as tie

@@ -16,7 +16,7 @@ loop-holds : tie.Need-loop-holds Inv-loop μ-loop
 loop-holds c = seek-starts _ _ _ _
 
 code-at-requires : tie.Need-code-at-requires Inv-loop μ-loop
-code-at-requires c κs = seek-inside (c .before .before .loop .inv) (c .before .before .before .before .before .before .pre .0)
+code-at-requires c κs = search seek-inside
 
 add-end : tie.Need-add-end Inv-loop μ-loop
 add-end c = search needs
@@ -59,8 +59,8 @@ flaw-of-requires c κs =
 
 same-length : tie.Need-same-length Inv-loop μ-loop
 same-length c =
-    c .before .before .flaw-of .kept .1 .1 .1 .0 ∙
-    c .before .before .before .before .before .before .before .before .before .before .before .loop .inv .same
+    let at-loop = c .before .before .before .before .before .before .before .before .before .before .before in
+    c .before .before .flaw-of .kept .1 .1 .1 .0 ∙ at-loop .loop .inv .same
 
 returns : tie.Need-returns Inv-loop μ-loop
 returns c =
@@ -88,7 +88,7 @@ same-length-2 : tie.Need-same-length-2 Inv-loop μ-loop
 same-length-2 c = c .before .before .loop .inv .same
 
 returns-2 : tie.Need-returns-2 Inv-loop μ-loop
-returns-2 c = not-there (c .before .before .loop .inv) (c .before .before .before .before .before .before .pre .0) (c .if1 .left)
+returns-2 c = search not-there
 
 pub seek-spec : {M : Type 1} → statement M
 seek-spec =

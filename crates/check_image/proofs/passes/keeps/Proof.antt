@@ -45,7 +45,8 @@ same-length c = search needs
 
 returns-4 : tie.Need-returns-4
 returns-4 c =
-    rw (c .before .before .before .before .enum-told4 .given .1) (jumps-tell _ _ _ _ (c .before .before .jumps .ensures))
+    let at-enum-told4 = c .before .before .before .before in
+    rw (at-enum-told4 .enum-told4 .given .1) (jumps-tell _ _ _ _ (c .before .before .jumps .ensures))
 
 pub keeps-spec : {M : Type 1} → statement M
 keeps-spec =

@@ -62,9 +62,10 @@ loop-less c = search needs
 
 loop-again : tie.Need-loop-again Inv-loop μ-loop
 loop-again c =
-    kept-by-one (c .before .before .before .before .before .before .before .before .before .before .loop .inv)
-    (c .before .before .before .before .before .before .before .before .if1 .taken)
-    (c .before .before .before .before .before .before .before .code-at .ensures) (c .before .before .before .keeps .ensures)
+    let at-code-at = c .before .before .before .before .before .before .before in
+    let at-if1 = at-code-at .before in
+    let at-loop = at-if1 .before .before in
+    kept-by-one (at-loop .loop .inv) (at-if1 .if1 .taken) (at-code-at .code-at .ensures) (c .before .before .before .keeps .ensures)
     (not-false _ (c .if2 .left)) search
 
 same-length-2 : tie.Need-same-length-2 Inv-loop μ-loop

@@ -115,13 +115,13 @@ loop-less c = search needs
 loop-again : tie.Need-loop-again Inv-loop μ-loop
 loop-again c =
     let even =
-    let at-m = c .before in
-    let at-heights = at-m .before .before .before .before in
+    let at-heights = c .before .before .before .before .before in
     let at-taken-with = at-heights .before .before .before in
     let at-code-at = at-taken-with .before .before .before in
     let at-if1 = at-code-at .before in
     let at-loop = at-if1 .before .before in
-    one-is-even (at-loop .loop .inv) (at-if1 .if1 .taken) (at-code-at .code-at .ensures) (at-taken-with .taken-with .ensures) (at-heights .heights .ensures) (at-m .m .given .1) in
+    one-is-even (at-loop .loop .inv) (at-if1 .if1 .taken) (at-code-at .code-at .ensures) (at-taken-with .taken-with .ensures)
+    (at-heights .heights .ensures) (c .before .m .given .1) in
     even search
 
 same-length-3 : tie.Need-same-length-3 Inv-loop μ-loop

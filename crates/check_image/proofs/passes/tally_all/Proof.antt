@@ -37,10 +37,10 @@ part-tally-end c = c .before .code-at .ensures .inside
 
 tally-requires : tie.Need-tally-requires Inv-loop μ-loop
 tally-requires c κs =
-    let same =
     let at-loop = c .before .before .before .before .before .before in
-    at-loop .loop .inv .same in
-    let many : length (c .before .before .before .before .before .before .before .before .before .args .counts .now) ≡ 65536 = ap length (c .before .before .before .before .before .before .before .before .before .pre .1) ∙ length-replicate {A = ℕ} 65536 0 in
+    let at-start = at-loop .before .before .before in
+    let same = at-loop .loop .inv .same in
+    let many : length (at-start .args .counts .now) ≡ 65536 = ap length (at-start .pre .1) ∙ length-replicate {A = ℕ} 65536 0 in
     omega arith
 
 add-f : tie.Need-add-f Inv-loop μ-loop
@@ -51,9 +51,10 @@ loop-less c = search needs
 
 loop-again : tie.Need-loop-again Inv-loop μ-loop
 loop-again c =
-    calls-entered (c .before .before .before .before .before .before .before .before .before .loop .inv)
-    (c .before .before .before .before .before .before .before .if1 .taken)
-    (c .before .before .before .before .before .before .code-at .ensures) (c .before .before .tally .ensures) search
+    let at-code-at = c .before .before .before .before .before .before in
+    let at-if1 = at-code-at .before in
+    let at-loop = at-if1 .before .before in
+    calls-entered (at-loop .loop .inv) (at-if1 .if1 .taken) (at-code-at .code-at .ensures) (c .before .before .tally .ensures) search
 
 same-length : tie.Need-same-length Inv-loop μ-loop
 same-length c = c .before .before .loop .inv .same

@@ -1,6 +1,6 @@
 -- `put_details`: each answer of the check.
 use borrow.Author.Needs.{needs}
-use Rattle.check_report.proofs.Saying.{passed-plain, broken-plain, refused-plain, breach-put}
+use Rattle.check_report.proofs.Saying.{passed-plain, item-put, refused-plain, breach-put}
 use Rattle.check_report.proofs.details.put_details.Statement.{statement}
 use Rattle.check_report.proofs.details.put_details.Tie as tie
 
@@ -9,6 +9,9 @@ enum-known-answer c = search needs
 
 enum-known-answer-2 : tie.Need-enum-known-answer-2
 enum-known-answer-2 c = search needs
+
+put-item-requires : tie.Need-put-item-requires
+put-item-requires c κs = search needs
 
 enum-known-answer-3 : tie.Need-enum-known-answer-3
 enum-known-answer-3 c = search needs
@@ -22,14 +25,17 @@ put-breaking-requires c κs = search needs
 returns : tie.Need-returns
 returns c = search passed-plain
 
+same-length : tie.Need-same-length
+same-length c = search needs
+
 returns-2 : tie.Need-returns-2
-returns-2 c = search broken-plain
+returns-2 c = search item-put
 
 returns-3 : tie.Need-returns-3
 returns-3 c = search refused-plain
 
-same-length : tie.Need-same-length
-same-length c = search needs
+same-length-2 : tie.Need-same-length-2
+same-length-2 c = search needs
 
 returns-4 : tie.Need-returns-4
 returns-4 c = search breach-put
@@ -40,11 +46,13 @@ put-details-spec =
     (tie.spec
     enum-known-answer
     enum-known-answer-2
+    put-item-requires
     enum-known-answer-3
     enum-known-answer-4
     put-breaking-requires
     returns
+    same-length
     returns-2
     returns-3
-    same-length
+    same-length-2
     returns-4)

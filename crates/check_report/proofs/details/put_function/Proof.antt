@@ -1,4 +1,5 @@
--- `put_function`: the name, where the rule is broken, and what the heights came upon.
+-- `put_function`: the name, where the rule is broken, and the two Calls.
+use mathlib.Core.Path.{_∙_}
 use Rattle.model.specs.Basics.{ascii}
 use Rattle.check_report.proofs.Saying.{code-fits, function-none, function-put}
 use borrow.Author.Needs.{needs}
@@ -33,23 +34,29 @@ first-place-requires c κs =
     code-fits (at-start .args .c) (at-start .args .functions .now) (at-start .args .text .now) _ _ (at-start .args .f)
     (c .before .code-of .ensures) (at-start .pre .0) (at-start .pre .1)
 
-put-found-requires : tie.Need-put-found-requires
-put-found-requires c κs = search needs
+put-place-requires : tie.Need-put-place-requires
+put-place-requires c κs = search needs
 
-put-flaw-requires : tie.Need-put-flaw-requires
-put-flaw-requires c κs = search needs
+put-counts-requires : tie.Need-put-counts-requires
+put-counts-requires c κs = search needs
 
 same-length : tie.Need-same-length
 same-length c = search needs
 
 same-length-2 : tie.Need-same-length-2
-same-length-2 c = search needs
+same-length-2 c =
+    let at-put-place = c .before .before .before .before .before .before in
+    let at-put-text2 = at-put-place .before .before .before .before .before .before .before .before .before in
+    let at-put-name-at = at-put-text2 .before .before .before .before .before in
+    let at-put-text = at-put-name-at .before .before .before .before .before in
+    c .before .before .put-counts .kept .1 .1 .1 .1 .1 .1 .0 ∙ at-put-place .put-place .kept .1 .1 .1 .1 .0 ∙
+    at-put-text2 .put-text2 .kept .1 .0 ∙ at-put-name-at .put-name-at .kept .1 .1 .1 .1 .1 .0 ∙ at-put-text .put-text .kept .1 .0
 
 returns : tie.Need-returns
 unfolding ascii
 returns c =
-    let at-put-found = c .before .before .before .before .before .before in
-    let at-first-place = at-put-found .before .before .before .before in
+    let at-put-place = c .before .before .before .before .before .before in
+    let at-first-place = at-put-place .before .before .before .before in
     let at-code-of = at-first-place .before .before in
     let at-put-text2 = at-code-of .before .before .before in
     let at-put-name-at = at-put-text2 .before .before .before .before .before in
@@ -57,7 +64,7 @@ returns c =
     let at-if1 = at-put-text .before .before .before in
     function-put _ _ _ _ _ _ (at-if1 .if1 .taken) (at-code-of .code-of .ensures) (at-first-place .first-place .ensures)
     (at-put-text .put-text .ensures) (at-put-name-at .put-name-at .ensures) (at-put-text2 .put-text2 .ensures)
-    (at-put-found .put-found .ensures) (c .before .before .put-flaw .ensures)
+    (at-put-place .put-place .ensures) (c .before .before .put-counts .ensures)
 
 returns-2 : tie.Need-returns-2
 returns-2 c = search function-none
@@ -74,8 +81,8 @@ put-function-spec =
     put-text-requires-2
     code-of-requires
     first-place-requires
-    put-found-requires
-    put-flaw-requires
+    put-place-requires
+    put-counts-requires
     same-length
     same-length-2
     returns

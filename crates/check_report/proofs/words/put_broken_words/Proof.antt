@@ -1,4 +1,4 @@
--- `put_broken_words`: the offset between two texts.
+-- `put_broken_words`: the offset between two texts, and what is said of the item.
 use borrow.Author.Needs.{needs}
 use Rattle.model.specs.Basics.{ascii}
 use Rattle.check_report.proofs.Lines.{broken-words}
@@ -17,6 +17,15 @@ slice-aggregate-put-text c = search needs
 put-text-requires : tie.Need-put-text-requires
 put-text-requires c κs = search needs
 
+put-text-requires-2 : tie.Need-put-text-requires-2
+put-text-requires-2 c κs = search needs
+
+slice-aggregate-put-text-2 : tie.Need-slice-aggregate-put-text-2
+slice-aggregate-put-text-2 c = search needs
+
+put-text-requires-3 : tie.Need-put-text-requires-3
+put-text-requires-3 c κs = search needs
+
 same-length : tie.Need-same-length
 same-length c = search needs
 
@@ -32,5 +41,8 @@ put-broken-words-spec =
     put-count-requires
     slice-aggregate-put-text
     put-text-requires
+    put-text-requires-2
+    slice-aggregate-put-text-2
+    put-text-requires-3
     same-length
     returns)

@@ -16,7 +16,7 @@ same-length c = search needs
 
 returns : tie.Need-returns
 unfolding ascii
-returns c = few-places (c .before .before .before .before .before .if1 .taken) (c .before .before .put-text .ensures)
+returns c = search few-places
 
 slice-aggregate-put-text-2 : tie.Need-slice-aggregate-put-text-2
 slice-aggregate-put-text-2 c = search needs
@@ -29,7 +29,7 @@ same-length-2 c = search needs
 
 returns-2 : tie.Need-returns-2
 unfolding ascii
-returns-2 c = too-short (c .before .before .before .before .before .if2 .taken) (c .before .before .put-text2 .ensures)
+returns-2 c = search too-short
 
 slice-aggregate-put-text-3 : tie.Need-slice-aggregate-put-text-3
 slice-aggregate-put-text-3 c = search needs
@@ -42,7 +42,7 @@ same-length-3 c = search needs
 
 returns-3 : tie.Need-returns-3
 unfolding ascii
-returns-3 c = past-limits (c .before .before .before .before .before .before .if1 .left) (c .before .before .before .before .before .if2 .left) (c .before .before .put-text3 .ensures)
+returns-3 c = search past-limits
 
 pub put-refused-words-spec : {M : Type 1} → statement M
 put-refused-words-spec =

@@ -66,42 +66,54 @@ same-length c = search needs
 
 returns : tie.Need-returns
 unfolding ruleWords ascii
-returns c = rule-is (c .before .before .before .before .before .enum-told .given .1) (omega arith) (c .before .before .put-text .ensures)
+returns c =
+    let at-enum-told = c .before .before .before .before .before in
+    rule-is (at-enum-told .enum-told .given .1) (omega arith) (c .before .before .put-text .ensures)
 
 same-length-2 : tie.Need-same-length-2
 same-length-2 c = search needs
 
 returns-2 : tie.Need-returns-2
 unfolding ruleWords ascii
-returns-2 c = rule-is (c .before .before .before .before .before .enum-told2 .given .1) (omega arith) (c .before .before .put-text2 .ensures)
+returns-2 c =
+    let at-enum-told2 = c .before .before .before .before .before in
+    rule-is (at-enum-told2 .enum-told2 .given .1) (omega arith) (c .before .before .put-text2 .ensures)
 
 same-length-3 : tie.Need-same-length-3
 same-length-3 c = search needs
 
 returns-3 : tie.Need-returns-3
 unfolding ruleWords ascii
-returns-3 c = rule-is (c .before .before .before .before .before .enum-told3 .given .1) (omega arith) (c .before .before .put-text3 .ensures)
+returns-3 c =
+    let at-enum-told3 = c .before .before .before .before .before in
+    rule-is (at-enum-told3 .enum-told3 .given .1) (omega arith) (c .before .before .put-text3 .ensures)
 
 same-length-4 : tie.Need-same-length-4
 same-length-4 c = search needs
 
 returns-4 : tie.Need-returns-4
 unfolding ruleWords ascii
-returns-4 c = rule-is (c .before .before .before .before .before .enum-told4 .given .1) (omega arith) (c .before .before .put-text4 .ensures)
+returns-4 c =
+    let at-enum-told4 = c .before .before .before .before .before in
+    rule-is (at-enum-told4 .enum-told4 .given .1) (omega arith) (c .before .before .put-text4 .ensures)
 
 same-length-5 : tie.Need-same-length-5
 same-length-5 c = search needs
 
 returns-5 : tie.Need-returns-5
 unfolding ruleWords ascii
-returns-5 c = rule-is (c .before .before .before .before .before .enum-told5 .given .1) (omega arith) (c .before .before .put-text5 .ensures)
+returns-5 c =
+    let at-enum-told5 = c .before .before .before .before .before in
+    rule-is (at-enum-told5 .enum-told5 .given .1) (omega arith) (c .before .before .put-text5 .ensures)
 
 same-length-6 : tie.Need-same-length-6
 same-length-6 c = search needs
 
 returns-6 : tie.Need-returns-6
 unfolding ruleWords ascii
-returns-6 c = rule-is (c .before .before .before .before .before .enum-told6 .given .1) (omega arith) (c .before .before .put-text6 .ensures)
+returns-6 c =
+    let at-enum-told6 = c .before .before .before .before .before in
+    rule-is (at-enum-told6 .enum-told6 .given .1) (omega arith) (c .before .before .put-text6 .ensures)
 
 pub put-rule-spec : {M : Type 1} → statement M
 put-rule-spec =

@@ -28,7 +28,7 @@ say-refused-requires c κs = search needs
 returns : tie.Need-returns
 unfolding withProgram afterEmitted
 returns c =
-    let at-e = c .before .before .before .before .before in
+    let at-e = c .before .before .before .before .before .before in
     rw (at-e .e .given .1)
 
 returns-2 : tie.Need-returns-2

@@ -54,35 +54,48 @@ say-entries-requires c κs = search needs
 enum-known-r-4 : tie.Need-enum-known-r-4
 enum-known-r-4 c = search needs
 
+slice-aggregate-say-4 : tie.Need-slice-aggregate-say-4
+slice-aggregate-say-4 c = search needs
+
+say-requires-4 : tie.Need-say-requires-4
+say-requires-4 c κs = search needs
+
+so-far-requires : tie.Need-so-far-requires
+so-far-requires c κs = search needs
+
+say-left-requires-4 : tie.Need-say-left-requires-4
+say-left-requires-4 c κs = search needs
+
+enum-known-r-5 : tie.Need-enum-known-r-5
+enum-known-r-5 c = search needs
+
 say-refused-requires : tie.Need-say-refused-requires
 say-refused-requires c κs = search needs
 
 returns : tie.Need-returns
 unfolding afterRun
-returns c =
-    let at-r = c .before .before .before .before .before in
-    rw (at-r .r .given .1)
+returns c = rw (c .before .before .before .before .before .r .given .1)
 
 returns-2 : tie.Need-returns-2
 unfolding afterRun
-returns-2 c =
-    let at-r2 = c .before .before .before .before in
-    rw (at-r2 .r2 .given .1)
+returns-2 c = rw (c .before .before .before .before .r2 .given .1)
 
 returns-3 : tie.Need-returns-3
 unfolding afterRun
-returns-3 c =
-    let at-r3 = c .before .before .before .before .before .before in
-    rw (at-r3 .r3 .given .1)
+returns-3 c = rw (c .before .before .before .before .before .before .r3 .given .1)
 
 returns-4 : tie.Need-returns-4
 unfolding afterRun
-returns-4 c = rw (c .before .before .r4 .given .1)
+returns-4 c = rw (c .before .before .before .before .before .r4 .given .1)
+
+returns-5 : tie.Need-returns-5
+unfolding afterRun
+returns-5 c = rw (c .before .before .r5 .given .1)
 
 pub say-run-spec : {M : Type 1} → statement M
 say-run-spec =
     tie.close
     (tie.spec enum-known-r slice-aggregate-say say-requires say-value-requires say-left-requires enum-known-r-2
     slice-aggregate-say-2 say-requires-2 say-left-requires-2 enum-known-r-3 slice-aggregate-say-3 say-requires-3 cast-say-number
-    say-number-requires say-left-requires-3 say-entries-requires enum-known-r-4 say-refused-requires returns returns-2 returns-3
-    returns-4)
+    say-number-requires say-left-requires-3 say-entries-requires enum-known-r-4 slice-aggregate-say-4 say-requires-4
+    so-far-requires say-left-requires-4 enum-known-r-5 say-refused-requires returns returns-2 returns-3 returns-4 returns-5)

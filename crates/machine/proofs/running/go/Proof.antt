@@ -1,43 +1,55 @@
--- `go` meets its contract: a walk of its MIR, by hand. It begins, the loop runs, and it is finished or stopped.
+-- `go` meets its contract: a walk of its MIR, by hand. The loop goes on from the current frame, and the part is finished or stopped.
 -- Assumes nothing.
-use Rattle.laws_walks.proofs.Walk.{_≡_, refl, sym, subst, true, false, List, [], _∷_, ℕ, _-_, _*_, _<_, _≤_, _^_, length, getD, set, URA, w64, Val, vint, SProp, ent, id⊢, Memory, Routine, Heap, Tables, WpFn, Atoms, Fun, givenOf, tables, tablesOf, FmC, fmOf}
-use Rattle.laws_walks.proofs.Walk.{Given, ‵, ⋆, _$_, _∵_, !, qed, by, move, keep, suffices, frame, done, agg, stop, addr, of-opd, bin, Is, uint-makes, u8, u32, u64, usize, now, owned, onEntry, tripleOf, Contract, Triple, cited, says, needs, walkOf, ends-at}
-use Rattle.laws_walks.proofs.Walk.{of, ofs, behind, sets, lands-in, enters, leaves, Arg, val, shr, mut, peek, Holds, Toks, Owns, lfts, shares, denots, valss, values, passing, lent, takes, gives, Rule, call-with, asked, unasked, calls-on, bytes-known, returns-if, stays, closed}
+use Rattle.laws_walks.proofs.Walk.{_≡_, refl, sym, _∙_, subst, true, false, List, [], _∷_, ℕ, _-_, _+_, _*_, _<_, _≤_, _^_, length, getD, set, URA, w64, Val, vbool, vint, SProp, ent, id⊢, Memory, Routine, Heap, Tables, WpFn, Atoms, Lfts, Shares, Fun, givenOf, tables, tablesOf, FmC, fmOf}
+use Rattle.laws_walks.proofs.Walk.{Given, ‵, ⋆, _$_, _∵_, !, qed, by, move, keep, suffices, frame, done, agg, addr, of-opd, Is, Boolean, bool-tells, uint-makes, u8, u32, u64, usize, now, Room, owned, onEntry, tripleOf, Contract, Triple, cited, says, needs, walkOf, ends-at}
+use Rattle.laws_walks.proofs.Walk.{of, ofs, behind, sets, lands-in, enters, leaves, Sl, sl, Arg, val, shr, mut, peek, Holds, Toks, Owns, lfts, shares, denots, valss, values, passing, lent, takes, gives, Rule, call-with, asked, unasked, calls-on, bytes-known, returns-if, Kind, own, shared, unique, stays, Passed, Known, closed}
+use Rattle.model.specs.declared.Vm.{Vm}
 use Rattle.model.specs.declared.Frame.{Frame}
-use Rattle.model.specs.declared.RunResult.{RunResult}
-use Rattle.run_arms.specs.declared.Fixed.{Fixed}
-use Rattle.run_arms.specs.declared.Going.{Going}
-use Rattle.run_loop.specs.declared.Course.{Course}
+use mathlib.Core.Bool.{_||_}
 use mir.Syntax.{w8}
 use denote.Plain.{uint-tells}
-use native.Mathlib.Omega.{arith}
-use Rattle.frames.proofs.Frames.{R}
-use Rattle.machine.proofs.Rows.{VmRow, vmVal, vm-typed, vm-makes, ResultRow, resultVal, result-tells, result-typed, result-makes, FixedRow, fixedVal, fixed-tells, fixed-typed, fixed-makes, GoingRow, goingVal, going-tells, going-typed, going-makes, CourseRow, courseVal, course-tells, course-typed, course-going, course-fault}
+use lib.Dec.{eqb}
 use lib.ListN.{take}
+use Rattle.laws_walks.proofs.Picks.{picks, unpicks}
+use Rattle.frames.proofs.Frames.{R, fval, tells, frame-typed, frame-makes}
+use Rattle.model.specs.declared.RunResult.{RunResult}
 use Rattle.model.specs.Emission.{written}
-use Rattle.model.specs.Runs.{root}
-use Rattle.model.specs.Steps.{World}
-use Rattle.model.specs.Stores.{size, codeWord}
-use Rattle.model.specs.Machines.{worldOf, RunPost}
+use Rattle.model.specs.Stores.{Stores, size, codeWord}
+use Rattle.run_arms.specs.declared.Going.{Going}
 use Rattle.run_arms.specs.Links.{frameIn}
+use Rattle.model.specs.Runs.{root}
+use Rattle.frames.proofs.Orders.{is-true, is-false}
+use Rattle.run_arms.specs.declared.Fixed.{Fixed}
+use Rattle.run_loop.specs.declared.Course.{Course}
+use Rattle.model.specs.Steps.{World}
+use Rattle.machine.proofs.Rows.{VmRow, vmVal, vm-tells, vm-typed, vm-makes, ResultRow, resultVal, result-tells, result-typed, result-makes, GoingRow, goingVal, going-tells, going-typed, going-makes, FixedRow, fixedVal, fixed-tells, fixed-typed, fixed-makes, CourseRow, courseVal, course-tells, course-typed, course-going, course-fault}
+use Rattle.model.specs.Machines.{Lent, worldOf, continues, RunPost}
+use Rattle.laws_runs.proofs.Ordered.{under-of}
 use Rattle.frames.specs.Links.{noFrame, callersOf, traceWords, TraceFits}
 use Rattle.run_loop.specs.Links.{Under, TurnsPost}
-use Rattle.run_ends.specs.Links.{programLent, FixedPost, Begun, endedWith, faultedWith}
+use Rattle.run_ends.specs.Links.{programLent, FixedPost, Begun, Answerable, settledWith, faultedWith}
 use Rattle.machine.specs.Links.{runLent, Granted}
-use Rattle.laws_walks.proofs.Picks.{picks, unpicks}
-use Rattle.machine.proofs.Parameters.{kinds, Passing, m, units, constants, functions, text, main, mainPlaces, other, otherPlaces, stack, cells, frames, copy, backtrace, slices, xs, stores, lent₀, slices₀, xs₀, constants-at, functions-at, text-at, main-at, main-places-at, other-at, other-places-at, stack-at, cells-at, frames-at, copy-at, backtrace-at, constants-room, structs-room, functions-room, text-room, main-room, main-places-room, other-room, other-places-room, stack-room, cells-room, frames-room, copy-room, backtrace-room}
-use Rattle.machine.proofs.Tests.{is-zero, not-zero}
-use Rattle.machine.proofs.Begins.{Begins}
+use Rattle.machine.proofs.Granted.{lengths-of}
+use Rattle.machine.proofs.Begins.{Begins, run-under}
+use Rattle.machine.proofs.Stops.{frame-there, stack-there, trace-ready, run-stopped}
 use Rattle.machine.proofs.Settles.{Came}
-use Rattle.machine.proofs.Slices.{copy-ready, current-ready, begins, under, came, units-ready, callers-ready, frame-ready, trace-ready, back-ready, ended, faulted}
+use Rattle.machine.proofs.Settles as se
 use Rattle.run_ends.proofs.fixed as bounds
 use Rattle.run_ends.proofs.fixed.Symbol as bounds-def
 use Rattle.run_ends.proofs.fixed.Symbol.{name as #bounds}
 use Rattle.run_ends.proofs.fixed.Met as bounds-thm
-use Rattle.machine.proofs.running.start as start
-use Rattle.machine.proofs.running.start.Symbol as start-def
-use Rattle.machine.proofs.running.start.Symbol.{name as #start}
-use Rattle.machine.proofs.running.start.Met as start-thm
+use Rattle.machine.proofs.running.current as current
+use Rattle.machine.proofs.running.current.Symbol as current-def
+use Rattle.machine.proofs.running.current.Symbol.{name as #current}
+use Rattle.machine.proofs.running.current.Met as current-thm
+use Rattle.run_ends.proofs.resumed as resumed
+use Rattle.run_ends.proofs.resumed.Symbol as resumed-def
+use Rattle.run_ends.proofs.resumed.Symbol.{name as #resumed}
+use Rattle.run_ends.proofs.resumed.Met as resumed-thm
+use Rattle.run_ends.proofs.all_given as allotted
+use Rattle.run_ends.proofs.all_given.Symbol as allotted-def
+use Rattle.run_ends.proofs.all_given.Symbol.{name as #allotted}
+use Rattle.run_ends.proofs.all_given.Met as allotted-thm
 use Rattle.machine.proofs.running.text_of as taken
 use Rattle.machine.proofs.running.text_of.Symbol as taken-def
 use Rattle.machine.proofs.running.text_of.Symbol.{name as #taken}
@@ -46,6 +58,10 @@ use Rattle.run_loop.proofs.turns as turns
 use Rattle.run_loop.proofs.turns.Symbol as turns-def
 use Rattle.run_loop.proofs.turns.Symbol.{name as #turns}
 use Rattle.run_loop.proofs.turns.Met as turns-thm
+use Rattle.run_ends.proofs.unfaulted as fine
+use Rattle.run_ends.proofs.unfaulted.Symbol as fine-def
+use Rattle.run_ends.proofs.unfaulted.Symbol.{name as #fine}
+use Rattle.run_ends.proofs.unfaulted.Met as fine-thm
 use Rattle.machine.proofs.running.finish as finish
 use Rattle.machine.proofs.running.finish.Symbol as finish-def
 use Rattle.machine.proofs.running.finish.Symbol.{name as #finish}
@@ -59,12 +75,36 @@ use Rattle.machine.proofs.running.go as me
 use Rattle.machine.proofs.running.go.Statement as stated
 use Rattle.machine.proofs.running.go.Code as code
 
+abbrev kinds : List (Kind 13)
+kinds =
+    own VmRow vmVal vm-tells (λ x f. refl)
+    ∷ own u64 (vint w64) (uint-tells w64) (λ x f. refl)
+    ∷ shared 0 tt u64
+    ∷ shared 1 tt u64
+    ∷ shared 2 tt u64
+    ∷ shared 3 tt u8
+    ∷ shared 4 tt u8
+    ∷ shared 5 tt u32
+    ∷ shared 6 tt u8
+    ∷ shared 7 tt u32
+    ∷ unique 8 tt u64
+    ∷ unique 9 tt u64
+    ∷ unique 10 tt R
+    ∷ shared 11 tt u64
+    ∷ unique 12 tt u32 ∷ []
+
 module _ {M : Type 1} (𝓤 : URA M) (H : Heap 𝓤) (A : Atoms 𝓤) (W : Given 𝓤 H A) (mem : Memory → SProp 𝓤) (run : Routine → Fun 𝓤) where
   abbrev Bounds : Contract 𝓤
   Bounds = tripleOf 𝓤 H A bounds.signature (bounds.spec 𝓤 H A mem run)
 
-  abbrev Start : Contract 𝓤
-  Start = tripleOf 𝓤 H A start.signature (start.spec 𝓤 H A mem run)
+  abbrev Current : Contract 𝓤
+  Current = tripleOf 𝓤 H A current.signature (current.spec 𝓤 H A mem run)
+
+  abbrev Resumed : Contract 𝓤
+  Resumed = tripleOf 𝓤 H A resumed.signature (resumed.spec 𝓤 H A mem run)
+
+  abbrev Allotted : Contract 𝓤
+  Allotted = tripleOf 𝓤 H A allotted.signature (allotted.spec 𝓤 H A mem run)
 
   abbrev Taken : Contract 𝓤
   Taken = tripleOf 𝓤 H A taken.signature (taken.spec 𝓤 H A mem run)
@@ -72,205 +112,466 @@ module _ {M : Type 1} (𝓤 : URA M) (H : Heap 𝓤) (A : Atoms 𝓤) (W : Given
   abbrev Turns : Contract 𝓤
   Turns = tripleOf 𝓤 H A turns.signature (turns.spec 𝓤 H A mem run)
 
+  abbrev Fine : Contract 𝓤
+  Fine = tripleOf 𝓤 H A fine.signature (fine.spec 𝓤 H A mem run)
+
   abbrev Finish : Contract 𝓤
   Finish = tripleOf 𝓤 H A finish.signature (finish.spec 𝓤 H A mem run)
 
   abbrev Stop : Contract 𝓤
   Stop = tripleOf 𝓤 H A stop.signature (stop.spec 𝓤 H A mem run)
 
-  module _ (𝓣 : Tables 𝓤 H) (known-bounds : Triple 𝓤 (𝓣 .C #bounds) Bounds) (known-start : Triple 𝓤 (𝓣 .C #start) Start)
-      (known-taken : Triple 𝓤 (𝓣 .C #taken) Taken) (known-turns : Triple 𝓤 (𝓣 .C #turns) Turns) (known-finish : Triple 𝓤 (𝓣 .C #finish) Finish)
+  module _ (𝓣 : Tables 𝓤 H)
+      (known-bounds : Triple 𝓤 (𝓣 .C #bounds) Bounds)
+      (known-current : Triple 𝓤 (𝓣 .C #current) Current)
+      (known-resumed : Triple 𝓤 (𝓣 .C #resumed) Resumed)
+      (known-allotted : Triple 𝓤 (𝓣 .C #allotted) Allotted)
+      (known-taken : Triple 𝓤 (𝓣 .C #taken) Taken)
+      (known-turns : Triple 𝓤 (𝓣 .C #turns) Turns)
+      (known-fine : Triple 𝓤 (𝓣 .C #fine) Fine)
+      (known-finish : Triple 𝓤 (𝓣 .C #finish) Finish)
       (known-stop : Triple 𝓤 (𝓣 .C #stop) Stop)
-      (p : Passing) where
-    abbrev Post : Val → SProp 𝓤
-    Post = walkOf 𝓤 H A me.ended (stays kinds) (me.clauses 𝓤 H A mem run) .post (passing (xs₀ p))
+      (κs : Lfts 13) (qs : Shares 13) (a : Passed kinds ResultRow κs) (is : Known kinds ResultRow κs a) where
+    -- the parameters
+    abbrev m : Vm
+    m = a .0
 
-    exits : (r : RunResult) (stack′ : List ℕ) (cells′ : List ℕ) (frames′ : List Frame) (copy′ : List ℕ) (backtrace′ : List ℕ)
-        → Is ResultRow r (resultVal r ∷ []) → length stack′ ≡ stack-at p .count → length cells′ ≡ cells-at p .count → length frames′ ≡ frames-at p .count
-        → length copy′ ≡ copy-at p .count → length backtrace′ ≡ backtrace-at p .count
-        → RunPost (m p) (stores p) (lent₀ p) (units p) r (runLent stack′ cells′ frames′ copy′ backtrace′)
-        → ent 𝓤 (⋆ 𝓤 H A (‵ (Holds (slices p stack′ cells′ frames′ copy′ backtrace′)) ∷ [])) (Post (resultVal r))
-    exits r stack′ cells′ frames′ copy′ backtrace′ isr len-stack len-cells len-frames len-copy len-backtrace said =
-        qed W (‵ (Holds (slices p stack′ cells′ frames′ copy′ backtrace′)) ∷ []) ∵ suffices ! _
-        (ends-at 𝓤 H A me.ended (stays kinds) (me.clauses 𝓤 H A mem run) W (passing (xs₀ p)) (resultVal r) r
-        (tt, (tt, (tt, (tt, (tt, (tt, (tt, (tt, (tt, (tt, (stack′, (cells′, (frames′, (copy′, (backtrace′, tt))))))))))))))) (
+    abbrev units : ℕ
+    units = a .1 .0
+
+    abbrev constants-at : Sl
+    constants-at = sl (κs .0) (qs .0) (a .1 .1 .0)
+
+    abbrev constants : List ℕ
+    constants = now (a .1 .1 .0)
+
+    abbrev constants-room : Room u64 (constants-at .count)
+    constants-room = is .1 .1 .0 .0 .1
+
+    abbrev structs-at : Sl
+    structs-at = sl (κs .1 .0) (qs .1 .0) (a .1 .1 .1 .0)
+
+    abbrev structs : List ℕ
+    structs = now (a .1 .1 .1 .0)
+
+    abbrev structs-room : Room u64 (structs-at .count)
+    structs-room = is .1 .1 .1 .0 .0 .1
+
+    abbrev functions-at : Sl
+    functions-at = sl (κs .1 .1 .0) (qs .1 .1 .0) (a .1 .1 .1 .1 .0)
+
+    abbrev functions : List ℕ
+    functions = now (a .1 .1 .1 .1 .0)
+
+    abbrev functions-room : Room u64 (functions-at .count)
+    functions-room = is .1 .1 .1 .1 .0 .0 .1
+
+    abbrev text-at : Sl
+    text-at = sl (κs .1 .1 .1 .0) (qs .1 .1 .1 .0) (a .1 .1 .1 .1 .1 .0)
+
+    abbrev text : List ℕ
+    text = now (a .1 .1 .1 .1 .1 .0)
+
+    abbrev text-room : Room u8 (text-at .count)
+    text-room = is .1 .1 .1 .1 .1 .0 .0 .1
+
+    abbrev main-at : Sl
+    main-at = sl (κs .1 .1 .1 .1 .0) (qs .1 .1 .1 .1 .0) (a .1 .1 .1 .1 .1 .1 .0)
+
+    abbrev main : List ℕ
+    main = now (a .1 .1 .1 .1 .1 .1 .0)
+
+    abbrev main-room : Room u8 (main-at .count)
+    main-room = is .1 .1 .1 .1 .1 .1 .0 .0 .1
+
+    abbrev mainPlaces-at : Sl
+    mainPlaces-at = sl (κs .1 .1 .1 .1 .1 .0) (qs .1 .1 .1 .1 .1 .0) (a .1 .1 .1 .1 .1 .1 .1 .0)
+
+    abbrev mainPlaces : List ℕ
+    mainPlaces = now (a .1 .1 .1 .1 .1 .1 .1 .0)
+
+    abbrev mainPlaces-room : Room u32 (mainPlaces-at .count)
+    mainPlaces-room = is .1 .1 .1 .1 .1 .1 .1 .0 .0 .1
+
+    abbrev other-at : Sl
+    other-at = sl (κs .1 .1 .1 .1 .1 .1 .0) (qs .1 .1 .1 .1 .1 .1 .0) (a .1 .1 .1 .1 .1 .1 .1 .1 .0)
+
+    abbrev other : List ℕ
+    other = now (a .1 .1 .1 .1 .1 .1 .1 .1 .0)
+
+    abbrev other-room : Room u8 (other-at .count)
+    other-room = is .1 .1 .1 .1 .1 .1 .1 .1 .0 .0 .1
+
+    abbrev otherPlaces-at : Sl
+    otherPlaces-at = sl (κs .1 .1 .1 .1 .1 .1 .1 .0) (qs .1 .1 .1 .1 .1 .1 .1 .0) (a .1 .1 .1 .1 .1 .1 .1 .1 .1 .0)
+
+    abbrev otherPlaces : List ℕ
+    otherPlaces = now (a .1 .1 .1 .1 .1 .1 .1 .1 .1 .0)
+
+    abbrev otherPlaces-room : Room u32 (otherPlaces-at .count)
+    otherPlaces-room = is .1 .1 .1 .1 .1 .1 .1 .1 .1 .0 .0 .1
+
+    abbrev stack-at : Sl
+    stack-at = sl (κs .1 .1 .1 .1 .1 .1 .1 .1 .0) (qs .1 .1 .1 .1 .1 .1 .1 .1 .0) (a .1 .1 .1 .1 .1 .1 .1 .1 .1 .1 .0)
+
+    abbrev stack : List ℕ
+    stack = now (a .1 .1 .1 .1 .1 .1 .1 .1 .1 .1 .0)
+
+    abbrev stack-room : Room u64 (stack-at .count)
+    stack-room = is .1 .1 .1 .1 .1 .1 .1 .1 .1 .1 .0 .0 .1
+
+    abbrev cells-at : Sl
+    cells-at = sl (κs .1 .1 .1 .1 .1 .1 .1 .1 .1 .0) (qs .1 .1 .1 .1 .1 .1 .1 .1 .1 .0) (a .1 .1 .1 .1 .1 .1 .1 .1 .1 .1 .1 .0)
+
+    abbrev cells : List ℕ
+    cells = now (a .1 .1 .1 .1 .1 .1 .1 .1 .1 .1 .1 .0)
+
+    abbrev cells-room : Room u64 (cells-at .count)
+    cells-room = is .1 .1 .1 .1 .1 .1 .1 .1 .1 .1 .1 .0 .0 .1
+
+    abbrev frames-at : Sl
+    frames-at = sl (κs .1 .1 .1 .1 .1 .1 .1 .1 .1 .1 .0) (qs .1 .1 .1 .1 .1 .1 .1 .1 .1 .1 .0) (a .1 .1 .1 .1 .1 .1 .1 .1 .1 .1 .1 .1 .0)
+
+    abbrev frames : List Frame
+    frames = now (a .1 .1 .1 .1 .1 .1 .1 .1 .1 .1 .1 .1 .0)
+
+    abbrev frames-room : Room R (frames-at .count)
+    frames-room = is .1 .1 .1 .1 .1 .1 .1 .1 .1 .1 .1 .1 .0 .0 .1
+
+    abbrev copy-at : Sl
+    copy-at = sl (κs .1 .1 .1 .1 .1 .1 .1 .1 .1 .1 .1 .0) (qs .1 .1 .1 .1 .1 .1 .1 .1 .1 .1 .1 .0) (a .1 .1 .1 .1 .1 .1 .1 .1 .1 .1 .1 .1 .1 .0)
+
+    abbrev copy : List ℕ
+    copy = now (a .1 .1 .1 .1 .1 .1 .1 .1 .1 .1 .1 .1 .1 .0)
+
+    abbrev copy-room : Room u64 (copy-at .count)
+    copy-room = is .1 .1 .1 .1 .1 .1 .1 .1 .1 .1 .1 .1 .1 .0 .0 .1
+
+    abbrev backtrace-at : Sl
+    backtrace-at = sl (κs .1 .1 .1 .1 .1 .1 .1 .1 .1 .1 .1 .1 .0) (qs .1 .1 .1 .1 .1 .1 .1 .1 .1 .1 .1 .1 .0) (a .1 .1 .1 .1 .1 .1 .1 .1 .1 .1 .1 .1 .1 .1 .0)
+
+    abbrev backtrace : List ℕ
+    backtrace = now (a .1 .1 .1 .1 .1 .1 .1 .1 .1 .1 .1 .1 .1 .1 .0)
+
+    abbrev backtrace-room : Room u32 (backtrace-at .count)
+    backtrace-room = is .1 .1 .1 .1 .1 .1 .1 .1 .1 .1 .1 .1 .1 .1 .0 .0 .1
+
+    abbrev slices : List ℕ → List ℕ → List Frame → List ℕ → List Arg
+    slices stack′ cells′ frames′ backtrace′ =
+        shr u64 constants-at constants ∷ shr u64 structs-at structs ∷ shr u64 functions-at functions ∷ shr u8 text-at text ∷ shr u8 main-at main
+        ∷ shr u32 mainPlaces-at mainPlaces ∷ shr u8 other-at other ∷ shr u32 otherPlaces-at otherPlaces ∷ mut u64 stack-at stack′
+        ∷ mut u64 cells-at cells′ ∷ mut R frames-at frames′ ∷ shr u64 copy-at copy ∷ mut u32 backtrace-at backtrace′ ∷ []
+
+    abbrev xs : List ℕ → List ℕ → List Frame → List ℕ → List Arg
+    xs stack′ cells′ frames′ backtrace′ = val VmRow m (vmVal m) ∷ val u64 units (vint w64 units) ∷ slices stack′ cells′ frames′ backtrace′
+
+    abbrev Post : Val → SProp 𝓤
+    Post = walkOf 𝓤 H A me.ended (stays kinds) (me.clauses 𝓤 H A mem run) .post (passing (xs stack cells frames backtrace))
+
+    exits : (r : RunResult) (stack′ : List ℕ) (cells′ : List ℕ) (frames′ : List Frame) (backtrace′ : List ℕ) → Is ResultRow r (resultVal r ∷ [])
+        → length stack′ ≡ stack-at .count → length cells′ ≡ cells-at .count → length frames′ ≡ frames-at .count → length backtrace′ ≡ backtrace-at .count
+        → (RunPost (continues units) m (programLent structs constants functions text main mainPlaces other otherPlaces)
+        (runLent stack cells frames copy backtrace) r (runLent stack′ cells′ frames′ copy backtrace′))
+        → ent 𝓤 (⋆ 𝓤 H A (‵ (Holds (slices stack′ cells′ frames′ backtrace′)) ∷ [])) (Post (resultVal r))
+    exits r stack′ cells′ frames′ backtrace′ isr len-stack len-cells len-frames len-backtrace said =
+        qed W (‵ (Holds (slices stack′ cells′ frames′ backtrace′)) ∷ []) ∵ suffices ! _
+        (ends-at 𝓤 H A me.ended (stays kinds) (me.clauses 𝓤 H A mem run) W (passing (xs stack cells frames backtrace)) (resultVal r) r
+        (tt, (tt, (tt, (tt, (tt, (tt, (tt, (tt, (tt, (tt, (stack′, (cells′, (frames′, (tt, (backtrace′, tt))))))))))))))) (
           tt,
           (
             tt,
             (
               tt,
-              (tt, (tt, (tt, (tt, (tt, (tt, (tt, (len-stack, (len-cells, (len-frames, (len-copy, (len-backtrace, tt)))))))))))),
+              (
+                tt,
+                (
+                  tt,
+                  (
+                    tt,
+                    (
+                      tt,
+                      (
+                        tt,
+                        (
+                          tt,
+                          (
+                            tt,
+                            (
+                              len-stack,
+                              (
+                                len-cells,
+                                (
+                                  len-frames,
+                                  (
+                                    tt,
+                                    (len-backtrace, tt),
+                                  ),
+                                ),
+                              ),
+                            ),
+                          ),
+                        ),
+                      ),
+                    ),
+                  ),
+                ),
+              ),
             ),
           ),
-        )) $ says ! said $ gives ! (xs p stack′ cells′ frames′ copy′ backtrace′)
-        (vm-makes 𝓤 H A W (m p) _ (p .is .0), (uint-makes 𝓤 H A W w64 (units p) _ (p .is .1 .0), tt))
+        )) $ says ! said $ gives ! (xs stack′ cells′ frames′ backtrace′)
+        (vm-makes 𝓤 H A W m _ (is .0), (uint-makes 𝓤 H A W w64 units _ (is .1 .0), tt))
         (frame ! $ owned ! ResultRow (Is ResultRow) (result-makes 𝓤 H A W) r _ isr $ keep ! (1 ∷ 0 ∷ []) $ done !)
 
     -- the calls
     abbrev to-bounds : List Arg
     to-bounds =
-        val VmRow (m p) (vmVal (m p)) ∷ val usize (stack-at p .count) (vint w64 (stack-at p .count)) ∷ val usize
-        (frames-at p .count) (vint w64 (frames-at p .count)) ∷ []
+        val VmRow m (vmVal m) ∷ val usize (stack-at .count) (vint w64 (stack-at .count)) ∷ val usize (frames-at .count) (vint w64 (frames-at .count)) ∷ []
 
-    call-bounds : Rule 𝓤 H A W to-bounds Bounds FixedRow fixedVal (λ k zs. FixedPost (m p) (stack-at p .count) (frames-at p .count) k)
+    call-bounds : Rule 𝓤 H A W to-bounds Bounds FixedRow fixedVal
+        (λ k zs. FixedPost m (stack-at .count) (frames-at .count) k)
     call-bounds =
-        call-with 𝓤 H A W to-bounds Bounds FixedRow fixedVal (λ k zs. FixedPost (m p) (stack-at p .count) (frames-at p .count) k)
-        fixed-tells (λ ns. passing (lent to-bounds ns)) (λ ns. refl) (λ ns. unasked W (lent to-bounds ns)) (λ ns w. id⊢ 𝓤 _) (
-          vm-makes 𝓤 H A W (m p) _ (p .is .0),
+        call-with 𝓤 H A W to-bounds Bounds FixedRow fixedVal
+        (λ k zs. FixedPost m (stack-at .count) (frames-at .count) k) fixed-tells
+        (λ ns. passing (lent to-bounds ns)) (λ ns. refl) (λ ns. unasked W (lent to-bounds ns)) (λ ns w. id⊢ 𝓤 _) (
+          vm-makes 𝓤 H A W m _ (is .0),
           (
-            uint-makes 𝓤 H A W w64 (stack-at p .count) _ (refl, stack-room p .0),
-            (uint-makes 𝓤 H A W w64 (frames-at p .count) _ (refl, frames-room p .0), tt),
+            uint-makes 𝓤 H A W w64 (stack-at .count) _ (refl, stack-room .0),
+            (
+              uint-makes 𝓤 H A W w64 (frames-at .count) _
+                  (refl, frames-room .0),
+              tt,
+            ),
           ),
-        ) tt
+        )
+        tt
 
-    abbrev to-start : List Arg
-    to-start =
-        val VmRow (m p) (vmVal (m p)) ∷ val u64 (units p) (vint w64 (units p)) ∷ peek u64 (stack-at p) (stack p) ∷ peek R
-        (frames-at p) (frames p) ∷ mut u64 (copy-at p) (copy p) ∷ []
+    abbrev to-current : List Arg
+    to-current =
+        val VmRow m (vmVal m) ∷ peek R frames-at frames ∷ []
 
-    call-start : (2 * m p .stack ≤ length (stack p)) × (2 * m p .stack ≤ length (copy p)) × (m p .frames - 1 < length (frames p))
-        → Rule 𝓤 H A W to-start Start GoingRow goingVal (λ g zs. Begun (m p) (getD (frames p) (m p .frames - 1) noFrame) (units p) g ×
-        (zs .1 .1 .1 .1 .0 ≡ written (copy p) 0 (take (2 * m p .stack) (stack p))))
-    call-start can =
-        call-with 𝓤 H A W to-start Start GoingRow goingVal
-        (λ g zs. Begun (m p) (getD (frames p) (m p .frames - 1) noFrame) (units p) g ×
-        (zs .1 .1 .1 .1 .0 ≡ written (copy p) 0 (take (2 * m p .stack) (stack p)))) going-tells (λ ns. passing (lent to-start ns))
-        (λ ns. refl) (λ ns. asked W (lent to-start ns) can) (λ ns w. id⊢ 𝓤 _)
-        (vm-makes 𝓤 H A W (m p) _ (p .is .0), (uint-makes 𝓤 H A W w64 (units p) _ (p .is .1 .0), tt))
-        ((refl, stack-room p), ((refl, frames-room p), ((refl, copy-room p), tt)))
+    call-current : m .frames - 1 < length frames → Rule 𝓤 H A W to-current Current R fval
+        (λ f zs. f ≡ getD frames (m .frames - 1) noFrame)
+    call-current within =
+        call-with 𝓤 H A W to-current Current R fval
+        (λ f zs. f ≡ getD frames (m .frames - 1) noFrame) tells
+        (λ ns. passing (lent to-current ns)) (λ ns. refl) (λ ns. asked W (lent to-current ns) within) (λ ns w. id⊢ 𝓤 _)
+        (vm-makes 𝓤 H A W m _ (is .0), tt)
+        ((refl, frames-room), tt)
+
+    abbrev to-resumed : Frame → List Arg
+    to-resumed f =
+        val VmRow m (vmVal m) ∷ val R f (fval f) ∷ val u64 units (vint w64 units) ∷ []
+
+    call-resumed : (f : Frame) → Is R f (fval f ∷ []) → (m .run .spent ≤ m .run .given) × (m .run .given + units < 2 ^ 64) → Rule 𝓤 H A W
+        (to-resumed f) Resumed GoingRow goingVal
+        (λ g zs. Begun m f (m .run .given - m .run .spent + units) g)
+    call-resumed f isf can =
+        call-with 𝓤 H A W (to-resumed f) Resumed GoingRow goingVal
+        (λ g zs. Begun m f (m .run .given - m .run .spent + units) g) going-tells
+        (λ ns. passing (lent (to-resumed f) ns)) (λ ns. refl) (λ ns. asked W (lent (to-resumed f) ns) can) (λ ns w. id⊢ 𝓤 _)
+        (vm-makes 𝓤 H A W m _ (is .0), (frame-makes 𝓤 H A W f _ isf, (uint-makes 𝓤 H A W w64 units _ (is .1 .0), tt)))
+        tt
+
+    abbrev to-allotted : List Arg
+    to-allotted =
+        val VmRow m (vmVal m) ∷ val u64 units (vint w64 units) ∷ []
+
+    call-allotted : m .run .given + units < 2 ^ 64 → Rule 𝓤 H A W to-allotted Allotted u64 (vint w64)
+        (λ u zs. u ≡ m .run .given + units)
+    call-allotted few =
+        call-with 𝓤 H A W to-allotted Allotted u64 (vint w64)
+        (λ u zs. u ≡ m .run .given + units) (uint-tells w64)
+        (λ ns. passing (lent to-allotted ns)) (λ ns. refl) (λ ns. asked W (lent to-allotted ns) few) (λ ns w. id⊢ 𝓤 _)
+        (vm-makes 𝓤 H A W m _ (is .0), (uint-makes 𝓤 H A W w64 units _ (is .1 .0), tt))
+        tt
 
     abbrev to-taken : List Arg
-    to-taken = val VmRow (m p) (vmVal (m p)) ∷ []
+    to-taken =
+        val VmRow m (vmVal m) ∷ []
 
-    call-taken : Rule 𝓤 H A W to-taken Taken usize (vint w64) (λ n zs. n ≡ m p .program .text)
+    call-taken : Rule 𝓤 H A W to-taken Taken usize (vint w64)
+        (λ n zs. n ≡ m .program .text)
     call-taken =
-        call-with 𝓤 H A W to-taken Taken usize (vint w64) (λ n zs. n ≡ m p .program .text) (uint-tells w64)
+        call-with 𝓤 H A W to-taken Taken usize (vint w64)
+        (λ n zs. n ≡ m .program .text) (uint-tells w64)
         (λ ns. passing (lent to-taken ns)) (λ ns. refl) (λ ns. unasked W (lent to-taken ns)) (λ ns w. id⊢ 𝓤 _)
-        (vm-makes 𝓤 H A W (m p) _ (p .is .0), tt) tt
+        (vm-makes 𝓤 H A W m _ (is .0), tt)
+        tt
 
     abbrev to-turns : Fixed → Going → ℕ → List Arg
     to-turns k g n =
-        val FixedRow k (fixedVal k) ∷ val GoingRow g (goingVal g) ∷ val usize n (vint w64 n) ∷ shr u64 (constants-at p)
-        (constants p) ∷ shr u64 (functions-at p) (functions p) ∷ shr u8 (text-at p) (text p) ∷ shr u8 (main-at p) (main p) ∷ shr
-        u8 (other-at p) (other p) ∷ mut u64 (stack-at p) (stack p) ∷ mut u64 (cells-at p) (cells p) ∷ mut R (frames-at p)
-        (frames p) ∷ []
+        val FixedRow k (fixedVal k) ∷ val GoingRow g (goingVal g) ∷ val usize n (vint w64 n) ∷ shr u64 constants-at constants
+        ∷ shr u64 functions-at functions ∷ shr u8 text-at text ∷ shr u8 main-at main ∷ shr u8 other-at other ∷ mut u64 stack-at stack
+        ∷ mut u64 cells-at cells ∷ mut R frames-at frames ∷ []
 
-    call-turns : (k : Fixed) (g : Going) (n : ℕ) → Is FixedRow k (fixedVal k ∷ []) → Is GoingRow g (goingVal g ∷ []) → n < 2 ^ 64
-        → ((w : World) × Under w k g n (constants p) (functions p) (text p) (main p) (other p) (stack p) (cells p) (frames p))
-        → Rule 𝓤 H A W (to-turns k g n) Turns CourseRow courseVal
-        (λ c zs. ((w : World) → Under w k g n (constants p) (functions p) (text p) (main p) (other p) (stack p) (cells p) (frames p)
-        → TurnsPost w k g (stack p) (cells p) (frames p) c (zs .1 .1 .1 .1 .1 .1 .1 .1 .0) (zs .1 .1 .1 .1 .1 .1 .1 .1 .1 .0)
-        (zs .1 .1 .1 .1 .1 .1 .1 .1 .1 .1 .0)))
+    call-turns : (k : Fixed) → (g : Going) → (n : ℕ) → Is FixedRow k (fixedVal k ∷ []) → Is GoingRow g (goingVal g ∷ []) → n < 2 ^ 64 →
+        ((w : World) × Under w k g n constants functions text main other stack cells frames) → Rule 𝓤 H A W (to-turns k g n) Turns CourseRow courseVal
+        (λ c zs. ((w : World) → Under w k g n constants functions text main other stack cells frames
+        → TurnsPost w k g stack cells frames c (zs .1 .1 .1 .1 .1 .1 .1 .1 .0) (zs .1 .1 .1 .1 .1 .1 .1 .1 .1 .0) (zs .1 .1 .1 .1 .1 .1 .1 .1 .1 .1 .0)))
     call-turns k g n isk isg fits can =
         call-with 𝓤 H A W (to-turns k g n) Turns CourseRow courseVal
-        (λ c zs. ((w : World) → Under w k g n (constants p) (functions p) (text p) (main p) (other p) (stack p) (cells p)
-        (frames p) → TurnsPost w k g (stack p) (cells p) (frames p) c (zs .1 .1 .1 .1 .1 .1 .1 .1 .0)
-        (zs .1 .1 .1 .1 .1 .1 .1 .1 .1 .0) (zs .1 .1 .1 .1 .1 .1 .1 .1 .1 .1 .0))) course-tells
+        (λ c zs. ((w : World) → Under w k g n constants functions text main other stack cells frames
+        → TurnsPost w k g stack cells frames c (zs .1 .1 .1 .1 .1 .1 .1 .1 .0) (zs .1 .1 .1 .1 .1 .1 .1 .1 .1 .0)
+        (zs .1 .1 .1 .1 .1 .1 .1 .1 .1 .1 .0))) course-tells
         (λ ns. passing (lent (to-turns k g n) ns)) (λ ns. refl) (λ ns. asked W (lent (to-turns k g n) ns) can) (λ ns w. id⊢ 𝓤 _)
         (fixed-makes 𝓤 H A W k _ isk, (going-makes 𝓤 H A W g _ isg, (uint-makes 𝓤 H A W w64 n _ (refl, fits), tt))) (
-          (refl, constants-room p),
+          (refl, constants-room),
           (
-            (refl, functions-room p),
+            (refl, functions-room),
             (
-              (refl, text-room p),
+              (refl, text-room),
               (
-                (refl, main-room p),
-                ((refl, other-room p), ((refl, stack-room p), ((refl, cells-room p), ((refl, frames-room p), tt)))),
+                (refl, main-room),
+                (
+                  (refl, other-room),
+                  (
+                    (refl, stack-room),
+                    ((refl, cells-room), ((refl, frames-room), tt)),
+                  ),
+                ),
               ),
             ),
           ),
         )
 
-    abbrev to-finish : Going → List Frame → List Arg
-    to-finish h fs =
-        val VmRow (m p) (vmVal (m p)) ∷ val u64 (units p) (vint w64 (units p)) ∷ val GoingRow h (goingVal h) ∷ mut R (frames-at p)
-        fs ∷ []
+    abbrev to-fine : ℕ → List Arg
+    to-fine e =
+        val u8 e (vint w8 e) ∷ []
 
-    call-finish : (h : Going) (fs : List Frame) → Is GoingRow h (goingVal h ∷ []) → length fs ≡ frames-at p .count
-        → (h .units ≤ units p) × (h .callers < 2 ^ 32) × (h .callers < length fs)
-        → Rule 𝓤 H A W (to-finish h fs) Finish ResultRow resultVal
-        (λ r zs. (r ≡ endedWith (m p) (units p) h) × (zs .1 .1 .1 .0 ≡ set fs (h .callers) (frameIn h)))
-    call-finish h fs ish len can =
-        call-with 𝓤 H A W (to-finish h fs) Finish ResultRow resultVal
-        (λ r zs. (r ≡ endedWith (m p) (units p) h) × (zs .1 .1 .1 .0 ≡ set fs (h .callers) (frameIn h))) result-tells
-        (λ ns. passing (lent (to-finish h fs) ns)) (λ ns. refl) (λ ns. asked W (lent (to-finish h fs) ns) can) (λ ns w. id⊢ 𝓤 _) (
-          vm-makes 𝓤 H A W (m p) _ (p .is .0),
-          (uint-makes 𝓤 H A W w64 (units p) _ (p .is .1 .0), (going-makes 𝓤 H A W h _ ish, tt)),
-        ) ((len, frames-room p), tt)
+    call-fine : (e : ℕ) → e < 2 ^ 8 → Rule 𝓤 H A W (to-fine e) Fine Boolean vbool
+        (λ y zs. y ≡ (eqb e 0 || eqb e 13))
+    call-fine e fits =
+        call-with 𝓤 H A W (to-fine e) Fine Boolean vbool
+        (λ y zs. y ≡ (eqb e 0 || eqb e 13)) bool-tells
+        (λ ns. passing (lent (to-fine e) ns)) (λ ns. refl) (λ ns. unasked W (lent (to-fine e) ns)) (λ ns w. id⊢ 𝓤 _)
+        (uint-makes 𝓤 H A W w8 e _ (refl, fits), tt)
+        tt
 
-    abbrev to-stop : Going → ℕ → List ℕ → List Frame → List ℕ → List Arg
-    to-stop h e st fs cs =
-        val VmRow (m p) (vmVal (m p)) ∷ val u64 (units p) (vint w64 (units p)) ∷ val GoingRow h (goingVal h) ∷ val u8 e
-        (vint w8 e) ∷ shr u64 (functions-at p) (functions p) ∷ shr u32 (main-places-at p) (mainPlaces p) ∷ shr u32
-        (other-places-at p) (otherPlaces p) ∷ mut u64 (stack-at p) st ∷ mut R (frames-at p) fs ∷ peek u64 (copy-at p) cs ∷ mut u32
-        (backtrace-at p) (backtrace p) ∷ []
+    abbrev to-finish : ℕ → Going → ℕ → List Frame → List Arg
+    to-finish u g e fs =
+        val VmRow m (vmVal m) ∷ val u64 u (vint w64 u) ∷ val GoingRow g (goingVal g) ∷ val u8 e (vint w8 e) ∷ mut R frames-at fs ∷ []
 
-    call-stop : (h : Going) (e : ℕ) (st : List ℕ) (fs : List Frame) (cs : List ℕ) → Is GoingRow h (goingVal h ∷ []) → e < 2 ^ 8 → length st ≡ stack-at p .count
-        → length fs ≡ frames-at p .count → length cs ≡ copy-at p .count
-        → (h .units ≤ units p) × (h .callers < 2 ^ 32) × TraceFits (functions p) (mainPlaces p) (otherPlaces p) (frameIn h) (h .callers) fs
-        (length (backtrace p)) × (2 * m p .stack ≤ length cs) × (2 * m p .stack ≤ length st) × (0 < length fs)
-        → Rule 𝓤 H A W (to-stop h e st fs cs) Stop ResultRow resultVal
-        (λ r zs. (r ≡ faultedWith (m p) (units p) h e) × (zs .1 .1 .1 .1 .1 .1 .1 .1 .1 .1 .0 ≡ written (backtrace p) 0
-        (traceWords (functions p) (mainPlaces p) (otherPlaces p) (frameIn h ∷ callersOf (h .callers) fs))) ×
-        (zs .1 .1 .1 .1 .1 .1 .1 .0 ≡ written st 0 (take (2 * m p .stack) cs)) ×
-        (zs .1 .1 .1 .1 .1 .1 .1 .1 .0 ≡ set fs 0 (root (size (codeWord (functions p) 0)))))
-    call-stop h e st fs cs ish fits len-st len-fs len-cs can =
-        call-with 𝓤 H A W (to-stop h e st fs cs) Stop ResultRow resultVal
-        (λ r zs. (r ≡ faultedWith (m p) (units p) h e) ×
-        (zs .1 .1 .1 .1 .1 .1 .1 .1 .1 .1 .0 ≡ written (backtrace p) 0
-        (traceWords (functions p) (mainPlaces p) (otherPlaces p) (frameIn h ∷ callersOf (h .callers) fs))) ×
-        (zs .1 .1 .1 .1 .1 .1 .1 .0 ≡ written st 0 (take (2 * m p .stack) cs)) ×
-        (zs .1 .1 .1 .1 .1 .1 .1 .1 .0 ≡ set fs 0 (root (size (codeWord (functions p) 0))))) result-tells
-        (λ ns. passing (lent (to-stop h e st fs cs) ns)) (λ ns. refl) (λ ns. asked W (lent (to-stop h e st fs cs) ns) can)
-        (λ ns w. id⊢ 𝓤 _) (
-          vm-makes 𝓤 H A W (m p) _ (p .is .0),
+    call-finish : (u : ℕ) → (g : Going) → (e : ℕ) → (fs : List Frame) → Is u64 u (vint w64 u ∷ []) → Is GoingRow g (goingVal g ∷ []) → e < 2 ^ 8
+        → length fs ≡ frames-at .count → (g .units ≤ u) × (g .callers < 2 ^ 32) × (g .callers < length fs) × Answerable g → Rule 𝓤 H A W
+        (to-finish u g e fs) Finish ResultRow resultVal
+        (λ r zs. (r ≡ settledWith m u g e) × (zs .1 .1 .1 .1 .0 ≡ set fs (g .callers) (frameIn g)))
+    call-finish u g e fs isu isg fits len can =
+        call-with 𝓤 H A W (to-finish u g e fs) Finish ResultRow resultVal
+        (λ r zs. (r ≡ settledWith m u g e) × (zs .1 .1 .1 .1 .0 ≡ set fs (g .callers) (frameIn g))) result-tells
+        (λ ns. passing (lent (to-finish u g e fs) ns)) (λ ns. refl) (λ ns. asked W (lent (to-finish u g e fs) ns) can) (λ ns w. id⊢ 𝓤 _)
+        (vm-makes 𝓤 H A W m _ (is .0), (uint-makes 𝓤 H A W w64 u _ isu, (going-makes 𝓤 H A W g _ isg, (uint-makes 𝓤 H A W w8 e _ (refl, fits), tt))))
+        ((len, frames-room), tt)
+
+    abbrev to-stop : ℕ → Going → ℕ → List ℕ → List Frame → List Arg
+    to-stop u g e st fs =
+        val VmRow m (vmVal m) ∷ val u64 u (vint w64 u) ∷ val GoingRow g (goingVal g) ∷ val u8 e (vint w8 e) ∷ shr u64 functions-at functions
+        ∷ shr u32 mainPlaces-at mainPlaces ∷ shr u32 otherPlaces-at otherPlaces ∷ mut u64 stack-at st ∷ mut R frames-at fs ∷ shr u64 copy-at copy
+        ∷ mut u32 backtrace-at backtrace ∷ []
+
+    call-stop : (u : ℕ) → (g : Going) → (e : ℕ) → (st : List ℕ) → (fs : List Frame) → Is u64 u (vint w64 u ∷ []) → Is GoingRow g (goingVal g ∷ [])
+        → e < 2 ^ 8 → length st ≡ stack-at .count → length fs ≡ frames-at .count → (g .units ≤ u) ×
+        (g .callers < 2 ^ 32) × TraceFits functions mainPlaces otherPlaces (frameIn g) (g .callers) fs (length backtrace) ×
+        (2 * m .run .saved ≤ length copy) × (2 * m .run .saved ≤ length st) × (0 < length fs) → Rule 𝓤 H A W (to-stop u g e st fs) Stop ResultRow resultVal
+        (λ r zs. (r ≡ faultedWith m u g e) × (zs .1 .1 .1 .1 .1 .1 .1 .1 .1 .1 .0 ≡ written backtrace 0 (traceWords functions mainPlaces otherPlaces
+        (frameIn g ∷ callersOf (g .callers) fs))) ×
+        (zs .1 .1 .1 .1 .1 .1 .1 .0 ≡ written st 0 (take (2 * m .run .saved) copy)) × (zs .1 .1 .1 .1 .1 .1 .1 .1 .0 ≡ set fs 0 (root (size
+        (codeWord functions 0)))))
+    call-stop u g e st fs isu isg fits len-st len-fs can =
+        call-with 𝓤 H A W (to-stop u g e st fs) Stop ResultRow resultVal
+        (λ r zs. (r ≡ faultedWith m u g e) × (zs .1 .1 .1 .1 .1 .1 .1 .1 .1 .1 .0 ≡ written backtrace 0 (traceWords functions mainPlaces otherPlaces
+        (frameIn g ∷ callersOf (g .callers) fs))) ×
+        (zs .1 .1 .1 .1 .1 .1 .1 .0 ≡ written st 0 (take (2 * m .run .saved) copy)) × (zs .1 .1 .1 .1 .1 .1 .1 .1 .0 ≡ set fs 0 (root (size
+        (codeWord functions 0))))) result-tells
+        (λ ns. passing (lent (to-stop u g e st fs) ns)) (λ ns. refl) (λ ns. asked W (lent (to-stop u g e st fs) ns) can) (λ ns w. id⊢ 𝓤 _)
+        (vm-makes 𝓤 H A W m _ (is .0), (uint-makes 𝓤 H A W w64 u _ isu, (going-makes 𝓤 H A W g _ isg, (uint-makes 𝓤 H A W w8 e _ (refl, fits), tt)))) (
+          (refl, functions-room),
           (
-            uint-makes 𝓤 H A W w64 (units p) _ (p .is .1 .0),
-            (going-makes 𝓤 H A W h _ ish, (uint-makes 𝓤 H A W w8 e _ (refl, fits), tt)),
-          ),
-        ) (
-          (refl, functions-room p),
-          (
-            (refl, main-places-room p),
+            (refl, mainPlaces-room),
             (
-              (refl, other-places-room p),
-              ((len-st, stack-room p), ((len-fs, frames-room p), ((len-cs, copy-room p), ((refl, backtrace-room p), tt)))),
+              (refl, otherPlaces-room),
+              (
+                (len-st, stack-room),
+                (
+                  (len-fs, frames-room),
+                  ((refl, copy-room), ((refl, backtrace-room), tt)),
+                ),
+              ),
             ),
           ),
         )
 
-    walk : Granted (m p) (stores p) (lent₀ p) → ent 𝓤 (onEntry 𝓤 H A me.signature (lfts (xs₀ p)) (shares (xs₀ p)) (denots (xs₀ p)) (valss (xs₀ p)))
-        (WpFn 𝓤 H (𝓣 .C) (𝓣 .Λ) code.function (values (xs₀ p)) Post)
+    walk : (Granted (continues units) m (programLent structs constants functions text main mainPlaces other otherPlaces)
+        (runLent stack cells frames copy backtrace))
+        → ent 𝓤 (onEntry 𝓤 H A me.signature (lfts (xs stack cells frames backtrace)) (shares (xs stack cells frames backtrace)) (denots
+        (xs stack cells frames backtrace)) (valss (xs stack cells frames backtrace)))
+        (WpFn 𝓤 H (𝓣 .C) (𝓣 .Λ) code.function (values (xs stack cells frames backtrace)) Post)
     walk can =
-        qed W (‵ (Toks (xs₀ p)) ∷ ‵ (Owns (xs₀ p)) ∷ []) ∵ takes ! (xs₀ p) (enters ! (𝓣 .C) (𝓣 .Λ) code.function (values (xs₀ p)) Post (
-          vm-typed 𝓤 H A W (m p) (p .is .0),
+        qed W (‵ (Toks (xs stack cells frames backtrace)) ∷ ‵ (Owns (xs stack cells frames backtrace)) ∷ []) ∵ takes !
+        (xs stack cells frames backtrace) (enters ! (𝓣 .C) (𝓣 .Λ) code.function (values (xs stack cells frames backtrace)) Post (
+          vm-typed 𝓤 H A W m (is .0),
           (
-            (tt, record { fits = (p .is .1 .0) .1 }),
+            (tt, record { fits = (is .1 .0) .1 }),
             (
-              (tt, (tt, (record { fits = constants-room p .0 }, tt))),
+              (tt, (tt, (record { fits = constants-room .0 }, tt))),
               (
-                (tt, (tt, (record { fits = structs-room p .0 }, tt))),
                 (
-                  (tt, (tt, (record { fits = functions-room p .0 }, tt))),
+                  tt,
                   (
-                    (tt, (tt, (record { fits = text-room p .0 }, tt))),
+                    tt,
+                    (record { fits = structs-room .0 }, tt),
+                  ),
+                ),
+                (
+                  (tt, (tt, (record { fits = functions-room .0 }, tt))),
+                  (
                     (
-                      (tt, (tt, (record { fits = main-room p .0 }, tt))),
+                      tt,
                       (
-                        (tt, (tt, (record { fits = main-places-room p .0 }, tt))),
+                        tt,
+                        (record { fits = text-room .0 }, tt),
+                      ),
+                    ),
+                    (
+                      (tt, (tt, (record { fits = main-room .0 }, tt))),
+                      (
                         (
-                          (tt, (tt, (record { fits = other-room p .0 }, tt))),
+                          tt,
                           (
-                            (tt, (tt, (record { fits = other-places-room p .0 }, tt))),
+                            tt,
+                            (record { fits = mainPlaces-room .0 }, tt),
+                          ),
+                        ),
+                        (
+                          (tt, (tt, (record { fits = other-room .0 }, tt))),
+                          (
                             (
-                              (tt, (tt, (record { fits = stack-room p .0 }, tt))),
+                              tt,
                               (
-                                (tt, (tt, (record { fits = cells-room p .0 }, tt))),
+                                tt,
+                                (record { fits = otherPlaces-room .0 }, tt),
+                              ),
+                            ),
+                            (
+                              (tt, (tt, (record { fits = stack-room .0 }, tt))),
+                              (
                                 (
-                                  (tt, (tt, (record { fits = frames-room p .0 }, tt))),
+                                  tt,
                                   (
-                                    (tt, (tt, (record { fits = copy-room p .0 }, tt))),
-                                    ((tt, (tt, (record { fits = backtrace-room p .0 }, tt))), tt),
+                                    tt,
+                                    (record { fits = cells-room .0 }, tt),
+                                  ),
+                                ),
+                                (
+                                  (tt, (tt, (record { fits = frames-room .0 }, tt))),
+                                  (
+                                    (
+                                      tt,
+                                      (
+                                        tt,
+                                        (record { fits = copy-room .0 }, tt),
+                                      ),
+                                    ),
+                                    ((tt, (tt, (record { fits = backtrace-room .0 }, tt))), tt),
                                   ),
                                 ),
                               ),
@@ -285,129 +586,198 @@ module _ {M : Type 1} (𝓤 : URA M) (H : Heap 𝓤) (A : Atoms 𝓤) (W : Given
             ),
           ),
         ) (λ ls.
-        move ! (1 ∷ []) $ picks ! (false ∷ false ∷ false ∷ false ∷ true ∷ []) (slices₀ p)
-        (bytes-known ! tt (main-at p) (main p) [] (λ mb. unpicks ! (false ∷ false ∷ false ∷ false ∷ true ∷ []) (slices₀ p)
-        (picks ! (false ∷ false ∷ false ∷ false ∷ false ∷ false ∷ true ∷ []) (slices₀ p)
-        (bytes-known ! tt (other-at p) (other p) [] (λ ob. unpicks ! (false ∷ false ∷ false ∷ false ∷ false ∷ false ∷ true ∷ []) (slices₀ p)
+        move ! (1 ∷ []) $ picks ! (false ∷ false ∷ false ∷ false ∷ true ∷ []) (slices stack cells frames backtrace)
+        (bytes-known ! tt main-at main [] (λ mb. unpicks ! (false ∷ false ∷ false ∷ false ∷ true ∷ []) (slices stack cells frames backtrace)
+        (picks ! (false ∷ false ∷ false ∷ false ∷ false ∷ false ∷ true ∷ []) (slices stack cells frames backtrace)
+        (bytes-known ! tt other-at other [] (λ ob. unpicks ! (false ∷ false ∷ false ∷ false ∷ false ∷ false ∷ true ∷ []) (slices stack cells frames backtrace)
         (move ! (1 ∷ []) $
-        sets ! (of-opd ! (of ! refl)) (tt, record { fits = stack-room p .0 }) $ sets ! (of-opd ! (of ! refl)) (tt, record { fits = frames-room p .0 }) $
-        calls-on ! [] (slices₀ p) (call-bounds) (λ zs. slices₀ p) refl (λ zs. refl) (λ zs. refl) fm known-bounds refl (λ k zs ek lens isk. lands-in ! (fixed-typed 𝓤 H A W k isk) $
-        sets ! (addr ! (behind ! refl refl)) (tt, tt) $ sets ! (agg ! (ofs ! refl)) (tt, (tt, (record { fits = stack-room p .0 }, tt))) $
-        sets ! (addr ! (behind ! refl refl)) (tt, tt) $ sets ! (agg ! (ofs ! refl)) (tt, (tt, (record { fits = frames-room p .0 }, tt))) $
-        sets ! (addr ! (behind ! refl refl)) (tt, tt) $ sets ! (agg ! (ofs ! refl)) (tt, (tt, (record { fits = copy-room p .0 }, tt))) $
-        calls-on ! (false ∷ false ∷ false ∷ false ∷ false ∷ false ∷ false ∷ false ∷ true ∷ false ∷ true ∷ true ∷ []) (slices₀ p)
-        (call-start (copyable .0, copyable .1, current)) (λ zs. slices p (stack p) (cells p) (frames p) (zs .1 .1 .1 .1 .0) (backtrace p)) refl (λ zs. refl)
-        (λ zs. refl) fm known-start refl (λ g zs₁ eg lens₁ isg. lands-in ! (going-typed 𝓤 H A W g isg) $
-        calls-on ! [] (slices p (stack p) (cells p) (frames p) (zs₁ .1 .1 .1 .1 .0) (backtrace p)) (call-taken)
-        (λ zs. slices p (stack p) (cells p) (frames p) (zs₁ .1 .1 .1 .1 .0) (backtrace p)) refl (λ zs. refl) (λ zs. refl) fm known-taken refl
-        (λ n zs₂ en lens₂ isn. lands-in ! (tt, record { fits = isn .1 }) $
-        sets ! (addr ! (behind ! refl refl)) (tt, tt) $ sets ! (agg ! (ofs ! refl)) (tt, (tt, (record { fits = stack-room p .0 }, tt))) $
-        sets ! (addr ! (behind ! refl refl)) (tt, tt) $ sets ! (agg ! (ofs ! refl)) (tt, (tt, (record { fits = cells-room p .0 }, tt))) $
-        sets ! (addr ! (behind ! refl refl)) (tt, tt) $ sets ! (agg ! (ofs ! refl)) (tt, (tt, (record { fits = frames-room p .0 }, tt))) $
+        sets ! (of-opd ! (of ! refl)) (tt, record { fits = stack-room .0 }) $
+        sets ! (of-opd ! (of ! refl)) (tt, record { fits = frames-room .0 }) $
+        calls-on ! [] (slices stack cells frames backtrace) call-bounds (λ zs. (slices stack cells frames backtrace)) refl (λ zs. refl) (λ zs. refl)
+        fm known-bounds refl
+        (λ k zs ek lens isk. lands-in ! (fixed-typed 𝓤 H A W k isk) $
+        sets ! (addr ! (behind ! refl refl)) (tt, tt) $ sets ! (agg ! (ofs ! refl)) (tt, (tt, (record { fits = frames-room .0 }, tt))) $
+        calls-on ! (false ∷ false ∷ false ∷ false ∷ false ∷ false ∷ false ∷ false ∷ false ∷ false ∷ true ∷ []) (slices stack cells frames backtrace)
+        (call-current (unfold runLent in lengths-of m stores lent₀ (can .order) .current))
+        (λ zs. (slices stack cells frames backtrace)) refl (λ zs. refl) (λ zs. refl) fm known-current refl (λ f zs₁ ef lens₁ isf. lands-in !
+        (frame-typed 𝓤 H A W f isf) $
+        calls-on ! [] (slices stack cells frames backtrace) (call-resumed f isf (
+          under-of m stores lent₀ (can .order)
+              (can .fits .0) .spent,
+          can .fits .1 .1,
+        )) (λ zs. (slices stack cells frames backtrace)) refl (λ zs. refl) (λ zs. refl) fm known-resumed refl
+        (λ g zs₂ eg lens₂ isg. lands-in ! (going-typed 𝓤 H A W g isg) $
+        calls-on ! [] (slices stack cells frames backtrace) (call-allotted (can .fits .1 .1)) (λ zs. (slices stack cells frames backtrace)) refl
+        (λ zs. refl) (λ zs. refl) fm known-allotted refl
+        (λ u zs₃ eu lens₃ isu. lands-in ! (tt, record { fits = isu .1 }) $
+        calls-on ! [] (slices stack cells frames backtrace) call-taken (λ zs. (slices stack cells frames backtrace)) refl (λ zs. refl) (λ zs. refl)
+        fm known-taken refl
+        (λ n zs₄ en lens₄ isn. lands-in ! (tt, record { fits = isn .1 }) $
+        sets ! (addr ! (behind ! refl refl)) (tt, tt) $ sets ! (agg ! (ofs ! refl)) (tt, (tt, (record { fits = stack-room .0 }, tt))) $
+        sets ! (addr ! (behind ! refl refl)) (tt, tt) $ sets ! (agg ! (ofs ! refl)) (tt, (tt, (record { fits = cells-room .0 }, tt))) $
+        sets ! (addr ! (behind ! refl refl)) (tt, tt) $ sets ! (agg ! (ofs ! refl)) (tt, (tt, (record { fits = frames-room .0 }, tt))) $
         calls-on ! (true ∷ false ∷ true ∷ true ∷ true ∷ false ∷ true ∷ false ∷ true ∷ true ∷ true ∷ [])
-        (slices p (stack p) (cells p) (frames p) (zs₁ .1 .1 .1 .1 .0) (backtrace p))
-        (call-turns k g n isk isg (isn .1) (worldOf (m p) (stores p) (lent₀ p), under-at k g n mb ob ek (eg .0) en))
-        (λ zs. slices p (zs .1 .1 .1 .1 .1 .1 .1 .1 .0) (zs .1 .1 .1 .1 .1 .1 .1 .1 .1 .0) (zs .1 .1 .1 .1 .1 .1 .1 .1 .1 .1 .0) (zs₁ .1 .1 .1 .1 .0)
-        (backtrace p)) refl (λ zs. refl) (λ zs. refl) fm known-turns refl (λ c zs₃ ec lens₃ isc. lands-in ! (course-typed 𝓤 H A W c isc) $
-        sets ! (of-opd ! (of ! refl)) (going-typed 𝓤 H A W (c .going) (course-going c isc)) $ sets ! (of-opd ! (of ! refl)) (tt, record { fits = course-fault c isc }) $
-        sets ! (bin ! (of ! refl) (of ! refl) tt) (tt, tt) $ returns-if ! 𝓣 (of ! refl)
-        (λ on. sets ! (addr ! (behind ! refl refl)) (tt, tt) $ sets ! (agg ! (ofs ! refl)) (tt, (tt, (record { fits = frames-room p .0 }, tt))) $
+        (slices stack cells frames backtrace) (call-turns k g n isk isg (isn .1) (worldOf m stores lent₀, under-at k f g n mb ob ek ef eg en))
+        (λ zs. slices (zs .1 .1 .1 .1 .1 .1 .1 .1 .0) (zs .1 .1 .1 .1 .1 .1 .1 .1 .1 .0) (zs .1 .1 .1 .1 .1 .1 .1 .1 .1 .1 .0) backtrace) refl
+        (λ zs. refl) (λ zs. refl) fm known-turns refl
+        (λ c zs₅ ec lens₅ isc. lands-in ! (course-typed 𝓤 H A W c isc) $
+        sets ! (of-opd ! (of ! refl)) (going-typed 𝓤 H A W (c .going) (course-going c isc)) $ sets ! (of-opd ! (of ! refl))
+        (tt, record { fits = course-fault c isc }) $
+        calls-on ! [] (slices (zs₅ .1 .1 .1 .1 .1 .1 .1 .1 .0) (zs₅ .1 .1 .1 .1 .1 .1 .1 .1 .1 .0) (zs₅ .1 .1 .1 .1 .1 .1 .1 .1 .1 .1 .0) backtrace)
+        (call-fine (c .fault) (course-fault c isc)) (λ zs. (slices (zs₅ .1 .1 .1 .1 .1 .1 .1 .1 .0) (zs₅ .1 .1 .1 .1 .1 .1 .1 .1 .1 .0)
+        (zs₅ .1 .1 .1 .1 .1 .1 .1 .1 .1 .1 .0) backtrace)) refl (λ zs. refl) (λ zs. refl) fm known-fine refl
+        (λ y zs₆ ey lens₆ isy. lands-in ! (tt, tt) $
+        sets ! (of-opd ! (of ! refl)) (tt, tt) $ returns-if ! 𝓣 (of ! refl)
+        (λ on.
+        sets ! (addr ! (behind ! refl refl)) (tt, tt) $ sets ! (agg ! (ofs ! refl)) (tt, (tt, (record { fits = frames-room .0 }, tt))) $
         calls-on ! (false ∷ false ∷ false ∷ false ∷ false ∷ false ∷ false ∷ false ∷ false ∷ false ∷ true ∷ [])
-        (slices p (zs₃ .1 .1 .1 .1 .1 .1 .1 .1 .0) (zs₃ .1 .1 .1 .1 .1 .1 .1 .1 .1 .0) (zs₃ .1 .1 .1 .1 .1 .1 .1 .1 .1 .1 .0) (zs₁ .1 .1 .1 .1 .0)
-        (backtrace p)) (call-finish (c .going) (zs₃ .1 .1 .1 .1 .1 .1 .1 .1 .1 .1 .0) (course-going c isc) (lens₃ .1 .1 .0)
-        (finishes (zs₃ .1 .1 .1 .1 .1 .1 .1 .1 .0) (zs₃ .1 .1 .1 .1 .1 .1 .1 .1 .1 .0) (zs₃ .1 .1 .1 .1 .1 .1 .1 .1 .1 .1 .0)
-        (came-at k g n c (zs₃ .1 .1 .1 .1 .1 .1 .1 .1 .0) (zs₃ .1 .1 .1 .1 .1 .1 .1 .1 .1 .0) (zs₃ .1 .1 .1 .1 .1 .1 .1 .1 .1 .1 .0) mb ob ek (eg .0) en ec
-        (lens₃ .0) (lens₃ .1 .0) (lens₃ .1 .1 .0)))) (λ zs. slices p (zs₃ .1 .1 .1 .1 .1 .1 .1 .1 .0) (zs₃ .1 .1 .1 .1 .1 .1 .1 .1 .1 .0) (zs .1 .1 .1 .0)
-        (zs₁ .1 .1 .1 .1 .0) (backtrace p)) refl (λ zs. refl) (λ zs. refl) fm known-finish refl
-        (λ r zs₄ er lens₄ isr. lands-in ! (result-typed 𝓤 H A W r isr) $
+        (slices (zs₅ .1 .1 .1 .1 .1 .1 .1 .1 .0) (zs₅ .1 .1 .1 .1 .1 .1 .1 .1 .1 .0) (zs₅ .1 .1 .1 .1 .1 .1 .1 .1 .1 .1 .0) backtrace) (call-finish u
+        (c .going) (c .fault) (zs₅ .1 .1 .1 .1 .1 .1 .1 .1 .1 .1 .0) isu (course-going c isc) (course-fault c isc) (lens₅ .1 .1 .0)
+        (finishes u (came-at k f g n c (zs₅ .1 .1 .1 .1 .1 .1 .1 .1 .0) (zs₅ .1 .1 .1 .1 .1 .1 .1 .1 .1 .0)
+        (zs₅ .1 .1 .1 .1 .1 .1 .1 .1 .1 .1 .0) mb ob ek ef eg en ec (lens₅ .0) (lens₅ .1 .0) (lens₅ .1 .1 .0)) eu)) (λ zs. slices
+        (zs₅ .1 .1 .1 .1 .1 .1 .1 .1 .0) (zs₅ .1 .1 .1 .1 .1 .1 .1 .1 .1 .0) (zs .1 .1 .1 .1 .0) backtrace) refl (λ zs. refl) (λ zs. refl) fm known-finish refl
+        (λ r zs₇ er lens₇ isr. lands-in ! (result-typed 𝓤 H A W r isr) $
         sets ! (of-opd ! (of ! refl)) (result-typed 𝓤 H A W r isr) $ leaves ! refl $
-        by ! (exits r (zs₃ .1 .1 .1 .1 .1 .1 .1 .1 .0) (zs₃ .1 .1 .1 .1 .1 .1 .1 .1 .1 .0) (zs₄ .1 .1 .1 .0) (zs₁ .1 .1 .1 .1 .0) (backtrace p) isr
-        (lens₃ .0) (lens₃ .1 .0) (lens₄ .0) (lens₁ .0) refl
-        (ended p (came-at k g n c (zs₃ .1 .1 .1 .1 .1 .1 .1 .1 .0) (zs₃ .1 .1 .1 .1 .1 .1 .1 .1 .1 .0) (zs₃ .1 .1 .1 .1 .1 .1 .1 .1 .1 .1 .0) mb ob ek
-        (eg .0) en ec (lens₃ .0) (lens₃ .1 .0) (lens₃ .1 .1 .0)) (eg .1) (is-zero (c .fault) on) (er .1) (er .0)))))
-        (λ off. sets ! (addr ! (behind ! refl refl)) (tt, tt) $ sets ! (agg ! (ofs ! refl)) (tt, (tt, (record { fits = stack-room p .0 }, tt))) $
-        sets ! (addr ! (behind ! refl refl)) (tt, tt) $ sets ! (agg ! (ofs ! refl)) (tt, (tt, (record { fits = frames-room p .0 }, tt))) $
-        sets ! (addr ! (behind ! refl refl)) (tt, tt) $ sets ! (agg ! (ofs ! refl)) (tt, (tt, (record { fits = copy-room p .0 }, tt))) $
-        sets ! (addr ! (behind ! refl refl)) (tt, tt) $ sets ! (agg ! (ofs ! refl)) (tt, (tt, (record { fits = backtrace-room p .0 }, tt))) $
+        by ! (exits r (zs₅ .1 .1 .1 .1 .1 .1 .1 .1 .0) (zs₅ .1 .1 .1 .1 .1 .1 .1 .1 .1 .0) (zs₇ .1 .1 .1 .1 .0) backtrace isr (lens₅ .0) (lens₅ .1 .0)
+        (lens₇ .0) refl
+        (settles r u (zs₇ .1 .1 .1 .1 .0) (came-at k f g n c (zs₅ .1 .1 .1 .1 .1 .1 .1 .1 .0) (zs₅ .1 .1 .1 .1 .1 .1 .1 .1 .1 .0)
+        (zs₅ .1 .1 .1 .1 .1 .1 .1 .1 .1 .1 .0) mb ob ek ef eg en ec (lens₅ .0) (lens₅ .1 .0) (lens₅ .1 .1 .0)) eu (sym ey ∙ is-true y on) (er .0) (er .1)))))
+        (λ off.
+        sets ! (addr ! (behind ! refl refl)) (tt, tt) $ sets ! (agg ! (ofs ! refl)) (tt, (tt, (record { fits = stack-room .0 }, tt))) $
+        sets ! (addr ! (behind ! refl refl)) (tt, tt) $ sets ! (agg ! (ofs ! refl)) (tt, (tt, (record { fits = frames-room .0 }, tt))) $
+        sets ! (addr ! (behind ! refl refl)) (tt, tt) $ sets ! (agg ! (ofs ! refl)) (tt, (tt, (record { fits = backtrace-room .0 }, tt))) $
         calls-on ! (false ∷ false ∷ true ∷ false ∷ false ∷ true ∷ false ∷ true ∷ true ∷ false ∷ true ∷ true ∷ true ∷ [])
-        (slices p (zs₃ .1 .1 .1 .1 .1 .1 .1 .1 .0) (zs₃ .1 .1 .1 .1 .1 .1 .1 .1 .1 .0) (zs₃ .1 .1 .1 .1 .1 .1 .1 .1 .1 .1 .0) (zs₁ .1 .1 .1 .1 .0)
-        (backtrace p)) (call-stop (c .going) (c .fault) (zs₃ .1 .1 .1 .1 .1 .1 .1 .1 .0) (zs₃ .1 .1 .1 .1 .1 .1 .1 .1 .1 .1 .0) (zs₁ .1 .1 .1 .1 .0)
-        (course-going c isc) (course-fault c isc) (lens₃ .0) (lens₃ .1 .1 .0) (lens₁ .0)
-        (stops (zs₃ .1 .1 .1 .1 .1 .1 .1 .1 .0) (zs₃ .1 .1 .1 .1 .1 .1 .1 .1 .1 .0) (zs₃ .1 .1 .1 .1 .1 .1 .1 .1 .1 .1 .0) (zs₁ .1 .1 .1 .1 .0)
-        (came-at k g n c (zs₃ .1 .1 .1 .1 .1 .1 .1 .1 .0) (zs₃ .1 .1 .1 .1 .1 .1 .1 .1 .1 .0) (zs₃ .1 .1 .1 .1 .1 .1 .1 .1 .1 .1 .0) mb ob ek (eg .0) en ec
-        (lens₃ .0) (lens₃ .1 .0) (lens₃ .1 .1 .0)) (eg .1) (not-zero (c .fault) off)))
-        (λ zs. slices p (zs .1 .1 .1 .1 .1 .1 .1 .0) (zs₃ .1 .1 .1 .1 .1 .1 .1 .1 .1 .0) (zs .1 .1 .1 .1 .1 .1 .1 .1 .0) (zs₁ .1 .1 .1 .1 .0)
+        (slices (zs₅ .1 .1 .1 .1 .1 .1 .1 .1 .0) (zs₅ .1 .1 .1 .1 .1 .1 .1 .1 .1 .0) (zs₅ .1 .1 .1 .1 .1 .1 .1 .1 .1 .1 .0) backtrace)
+        (call-stop u (c .going) (c .fault) (zs₅ .1 .1 .1 .1 .1 .1 .1 .1 .0) (zs₅ .1 .1 .1 .1 .1 .1 .1 .1 .1 .1 .0) isu (course-going c isc)
+        (course-fault c isc) (lens₅ .0) (lens₅ .1 .1 .0)
+        (stoppable u (came-at k f g n c (zs₅ .1 .1 .1 .1 .1 .1 .1 .1 .0) (zs₅ .1 .1 .1 .1 .1 .1 .1 .1 .1 .0)
+        (zs₅ .1 .1 .1 .1 .1 .1 .1 .1 .1 .1 .0) mb ob ek ef eg en ec (lens₅ .0) (lens₅ .1 .0) (lens₅ .1 .1 .0)) eu (sym ey ∙ is-false y off)))
+        (λ zs. slices (zs .1 .1 .1 .1 .1 .1 .1 .0) (zs₅ .1 .1 .1 .1 .1 .1 .1 .1 .1 .0) (zs .1 .1 .1 .1 .1 .1 .1 .1 .0)
         (zs .1 .1 .1 .1 .1 .1 .1 .1 .1 .1 .0)) refl (λ zs. refl) (λ zs. refl) fm known-stop refl
-        (λ r zs₄ er lens₄ isr. lands-in ! (result-typed 𝓤 H A W r isr) $
+        (λ r zs₇ er lens₇ isr. lands-in ! (result-typed 𝓤 H A W r isr) $
         sets ! (of-opd ! (of ! refl)) (result-typed 𝓤 H A W r isr) $ leaves ! refl $
-        by ! (exits r (zs₄ .1 .1 .1 .1 .1 .1 .1 .0) (zs₃ .1 .1 .1 .1 .1 .1 .1 .1 .1 .0) (zs₄ .1 .1 .1 .1 .1 .1 .1 .1 .0) (zs₁ .1 .1 .1 .1 .0)
-        (zs₄ .1 .1 .1 .1 .1 .1 .1 .1 .1 .1 .0) isr (lens₄ .0) (lens₃ .1 .0) (lens₄ .1 .0) (lens₁ .0) (lens₄ .1 .1 .0)
-        (faulted p (came-at k g n c (zs₃ .1 .1 .1 .1 .1 .1 .1 .1 .0) (zs₃ .1 .1 .1 .1 .1 .1 .1 .1 .1 .0) (zs₃ .1 .1 .1 .1 .1 .1 .1 .1 .1 .1 .0) mb ob ek
-        (eg .0) en ec (lens₃ .0) (lens₃ .1 .0) (lens₃ .1 .1 .0)) (eg .1) (not-zero (c .fault) off) (er .1) (er .2) (er .3) (er .0)))))))))))))))))
+        by ! (exits r (zs₇ .1 .1 .1 .1 .1 .1 .1 .0) (zs₅ .1 .1 .1 .1 .1 .1 .1 .1 .1 .0) (zs₇ .1 .1 .1 .1 .1 .1 .1 .1 .0)
+        (zs₇ .1 .1 .1 .1 .1 .1 .1 .1 .1 .1 .0) isr (lens₇ .0) (lens₅ .1 .0) (lens₇ .1 .0) (lens₇ .1 .1 .0)
+        (stopped r u (zs₇ .1 .1 .1 .1 .1 .1 .1 .0) (zs₇ .1 .1 .1 .1 .1 .1 .1 .1 .0) (zs₇ .1 .1 .1 .1 .1 .1 .1 .1 .1 .1 .0) (came-at k f g n c
+        (zs₅ .1 .1 .1 .1 .1 .1 .1 .1 .0) (zs₅ .1 .1 .1 .1 .1 .1 .1 .1 .1 .0) (zs₅ .1 .1 .1 .1 .1 .1 .1 .1 .1 .1 .0) mb ob ek ef eg en ec (lens₅ .0)
+        (lens₅ .1 .0) (lens₅ .1 .1 .0)) eu (sym ey ∙ is-false y off) (er .0) (er .1) (er .2) (er .3))))))))))))))))))))
       where
         fm : FmC 𝓤 H (W .laws) (𝓣 .C)
         fm = fmOf 𝓤 H (W .laws) 𝓣
 
-        copyable : (2 * m p .stack ≤ length (stack p)) × (2 * m p .stack ≤ length (copy p))
-        copyable = copy-ready p can
+        stores : Stores
+        stores = (programLent structs constants functions text main mainPlaces other otherPlaces)
 
-        current : m p .frames - 1 < length (frames p)
-        current = current-ready p can
+        lent₀ : Lent
+        lent₀ = (runLent stack cells frames copy backtrace)
 
-        begins-at : (k : Fixed) (g : Going) → ((j : ℕ) → j < length (main p) → getD (main p) j 0 < 256)
-            → ((j : ℕ) → j < length (other p) → getD (other p) j 0 < 256) → FixedPost (m p) (stack-at p .count) (frames-at p .count) k
-            → Begun (m p) (getD (frames p) (m p .frames - 1) noFrame) (units p) g → Begins (m p) (stores p) (lent₀ p) (units p) k g
-        begins-at k g mb ob ek eg =
-            begins p can k g mb ob ((p .is .1 .0) .1) (ek .constants) (ek .structs) (ek .functions) (ek .slots (stack p) refl)
-            (ek .frames (frames p) refl) eg
+        -- the loop may begin
+        begins-at : (k : Fixed) (f : Frame) (g : Going) → ((j : ℕ) → j < length main → getD main j 0 < 256) → ((j : ℕ) → j < length other
+            → getD other j 0 < 256)
+            → FixedPost m (stack-at .count) (frames-at .count) k → f ≡ getD frames (m .frames - 1) noFrame → Begun m f
+            (m .run .given - m .run .spent + units) g → Begins m stores lent₀ units k g
+        begins-at k f g mb ob ek ef eg = unfold programLent runLent in record {
+          granted = can;
+          bytes = record { main = mb; other = ob };
+          fixed = record {
+            constants = ek .constants;
+            structs = ek .structs;
+            functions = ek .functions;
+            slots = ek .slots stack refl;
+            frames = ek .frames frames refl;
+          };
+          begun = subst (λ (x : Frame). Begun m x (m .run .given - m .run .spent + units) g) ef eg;
+        }
 
-        under-at : (k : Fixed) (g : Going) (n : ℕ) → ((j : ℕ) → j < length (main p) → getD (main p) j 0 < 256)
-            → ((j : ℕ) → j < length (other p) → getD (other p) j 0 < 256) → FixedPost (m p) (stack-at p .count) (frames-at p .count) k
-            → Begun (m p) (getD (frames p) (m p .frames - 1) noFrame) (units p) g → n ≡ m p .program .text
-            → Under (worldOf (m p) (stores p) (lent₀ p)) k g n (constants p) (functions p) (text p) (main p) (other p) (stack p) (cells p) (frames p)
-        under-at k g n mb ob ek eg en =
-            subst
-            (λ (j : ℕ). Under (worldOf (m p) (stores p) (lent₀ p)) k g j (constants p) (functions p) (text p) (main p) (other p)
-            (stack p) (cells p) (frames p)) (sym en) (under p (begins-at k g mb ob ek eg))
+        under-at : (k : Fixed) (f : Frame) (g : Going) (n : ℕ) → ((j : ℕ) → j < length main → getD main j 0 < 256) → ((j : ℕ) → j < length other
+            → getD other j 0 < 256)
+            → FixedPost m (stack-at .count) (frames-at .count) k → f ≡ getD frames (m .frames - 1) noFrame → Begun m f
+            (m .run .given - m .run .spent + units) g → n ≡ m .program .text → Under
+            (worldOf m stores lent₀) k g n constants functions text main other stack cells frames
+        under-at k f g n mb ob ek ef eg en =
+            rw en (unfold programLent runLent in run-under m stores lent₀ units k g (begins-at k f g mb ob ek ef eg))
 
-        came-at : (k : Fixed) (g : Going) (n : ℕ) (c : Course) (st cs : List ℕ) (fs : List Frame) → ((j : ℕ) → j < length (main p) → getD (main p) j 0 < 256)
-            → ((j : ℕ) → j < length (other p) → getD (other p) j 0 < 256) → FixedPost (m p) (stack-at p .count) (frames-at p .count) k
-            → Begun (m p) (getD (frames p) (m p .frames - 1) noFrame) (units p) g → n ≡ m p .program .text
-            → ((w : World) → Under w k g n (constants p) (functions p) (text p) (main p) (other p) (stack p) (cells p) (frames p)
-            → TurnsPost w k g (stack p) (cells p) (frames p) c st cs fs) → length st ≡ stack-at p .count → length cs ≡ cells-at p .count
-            → length fs ≡ frames-at p .count → Came (m p) (stores p) (lent₀ p) (units p) k g c st cs fs
-        came-at k g n c st cs fs mb ob ek eg en ec ls lc lf =
-            came p (begins-at k g mb ob ek eg) (ec (worldOf (m p) (stores p) (lent₀ p)) (under-at k g n mb ob ek eg en)) ls lc lf
+        -- it has ended
+        came-at : (k : Fixed) (f : Frame) (g : Going) (n : ℕ) (c : Course) (st cs : List ℕ) (fs : List Frame) → ((j : ℕ) → j < length main
+            → getD main j 0 < 256) → ((j : ℕ) → j < length other → getD other j 0 < 256)
+            → FixedPost m (stack-at .count) (frames-at .count) k → f ≡ getD frames (m .frames - 1) noFrame → Begun m f
+            (m .run .given - m .run .spent + units) g → n ≡ m .program .text
+            → ((w : World) → Under w k g n constants functions text main other stack cells frames → TurnsPost w k g stack cells frames c st cs fs)
+            → length st ≡ stack-at .count → length cs ≡ cells-at .count → length fs ≡ frames-at .count → Came m stores lent₀ units k g c st cs fs
+        came-at k f g n c st cs fs mb ob ek ef eg en ec ls lc lf = unfold runLent in record {
+          begins = begins-at k f g mb ob ek ef eg;
+          turns = ec (worldOf m stores lent₀) (under-at k f g n mb ob ek ef eg en);
+          stackRoom = ls;
+          cellRoom = lc;
+          framesRoom = lf;
+        }
 
-        finishes : {k : Fixed} {g : Going} {c : Course} (st cs : List ℕ) (fs : List Frame) → Came (m p) (stores p) (lent₀ p) (units p) k g c st cs fs
-            → (c .going .units ≤ units p) × (c .going .callers < 2 ^ 32) × (c .going .callers < length fs)
-        finishes st cs fs h = (units-ready p h, callers-ready p h, frame-ready p h)
+        -- no fault has stopped the run
+        finishes : {k : Fixed} {g : Going} {c : Course} {st cs : List ℕ} {fs : List Frame} (u : ℕ) → Came m stores lent₀ units k g c st cs fs
+            → u ≡ m .run .given + units
+            → (c .going .units ≤ u) × (c .going .callers < 2 ^ 32) × (c .going .callers < length fs) × Answerable (c .going)
+        finishes {k} {g} {c} {st} {cs} {fs} u h eu =
+            rw eu (
+              se.units-left m stores lent₀ units k g c st cs fs h,
+              se.callers-small m stores lent₀ units k g c st cs fs h,
+              se.callers-there m stores lent₀ units k g c st cs fs h,
+              se.answerable m stores lent₀ units k g c st cs fs h,
+            )
 
-        stops : {k : Fixed} {g : Going} {c : Course} (st cs : List ℕ) (fs : List Frame) (copy′ : List ℕ)
-            → Came (m p) (stores p) (lent₀ p) (units p) k g c st cs fs → copy′ ≡ written (copy p) 0 (take (2 * m p .stack) (stack p)) → (c .fault ≡ 0 → ⊥)
-            → (c .going .units ≤ units p) × (c .going .callers < 2 ^ 32) × TraceFits (functions p) (mainPlaces p) (otherPlaces p) (frameIn (c .going))
-            (c .going .callers) fs (length (backtrace p)) × (2 * m p .stack ≤ length copy′) × (2 * m p .stack ≤ length st) × (0 < length fs)
-        stops st cs fs copy′ h copied bad =
-            let back = back-ready p h copied in
-            (units-ready p h, callers-ready p h, trace-ready p h bad, back .0, back .1, omega (arith, frame-ready p h))
+        settles : {k : Fixed} {g : Going} {c : Course} {st cs : List ℕ} {fs : List Frame} (r : RunResult) (u : ℕ) (frames′ : List Frame)
+            → Came m stores lent₀ units k g c st cs fs → u ≡ m .run .given + units
+            → (eqb (c .fault) 0 || eqb (c .fault) 13) ≡ true → r ≡ settledWith m u (c .going) (c .fault) → frames′ ≡ set fs (c .going .callers)
+            (frameIn (c .going))
+            → RunPost (continues units) m stores lent₀ r (runLent st cs frames′ copy backtrace)
+        settles {k} {g} {c} {st} {cs} {fs} r u frames′ h eu fine er ef = rw (er, eu, ef)
+            (unfold runLent in se.run-settled m stores lent₀ units k g c st cs fs h fine)
+
+        -- one has
+        stoppable : {k : Fixed} {g : Going} {c : Course} {st cs : List ℕ} {fs : List Frame} (u : ℕ) → Came m stores lent₀ units k g c st cs fs
+            → u ≡ m .run .given + units → (eqb (c .fault) 0 || eqb (c .fault) 13) ≡ false
+            → (c .going .units ≤ u) × (c .going .callers < 2 ^ 32) × TraceFits functions mainPlaces otherPlaces (frameIn (c .going))
+            (c .going .callers) fs (length backtrace) × (2 * m .run .saved ≤ length copy) × (2 * m .run .saved ≤ length st) × (0 < length fs)
+        stoppable {k} {g} {c} {st} {cs} {fs} u h eu bad =
+            let x = se.stops m stores lent₀ units k g c st cs fs h bad in
+            rw eu (unfold runLent programLent in (
+              se.units-left m stores lent₀ units k g c st cs fs h,
+              se.callers-small m stores lent₀ units k g c st cs fs h,
+              trace-ready (continues units) m stores lent₀ (m .run .given + units) (c .going) (c .fault) st cs fs x,
+              x .saved .copy,
+              stack-there (continues units) m stores lent₀ (m .run .given + units) (c .going) (c .fault) st cs fs x,
+              frame-there (continues units) m stores lent₀ (m .run .given + units) (c .going) (c .fault) st cs fs x,
+            ))
+
+        stopped : {k : Fixed} {g : Going} {c : Course} {st cs : List ℕ} {fs : List Frame} (r : RunResult) (u : ℕ) (stack′ : List ℕ)
+            (frames′ : List Frame) (backtrace′ : List ℕ) → Came m stores lent₀ units k g c st cs fs → u ≡ m .run .given + units
+            → (eqb (c .fault) 0 || eqb (c .fault) 13) ≡ false → r ≡ faultedWith m u (c .going) (c .fault)
+            → backtrace′ ≡ written backtrace 0 (traceWords functions mainPlaces otherPlaces (frameIn (c .going) ∷ callersOf (c .going .callers) fs))
+            → stack′ ≡ written st 0 (take (2 * m .run .saved) copy) → frames′ ≡ set fs 0 (root (size (codeWord functions 0)))
+            → RunPost (continues units) m stores lent₀ r (runLent stack′ cs frames′ copy backtrace′)
+        stopped {k} {g} {c} {st} {cs} {fs} r u stack′ frames′ backtrace′ h eu bad er et es ef =
+            rw (er, eu, et, es, ef)
+            (unfold runLent programLent in run-stopped (continues units) m stores lent₀ (m .run .given + units) (c .going) (c .fault) st cs fs
+            (se.stops m stores lent₀ units k g c st cs fs h bad))
 
 pub go-spec : {M : Type 1} → stated.statement M
 unfolding code.routine tablesOf
 go-spec 𝓤 H 𝓜 𝓖 𝓡 =
     let W : Given 𝓤 H (𝓖 .A) = givenOf 𝓤 H 𝓜 𝓖 in
     closed kinds ResultRow 𝓤 H 𝓜 𝓖 𝓡 code.env #me code.function (code.unfolded 𝓤 H 𝓜 𝓡) (me.clauses 𝓤 H (𝓖 .A) (𝓜 .mem) (𝓡 .run))
-    (λ κs qs a g is. needs 𝓤 (let p : Passing = record { κs = κs; qs = qs; a = a; is = is } in Granted (m p) (stores p) (lent₀ p))
-    _
+    (λ κs qs a g is. needs 𝓤
+    (Granted (continues (a .1 .0)) (a .0) (programLent (now (a .1 .1 .1 .0)) (now (a .1 .1 .0)) (now (a .1 .1 .1 .1 .0)) (now (a .1 .1 .1 .1 .1 .0))
+    (now (a .1 .1 .1 .1 .1 .1 .0)) (now (a .1 .1 .1 .1 .1 .1 .1 .0)) (now (a .1 .1 .1 .1 .1 .1 .1 .1 .0)) (now (a .1 .1 .1 .1 .1 .1 .1 .1 .1 .0)))
+    (runLent (now (a .1 .1 .1 .1 .1 .1 .1 .1 .1 .1 .0)) (now (a .1 .1 .1 .1 .1 .1 .1 .1 .1 .1 .1 .0)) (now
+    (a .1 .1 .1 .1 .1 .1 .1 .1 .1 .1 .1 .1 .0)) (now (a .1 .1 .1 .1 .1 .1 .1 .1 .1 .1 .1 .1 .1 .0)) (now
+    (a .1 .1 .1 .1 .1 .1 .1 .1 .1 .1 .1 .1 .1 .1 .0)))) _
     (walk 𝓤 H (𝓖 .A) W (𝓜 .mem) (𝓡 .run) (tablesOf 𝓤 H 𝓜 (tables 𝓤 H 𝓜 𝓡 code.env))
-    (cited 𝓤 H (Bounds 𝓤 H (𝓖 .A) W (𝓜 .mem) (𝓡 .run)) 𝓜 𝓡 code.env #bounds bounds-def.routine code.calls-run-ends·fixed
-    (bounds-thm.met 𝓤 H 𝓜 𝓖 𝓡))
-    (cited 𝓤 H (Start 𝓤 H (𝓖 .A) W (𝓜 .mem) (𝓡 .run)) 𝓜 𝓡 code.env #start start-def.routine code.calls-machine·running·start
-    (start-thm.met 𝓤 H 𝓜 𝓖 𝓡))
-    (cited 𝓤 H (Taken 𝓤 H (𝓖 .A) W (𝓜 .mem) (𝓡 .run)) 𝓜 𝓡 code.env #taken taken-def.routine code.calls-machine·running·text-of
-    (taken-thm.met 𝓤 H 𝓜 𝓖 𝓡))
-    (cited 𝓤 H (Turns 𝓤 H (𝓖 .A) W (𝓜 .mem) (𝓡 .run)) 𝓜 𝓡 code.env #turns turns-def.routine code.calls-run-loop·turns
-    (turns-thm.met 𝓤 H 𝓜 𝓖 𝓡))
-    (cited 𝓤 H (Finish 𝓤 H (𝓖 .A) W (𝓜 .mem) (𝓡 .run)) 𝓜 𝓡 code.env #finish finish-def.routine code.calls-machine·running·finish
-    (finish-thm.met 𝓤 H 𝓜 𝓖 𝓡))
-    (cited 𝓤 H (Stop 𝓤 H (𝓖 .A) W (𝓜 .mem) (𝓡 .run)) 𝓜 𝓡 code.env #stop stop-def.routine code.calls-machine·running·stop
-    (stop-thm.met 𝓤 H 𝓜 𝓖 𝓡)) (record { κs = κs; qs = qs; a = a; is = is })))
+    (cited 𝓤 H (Bounds 𝓤 H (𝓖 .A) W (𝓜 .mem) (𝓡 .run)) 𝓜 𝓡 code.env #bounds bounds-def.routine code.calls-run-ends·fixed (bounds-thm.met 𝓤 H 𝓜 𝓖 𝓡))
+    (cited 𝓤 H (Current 𝓤 H (𝓖 .A) W (𝓜 .mem) (𝓡 .run)) 𝓜 𝓡 code.env #current current-def.routine code.calls-machine·running·current
+    (current-thm.met 𝓤 H 𝓜 𝓖 𝓡))
+    (cited 𝓤 H (Resumed 𝓤 H (𝓖 .A) W (𝓜 .mem) (𝓡 .run)) 𝓜 𝓡 code.env #resumed resumed-def.routine code.calls-run-ends·resumed (resumed-thm.met 𝓤 H 𝓜 𝓖 𝓡))
+    (cited 𝓤 H (Allotted 𝓤 H (𝓖 .A) W (𝓜 .mem) (𝓡 .run)) 𝓜 𝓡 code.env #allotted allotted-def.routine code.calls-run-ends·all-given (allotted-thm.met 𝓤 H 𝓜 𝓖 𝓡))
+    (cited 𝓤 H (Taken 𝓤 H (𝓖 .A) W (𝓜 .mem) (𝓡 .run)) 𝓜 𝓡 code.env #taken taken-def.routine code.calls-machine·running·text-of (taken-thm.met 𝓤 H 𝓜 𝓖 𝓡))
+    (cited 𝓤 H (Turns 𝓤 H (𝓖 .A) W (𝓜 .mem) (𝓡 .run)) 𝓜 𝓡 code.env #turns turns-def.routine code.calls-run-loop·turns (turns-thm.met 𝓤 H 𝓜 𝓖 𝓡))
+    (cited 𝓤 H (Fine 𝓤 H (𝓖 .A) W (𝓜 .mem) (𝓡 .run)) 𝓜 𝓡 code.env #fine fine-def.routine code.calls-run-ends·unfaulted (fine-thm.met 𝓤 H 𝓜 𝓖 𝓡))
+    (cited 𝓤 H (Finish 𝓤 H (𝓖 .A) W (𝓜 .mem) (𝓡 .run)) 𝓜 𝓡 code.env #finish finish-def.routine code.calls-machine·running·finish (finish-thm.met 𝓤 H 𝓜 𝓖 𝓡))
+    (cited 𝓤 H (Stop 𝓤 H (𝓖 .A) W (𝓜 .mem) (𝓡 .run)) 𝓜 𝓡 code.env #stop stop-def.routine code.calls-machine·running·stop (stop-thm.met 𝓤 H 𝓜 𝓖 𝓡)) κs qs a is))

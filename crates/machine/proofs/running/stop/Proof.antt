@@ -10,7 +10,7 @@ use Rattle.run_arms.specs.declared.Going.{Going}
 use mir.Syntax.{w8}
 use denote.Plain.{uint-tells}
 use Rattle.frames.proofs.Frames.{R, fval, tells, frame-typed, frame-makes}
-use Rattle.machine.proofs.Rows.{VmRow, vmVal, vm-tells, stack-fits, vm-typed, vm-makes, ResultRow, resultVal, result-tells, result-typed, result-makes, GoingRow, goingVal, going-tells, going-typed, going-makes, callers-fit}
+use Rattle.machine.proofs.Rows.{VmRow, vmVal, vm-tells, vm-typed, vm-makes, ResultRow, resultVal, result-tells, result-typed, result-makes, GoingRow, goingVal, going-tells, going-typed, going-makes, callers-fit}
 use lib.ListN.{take}
 use Rattle.model.specs.Emission.{written}
 use Rattle.model.specs.Runs.{root}
@@ -26,6 +26,10 @@ use Rattle.frames.proofs.backtrace.trace as trace
 use Rattle.frames.proofs.backtrace.trace.Symbol as trace-def
 use Rattle.frames.proofs.backtrace.trace.Symbol.{name as #trace}
 use Rattle.frames.proofs.backtrace.trace.Met as trace-thm
+use Rattle.machine.proofs.running.saved_of as saved
+use Rattle.machine.proofs.running.saved_of.Symbol as saved-def
+use Rattle.machine.proofs.running.saved_of.Symbol.{name as #saved}
+use Rattle.machine.proofs.running.saved_of.Met as saved-thm
 use Rattle.machine.proofs.running.recover as back
 use Rattle.machine.proofs.running.recover.Symbol as back-def
 use Rattle.machine.proofs.running.recover.Symbol.{name as #back}
@@ -52,6 +56,9 @@ module _ {M : Type 1} (𝓤 : URA M) (H : Heap 𝓤) (A : Atoms 𝓤) (W : Given
   abbrev Trace : Contract 𝓤
   Trace = tripleOf 𝓤 H A trace.signature (trace.spec 𝓤 H A mem run)
 
+  abbrev Saved : Contract 𝓤
+  Saved = tripleOf 𝓤 H A saved.signature (saved.spec 𝓤 H A mem run)
+
   abbrev Back : Contract 𝓤
   Back = tripleOf 𝓤 H A back.signature (back.spec 𝓤 H A mem run)
 
@@ -59,14 +66,14 @@ module _ {M : Type 1} (𝓤 : URA M) (H : Heap 𝓤) (A : Atoms 𝓤) (W : Given
   Answer = tripleOf 𝓤 H A answer.signature (answer.spec 𝓤 H A mem run)
 
   module _ (𝓣 : Tables 𝓤 H) (known-current : Triple 𝓤 (𝓣 .C #current) Current) (known-trace : Triple 𝓤 (𝓣 .C #trace) Trace)
-      (known-back : Triple 𝓤 (𝓣 .C #back) Back) (known-answer : Triple 𝓤 (𝓣 .C #answer) Answer)
+      (known-saved : Triple 𝓤 (𝓣 .C #saved) Saved) (known-back : Triple 𝓤 (𝓣 .C #back) Back) (known-answer : Triple 𝓤 (𝓣 .C #answer) Answer)
       (κs : Lfts 7) (qs : Shares 7) (a : Passed kinds ResultRow κs) (is : Known kinds ResultRow κs a) where
     -- the parameters
     abbrev m : Vm
     m = a .0
 
-    abbrev units : ℕ
-    units = a .1 .0
+    abbrev given : ℕ
+    given = a .1 .0
 
     abbrev g : Going
     g = a .1 .1 .0
@@ -144,7 +151,7 @@ module _ {M : Type 1} (𝓤 : URA M) (H : Heap 𝓤) (A : Atoms 𝓤) (W : Given
 
     abbrev xs : List ℕ → List Frame → List ℕ → List Arg
     xs stack′ frames′ backtrace′ =
-        val VmRow m (vmVal m) ∷ val u64 units (vint w64 units) ∷ val GoingRow g (goingVal g) ∷ val u8 fault (vint w8 fault) ∷
+        val VmRow m (vmVal m) ∷ val u64 given (vint w64 given) ∷ val GoingRow g (goingVal g) ∷ val u8 fault (vint w8 fault) ∷
         slices stack′ frames′ backtrace′
 
     abbrev Post : Val → SProp 𝓤
@@ -152,8 +159,9 @@ module _ {M : Type 1} (𝓤 : URA M) (H : Heap 𝓤) (A : Atoms 𝓤) (W : Given
 
     exits : (r : RunResult) (stack′ : List ℕ) (frames′ : List Frame) (backtrace′ : List ℕ) → Is ResultRow r (resultVal r ∷ []) → length stack′ ≡ s3 .count
         → length frames′ ≡ s4 .count → length backtrace′ ≡ s6 .count
-        → ((r ≡ faultedWith m units g fault) × (backtrace′ ≡ written backtrace 0
-        (traceWords functions mainPlaces otherPlaces (frameIn g ∷ callersOf (g .callers) frames))) × (stack′ ≡ written stack 0 (take (2 * m .stack) copy)) ×
+        → ((r ≡ faultedWith m given g fault) × (backtrace′ ≡ written backtrace 0
+        (traceWords functions mainPlaces otherPlaces (frameIn g ∷ callersOf (g .callers) frames))) × (stack′ ≡ written stack 0 (take
+        (2 * m .run .saved) copy)) ×
         (frames′ ≡ set frames 0 (root (size (codeWord functions 0)))))
         → ent 𝓤 (⋆ 𝓤 H A (‵ (Holds (slices stack′ frames′ backtrace′)) ∷ [])) (Post (resultVal r))
     exits r stack′ frames′ backtrace′ isr len-stack len-frames len-backtrace said =
@@ -164,7 +172,7 @@ module _ {M : Type 1} (𝓤 : URA M) (H : Heap 𝓤) (A : Atoms 𝓤) (W : Given
         (xs stack′ frames′ backtrace′) (
           vm-makes 𝓤 H A W m _ (is .0),
           (
-            uint-makes 𝓤 H A W w64 units _ (is .1 .0),
+            uint-makes 𝓤 H A W w64 given _ (is .1 .0),
             (going-makes 𝓤 H A W g _ (is .1 .1 .0), (uint-makes 𝓤 H A W w8 fault _ (is .1 .1 .1 .0), tt)),
           ),
         ) (frame ! $ owned ! ResultRow (Is ResultRow) (result-makes 𝓤 H A W) r _ isr $ keep ! (1 ∷ 0 ∷ []) $ done !)
@@ -194,39 +202,48 @@ module _ {M : Type 1} (𝓤 : URA M) (H : Heap 𝓤) (A : Atoms 𝓤) (W : Given
         (frame-makes 𝓤 H A W f _ isf, (uint-makes 𝓤 H A W w64 (g .callers) _ (refl, callers-fit g (is .1 .1 .0)), tt))
         ((refl, room0), ((refl, room1), ((refl, room2), ((refl, room4), ((refl, room6), tt)))))
 
-    abbrev to-back : List Arg
-    to-back =
-        val usize (m .stack) (vint w64 (m .stack)) ∷ shr u64 s0 functions ∷ mut u64 s3 stack ∷ mut R s4 frames ∷ shr u64 s5 copy ∷
+    abbrev to-saved : List Arg
+    to-saved = val VmRow m (vmVal m) ∷ []
+
+    call-saved : Rule 𝓤 H A W to-saved Saved usize (vint w64) (λ n zs. n ≡ m .run .saved)
+    call-saved =
+        call-with 𝓤 H A W to-saved Saved usize (vint w64) (λ n zs. n ≡ m .run .saved) (uint-tells w64)
+        (λ ns. passing (lent to-saved ns)) (λ ns. refl) (λ ns. unasked W (lent to-saved ns)) (λ ns w. id⊢ 𝓤 _)
+        (vm-makes 𝓤 H A W m _ (is .0), tt) tt
+
+    abbrev to-back : ℕ → List Arg
+    to-back n =
+        val usize n (vint w64 n) ∷ shr u64 s0 functions ∷ mut u64 s3 stack ∷ mut R s4 frames ∷ shr u64 s5 copy ∷
         []
 
-    call-back : (2 * m .stack ≤ length copy) × (2 * m .stack ≤ length stack) × (0 < length frames)
-        → Rule 𝓤 H A W to-back Back Nothing (λ _. vunit) (λ r zs. (zs .1 .1 .0 ≡ written stack 0 (take (2 * m .stack) copy)) ×
+    call-back : (n : ℕ) → n < 2 ^ 64 → (2 * n ≤ length copy) × (2 * n ≤ length stack) × (0 < length frames)
+        → Rule 𝓤 H A W (to-back n) Back Nothing (λ _. vunit) (λ r zs. (zs .1 .1 .0 ≡ written stack 0 (take (2 * n) copy)) ×
         (zs .1 .1 .1 .0 ≡ set frames 0 (root (size (codeWord functions 0)))))
-    call-back can =
-        call-with 𝓤 H A W to-back Back Nothing (λ _. vunit)
-        (λ r zs. (zs .1 .1 .0 ≡ written stack 0 (take (2 * m .stack) copy)) ×
-        (zs .1 .1 .1 .0 ≡ set frames 0 (root (size (codeWord functions 0))))) (λ r vs was. was) (λ ns. passing (lent to-back ns))
-        (λ ns. refl) (λ ns. asked W (lent to-back ns) can) (λ ns w. id⊢ 𝓤 _)
-        (uint-makes 𝓤 H A W w64 (m .stack) _ (refl, stack-fits m (is .0)), tt)
+    call-back n fits can =
+        call-with 𝓤 H A W (to-back n) Back Nothing (λ _. vunit)
+        (λ r zs. (zs .1 .1 .0 ≡ written stack 0 (take (2 * n) copy)) ×
+        (zs .1 .1 .1 .0 ≡ set frames 0 (root (size (codeWord functions 0))))) (λ r vs was. was) (λ ns. passing (lent (to-back n) ns))
+        (λ ns. refl) (λ ns. asked W (lent (to-back n) ns) can) (λ ns w. id⊢ 𝓤 _)
+        (uint-makes 𝓤 H A W w64 n _ (refl, fits), tt)
         ((refl, room0), ((refl, room3), ((refl, room4), ((refl, room5), tt))))
 
     abbrev to-answer : List Arg
     to-answer =
-        val VmRow m (vmVal m) ∷ val u64 units (vint w64 units) ∷ val GoingRow g (goingVal g) ∷ val u8 fault (vint w8 fault) ∷ []
+        val VmRow m (vmVal m) ∷ val u64 given (vint w64 given) ∷ val GoingRow g (goingVal g) ∷ val u8 fault (vint w8 fault) ∷ []
 
-    call-answer : (g .units ≤ units) × (g .callers < 2 ^ 32) → Rule 𝓤 H A W to-answer Answer ResultRow resultVal (λ r zs. r ≡ faultedWith m units g fault)
+    call-answer : (g .units ≤ given) × (g .callers < 2 ^ 32) → Rule 𝓤 H A W to-answer Answer ResultRow resultVal (λ r zs. r ≡ faultedWith m given g fault)
     call-answer can =
-        call-with 𝓤 H A W to-answer Answer ResultRow resultVal (λ r zs. r ≡ faultedWith m units g fault) result-tells
+        call-with 𝓤 H A W to-answer Answer ResultRow resultVal (λ r zs. r ≡ faultedWith m given g fault) result-tells
         (λ ns. passing (lent to-answer ns)) (λ ns. refl) (λ ns. asked W (lent to-answer ns) can) (λ ns w. id⊢ 𝓤 _) (
           vm-makes 𝓤 H A W m _ (is .0),
           (
-            uint-makes 𝓤 H A W w64 units _ (is .1 .0),
+            uint-makes 𝓤 H A W w64 given _ (is .1 .0),
             (going-makes 𝓤 H A W g _ (is .1 .1 .0), (uint-makes 𝓤 H A W w8 fault _ (is .1 .1 .1 .0), tt)),
           ),
         ) tt
 
-    walk : ((g .units ≤ units) × (g .callers < 2 ^ 32) × TraceFits functions mainPlaces otherPlaces (frameIn g) (g .callers) frames (length backtrace) ×
-        (2 * m .stack ≤ length copy) × (2 * m .stack ≤ length stack) × (0 < length frames))
+    walk : ((g .units ≤ given) × (g .callers < 2 ^ 32) × TraceFits functions mainPlaces otherPlaces (frameIn g) (g .callers) frames (length backtrace) ×
+        (2 * m .run .saved ≤ length copy) × (2 * m .run .saved ≤ length stack) × (0 < length frames))
         → ent 𝓤 (onEntry 𝓤 H A me.signature (lfts (xs stack frames backtrace)) (shares (xs stack frames backtrace)) (denots (xs stack frames backtrace))
         (valss (xs stack frames backtrace))) (WpFn 𝓤 H (𝓣 .C) (𝓣 .Λ) code.function (values (xs stack frames backtrace)) Post)
     walk can =
@@ -271,10 +288,13 @@ module _ {M : Type 1} (𝓤 : URA M) (H : Heap 𝓤) (A : Atoms 𝓤) (W : Given
         (call-trace f isf (subst (λ (x : Frame). TraceFits functions mainPlaces otherPlaces x (g .callers) frames (length backtrace)) (sym ef) (can .2)))
         (λ zs. slices stack frames (zs .1 .1 .1 .1 .1 .1 .0)) refl (λ zs. refl) (λ zs. refl) fm known-trace refl
         (λ u zs₁ et lens₁ isu. lands-in ! (tt, tt) $
-        sets ! (of-opd ! (of ! refl)) (tt, record { fits = stack-fits m (is .0) }) $ sets ! (addr ! (behind ! refl refl)) (tt, tt) $
+        calls-on ! [] (slices stack frames (zs₁ .1 .1 .1 .1 .1 .1 .0)) call-saved (λ zs. slices stack frames (zs₁ .1 .1 .1 .1 .1 .1 .0)) refl
+        (λ zs. refl) (λ zs. refl)
+        fm known-saved refl (λ n zs₄ en lens₄ isn. lands-in ! (tt, record { fits = isn .1 }) $
+        sets ! (addr ! (behind ! refl refl)) (tt, tt) $
         sets ! (agg ! (ofs ! refl)) (tt, (tt, (record { fits = room3 .0 }, tt))) $ sets ! (addr ! (behind ! refl refl)) (tt, tt) $
         sets ! (agg ! (ofs ! refl)) (tt, (tt, (record { fits = room4 .0 }, tt))) $
-        calls-on ! (true ∷ false ∷ false ∷ true ∷ true ∷ true ∷ []) (slices stack frames (zs₁ .1 .1 .1 .1 .1 .1 .0)) (call-back (can .3, can .4, can .5))
+        calls-on ! (true ∷ false ∷ false ∷ true ∷ true ∷ true ∷ []) (slices stack frames (zs₁ .1 .1 .1 .1 .1 .1 .0)) (call-back n (isn .1) (fits-back n en))
         (λ zs. slices (zs .1 .1 .0) (zs .1 .1 .1 .0) (zs₁ .1 .1 .1 .1 .1 .1 .0)) refl (λ zs. refl) (λ zs. refl) fm known-back refl
         (λ v zs₂ eb lens₂ isv. lands-in ! (tt, tt) $
         calls-on ! [] (slices (zs₂ .1 .1 .0) (zs₂ .1 .1 .1 .0) (zs₁ .1 .1 .1 .1 .1 .1 .0)) (call-answer (can .0, can .1))
@@ -284,12 +304,16 @@ module _ {M : Type 1} (𝓤 : URA M) (H : Heap 𝓤) (A : Atoms 𝓤) (W : Given
         by ! (exits r (zs₂ .1 .1 .0) (zs₂ .1 .1 .1 .0) (zs₁ .1 .1 .1 .1 .1 .1 .0) isr (lens₂ .0) (lens₂ .1 .0) (lens₁ .0) (
           er,
           et ∙ ap (λ (x : Frame). written backtrace 0 (traceWords functions mainPlaces otherPlaces (x ∷ callersOf (g .callers) frames))) ef,
-          eb .0,
+          eb .0 ∙ ap (λ (j : ℕ). written stack 0 (take (2 * j) copy)) en,
           eb .1,
-        ))))))))
+        )))))))))
       where
         fm : FmC 𝓤 H (W .laws) (𝓣 .C)
         fm = fmOf 𝓤 H (W .laws) 𝓣
+
+        fits-back : (n : ℕ) → n ≡ m .run .saved → (2 * n ≤ length copy) × (2 * n ≤ length stack) × (0 < length frames)
+        fits-back n en =
+            (subst (λ (j : ℕ). 2 * j ≤ length copy) (sym en) (can .3), subst (λ (j : ℕ). 2 * j ≤ length stack) (sym en) (can .4), can .5)
 
 pub stop-spec : {M : Type 1} → stated.statement M
 unfolding code.routine tablesOf
@@ -300,13 +324,15 @@ stop-spec 𝓤 H 𝓜 𝓖 𝓡 =
     ((a .1 .1 .0 .units ≤ a .1 .0) × (a .1 .1 .0 .callers < 2 ^ 32) × TraceFits (now (a .1 .1 .1 .1 .0))
     (now (a .1 .1 .1 .1 .1 .0)) (now (a .1 .1 .1 .1 .1 .1 .0)) (frameIn (a .1 .1 .0)) (a .1 .1 .0 .callers)
     (now (a .1 .1 .1 .1 .1 .1 .1 .1 .0)) (length (now (a .1 .1 .1 .1 .1 .1 .1 .1 .1 .1 .0))) ×
-    (2 * a .0 .stack ≤ length (now (a .1 .1 .1 .1 .1 .1 .1 .1 .1 .0))) ×
-    (2 * a .0 .stack ≤ length (now (a .1 .1 .1 .1 .1 .1 .1 .0))) × (0 < length (now (a .1 .1 .1 .1 .1 .1 .1 .1 .0)))) _
+    (2 * a .0 .run .saved ≤ length (now (a .1 .1 .1 .1 .1 .1 .1 .1 .1 .0))) ×
+    (2 * a .0 .run .saved ≤ length (now (a .1 .1 .1 .1 .1 .1 .1 .0))) × (0 < length (now (a .1 .1 .1 .1 .1 .1 .1 .1 .0)))) _
     (walk 𝓤 H (𝓖 .A) W (𝓜 .mem) (𝓡 .run) (tablesOf 𝓤 H 𝓜 (tables 𝓤 H 𝓜 𝓡 code.env))
     (cited 𝓤 H (Current 𝓤 H (𝓖 .A) W (𝓜 .mem) (𝓡 .run)) 𝓜 𝓡 code.env #current current-def.routine code.calls-run-loop·frame-of
     (current-thm.met 𝓤 H 𝓜 𝓖 𝓡))
     (cited 𝓤 H (Trace 𝓤 H (𝓖 .A) W (𝓜 .mem) (𝓡 .run)) 𝓜 𝓡 code.env #trace trace-def.routine code.calls-frames·backtrace·trace
     (trace-thm.met 𝓤 H 𝓜 𝓖 𝓡))
+    (cited 𝓤 H (Saved 𝓤 H (𝓖 .A) W (𝓜 .mem) (𝓡 .run)) 𝓜 𝓡 code.env #saved saved-def.routine code.calls-machine·running·saved-of
+    (saved-thm.met 𝓤 H 𝓜 𝓖 𝓡))
     (cited 𝓤 H (Back 𝓤 H (𝓖 .A) W (𝓜 .mem) (𝓡 .run)) 𝓜 𝓡 code.env #back back-def.routine code.calls-machine·running·recover
     (back-thm.met 𝓤 H 𝓜 𝓖 𝓡))
     (cited 𝓤 H (Answer 𝓤 H (𝓖 .A) W (𝓜 .mem) (𝓡 .run)) 𝓜 𝓡 code.env #answer answer-def.routine code.calls-run-ends·faulted

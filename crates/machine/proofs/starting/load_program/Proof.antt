@@ -1,17 +1,21 @@
--- `load_program`: loaded where there is a place for a frame.
-use Rattle.machine.proofs.Makings.{without-place, made-loaded, not-loaded, broken-loaded}
+-- `load_program`: loaded where no run is under way and there is a place for a frame.
+use Rattle.machine.proofs.Makings.{not-loaded-over, without-place, made-loaded, not-loaded, broken-loaded}
 use Rattle.model.specs.Stores.{storesOf as lent}
 use borrow.Author.Needs.{needs}
 use Rattle.machine.proofs.starting.load_program.Statement.{statement}
 use Rattle.machine.proofs.starting.load_program.Tie as tie
 
+returns : tie.Need-returns
+returns c = search not-loaded-over
+
 no-place-requires : tie.Need-no-place-requires
 no-place-requires c κs = search
 
-returns : tie.Need-returns
-returns c =
-    let at-start = c .before .before .before .before .before .before .before .before .before .before .before in
-    without-place (c .before .if1 .taken)
+returns-2 : tie.Need-returns-2
+returns-2 c =
+    let at-if1 = c .before .before in
+    let at-start = at-if1 .before .before .before .before .before .before .before .before .before .before in
+    without-place _ _ (at-if1 .if1 .left) (c .before .if2 .taken)
     (c .no-place .ensures
     (lent (at-start .args .constants .now) (at-start .args .structs .now) (at-start .args .functions .now)
     (at-start .args .text .now) (at-start .args .main .now) (at-start .args .main-places .now) (at-start .args .other .now)
@@ -56,15 +60,16 @@ same-length-7 c = search
 same-length-8 : tie.Need-same-length-8
 same-length-8 c = search
 
-returns-2 : tie.Need-returns-2
-returns-2 c =
+returns-3 : tie.Need-returns-3
+returns-3 c =
     let at-load = c .before .before .before .before .before .before .before .before .before .before .before .before .before .before .before .before .before .before .before .before in
-    let at-if1 = at-load .before .before .before .before .before .before .before .before .before in
+    let at-if2 = at-load .before .before .before .before .before .before .before .before .before in
+    let at-if1 = at-if2 .before in
     let at-start = at-if1 .before .before .before .before .before .before .before .before .before .before in
     made-loaded (at-start .args .image .now)
     (lent (at-start .args .constants .now) (at-start .args .structs .now) (at-start .args .functions .now)
     (at-start .args .text .now) (at-start .args .main .now) (at-start .args .main-places .now) (at-start .args .other .now)
-    (at-start .args .other-places .now)) (at-load .load .ensures) _ (c .before .before .loaded .given .1) (at-if1 .if1 .left)
+    (at-start .args .other-places .now)) (at-if1 .if1 .left) (at-load .load .ensures) _ (c .before .before .loaded .given .1) (at-if2 .if2 .left)
     (c .fresh-vm .ensures)
 
 same-length-9 : tie.Need-same-length-9
@@ -91,8 +96,8 @@ same-length-15 c = search
 same-length-16 : tie.Need-same-length-16
 same-length-16 c = search
 
-returns-3 : tie.Need-returns-3
-returns-3 c = search broken-loaded
+returns-4 : tie.Need-returns-4
+returns-4 c = search broken-loaded
 
 same-length-17 : tie.Need-same-length-17
 same-length-17 c = search
@@ -118,15 +123,16 @@ same-length-23 c = search
 same-length-24 : tie.Need-same-length-24
 same-length-24 c = search
 
-returns-4 : tie.Need-returns-4
-returns-4 c = search not-loaded
+returns-5 : tie.Need-returns-5
+returns-5 c = search not-loaded
 
 pub load-program-spec : {M : Type 1} → statement M
 load-program-spec =
     tie.close
     (tie.spec
-    no-place-requires
     returns
+    no-place-requires
+    returns-2
     load-requires
     enum-known-loaded
     fresh-vm-requires
@@ -140,7 +146,7 @@ load-program-spec =
     same-length-6
     same-length-7
     same-length-8
-    returns-2
+    returns-3
     same-length-9
     same-length-10
     same-length-11
@@ -149,7 +155,7 @@ load-program-spec =
     same-length-14
     same-length-15
     same-length-16
-    returns-3
+    returns-4
     same-length-17
     same-length-18
     same-length-19
@@ -158,4 +164,4 @@ load-program-spec =
     same-length-22
     same-length-23
     same-length-24
-    returns-4)
+    returns-5)

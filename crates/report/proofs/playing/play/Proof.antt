@@ -1,4 +1,4 @@
--- `play` meets its contract: a walk of its MIR, by hand. The frames are a local array, lent to the run (`Lending.antt`).
+-- `play` meets its contract: a walk of its MIR, by hand. The frames are a local array, lent to `one_run` (`Lending.antt`).
 -- Assumes nothing.
 use Rattle.laws_walks.proofs.Walk.{_≡_, refl, none, some, List, [], _∷_, ℕ, length, URA, fullShare, w64, Val, vint, vptr, SProp, ent, id⊢, Memory, Routine, Heap, Tables, WpFn, Atoms, Lfts, Shares, Fun, givenOf, tables, tablesOf, FmC, fmOf}
 use Rattle.laws_walks.proofs.Walk.{Given, ‵, ⋆, _$_, _∵_, !, qed, by, move, keep, fsplit, fjoin, suffices, frame, done, agg, addr, of-opd, stop, from, load, look-in, Is, shows, uint-makes, u8, u32, u64, now, Room, owned, onEntry, tripleOf, Contract, Triple, cited, says, walkOf, ends-at}
@@ -24,16 +24,16 @@ use Rattle.model.proofs.Frame as T
 use Rattle.model.proofs.Frame.Laws as T′
 use Rattle.model.specs.Runs.{root}
 use Rattle.model.specs.Stores.{Stores}
-use Rattle.model.specs.Machines.{Lent, RunPost}
+use Rattle.model.specs.Machines.{Lent}
 use Rattle.frames.proofs.Frames.{R, fval, frame-copy, frame-makes, frame-typed}
 use Rattle.run_ends.specs.Links.{programLent}
 use Rattle.machine.specs.Links.{runLent}
 use Rattle.machine.proofs.Rows.{VmRow, vmVal, vm-tells, vm-typed, vm-makes, ResultRow, resultVal, result-tells, result-typed, result-makes}
-use Rattle.machine.proofs.run as it
-use Rattle.machine.proofs.run.Symbol as it-def
-use Rattle.machine.proofs.run.Symbol.{name as #it}
-use Rattle.machine.proofs.run.Met as it-thm
-use Rattle.report.specs.Links.{PlayPost}
+use Rattle.report.specs.Links.{OneRun, PlayPost}
+use Rattle.report.proofs.playing.one_run as it
+use Rattle.report.proofs.playing.one_run.Symbol as it-def
+use Rattle.report.proofs.playing.one_run.Symbol.{name as #it}
+use Rattle.report.proofs.playing.one_run.Met as it-thm
 use Rattle.laws_walks.proofs.Lending.{apart, whole, lend-array, back-array, calls-with}
 use Rattle.report.proofs.playing.play.Key.{name as #me}
 use Rattle.report.proofs.playing.play as me
@@ -234,7 +234,7 @@ module _ {M : Type 1} (𝓤 : URA M) (H : Heap 𝓤) (A : Atoms 𝓤) (W : Given
 
       abbrev Ran : RunResult → Lists to-it → Type 0
       Ran r zs =
-          RunPost m stores (before frames₀) units r
+          OneRun m units stores (before frames₀) r
           (runLent (zs .1 .1 .1 .1 .1 .1 .1 .1 .1 .1 .0) (zs .1 .1 .1 .1 .1 .1 .1 .1 .1 .1 .1 .0)
           (zs .1 .1 .1 .1 .1 .1 .1 .1 .1 .1 .1 .1 .0) (zs .1 .1 .1 .1 .1 .1 .1 .1 .1 .1 .1 .1 .1 .0)
           (zs .1 .1 .1 .1 .1 .1 .1 .1 .1 .1 .1 .1 .1 .1 .0))
@@ -376,7 +376,7 @@ module _ {M : Type 1} (𝓤 : URA M) (H : Heap 𝓤) (A : Atoms 𝓤) (W : Given
         lands-in ! (result-typed 𝓤 H A W r isr) $ sets ! (of-opd ! (of ! refl)) (result-typed 𝓤 H A W r isr) $ leaves ! refl $
         by ! (exits r (zs .1 .1 .1 .1 .1 .1 .1 .1 .1 .1 .0) (zs .1 .1 .1 .1 .1 .1 .1 .1 .1 .1 .1 .0) (zs .1 .1 .1 .1 .1 .1 .1 .1 .1 .1 .1 .1 .1 .0)
         (zs .1 .1 .1 .1 .1 .1 .1 .1 .1 .1 .1 .1 .1 .1 .0) isr (lens .0) (lens .1 .0) (lens .1 .1 .1 .0) (lens .1 .1 .1 .1 .0)
-        (record { frames = (zs .1 .1 .1 .1 .1 .1 .1 .1 .1 .1 .1 .1 .0); post = said }))))))))))))))
+        (record { frames = (zs .1 .1 .1 .1 .1 .1 .1 .1 .1 .1 .1 .1 .0); run = said }))))))))))))))
       where
         fm : FmC 𝓤 H (W .laws) (𝓣 .C)
         fm = fmOf 𝓤 H (W .laws) 𝓣
@@ -388,5 +388,5 @@ play-spec 𝓤 H 𝓜 𝓖 𝓡 =
     closed kinds ResultRow 𝓤 H 𝓜 𝓖 𝓡 code.env #me code.function (code.unfolded 𝓤 H 𝓜 𝓡) (me.clauses 𝓤 H (𝓖 .A) (𝓜 .mem) (𝓡 .run))
     (λ κs qs a g is. unneeded 𝓤 _
     (walk 𝓤 H (𝓖 .A) W (𝓜 .mem) (𝓡 .run) (tablesOf 𝓤 H 𝓜 (tables 𝓤 H 𝓜 𝓡 code.env))
-    (cited 𝓤 H (It 𝓤 H (𝓖 .A) W (𝓜 .mem) (𝓡 .run)) 𝓜 𝓡 code.env #it it-def.routine code.calls-machine·run (it-thm.met 𝓤 H 𝓜 𝓖 𝓡))
+    (cited 𝓤 H (It 𝓤 H (𝓖 .A) W (𝓜 .mem) (𝓡 .run)) 𝓜 𝓡 code.env #it it-def.routine code.calls-report·playing·one-run (it-thm.met 𝓤 H 𝓜 𝓖 𝓡))
     κs qs a is))

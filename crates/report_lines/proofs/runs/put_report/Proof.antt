@@ -2,7 +2,7 @@
 use native.Mathlib.Omega.{arith}
 use borrow.Author.Needs.{needs}
 use Rattle.model.specs.Basics.{ascii}
-use Rattle.report_lines.proofs.Lines.{cells-inside, entries-inside, refused-report, value-report, continue-report, fault-report}
+use Rattle.report_lines.proofs.Lines.{cells-inside, entries-inside, paused-report, refused-report, value-report, continue-report, fault-report}
 use Rattle.report_lines.proofs.runs.put_report.Statement.{statement}
 use Rattle.report_lines.proofs.runs.put_report.Tie as tie
 
@@ -59,6 +59,9 @@ put-entries-requires c κs =
       ),
     )
 
+enum-told : tie.Need-enum-told
+enum-told c = search
+
 enum-known-r-4 : tie.Need-enum-known-r-4
 enum-known-r-4 c = search
 
@@ -86,11 +89,14 @@ returns-3 : tie.Need-returns-3
 unfolding ascii
 returns-3 c = search (fault-report, entries-inside)
 
+returns-4 : tie.Need-returns-4
+returns-4 c = search paused-report
+
 same-length-4 : tie.Need-same-length-4
 same-length-4 c = search
 
-returns-4 : tie.Need-returns-4
-returns-4 c = search refused-report
+returns-5 : tie.Need-returns-5
+returns-5 c = search refused-report
 
 pub put-report-spec : {M : Type 1} → statement M
 put-report-spec =
@@ -109,6 +115,7 @@ put-report-spec =
     put-line-requires
     put-spent-requires-3
     put-entries-requires
+    enum-told
     enum-known-r-4
     put-refused-requires
     same-length
@@ -117,5 +124,6 @@ put-report-spec =
     returns-2
     same-length-3
     returns-3
+    returns-4
     same-length-4
-    returns-4)
+    returns-5)
