@@ -28,7 +28,7 @@ static void lend(void)
     LEND(cells, 4096);
     LEND(frames, 256);
     LEND(copy, 2048);
-    LEND(trace, 512);
+    LEND(trace, 768);
     LEND(heights, 256);
 }
 

@@ -29,18 +29,20 @@ extern "C" {
 
 /* The version: the last of the three moves with each change, the first where a host has to be changed. */
 #define CHAFFWHEEL_VERSION_MAJOR 0
-#define CHAFFWHEEL_VERSION_MINOR 4
+#define CHAFFWHEEL_VERSION_MINOR 5
 #define CHAFFWHEEL_VERSION_PATCH 0
 #define CHAFFWHEEL_VERSION (CHAFFWHEEL_VERSION_MAJOR * 10000 + CHAFFWHEEL_VERSION_MINOR * 100 + CHAFFWHEEL_VERSION_PATCH)
 
 /* A lent slice: a pointer and a count of elements, as two arguments. The count must be true. `const`: it is only read. */
 #define CHAFFWHEEL_SLICE(type, name) type *name, size_t name##_len
 
-/* A call frame. Frames stand in their store with the root first. */
+/* A call frame. Frames stand in their store with the root first. `entered` is how many units the run had spent when the frame was entered, the Call's own
+ * included: 0 in the root, and in every frame that stands when a run is begun. */
 typedef struct chaffwheel_frame {
     uint64_t function;
     uint64_t position;
     uint64_t base;
+    uint64_t entered;
 } chaffwheel_frame;
 
 /* A machine's record, in words: how much of each store is taken, the last result, and the run that is under way. The host keeps it between calls.
@@ -92,6 +94,15 @@ enum {
 };
 /* The first three end the run. The fourth: its units do not reach, and it is under way; give it more, or abandon it. */
 enum { CHAFFWHEEL_VALUE = 1, CHAFFWHEEL_CONTINUE = 2, CHAFFWHEEL_FAULT = 3, CHAFFWHEEL_PAUSED = 4 };
+
+/* An entry of a backtrace, in words: a frame's function, its place, and how many units the run had spent when it was entered. The innermost frame is the
+ * first entry, main's the last. */
+enum {
+    CHAFFWHEEL_ENTRY_FUNCTION = 0,
+    CHAFFWHEEL_ENTRY_PLACE = 1,
+    CHAFFWHEEL_ENTRY_ENTERED = 2,
+    CHAFFWHEEL_ENTRY = 3         /* words of an entry */
+};
 
 /* What the other functions answer, in words: a value that is shown; the header of a list or struct; and in the first word alone how many bytes or
  * entries were written, the number of what was emitted, or of a refusal 20 its offset. */
@@ -242,9 +253,9 @@ uint32_t chaffwheel_check(
     CHAFFWHEEL_SLICE(chaffwheel_frame, frames), CHAFFWHEEL_SLICE(uint32_t, heights), CHAFFWHEEL_SLICE(uint64_t, answer));
 
 /* Begins a run of the machine of vm, where it stands. It reads the program's stores, stack, cells and frames, writes the starting stack to the front of
- * copy, the machine as it then is to vm, and the answer, and takes no units. A run that stands at or past the end of its code is over at once:
- * CHAFFWHEEL_CONTINUE, 0 units, and the last result stays. Every other is then under way, CHAFFWHEEL_PAUSED, and until it is over the host alters nothing
- * that it lends, the copy among it, and hands back the record that it got last.
+ * copy, 0 to `entered` of each frame that is taken, the machine as it then is to vm, and the answer, and takes no units. A run that stands at or past the
+ * end of its code is over at once: CHAFFWHEEL_CONTINUE, 0 units, and the last result stays. Every other is then under way, CHAFFWHEEL_PAUSED, and until it
+ * is over the host alters nothing that it lends, the copy among it, and hands back the record that it got last.
  * answer has 5 words. Refused 19: the program or the machine is not in good order. 25: a run is under way. 17: answer is shorter, or copy has fewer
  * places than stack. */
 uint32_t chaffwheel_begin(
@@ -252,13 +263,13 @@ uint32_t chaffwheel_begin(
     CHAFFWHEEL_SLICE(const uint64_t, constants), CHAFFWHEEL_SLICE(const uint64_t, structs), CHAFFWHEEL_SLICE(const uint64_t, functions),
     CHAFFWHEEL_SLICE(const uint8_t, text), CHAFFWHEEL_SLICE(const uint8_t, main_code), CHAFFWHEEL_SLICE(const uint32_t, main_places),
     CHAFFWHEEL_SLICE(const uint8_t, other_code), CHAFFWHEEL_SLICE(const uint32_t, other_places),
-    CHAFFWHEEL_SLICE(const uint64_t, stack), CHAFFWHEEL_SLICE(const uint64_t, cells), CHAFFWHEEL_SLICE(const chaffwheel_frame, frames),
+    CHAFFWHEEL_SLICE(const uint64_t, stack), CHAFFWHEEL_SLICE(const uint64_t, cells), CHAFFWHEEL_SLICE(chaffwheel_frame, frames),
     CHAFFWHEEL_SLICE(uint64_t, copy), CHAFFWHEEL_SLICE(uint64_t, answer));
 
 /* Gives the run under way so many units more and goes on with them and those that were left: to its end, to a fault, or to an instruction that cannot
  * be paid for. There it is paused (CHAFFWHEEL_PAUSED) in front of that instruction, of which nothing is done or spent. It writes stack, cells and frames,
- * after a fault the backtrace to the front of trace (two words to an entry, function and place, the innermost frame first), the machine as it then is to
- * vm, and the answer. However the units are dealt out, the end is that of one run given their sum. After a fault vm is a machine that can go on: the stack
+ * after a fault the backtrace to the front of trace (CHAFFWHEEL_ENTRY words to an entry, the innermost frame first), the machine as it then is to vm, and the
+ * answer. However the units are dealt out, the end is that of one run given their sum. After a fault vm is a machine that can go on: the stack
  * of the start, one frame at the end of main, and the last result of the last root Return that was completed. THE LAST RESULT IS NOT PUT BACK:
  * docs/EMBEDDING.md. Whether the run has counted is told by answer[CHAFFWHEEL_RETURNS] and by nothing else. A place of the backtrace cannot tell it: behind
  * a jump it is the place of code that was passed over.
@@ -270,7 +281,7 @@ uint32_t chaffwheel_continue(
     CHAFFWHEEL_SLICE(const uint8_t, text), CHAFFWHEEL_SLICE(const uint8_t, main_code), CHAFFWHEEL_SLICE(const uint32_t, main_places),
     CHAFFWHEEL_SLICE(const uint8_t, other_code), CHAFFWHEEL_SLICE(const uint32_t, other_places),
     CHAFFWHEEL_SLICE(uint64_t, stack), CHAFFWHEEL_SLICE(uint64_t, cells), CHAFFWHEEL_SLICE(chaffwheel_frame, frames),
-    CHAFFWHEEL_SLICE(const uint64_t, copy), CHAFFWHEEL_SLICE(uint32_t, trace), CHAFFWHEEL_SLICE(uint64_t, answer));
+    CHAFFWHEEL_SLICE(const uint64_t, copy), CHAFFWHEEL_SLICE(uint64_t, trace), CHAFFWHEEL_SLICE(uint64_t, answer));
 
 /* Abandons the run under way: fault 13, with all the units that it was given as spent, the backtrace of one run given as many, and the machine that a
  * fault leaves. Whether it has counted is told by answer[CHAFFWHEEL_RETURNS], as after any fault.
@@ -281,7 +292,7 @@ uint32_t chaffwheel_abandon(
     CHAFFWHEEL_SLICE(const uint8_t, text), CHAFFWHEEL_SLICE(const uint8_t, main_code), CHAFFWHEEL_SLICE(const uint32_t, main_places),
     CHAFFWHEEL_SLICE(const uint8_t, other_code), CHAFFWHEEL_SLICE(const uint32_t, other_places),
     CHAFFWHEEL_SLICE(uint64_t, stack), CHAFFWHEEL_SLICE(const uint64_t, cells), CHAFFWHEEL_SLICE(chaffwheel_frame, frames),
-    CHAFFWHEEL_SLICE(const uint64_t, copy), CHAFFWHEEL_SLICE(uint32_t, trace), CHAFFWHEEL_SLICE(uint64_t, answer));
+    CHAFFWHEEL_SLICE(const uint64_t, copy), CHAFFWHEEL_SLICE(uint64_t, trace), CHAFFWHEEL_SLICE(uint64_t, answer));
 
 /* The backtrace of the machine's frames, as a fault's; answer[0] is how many entries it has. The stack store is lent for its length alone: a
  * frame's base may not lie past it.
@@ -291,7 +302,7 @@ uint32_t chaffwheel_backtrace(
     CHAFFWHEEL_SLICE(const uint8_t, main_code), CHAFFWHEEL_SLICE(const uint32_t, main_places),
     CHAFFWHEEL_SLICE(const uint8_t, other_code), CHAFFWHEEL_SLICE(const uint32_t, other_places),
     CHAFFWHEEL_SLICE(const uint64_t, stack), CHAFFWHEEL_SLICE(const chaffwheel_frame, frames),
-    CHAFFWHEEL_SLICE(uint32_t, out), CHAFFWHEEL_SLICE(uint64_t, answer));
+    CHAFFWHEEL_SLICE(uint64_t, out), CHAFFWHEEL_SLICE(uint64_t, answer));
 
 /* The image of the program, to the front of out; answer[0] is its length. Refused 19. 17: answer has no word, or out is too short. */
 uint32_t chaffwheel_save(

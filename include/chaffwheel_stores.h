@@ -31,7 +31,7 @@ struct chaffwheel_stores {
     CHAFFWHEEL_STORE(uint64_t, cells);
     CHAFFWHEEL_STORE(chaffwheel_frame, frames);
     CHAFFWHEEL_STORE(uint64_t, copy);
-    CHAFFWHEEL_STORE(uint32_t, trace);
+    CHAFFWHEEL_STORE(uint64_t, trace); /* CHAFFWHEEL_ENTRY words to a frame */
     /* the check: each function's greatest height */
     CHAFFWHEEL_STORE(uint32_t, heights);
 };
@@ -45,8 +45,8 @@ enum {
 /* How many bytes the stores of a machine take; the block is aligned for uint64_t, as calloc's is. */
 static inline size_t cw_stores_size(size_t scale)
 {
-    size_t words = 2 * (CW_CONSTANTS + CW_STRUCTS + CW_FUNCTIONS + 2 * CW_STACK + CW_CELLS);
-    size_t places = CW_MAIN_CODE + CW_OTHER_CODE + 2 * CW_FRAMES + CW_HEIGHTS;
+    size_t words = 2 * (CW_CONSTANTS + CW_STRUCTS + CW_FUNCTIONS + 2 * CW_STACK + CW_CELLS) + CHAFFWHEEL_ENTRY * CW_FRAMES;
+    size_t places = CW_MAIN_CODE + CW_OTHER_CODE + CW_HEIGHTS;
     size_t bytes = CW_TEXT + CW_MAIN_CODE + CW_OTHER_CODE;
     return scale * (words * sizeof(uint64_t) + CW_FRAMES * sizeof(chaffwheel_frame) + places * sizeof(uint32_t) + bytes);
 }
@@ -68,11 +68,11 @@ static inline void cw_stores_from(struct chaffwheel_stores *m, void *block, size
     CW_TAKE(stack, m->functions + m->functions_len, 2 * CW_STACK);
     CW_TAKE(copy, m->stack + m->stack_len, 2 * CW_STACK);
     CW_TAKE(cells, m->copy + m->copy_len, 2 * CW_CELLS);
-    CW_TAKE(frames, (chaffwheel_frame *)(void *)(m->cells + m->cells_len), CW_FRAMES);
+    CW_TAKE(trace, m->cells + m->cells_len, CHAFFWHEEL_ENTRY * CW_FRAMES);
+    CW_TAKE(frames, (chaffwheel_frame *)(void *)(m->trace + m->trace_len), CW_FRAMES);
     CW_TAKE(main_places, (uint32_t *)(void *)(m->frames + m->frames_len), CW_MAIN_CODE);
     CW_TAKE(other_places, m->main_places + m->main_places_len, CW_OTHER_CODE);
-    CW_TAKE(trace, m->other_places + m->other_places_len, 2 * CW_FRAMES);
-    CW_TAKE(heights, m->trace + m->trace_len, CW_HEIGHTS);
+    CW_TAKE(heights, m->other_places + m->other_places_len, CW_HEIGHTS);
     CW_TAKE(text, (uint8_t *)(void *)(m->heights + m->heights_len), CW_TEXT);
     CW_TAKE(main_code, m->text + m->text_len, CW_MAIN_CODE);
     CW_TAKE(other_code, m->main_code + m->main_code_len, CW_OTHER_CODE);
@@ -150,6 +150,7 @@ static inline bool cw_rewind(struct chaffwheel_stores *m)
     m->frames[0].function = 0;
     m->frames[0].position = 0;
     m->frames[0].base = 0;
+    m->frames[0].entered = 0;
     if (m->vm[CHAFFWHEEL_LAST_KIND] != CHAFFWHEEL_LIST && m->vm[CHAFFWHEEL_LAST_KIND] != CHAFFWHEEL_STRUCT)
         m->vm[CHAFFWHEEL_CELLS] = 0;
     return true;

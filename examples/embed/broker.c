@@ -2,7 +2,8 @@
  * The rule is examples/story.rule: it adds 1 to the last result, returns that, then divides by a constant that is 0 by mistake.
  * It is checked before it is installed, and a rule that is broken is refused there: the one that was installed stays.
  * The mended rule is also run in parts: the broker answers its operator between them, and gives more units or abandons it.
- * Then a rule that jumps over a Return, where the place of the fault would tell a lie and the number of root Returns does not.
+ * Then a rule that jumps over a Return, where the place of the fault would tell a lie and the number of root Returns does not, and one with calls, of
+ * which the operator is told since when they are under way.
  * At the end a rule that answers with a list, and what the broker reads of it. */
 #include <inttypes.h>
 #include <math.h>
@@ -13,7 +14,7 @@
 /* a refusal ends the function: nothing was done, and the caller is told why */
 #define TRY(call) do { uint32_t no = (call); if (no) return no; } while (0)
 
-enum { LOAD_CONSTANT = 0, DIVIDE = 11, JUMP_IF_FALSE = 26, BUILD_LIST = 36, RETURN = 37 }; /* opcodes: docs/RULES.md */
+enum { LOAD_CONSTANT = 0, DIVIDE = 11, JUMP_IF_FALSE = 26, CALL = 28, BUILD_LIST = 36, RETURN = 37 }; /* opcodes: docs/RULES.md */
 
 /* What a broker writes down of a run. */
 struct journal {
@@ -22,7 +23,7 @@ struct journal {
     uint64_t outcome, spent, fault;
     uint64_t returns;     /* root Returns that the run completed */
     uint64_t brought;     /* how many of them only return what the broker brought: they are the first */
-    uint32_t place;       /* after a fault: of main's frame, which is the last entry. It helps to find the mistake, and decides nothing */
+    uint64_t place;       /* after a fault: of main's frame, which is the last entry. It helps to find the mistake, and decides nothing */
 };
 
 static uint64_t bits_of(double x)
@@ -53,6 +54,12 @@ static double last_scalar(struct chaffwheel_stores *m, double otherwise)
     return !cw_last_result(m) && m->answer[0] == CHAFFWHEEL_SCALAR ? scalar_of(m->answer[1]) : otherwise;
 }
 
+/* The place of an entry of the backtrace, counted from the innermost frame. */
+static uint64_t place_of(const struct chaffwheel_stores *m, uint64_t entry)
+{
+    return m->trace[CHAFFWHEEL_ENTRY * entry + CHAFFWHEEL_ENTRY_PLACE];
+}
+
 /* What the broker writes down of a run that is over; `before` is the last result that the rule was given. */
 static struct journal written(struct chaffwheel_stores *m, double before, uint32_t refused)
 {
@@ -62,7 +69,7 @@ static struct journal written(struct chaffwheel_stores *m, double before, uint32
     j.outcome = m->answer[CHAFFWHEEL_OUTCOME], j.spent = m->answer[CHAFFWHEEL_SPENT], j.returns = m->answer[CHAFFWHEEL_RETURNS];
     if (j.outcome == CHAFFWHEEL_FAULT) {
         uint64_t entries = m->answer[CHAFFWHEEL_TRACE_LENGTH];
-        j.fault = m->answer[CHAFFWHEEL_FAULT_NUMBER], j.place = m->trace[2 * entries - 1];
+        j.fault = m->answer[CHAFFWHEEL_FAULT_NUMBER], j.place = place_of(m, entries - 1);
     }
     j.after = last_scalar(m, before); /* the answer is this value's from here on */
     return j;
@@ -78,9 +85,9 @@ static struct journal run(struct chaffwheel_stores *m, double before, uint64_t u
 static void answer_operator(struct chaffwheel_stores *m, const uint8_t *image, size_t len)
 {
     uint64_t spent = m->answer[CHAFFWHEEL_SPENT], returns = m->answer[CHAFFWHEEL_RETURNS];
-    uint32_t place = cw_backtrace(m) ? 0 : m->trace[2 * m->answer[CHAFFWHEEL_TOLD] - 1];
+    uint64_t place = cw_backtrace(m) ? 0 : place_of(m, m->answer[CHAFFWHEEL_TOLD] - 1);
     uint32_t refused = cw_check(m, image, len);
-    printf("    paused, spent %" PRIu64 ", returns %" PRIu64 ", main at place %" PRIu32, spent, returns, place);
+    printf("    paused, spent %" PRIu64 ", returns %" PRIu64 ", main at place %" PRIu64, spent, returns, place);
     printf("; another rule is refused %" PRIu32 "\n", refused);
 }
 
@@ -151,6 +158,40 @@ static struct journal jump_rule(struct chaffwheel_stores *m, uint64_t units)
 {
     struct journal j = { .before = NAN, .after = NAN, .refused = emit_jump_rule(m) };
     return j.refused ? j : run(m, NAN, units);
+}
+
+/* A rule with calls: main calls f, f calls g. Instruction i has place i. */
+static uint32_t emit_call_rule(struct chaffwheel_stores *m)
+{
+    static const uint8_t name[] = { 'f', 'g' };
+    TRY(cw_new(m));
+    TRY(cw_add_scalar(m, bits_of(1)));            /* constant 0 */
+    TRY(cw_add_op1(m, LOAD_CONSTANT, 0, 1));
+    TRY(cw_add_op2(m, CALL, 1, 1, 2));
+    TRY(cw_add_op(m, RETURN, 3));
+    TRY(cw_begin_function(m, name, 1));           /* function 1 */
+    TRY(cw_add_op1(m, LOAD_CONSTANT, 0, 4));
+    TRY(cw_add_op2(m, CALL, 2, 1, 5));
+    TRY(cw_add_op(m, RETURN, 6));
+    TRY(cw_begin_function(m, name + 1, 1));       /* function 2 */
+    TRY(cw_add_op1(m, LOAD_CONSTANT, 0, 7));
+    return cw_add_op(m, RETURN, 8);
+}
+
+/* The operator asks in a pause which calls are under way, and since when: each frame tells the units that were spent when it was entered. */
+static uint32_t show_call_rule(struct chaffwheel_stores *m)
+{
+    TRY(emit_call_rule(m));
+    TRY(cw_begin(m));
+    TRY(cw_continue(m, 5));
+    printf("a rule with calls, paused with %" PRIu64 " units spent\n", m->answer[CHAFFWHEEL_SPENT]);
+    TRY(cw_backtrace(m));
+    for (uint64_t i = 0; i < m->answer[CHAFFWHEEL_TOLD]; i++) {
+        const uint64_t *entry = m->trace + CHAFFWHEEL_ENTRY * i;
+        printf("    function %" PRIu64 " at place %" PRIu64 ", since unit %" PRIu64 "\n", entry[CHAFFWHEEL_ENTRY_FUNCTION],
+            entry[CHAFFWHEEL_ENTRY_PLACE], entry[CHAFFWHEEL_ENTRY_ENTERED]);
+    }
+    return cw_abandon(m);
 }
 
 /* A rule that a vendor broke: its Return finds no value where the jump was taken. It is emitted on a machine aside, and its image saved. */
@@ -259,7 +300,7 @@ static void show_answer(const struct journal *j)
     if (j->refused)
         printf("    refused %" PRIu32 ": nothing ran\n", j->refused);
     else if (j->outcome == CHAFFWHEEL_FAULT)
-        printf("    fault %" PRIu64 ", spent %" PRIu64 ", returns %" PRIu64 ", main at place %" PRIu32 "\n", j->fault, j->spent, j->returns, j->place);
+        printf("    fault %" PRIu64 ", spent %" PRIu64 ", returns %" PRIu64 ", main at place %" PRIu64 "\n", j->fault, j->spent, j->returns, j->place);
     else
         printf("    %s, spent %" PRIu64 ", returns %" PRIu64 "\n", j->outcome == CHAFFWHEEL_VALUE ? "value" : "continue", j->spent, j->returns);
     show_last("    last result before", j->before);
@@ -320,7 +361,8 @@ int main(int argc, char **argv)
     struct journal jumped = jump_rule(&m, 4);
     show("the same on a new machine, with 4 units", &jumped);
 
-    uint32_t refused = show_list_rule(&m);
+    uint32_t refused = show_call_rule(&m);
+    refused = refused ? refused : show_list_rule(&m);
 
     machine_free(&m);
     int story = counted(&first) && first.after == 42 && !counted(&rest) && rest.after == 42 && counted(&once) && once.after == 42

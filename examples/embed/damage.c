@@ -57,7 +57,7 @@ static void lend(void)
     MAKE(cells, 2 * PLACES);
     MAKE(frames, 6);
     MAKE(copy, 3 * PLACES);
-    MAKE(trace, 16);
+    MAKE(trace, 24);
 }
 
 static unsigned long seen[256], calls;
@@ -162,11 +162,23 @@ static void read_all(void)
     CALL(" 19 1 3 17 ", "disassemble", cw_disassemble(&m, out, sizeof out));
 }
 
+/* When the frames were entered: never before their callers, nor at more units than these. */
+static void entered_within(uint64_t units, const char *entry)
+{
+    uint64_t at = 0;
+    size_t i;
+    for (i = 0; i < m.vm[CHAFFWHEEL_FRAMES]; i++) {
+        if (m.frames[i].entered < at || m.frames[i].entered > units) stop("a frame entered at another time", entry, told);
+        at = m.frames[i].entered;
+    }
+}
+
 /* What an answer of a part says, against the units that the run was given. */
 static void within(uint64_t given, const char *entry)
 {
     if (m.answer[CHAFFWHEEL_SPENT] > given) stop("more units spent than given", entry, told);
     if (m.answer[CHAFFWHEEL_RETURNS] > m.answer[CHAFFWHEEL_SPENT]) stop("more root Returns than units", entry, told);
+    entered_within(m.answer[CHAFFWHEEL_SPENT], entry);
     if (m.answer[CHAFFWHEEL_OUTCOME] != CHAFFWHEEL_PAUSED) return;
     if (m.vm[CHAFFWHEEL_RUN_ON] != 1 || m.vm[CHAFFWHEEL_RUN_GIVEN] != given) stop("the record has another run", entry, told);
     if (m.vm[CHAFFWHEEL_RUN_SPENT] != m.answer[CHAFFWHEEL_SPENT]) stop("the record has other units", entry, told);
@@ -184,6 +196,7 @@ static void over(const char *entry, uint64_t stack, const uint64_t *words)
         if (fault < 1 || fault > 14) stop("no number of a fault", entry, (uint32_t)fault);
         if (m.vm[CHAFFWHEEL_STACK] != stack || memcmp(words, m.stack, 2 * stack * sizeof *words)) stop("the stack is not that of the start", entry, told);
         if (m.vm[CHAFFWHEEL_FRAMES] != 1) stop("not one frame", entry, told);
+        if (m.frames[0].entered != 0) stop("the frame of recovery was entered", entry, told);
         seen[64 + fault]++;
     }
     REFUSED(18, "continue without a run", cw_continue(&m, below(9)));

@@ -79,10 +79,10 @@ static void runs_short(struct chaffwheel_stores *m, int begin, int go_on)
     MUST(begin, BEGIN(m->stack_len - 1, 5));
     MUST(begin, BEGIN(2, 0));
     MUST(go_on, CONTINUE(100, m->trace_len, 4));
-    MUST(go_on, CONTINUE(100, 2 * m->frames_len - 1, 5));
+    MUST(go_on, CONTINUE(100, CHAFFWHEEL_ENTRY * m->frames_len - 1, 5));
     MUST(go_on, CONTINUE(UINT64_MAX, 0, 0));
     MUST(go_on, ABANDON(m->trace_len, 4));
-    MUST(go_on, ABANDON(2 * m->frames_len - 1, 5));
+    MUST(go_on, ABANDON(CHAFFWHEEL_ENTRY * m->frames_len - 1, 5));
     MUST(go_on, ABANDON(0, 0));
 }
 
@@ -218,6 +218,10 @@ static void in_a_run(struct chaffwheel_stores *m, uint64_t list)
     DAMAGED(m->copy[0], 9, runs_short(m, 19, 19)); /* no kind of a value */
     MUST(19, BEGIN(0, 5)); /* the copy of the run under way is not in what is lent */
     DAMAGED(m->frames[0].position, 99, runs_short(m, 19, 19)); /* past the code */
+    DAMAGED(m->frames[0].entered, run[CHAFFWHEEL_RUN_SPENT] + 1, {
+        runs_short(m, 19, 19); /* entered at more units than are spent; a backtrace judges the frames, and not the run */
+        MUST(17, chaffwheel_backtrace(VM, LEND(functions), LEND(text), CODE, LEND(stack), LEND(frames), m->trace, CHAFFWHEEL_ENTRY - 1, ANSWER));
+    });
 }
 
 /* Begins a run behind what has run and gives it one unit, of two that it needs. */
@@ -260,6 +264,12 @@ int main(void)
         runs_short(m, 19, 19);
         MUST(19, chaffwheel_backtrace(VM, LEND(functions), LEND(text), CODE, LEND(stack), LEND(frames), m->trace, 0, SHORT));
     });
+    /* a callee entered before its caller: two frames of main, the second at its start */
+    DAMAGED(m->vm[CHAFFWHEEL_FRAMES], 2, DAMAGED(m->frames[0].entered, 1, {
+        runs_short(m, 19, 19);
+        MUST(19, chaffwheel_backtrace(VM, LEND(functions), LEND(text), CODE, LEND(stack), LEND(frames), m->trace, 0, SHORT));
+        DAMAGED(m->frames[1].entered, 1, runs_short(m, 17, 18));
+    }));
     /* the listing: 1 or 3 as met first */
     DAMAGED(m->main_code[0], 38, {
         MUST(1, chaffwheel_disassemble(VM, LEND(functions), LEND(text), LEND(main_code), LEND(other_code), out, sizeof out, SHORT));

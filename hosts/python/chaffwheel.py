@@ -34,6 +34,7 @@ class Outcome:
         self.kind = {1: "value", 2: "continue", 3: "fault", 4: "paused"}[outcome]
         self.value = value_of(first, second) if outcome == 1 else None
         self.fault = first if outcome == 3 else None
+        self.entries = second if outcome == 3 else 0
 
 
 def value_of(kind, payload):
@@ -51,13 +52,13 @@ class Machine:
         self.vm, self.answer = (c_uint64 * 16)(), (c_uint64 * 5)()  # zeros: no run is under way
         self.program = [(c_uint64 * 512)(), (c_uint64 * 512)(), (c_uint64 * 512)(), (c_uint8 * 16384)(),
                         (c_uint8 * 8192)(), (c_uint32 * 8192)(), (c_uint8 * 8192)(), (c_uint32 * 8192)()]
-        self.stack, self.cells, self.frames = (c_uint64 * 2048)(), (c_uint64 * 4096)(), (c_uint64 * 768)()
-        self.copy, self.trace = (c_uint64 * 2048)(), (c_uint32 * 512)()
+        self.stack, self.cells, self.frames = (c_uint64 * 2048)(), (c_uint64 * 4096)(), (c_uint64 * 1024)()
+        self.copy, self.trace = (c_uint64 * 2048)(), (c_uint64 * 768)()
         image = (c_uint8 * max(len(image), 1)).from_buffer_copy(image or b"\0"), len(image)
         self.call("load", image, self.vm, *self.program, self.framed(), self.answer)
 
     def framed(self):
-        return self.frames, 256  # a frame is three words
+        return self.frames, 256  # a frame is four words
 
     def call(self, name, *arguments):
         """Lends each store with its count; other arguments go as they are."""
@@ -84,6 +85,10 @@ class Machine:
     def part(self, name, *arguments):
         self.call(name, *arguments)
         return Outcome(list(self.answer))
+
+    def backtrace(self, outcome):
+        """Of a fault: function, place, and the units that the run had spent when the frame was entered, the innermost frame first."""
+        return [tuple(self.trace[3 * i:3 * i + 3]) for i in range(outcome.entries)]
 
     def whole_run(self, units):
         """Begun, continued once, and abandoned where it is then paused."""

@@ -4,6 +4,7 @@
 mod between;
 mod dealing;
 mod emitting;
+mod entering;
 mod filling;
 mod looking;
 mod parts;
@@ -21,8 +22,8 @@ const PATIENCE: usize = 20;
 /// A long story is told at the beginning of a script that has room for it.
 const LONG: usize = 40_000;
 /// One story of each sort but emitted programs comes first, then any.
-const SORTS: usize = 31;
-const ANY: usize = 41;
+const SORTS: usize = 32;
+const ANY: usize = 42;
 
 /// A script of at most `most` bytes.
 pub fn script(seed: u64, most: usize) -> String {
@@ -128,6 +129,7 @@ impl Story<'_> {
             28 => self.paused(),
             29 => self.begun_in_a_callee(),
             30 => self.run_damaged(),
+            31 => self.calls_inside_calls(),
             _ => self.emitted(),
         }
         // The next story begins with a machine of its own.

@@ -50,7 +50,7 @@ pub enum Command {
 const WHOLE: usize = usize::MAX;
 const ANY: u64 = u64::MAX;
 /// The most that a number of a frame, or a count, may be.
-const RECORD: u64 = 0xFFFF_FFFF_FFFF;
+pub const RECORD: u64 = 0xFFFF_FFFF_FFFF;
 
 impl Command {
     pub fn read(line: &[u8]) -> Command {
@@ -133,19 +133,19 @@ fn continuing(line: &[u8]) -> Option<Command> {
     room(line, 2).map(|room| Command::Continue(units, room))
 }
 
-/// `frame I` shows a frame, `frame I FUNCTION POSITION BASE` puts one.
+/// `frame I` shows a frame, `frame I FUNCTION POSITION BASE ENTERED` puts one.
 fn frame(line: &[u8]) -> Option<Command> {
     if let Some([i]) = numbers(line, 1, [RECORD]) {
         return Some(Command::ShowFrame(i as usize));
     }
-    numbers(line, 1, [RECORD; 4]).map(|all| {
-        let [i, function, position, base] = all.map(|number| number as usize);
+    numbers(line, 1, [RECORD; 5]).map(|[i, function, position, base, entered]| {
         let frame = Frame {
-            function,
-            position,
-            base,
+            function: function as usize,
+            position: position as usize,
+            base: base as usize,
+            entered,
         };
-        Command::PutFrame(i, frame)
+        Command::PutFrame(i as usize, frame)
     })
 }
 
@@ -182,6 +182,7 @@ mod tests {
             function: 1,
             position: 2,
             base: 3,
+            entered: 4,
         };
         for (line, command) in [
             ("new", Command::New),
@@ -217,7 +218,7 @@ mod tests {
             ("save 0", Command::Save(0)),
             ("list 9", Command::List(9)),
             ("frame 5", Command::ShowFrame(5)),
-            ("frame 0 1 2 3", Command::PutFrame(0, frame)),
+            ("frame 0 1 2 3 4", Command::PutFrame(0, frame)),
             ("count frames 2", Command::CountFrames(2)),
             ("count on 1", Command::PutRun(RunWord::On, 1)),
             ("count given 2", Command::PutRun(RunWord::Given, 2)),
@@ -277,7 +278,10 @@ mod tests {
             "end 41",
             "frame",
             "frame 1 2",
-            "frame 0 0 0 281474976710656",
+            "frame 0 0 0 0",
+            "frame 0 0 0 281474976710656 0",
+            "frame 0 0 0 0 281474976710656",
+            "frame 0 0 0 0 0 0",
             "count frames",
             "count nobody 1",
             "stack",

@@ -2,8 +2,8 @@
 
 use crate::command::Command;
 use crate::frames::{in_order, FrameStore, NotFixed};
-use crate::limits::{Answer, Machine, Part, Refused, Report, Run, Stores};
-use crate::print::{listing, value_text};
+use crate::limits::{Answer, Entry, Machine, Part, Refused, Report, Run, Stores};
+use crate::print::{entry_line, listing, value_text};
 use crate::readers::{block_header, element, last_result, stack_value, text_bytes};
 use crate::run_record::{OfWords, RunRecord};
 use crate::script::{in_hex, lines, SPACE};
@@ -87,9 +87,23 @@ impl Console {
         self.run
     }
 
-    /// Whether the frames would be in good order but for the run under way.
+    /// Whether the frames are in good order but for where the run under way
+    /// stands: no run can at an end of code.
     pub fn stands_beyond(&self) -> bool {
-        self.run.on && self.framed(true).is_err() && self.framed(false).is_ok()
+        self.run.on && self.framed(Some(u64::MAX)).is_err() && self.framed(None).is_ok()
+    }
+
+    /// Whether they are but for a frame that was entered at more units than the
+    /// run under way has spent.
+    pub fn enters_beyond(&self) -> bool {
+        self.framed(self.spent()).is_err() && self.framed(Some(u64::MAX)).is_ok()
+    }
+
+    /// Whether they are but for a frame that was entered before its caller.
+    pub fn enters_before_its_caller(&self) -> bool {
+        let mut mended = self.clone();
+        mended.frames.unenter();
+        self.framed(None).is_err() && mended.framed(self.spent()).is_ok()
     }
 
     /// What a line is answered.
@@ -151,8 +165,8 @@ impl Console {
             Command::ShowFrame(i) => {
                 let frame = self.frames.show(i)?;
                 say(format!(
-                    "frame {} {} {}\n",
-                    frame.function, frame.position, frame.base
+                    "frame {} {} {} {}\n",
+                    frame.function, frame.position, frame.base, frame.entered
                 ))
             }
             Command::PutFrame(i, frame) => {
@@ -235,9 +249,16 @@ impl Console {
         stack_value(machine, i)
     }
 
+    /// The units that the run under way has spent, by the words that the host
+    /// holds; none where no run is under way.
+    fn spent(&self) -> Option<u64> {
+        self.run.on.then_some(self.run.spent)
+    }
+
     /// The machine with the frames that the host lends, if they are in good
-    /// order; their bases are within the stack store.
-    fn framed(&self, under_way: bool) -> Result<Machine, Stop> {
+    /// order, with a run under way that has spent so many units; their bases are
+    /// within the stack store.
+    fn framed(&self, under_way: Option<u64>) -> Result<Machine, Stop> {
         let mut machine = self.machine.clone().ok_or(Refused::Order)?;
         let frames = self.frames.taken()??;
         if !in_order(&frames, &machine.program, machine.stores.values, under_way) {
@@ -250,7 +271,7 @@ impl Console {
     /// The machine with the frames and the run that the host lends, if both are
     /// in good order.
     fn lent(&self) -> Result<Machine, Stop> {
-        let mut machine = self.framed(self.run.on)?;
+        let mut machine = self.framed(self.spent())?;
         self.run.take(&mut machine)??;
         Ok(machine)
     }
@@ -305,7 +326,7 @@ impl Console {
     /// 19, 17, then 16. A backtrace is lent the stack store for its length, and
     /// judges nothing of a run that is under way.
     fn trace(&mut self, room: usize) -> Said {
-        let machine = self.framed(false)?;
+        let machine = self.framed(None)?;
         if room < machine.frames.len() {
             return Err(Refused::ResultStore.into());
         }
@@ -350,11 +371,8 @@ fn fitting(bytes: Vec<u8>, room: usize) -> Result<Vec<u8>, Refused> {
     Ok(bytes)
 }
 
-fn entries(backtrace: &[(usize, u32)]) -> String {
-    let lines = backtrace
-        .iter()
-        .map(|(f, place)| format!("at {f} {place}\n"));
-    lines.collect()
+fn entries(backtrace: &[Entry]) -> String {
+    backtrace.iter().map(entry_line).collect()
 }
 
 /// What a part answers, in a line and the backtrace.

@@ -8,7 +8,7 @@ pub mod scripts;
 use std::collections::BTreeMap;
 
 use crate::generate::{self, Rng};
-use crate::limits::{Answer, Machine, Part, Refused, Report};
+use crate::limits::{Answer, Frame, Machine, Part, Refused, Report};
 use crate::op::Op;
 use crate::print;
 use crate::value::{Elements, Value};
@@ -59,6 +59,9 @@ pub fn runs(seed: u64, count: u64) -> Count {
                     counted.add("runs that find values on the stack, and a last result");
                     put_values(&mut machine, &mut rng);
                 }
+                if rng.chance(10) && put_frames(&mut machine, &mut rng) {
+                    counted.add("runs that find frames of an earlier run, entered at some units");
+                }
                 let difference = Run::new(&machine, &mut rng).compare(&mut counted);
                 let difference = difference.map(|words| format!("image {index}: {words}"));
                 counted.differences.extend(difference);
@@ -86,6 +89,38 @@ fn put_values(machine: &mut Machine, rng: &mut Rng) {
         machine.stack.push(value);
     }
     machine.last_result = machine.stack.first().cloned();
+}
+
+/// What an earlier run might have left that ended in a callee: frames that it
+/// entered at some units. Not if main has no code.
+fn put_frames(machine: &mut Machine, rng: &mut Rng) -> bool {
+    let mut frames = vec![];
+    let mut entered = 0;
+    for inwards in 0..rng.between(1, 3) {
+        entered += rng.below(9) as u64;
+        let function = match inwards {
+            0 => 0,
+            _ => rng.below(machine.program.functions.len()),
+        };
+        let length = machine.program.functions[function].code.len();
+        if length == 0 {
+            break;
+        }
+        frames.push(Frame {
+            function,
+            position: rng.between(1, length),
+            base: match inwards {
+                0 => 0,
+                _ => rng.below(machine.stack.len() + 1),
+            },
+            entered,
+        });
+    }
+    let some = !frames.is_empty();
+    if some {
+        machine.frames = frames;
+    }
+    some
 }
 
 /// One run, and how its units are dealt out.

@@ -23,7 +23,7 @@ impl FrameStore {
     /// A store of zeros of which nothing is taken.
     pub fn new(places: usize) -> FrameStore {
         FrameStore {
-            slots: vec![Some(zeros()); places],
+            slots: vec![Some(Frame::root(0)); places],
             taken: 0,
         }
     }
@@ -41,13 +41,20 @@ impl FrameStore {
     pub fn show(&self, i: usize) -> Result<Frame, NotFixed> {
         match self.slots.get(i) {
             Some(slot) => slot.clone().ok_or(NotFixed(i)),
-            None => Ok(zeros()),
+            None => Ok(Frame::root(0)),
         }
     }
 
     pub fn put(&mut self, i: usize, frame: Frame) {
         if let Some(slot) = self.slots.get_mut(i) {
             *slot = Some(frame);
+        }
+    }
+
+    /// All frames as if they had been entered at 0.
+    pub fn unenter(&mut self) {
+        for frame in self.slots.iter_mut().flatten() {
+            frame.entered = 0;
         }
     }
 
@@ -65,19 +72,18 @@ impl FrameStore {
     }
 }
 
-fn zeros() -> Frame {
-    Frame {
-        function: 0,
-        position: 0,
-        base: 0,
-    }
-}
-
 /// The frames' good order: at least one; the first frame function 0, base 0;
 /// function numbers known; bases within the stack store; positions at most
-/// 131,070, and in all but the innermost frame from 1 to the code length. With
-/// a run under way the innermost position is below its code length.
-pub fn in_order(frames: &[Frame], program: &Program, values: usize, under_way: bool) -> bool {
+/// 131,070, and in all but the innermost frame from 1 to the code length; the
+/// units at which they were entered never fall from the root inwards. With a
+/// run under way, which has spent so many units, the innermost position is below
+/// its code length, and no frame was entered at more units than those.
+pub fn in_order(
+    frames: &[Frame],
+    program: &Program,
+    values: usize,
+    under_way: Option<u64>,
+) -> bool {
     let Some((innermost, callers)) = frames.split_last() else {
         return false;
     };
@@ -89,5 +95,7 @@ pub fn in_order(frames: &[Frame], program: &Program, values: usize, under_way: b
             .iter()
             .all(|frame| code(frame).is_some_and(|length| (1..=length).contains(&frame.position)))
         && innermost.position <= MOST_POSITION
-        && code(innermost).is_some_and(|length| !under_way || innermost.position < length)
+        && code(innermost).is_some_and(|length| under_way.is_none() || innermost.position < length)
+        && frames.is_sorted_by_key(|frame| frame.entered)
+        && under_way.is_none_or(|spent| innermost.entered <= spent)
 }

@@ -116,6 +116,29 @@ pub struct Frame {
     pub function: usize,
     pub position: usize,
     pub base: usize,
+    /// The units that the run had spent when it was entered, the Call's own
+    /// included.
+    pub entered: u64,
+}
+
+impl Frame {
+    /// Main's, entered when nothing was spent.
+    pub fn root(position: usize) -> Frame {
+        Frame {
+            function: 0,
+            position,
+            base: 0,
+            entered: 0,
+        }
+    }
+}
+
+/// What a backtrace tells of a frame.
+#[derive(Clone, Copy, Debug, PartialEq, Eq)]
+pub struct Entry {
+    pub function: usize,
+    pub place: u32,
+    pub entered: u64,
 }
 
 #[derive(Clone, Debug)]
@@ -134,8 +157,8 @@ pub struct Report {
     /// How many root Returns the run has completed: what it returned before a
     /// fault has counted. 0 with "continue".
     pub returns: u64,
-    /// Function and place, innermost frame first; empty unless a fault.
-    pub backtrace: Vec<(usize, u32)>,
+    /// Innermost frame first; empty unless a fault.
+    pub backtrace: Vec<Entry>,
     /// How far the stores were filled on the way.
     pub most: Most,
     /// The functions that CallCallable has called.
@@ -213,11 +236,7 @@ impl Machine {
             program,
             current: 0,
             stack: vec![],
-            frames: vec![Frame {
-                function: 0,
-                position: 0,
-                base: 0,
-            }],
+            frames: vec![Frame::root(0)],
             cells_used: 0,
             last_result: None,
             copy: vec![],
@@ -364,8 +383,9 @@ impl Machine {
 
     // Backtrace
 
-    /// Function and place of each frame, innermost first.
-    pub fn backtrace(&self) -> Result<Vec<(usize, u32)>, Refused> {
+    /// Function and place of each frame and when it was entered, innermost
+    /// first.
+    pub fn backtrace(&self) -> Result<Vec<Entry>, Refused> {
         self.frames
             .iter()
             .rev()
@@ -373,7 +393,11 @@ impl Machine {
                 self.program.functions[frame.function]
                     .places
                     .get(frame.position.saturating_sub(1))
-                    .map(|place| (frame.function, *place))
+                    .map(|place| Entry {
+                        function: frame.function,
+                        place: *place,
+                        entered: frame.entered,
+                    })
                     .ok_or(Refused::Backtrace)
             })
             .collect()
@@ -396,11 +420,15 @@ impl Machine {
         // The last result is not put back.
         self.stack = stack_at_start;
         self.cells_used = cells_to_keep;
-        self.frames = vec![Frame {
-            function: 0,
-            position: main_code(&self.program),
-            base: 0,
-        }];
+        self.frames = vec![Frame::root(main_code(&self.program))];
+    }
+
+    /// A run that is begun has spent nothing, so that all its frames were
+    /// entered at 0: the root, and those that an earlier run has left.
+    fn unenter(&mut self) {
+        for frame in &mut self.frames {
+            frame.entered = 0;
+        }
     }
 
     fn taken_since(&self, most: Most) -> Most {
@@ -411,13 +439,14 @@ impl Machine {
         }
     }
 
-    /// One step, its own unit already spent and `units` left for comparing.
+    /// One step, its own unit already among the `spent` and `units` left for
+    /// comparing.
     /// The checks come in document 01's order: 1, 2, 3, number operands, pops
     /// from the top (4 before 5 at each), 7, field number, 14, argument
     /// count, zero divisor, comparison units, 12, 11, frames, stack. A
     /// comparison that cannot be paid for, fault 13, has popped nothing: of a
     /// step at fault it alone leaves the stack as it was.
-    fn step(&mut self, units: u64) -> Result<Step, u32> {
+    fn step(&mut self, spent: u64, units: u64) -> Result<Step, u32> {
         let frame = self.frame().clone();
         let code = &self.program.functions[frame.function].code;
 
@@ -532,14 +561,14 @@ impl Machine {
                 if operands[0] >= self.program.functions.len() {
                     return Err(6);
                 }
-                self.call(operands[0], operands[1])?;
+                self.call(operands[0], operands[1], spent)?;
             }
             Op::CallCallable => {
                 let Value::FunctionReference(name) = self.pop()? else {
                     return Err(5);
                 };
                 let function = self.newest_function(&name).ok_or(14u32)?;
-                self.call(function, operands[0])?;
+                self.call(function, operands[0], spent)?;
                 return Ok(Step::CalledByName(function));
             }
             Op::BuildStructInstance => {
@@ -627,7 +656,7 @@ impl Machine {
         Ok(Elements::new(items))
     }
 
-    fn call(&mut self, function: usize, count: usize) -> Result<(), u32> {
+    fn call(&mut self, function: usize, count: usize, entered: u64) -> Result<(), u32> {
         let base = self.stack.len().checked_sub(count).ok_or(4u32)?;
         if self.frames.len() >= self.stores.frames {
             return Err(10);
@@ -636,6 +665,7 @@ impl Machine {
             function,
             position: 0,
             base,
+            entered,
         });
         Ok(())
     }

@@ -113,10 +113,20 @@ Without ROOM the whole store is lent. The answer is a line
   fault N, spent N, returns N, stack N, frames N
   refused N
 
-and behind a fault `at FUNCTION PLACE` per frame, innermost first. `spent` and
+and behind a fault `at FUNCTION PLACE ENTERED` per frame, innermost first, ENTERED
+being the units that the run had spent when the frame was entered. `spent` and
 `returns`, the root Returns, are the whole run's, of a paused one those so far. While
 a run is under way each command of emission, `image` and `new` is refused 25.
 oracle/tests/parts.script has each of these, parts.answers what is answered.
+
+  frame I                       shows a frame: `frame FUNCTION POSITION BASE ENTERED`
+  frame I FUNCTION POSITION BASE ENTERED
+                                puts one, and is not answered; each number is below
+                                2^48. Frames are not in good order, 19, where
+                                ENTERED falls from the root inwards, or is above
+                                what the run under way has spent
+  trace, trace ROOM             the host's own backtrace, in the same lines: 19 of
+                                the frames, nothing being asked of a run; 17, 16
 
 A host may damage the words of a run: `count on N` (0, or else 1: whether one is under
 way), `count given N`, `count spent N`, `count returns N`, `count mark N` (the cells
@@ -133,7 +143,8 @@ one over, frames damaged, patches, names, lines not understood, an image, a
 function defined anew, a struct added, a callee's code that grows, frames put over
 values, an image over a machine that has run, units dealt out among comparisons,
 runs abandoned, what is refused in a pause, a run begun in a callee, the words of
-a run damaged), then any, emitted programs too. The units of most runs come in parts, none now and then.
+a run damaged, calls inside calls and when they began), then any, emitted programs
+too. The units of most runs come in parts, none now and then.
 From 40,000 bytes on it begins with a long one: the text store is filled for seeds
 0, 4, 8 .., main's code for 1, 5 .., the others' code for 2, 6 .., constants,
 structs and functions for 3, 7 ..

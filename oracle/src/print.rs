@@ -1,7 +1,7 @@
 //! What the runner, the lister and the noter print, and the records to compare with.
 
 use crate::image::{Constant, Program};
-use crate::limits::{self, Answer, Machine, Refused, Report, Stores};
+use crate::limits::{self, Answer, Entry, Machine, Refused, Report, Stores};
 use crate::op::Op;
 use crate::value::{shown_bits, Value};
 
@@ -87,10 +87,18 @@ pub fn ran_text(ran: &Ran) -> String {
     };
     out += &format!("spent {}\n", ran.report.spent);
     out += &format!("stack {}\n", ran.machine.stack.len());
-    for (function, place) in &ran.report.backtrace {
-        out += &format!("at {function} {place}\n");
-    }
+    out.extend(ran.report.backtrace.iter().map(entry_line));
     out
+}
+
+/// A line of a backtrace.
+pub fn entry_line(entry: &Entry) -> String {
+    let Entry {
+        function,
+        place,
+        entered,
+    } = entry;
+    format!("at {function} {place} {entered}\n")
 }
 
 pub fn value_text(value: &Value) -> String {

@@ -60,7 +60,7 @@ fn where_no_limit_comes_in_the_machines_agree() {
                     .report
                     .backtrace
                     .iter()
-                    .map(|(function, place)| (functions[*function].name.clone(), *place))
+                    .map(|entry| (functions[entry.function].name.clone(), entry.place))
                     .collect();
                 error.backtrace == backtrace && same_state(&ran, &vm)
             }

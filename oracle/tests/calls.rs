@@ -75,7 +75,7 @@ fn every_command_comes_up() {
         "list 1",
         "list 2",
         "frame 2",
-        "frame 5",
+        "frame 6",
         "count 3",
         "last 1",
         "stack 2",
@@ -177,6 +177,7 @@ fn edges_are_counted_where_they_are() {
         [
             "refused 18",
             "a run over at once in a callee",
+            "a run begun over frames that an earlier one entered",
             "refused 18, continuing"
         ]
     );
@@ -187,7 +188,8 @@ fn edges_are_counted_where_they_are() {
         [
             "fault 6",
             "a run that goes on in a callee whose code grew",
-            "such a run that enters the new code in its middle"
+            "such a run that enters the new code in its middle",
+            "a run begun over frames that an earlier one entered"
         ]
     );
     let image = "image 000001063C6D61696E3E00";
@@ -280,7 +282,7 @@ op1 0 0 3\nop1 36 1 4\nop1 0 0 5\nop1 36 1 6\nop 18 7\nstart";
     // A backtrace judges the frames, and not the run.
     assert_eq!(
         found(&format!(
-            "{rule}\nframe 0 0 17 0\nabandon\ntrace\nframe 0 0 16 0\ncontinue 9"
+            "{rule}\nframe 0 0 17 0 0\nabandon\ntrace\nframe 0 0 16 0 0\ncontinue 9"
         )),
         [
             "fault 4",
@@ -301,6 +303,51 @@ op1 0 0 3\nop1 36 1 4\nop1 0 0 5\nop1 36 1 6\nop 18 7\nstart";
             "a run that was paused came to its end",
             "refused 19, a damaged word of a run",
             "a run continued with a word that was damaged in good order"
+        ]
+    );
+}
+
+/// The edges of when frames were entered.
+#[test]
+fn edges_of_entered_frames_are_counted_where_they_are() {
+    let found = |story: &str| -> Vec<String> {
+        let counted = tally(std::iter::once(story.to_owned()));
+        let found = counted.into_iter().filter(|(_, count)| *count > 0);
+        found.map(|(edge, _)| edge).collect()
+    };
+    // Main calls f with its first unit, f negates what is not there.
+    let rule = "new\nop2 28 1 0 1\nbegin 66\nop 6 2\nstart\ncontinue 1";
+    assert_eq!(
+        found(&format!("{rule}\ncontinue 1")),
+        [
+            "fault 4",
+            "paused with no unit left",
+            "paused in a callee",
+            "a run that was paused faulted",
+            "a fault's backtrace with calls at some units"
+        ]
+    );
+    // Entered at 2 of 1 units spent: the host's backtrace judges nothing of a run.
+    assert_eq!(
+        found(&format!("{rule}\nframe 1 1 0 0 2\ntrace\ncontinue 1")),
+        [
+            "refused 19",
+            "paused with no unit left",
+            "paused in a callee",
+            "refused 19, a frame entered at more units than are spent",
+            "a listing, an image or a backtrace in a pause"
+        ]
+    );
+    // The caller at 1 and the callee at 0: not in order for a backtrace either.
+    assert_eq!(
+        found(&format!(
+            "{rule}\nframe 0 0 5 0 1\nframe 1 1 0 0 0\ntrace\ncontinue 1"
+        )),
+        [
+            "refused 19",
+            "paused with no unit left",
+            "paused in a callee",
+            "refused 19, a frame entered before its caller"
         ]
     );
 }

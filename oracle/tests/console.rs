@@ -95,7 +95,7 @@ fn before_a_machine_is_made_nothing_is_in_good_order() {
     }
     assert_eq!(
         said("frame 7\nframe 256\nimage 80 00"),
-        "frame 0 0 0\nframe 0 0 0\nbroken 0\n"
+        "frame 0 0 0 0\nframe 0 0 0 0\nbroken 0\n"
     );
 }
 
@@ -223,7 +223,7 @@ fn results_need_their_room() {
     ends(p1, "start 1023", "refused 17");
     ends(p1, "start\ncontinue 9 255", "refused 17");
     ends(p1, "start\nabandon 255", "refused 17");
-    ends(p1, "trace 1", "at 0 1");
+    ends(p1, "trace 1", "at 0 1 0");
     ends(p1, "trace 0", "refused 17");
     // 16 comes behind 17, an opcode or a cut instruction before it.
     ends("new", "trace", "refused 16");
@@ -245,12 +245,12 @@ fn frames_are_shown_and_counted() {
         ))
         .lines()
         .last(),
-        Some("frame 0 5 0")
+        Some("frame 0 5 0 0")
     );
     let empty = "new\nbegin 66\nend\nop2 28 1 0 3\nstart\ncontinue 9";
-    ends(empty, "frame 1", "frame 1 0 0");
+    ends(empty, "frame 1", "frame 1 0 0 1");
     ends(empty, "trace", "refused 16");
-    ends(empty, "count frames 1\ntrace", "at 0 3");
+    ends(empty, "count frames 1\ntrace", "at 0 3 0");
 }
 
 #[test]
@@ -264,16 +264,19 @@ fn damaged_frames_are_refused_by_runs_and_backtraces() {
     let (bad, short) = ("refused 19", "refused 17");
     both("count frames 0", bad, bad);
     both("count frames 257", bad, bad);
-    both("frame 0 1 0 0", bad, bad);
-    both("frame 0 0 0 1", bad, bad);
-    both("frame 0 0 131070 0", short, "refused 16");
-    both("frame 0 0 131071 0", bad, bad);
-    both("frame 0 0 0 0", short, "at 0 7");
-    let two =
-        |first: &str, second: &str| format!("frame 0 {first}\nframe 1 {second}\ncount frames 2");
+    both("frame 0 1 0 0 0", bad, bad);
+    both("frame 0 0 0 1 0", bad, bad);
+    both("frame 0 0 131070 0 0", short, "refused 16");
+    both("frame 0 0 131071 0 0", bad, bad);
+    both("frame 0 0 0 0 0", short, "at 0 7 0");
+    // Nothing bounds when the root was entered, where no run is under way.
+    both("frame 0 0 0 0 9", short, "at 0 7 9");
+    let two = |first: &str, second: &str| {
+        format!("frame 0 {first} 0\nframe 1 {second} 0\ncount frames 2")
+    };
     both(&two("0 0 0", "1 0 0"), bad, bad);
-    both(&two("0 1 0", "1 0 0"), short, "at 0 7");
-    both(&two("0 3 0", "1 1 1024"), short, "at 0 7");
+    both(&two("0 1 0", "1 0 0"), short, "at 0 7 0");
+    both(&two("0 3 0", "1 1 1024"), short, "at 0 7 0");
     both(&two("0 4 0", "1 0 0"), bad, bad);
     both(&two("0 3 0", "2 0 0"), bad, bad);
     // A backtrace is lent the stack store for its length, 1,024 values.
@@ -338,40 +341,100 @@ fn frames_in_a_pause() {
     // Main of 8 bytes, function 1 of 4.
     let made = "new\nscalar 0\nop2 28 1 0 1\nop1 0 0 2\nbegin 66\nop1 0 0 3\nop 37 4\nend";
     let in_callee = &format!("{made}\nstart\ncontinue 1");
-    ends(in_callee, "frame 1", "frame 1 0 0");
-    ends(in_callee, "trace 256", "at 0 1");
+    ends(in_callee, "frame 1", "frame 1 0 0 1");
+    ends(in_callee, "trace 256", "at 0 1 0");
     for (frame, answer) in [
         (
-            "frame 1 1 3 0",
+            "frame 1 1 3 0 1",
             "paused, spent 1, returns 0, stack 0, frames 2",
         ),
-        ("frame 1 1 4 0", "refused 19"),
-        ("frame 1 1 5 0", "refused 19"),
+        ("frame 1 1 4 0 1", "refused 19"),
+        ("frame 1 1 5 0 1", "refused 19"),
         (
             "count frames 1",
             "paused, spent 1, returns 0, stack 0, frames 1",
         ),
         (
-            "count frames 1\nframe 0 0 7 0",
+            "count frames 1\nframe 0 0 7 0 0",
             "paused, spent 1, returns 0, stack 0, frames 1",
         ),
-        ("count frames 1\nframe 0 0 8 0", "refused 19"),
+        ("count frames 1\nframe 0 0 8 0 0", "refused 19"),
         // A caller may be at its end.
         (
-            "frame 0 0 8 0",
+            "frame 0 0 8 0 0",
             "paused, spent 1, returns 0, stack 0, frames 2",
         ),
     ] {
         ends(in_callee, &format!("{frame}\ncontinue 0"), answer);
     }
     // No run under way: at the end, or past it, as ever.
-    ends(made, "frame 0 0 8 0\ntrace", "at 0 2");
-    ends(made, "frame 0 0 9 0\ntrace", "refused 16");
+    ends(made, "frame 0 0 8 0 0\ntrace", "at 0 2 0");
+    ends(made, "frame 0 0 9 0 0\ntrace", "refused 16");
     ends(
         in_callee,
         "count frames 1\ncontinue 9",
         "continue, spent 2, returns 0, stack 1, frames 1",
     );
+}
+
+/// Wish 8: the units at which frames were entered never fall from the root
+/// inwards and, with a run under way, are at most those spent; equal ones do.
+#[test]
+fn when_frames_were_entered() {
+    // Main of 5 bytes calls function 1, of 8, which calls itself.
+    let made = "new\nscalar 0\nop2 28 1 0 1\nbegin 66\nop1 0 0 2\nop2 28 1 0 3\nend";
+    let paused = &format!("{made}\nstart\ncontinue 4");
+    ends(paused, "frame 0", "frame 0 5 0 0");
+    ends(paused, "frame 1", "frame 1 8 0 1");
+    ends(paused, "frame 2", "frame 1 3 1 3");
+    let told = said(&format!("{paused}\ntrace"));
+    assert!(told.ends_with("\nat 1 2 3\nat 1 3 1\nat 0 1 0\n"), "{told}");
+    let frames = |entered: [u64; 3]| {
+        let [main, caller, callee] = entered;
+        format!("frame 0 0 5 0 {main}\nframe 1 1 8 0 {caller}\nframe 2 1 3 1 {callee}")
+    };
+    let goes_on = "paused, spent 4, returns 0, stack 2, frames 3";
+    for (entered, ok_under_way, ok) in [
+        ([0, 1, 3], true, true),
+        ([0, 0, 0], true, true),
+        ([4, 4, 4], true, true),
+        ([0, 0, 4], true, true),
+        ([0, 0, 5], false, true),
+        ([5, 5, 5], false, true),
+        ([0, 3, 2], false, false),
+        ([2, 1, 3], false, false),
+        ([5, 0, 0], false, false),
+        ([0, 281_474_976_710_655, 281_474_976_710_655], false, true),
+    ] {
+        let damaged = frames(entered);
+        let answer = if ok_under_way { goes_on } else { "refused 19" };
+        ends(paused, &format!("{damaged}\ncontinue 0"), answer);
+        // 19 before 17; a backtrace judges nothing of the run.
+        let answer = if ok_under_way {
+            "refused 17"
+        } else {
+            "refused 19"
+        };
+        ends(paused, &format!("{damaged}\nabandon 0"), answer);
+        let answer = if ok { "refused 17" } else { "refused 19" };
+        ends(paused, &format!("{damaged}\ntrace 0"), answer);
+        // No run under way: nothing bounds the numbers.
+        let idle = format!("{damaged}\ncount frames 3\nstart 0");
+        ends(made, &idle, answer);
+    }
+    // A beginning sets them to 0, also where the run is over at once; a refused
+    // one does not.
+    let idle = format!("{}\ncount frames 3", frames([2, 3, 3]));
+    ends(made, &format!("{idle}\nstart 0\nframe 2"), "frame 1 3 1 3");
+    ends(made, &format!("{idle}\nstart\nframe 2"), "frame 1 3 1 0");
+    ends(made, &format!("{idle}\nstart\nframe 0"), "frame 0 5 0 0");
+    let at_end = format!("{idle}\nframe 2 1 8 1 3");
+    ends(
+        made,
+        &format!("{at_end}\nstart"),
+        "continue, spent 0, returns 0, stack 0, frames 3",
+    );
+    ends(made, &format!("{at_end}\nstart\nframe 1"), "frame 1 8 0 0");
 }
 
 /// A run that has completed a root Return has a last result.
@@ -399,7 +462,10 @@ fn what_the_rules_do_not_fix_is_not_told() {
     for line in ["poke text 0 1", "result 0 0", "count cells 1"] {
         stops(line);
     }
-    assert_eq!(said("new\nframe 1 5 6 7\nframe 1"), "done\nframe 5 6 7\n");
+    assert_eq!(
+        said("new\nframe 1 5 6 7 8\nframe 1"),
+        "done\nframe 5 6 7 8\n"
+    );
 }
 
 #[test]
@@ -420,10 +486,10 @@ op1 0 0 7
 op1 0 1 8
 op 11 9";
     let faulted = &format!("{story}\nstart\ncontinue 99");
-    assert!(said(faulted).ends_with("fault 8, spent 7, returns 1, stack 1, frames 1\nat 0 9\n"));
+    assert!(said(faulted).ends_with("fault 8, spent 7, returns 1, stack 1, frames 1\nat 0 9 0\n"));
     ends(faulted, "last", "shown list 1");
     ends(faulted, "stack 0", "shown list 1");
-    ends(faulted, "frame 0", "frame 0 23 0");
+    ends(faulted, "frame 0", "frame 0 23 0 0");
     ends(
         faulted,
         "start",

@@ -21,6 +21,7 @@ fn dealt_runs_are_those_of_the_sum() {
         "runs that were abandoned, fault 13",
         "runs that are over at once",
         "runs that find values on the stack, and a last result",
+        "runs that find frames of an earlier run, entered at some units",
         "parts of no units",
         "pauses with units left, before a comparison",
         "pauses compared with those of a run given all at once",

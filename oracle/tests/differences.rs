@@ -140,7 +140,7 @@ fn difference_3_operand_counts_of_the_listing() {
     assert_eq!(rust(image).1.listing(), None);
     // Cut before it: 000 lists it, and it does not run.
     let image = "010301660002063C6D61696E3E060000001F00000600016600";
-    assert_eq!(runner(image), "fault 3\nspent 2\nstack 0\nat 0 0\n");
+    assert_eq!(runner(image), "fault 3\nspent 2\nstack 0\nat 0 0 0\n");
     assert_eq!(lister(image), "refused 3\n");
     let theirs = rust(image).1.listing().unwrap();
     assert!(theirs.contains("  0003 CallCallable  0\n"));
@@ -154,7 +154,7 @@ fn difference_3_operand_counts_of_the_listing() {
 #[test]
 fn difference_4_panics_leave_the_machine_as_it_stood() {
     let image = "0100000000000000F03F0001063C6D61696E3E07000000000000160700";
-    assert_eq!(runner(image), "fault 5\nspent 3\nstack 0\nat 0 0\n");
+    assert_eq!(runner(image), "fault 5\nspent 3\nstack 0\nat 0 0 0\n");
     let (words, vm) = panic_of(image);
     assert_eq!(words, "Expected value to be a bool");
     assert_eq!((vm.stack().len(), vm.frames()[0].position), (1, 7));
@@ -163,7 +163,10 @@ fn difference_4_panics_leave_the_machine_as_it_stood() {
 #[test]
 fn difference_5_return_drops_its_frame_before_it_pops() {
     let image = "000002063C6D61696E3E051C010000000500016601250100";
-    assert_eq!(runner(image), "fault 4\nspent 2\nstack 0\nat 1 0\nat 0 0\n");
+    assert_eq!(
+        runner(image),
+        "fault 4\nspent 2\nstack 0\nat 1 0 1\nat 0 0 0\n"
+    );
     let (_, vm) = panic_of(image);
     assert_eq!(vm.frames().len(), 1);
 }
@@ -172,27 +175,27 @@ fn difference_5_return_drops_its_frame_before_it_pops() {
 fn difference_6_call_of_an_unknown_function() {
     // The frame is pushed, and the panic comes when its end is looked for.
     let image = "000001063C6D61696E3E051C010000000500";
-    assert_eq!(runner(image), "fault 6\nspent 1\nstack 0\nat 0 0\n");
+    assert_eq!(runner(image), "fault 6\nspent 1\nstack 0\nat 0 0 0\n");
     let (words, vm) = panic_of(image);
     assert!(words.starts_with("index out of bounds"));
     assert_eq!(vm.frames().len(), 2);
     // With too few arguments the count is found wrong first.
     let image = "000001063C6D61696E3E051C010001000500";
-    assert_eq!(runner(image), "fault 6\nspent 1\nstack 0\nat 0 0\n");
+    assert_eq!(runner(image), "fault 6\nspent 1\nstack 0\nat 0 0 0\n");
     assert_eq!(panic_of(image).0, "attempt to subtract with overflow");
 }
 
 #[test]
 fn difference_7_an_unknown_struct_before_a_missing_operand() {
     let image = "000001063C6D61696E3E032200000300";
-    assert_eq!(runner(image), "fault 3\nspent 1\nstack 0\nat 0 0\n");
+    assert_eq!(runner(image), "fault 3\nspent 1\nstack 0\nat 0 0 0\n");
     assert_eq!(panic_of(image).0, "Missing struct metadata");
 }
 
 #[test]
 fn difference_8_bytes_of_38_and_more() {
     let image = "000001063C6D61696E3E01260100";
-    assert_eq!(runner(image), "fault 1\nspent 1\nstack 0\nat 0 0\n");
+    assert_eq!(runner(image), "fault 1\nspent 1\nstack 0\nat 0 0 0\n");
     assert_eq!(lister(image), "refused 1\n");
     // It is stopped before it casts.
     let (ending, vm) = rust(image);
@@ -368,12 +371,12 @@ fn difference_17_twelve_opcodes_run_in_the_rust() {
     for byte in left_out() {
         let report = common::machine(&common::program(&[], &[&format!("{byte:02X}")])).run(9);
         assert_eq!((common::fault(&report), report.spent), (Some(2), 1));
-        assert_eq!(report.backtrace, [(0, 0)]);
+        assert_eq!(common::places(&report), [(0, 0)]);
     }
 
     // JoinString of no parts: the Rust answers an empty string.
     let image = "000001063C6D61696E3E04210000250400";
-    assert_eq!(runner(image), "fault 2\nspent 1\nstack 0\nat 0 0\n");
+    assert_eq!(runner(image), "fault 2\nspent 1\nstack 0\nat 0 0 0\n");
     let mut vm = published::machine(&parse(&hex(image)).unwrap());
     vm.run_all_opcodes(STEPS).unwrap();
     assert_eq!(vm.last_result(), Some(&Theirs::String(String::new())));
@@ -432,17 +435,20 @@ fn difference_19_a_backtrace_names_functions_or_numbers_them() {
         assert_eq!(error.backtrace, names);
         let report = common::machine(&program).run(9);
         assert_eq!(common::fault(&report), Some(8));
-        assert_eq!(report.backtrace, [(called, 6), (0, 4)]);
+        assert_eq!(common::entries(&report), [(called, 6, 1), (0, 4, 0)]);
     }
     let image = "0200000000000000F03F0000000000000000000003063C6D61696E3E051C02000000\
                  05040166070000000001000B07060166070000000001000B0706";
-    assert_eq!(runner(image), "fault 8\nspent 4\nstack 0\nat 2 6\nat 0 4\n");
+    assert_eq!(
+        runner(image),
+        "fault 8\nspent 4\nstack 0\nat 2 6 1\nat 0 4 0\n"
+    );
     // A panic has none; the fault that stands for it has.
     let (ending, _) = rust_of(&common::program(&[], &["06"]));
     assert!(matches!(ending, Ending::Panicked(_)));
     let report = common::machine(&common::program(&[], &["06"])).run(9);
     assert_eq!(
-        (common::fault(&report), report.backtrace),
+        (common::fault(&report), common::places(&report)),
         (Some(4), vec![(0, 0)])
     );
 }

@@ -3,7 +3,7 @@
 
 mod common;
 
-use common::{fault, hex, machine, number, program};
+use common::{fault, hex, machine, number, places, program};
 use oracle::image::{image, parse, read_number, write_number, Constant, Program};
 use oracle::limits::{Answer, Frame, Machine, Refused, Report, Stores};
 use oracle::op::Op;
@@ -111,7 +111,7 @@ fn p2_too_few_units() {
     let (report, machine) = run([42.0, 1.0], &[P1], 3);
     assert_eq!(fault(&report), Some(13));
     assert_eq!(report.spent, 3);
-    assert_eq!(report.backtrace, [(0, 6)]);
+    assert_eq!(places(&report), [(0, 6)]);
     assert!(machine.stack.is_empty());
     assert!(machine.last_result.is_none());
 
@@ -125,7 +125,7 @@ fn p3_zero_divisor() {
     let (report, _) = run([1.0, 0.0], &[P3], 1_000);
     assert_eq!(fault(&report), Some(8));
     assert_eq!(report.spent, 3);
-    assert_eq!(report.backtrace, [(0, 6)]);
+    assert_eq!(places(&report), [(0, 6)]);
     // The other zero too.
     let (report, _) = run([1.0, -0.0], &[P3], 1_000);
     assert_eq!(fault(&report), Some(8));
@@ -151,15 +151,10 @@ fn p4_recovery() {
     let (report, mut machine) = run([1.0, 0.0], &[&code], 1_000);
     assert_eq!(fault(&report), Some(8));
     assert_eq!(report.spent, 5);
-    assert_eq!(report.backtrace, [(0, 10)]);
+    assert_eq!(places(&report), [(0, 10)]);
     assert_eq!(machine.last_result, Some(Value::Scalar(1.0)));
     assert!(machine.stack.is_empty());
-    let end = Frame {
-        function: 0,
-        position: 12,
-        base: 0,
-    };
-    assert_eq!(machine.frames, [end]);
+    assert_eq!(machine.frames, [Frame::root(12)]);
 
     // At the end of main, so nothing more runs, until there is more code;
     // that finds the last result.
@@ -222,7 +217,7 @@ fn p5_two_lists() {
     // The comparison asks for its last pair.
     let (report, _) = run([42.0, 1.0], &[&code], 8);
     assert_eq!(fault(&report), Some(13));
-    assert_eq!((report.spent, report.backtrace), (8, vec![(0, 18)]));
+    assert_eq!((report.spent, places(&report)), (8, vec![(0, 18)]));
 
     let mut vm = emitted([42.0, 1.0]);
     for _ in 0..2 {

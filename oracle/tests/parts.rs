@@ -2,7 +2,7 @@
 
 mod common;
 
-use common::{fault, machine, number, program};
+use common::{fault, machine, number, places, program};
 use oracle::asm::assemble;
 use oracle::image::{image, Constant};
 use oracle::limits::{Answer, Machine, Part, Refused, Report, Stores};
@@ -50,10 +50,6 @@ fn position(machine: &Machine) -> usize {
     machine.frames.last().unwrap().position
 }
 
-fn bytes(report: &Report) -> Vec<(usize, u32)> {
-    report.backtrace.clone()
-}
-
 /// Reading 1: "with the count and backtrace of one run given the sum". A
 /// comparison with units left has been fetched by that run.
 #[test]
@@ -65,10 +61,10 @@ fn an_abandoned_comparison_is_named_by_its_own_byte_if_units_are_left() {
         assert_eq!(position(&p5), if units == 5 { 15 } else { 18 });
         let report = p5.abandon_run().unwrap();
         assert_eq!(fault(&report), Some(13));
-        assert_eq!(bytes(&report), [(0, byte)], "{units}");
+        assert_eq!(places(&report), [(0, byte)], "{units}");
         // And so it is in one run.
         let one = self::p5().one_run(units);
-        assert_eq!((bytes(&one), one.spent), (bytes(&report), report.spent));
+        assert_eq!((places(&one), one.spent), (places(&report), report.spent));
     }
     let mut p5 = p5();
     let report = over(dealt(&mut p5, &[9, 1]));
@@ -82,10 +78,10 @@ fn only_the_innermost_frame_of_an_abandoned_comparison_is_one_further() {
     let constants = [number(42.0), number(1.0)];
     let mut m = machine(&program(&constants, &["1C 01 00 00 00 25", P5]));
     dealt(&mut m, &[8]);
-    assert_eq!(bytes(&m.abandon_run().unwrap()), [(1, 18), (0, 4)]);
+    assert_eq!(places(&m.abandon_run().unwrap()), [(1, 18), (0, 4)]);
     let mut m = machine(&program(&constants, &["1C 01 00 00 00 25", P5]));
     dealt(&mut m, &[7]);
-    assert_eq!(bytes(&m.abandon_run().unwrap()), [(1, 17), (0, 4)]);
+    assert_eq!(places(&m.abandon_run().unwrap()), [(1, 17), (0, 4)]);
 }
 
 /// Reading 2: "unspent units carry over", and nothing of a comparison is spent
@@ -200,7 +196,7 @@ fn a_run_abandoned_before_it_was_given_anything() {
     dealt(&mut m, &[]);
     let report = m.abandon_run().unwrap();
     assert_eq!((fault(&report), report.spent), (Some(13), 0));
-    assert_eq!(bytes(&report), [(0, 0)]);
+    assert_eq!(places(&report), [(0, 0)]);
     // Recovered: at the end of main, so the rule is not begun again.
     assert_eq!(position(&m), 4);
     assert!(matches!(
@@ -285,7 +281,7 @@ fn nothing_is_emitted_while_a_run_is_under_way() {
     assert_eq!(m.begin_run().err(), Some(Refused::UnderWay));
     assert_eq!((m.current_offset(), m.save()), (4, bytes));
     assert_eq!(m.get_function_idx(b"<main>"), Ok(0));
-    assert_eq!(m.backtrace(), Ok(vec![(0, 2)]));
+    assert_eq!(m.backtrace().unwrap()[0].place, 2);
     assert_eq!(over(m.continue_run(1).unwrap()).spent, 2);
     assert_eq!(m.add_struct_info(b"C"), Err(Refused::Store));
 }
@@ -321,7 +317,7 @@ fn the_runner_abandons_what_is_paused() {
     let runaway = assemble(include_bytes!("../../examples/runaway.rule")).unwrap();
     let text = oracle::print::runner(&image(&runaway));
     assert!(text.starts_with("fault 13\nspent 1000000\nstack 0\nat 1 "));
-    assert!(text.ends_with("\nat 0 8\n"));
+    assert!(text.ends_with("\nat 0 8 0\n"));
 }
 
 /// Reading 17: the failing instruction's own unit is spent, no pair's.
@@ -373,7 +369,7 @@ fn every_way_to_deal_out_twelve_units() {
             };
             assert_eq!(fault(&report), fault(&one), "{parts:?}");
             assert_eq!((report.spent, report.returns), (one.spent, one.returns));
-            assert_eq!(bytes(&report), bytes(&one), "{parts:?}");
+            assert_eq!(places(&report), places(&one), "{parts:?}");
         }
     }
 }

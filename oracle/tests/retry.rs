@@ -47,7 +47,7 @@ fn faulted() -> Machine {
     let mut machine = story();
     let report = machine.run(UNITS);
     assert_eq!((fault(&report), report.spent, report.returns), (8, 9, 2));
-    assert_eq!(report.backtrace, [(0, 17)]);
+    assert_eq!(common::places(&report), [(0, 17)]);
     machine
 }
 
@@ -66,14 +66,7 @@ fn the_fault_leaves_what_was_returned_before_it() {
     assert_eq!(last(&machine), Some(42.0));
     assert!(machine.stack.is_empty());
     let length = machine.program.functions[0].code.len();
-    assert_eq!(
-        machine.frames,
-        [Frame {
-            function: 0,
-            position: length,
-            base: 0
-        }]
-    );
+    assert_eq!(machine.frames, [Frame::root(length)]);
 }
 
 #[test]
@@ -195,7 +188,7 @@ fn more_units_go_on_from_the_pause() {
                 panic!("it needs no more");
             };
             assert_eq!((fault(&report), report.spent, report.returns), (8, 9, 2));
-            assert_eq!(report.backtrace, [(0, 17)]);
+            assert_eq!(common::places(&report), [(0, 17)]);
             assert_eq!(last(&machine), Some(42.0));
         }
     }
@@ -210,7 +203,7 @@ fn an_abandoned_run_has_counted_what_it_had_returned() {
         let report = machine.abandon_run().unwrap();
         assert_eq!((fault(&report), report.spent), (13, units));
         assert_eq!(report.returns, returns);
-        assert_eq!(report.backtrace, [(0, place)]);
+        assert_eq!(common::places(&report), [(0, place)]);
         assert_eq!(last(&machine), result);
         assert!(machine.stack.is_empty());
         // More units come too late: begun again it is over at once.
@@ -268,7 +261,7 @@ fn a_last_result_that_looks_the_same_may_have_been_returned_again() {
     machine.add_op(Op::Divide, 10).unwrap();
     let report = machine.run(UNITS);
     assert_eq!((fault(&report), report.spent), (8, 5));
-    assert_eq!(report.backtrace, [(0, 10)]);
+    assert_eq!(common::places(&report), [(0, 10)]);
     assert_eq!(last(&machine), Some(1.0));
     // The number of root Returns tells what the last result cannot.
     assert_eq!(report.returns, 1);
@@ -292,7 +285,7 @@ fn the_place_of_a_return_is_no_sign_that_it_ran() {
         let mut machine = load();
         let report = machine.run(units);
         assert_eq!((fault(&report), report.spent), (13, units));
-        assert_eq!(report.backtrace, [(0, place)]);
+        assert_eq!(common::places(&report), [(0, place)]);
         assert_eq!((report.returns, last(&machine)), (0, None));
     }
     let mut machine = load();

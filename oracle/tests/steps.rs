@@ -2,7 +2,7 @@
 
 mod common;
 
-use common::{fault, fault_of, machine, number, program};
+use common::{fault, fault_of, machine, number, places, program};
 use oracle::image::Constant;
 use oracle::limits::{Answer, Machine};
 use oracle::print::value_text;
@@ -144,7 +144,7 @@ fn frames() {
     let report = m.run(1_000);
     assert_eq!((fault(&report), report.spent), (Some(10), 256));
     assert_eq!(report.backtrace.len(), 256);
-    assert_eq!(report.backtrace[254..], [(1, 4), (0, 4)]);
+    assert_eq!(places(&report)[254..], [(1, 4), (0, 4)]);
     assert_eq!(m.frames.len(), 1);
     // The argument count comes before the frames.
     let mut m = machine(&program(&[], &["1C 01 00 00 00", "1C 01 00 01 00"]));
@@ -157,14 +157,14 @@ fn units() {
     // Not even the first: position 0, so the place of byte 0.
     let report = m.run(0);
     assert_eq!((fault(&report), report.spent), (Some(13), 0));
-    assert_eq!(report.backtrace, [(0, 0)]);
+    assert_eq!(places(&report), [(0, 0)]);
     // A run that is over asks for none.
     assert_eq!(fault(&m.run(0)), None);
 
     // Units come before the opcode is looked at.
     let mut m = machine(&program(&[number(1.0)], &["00 00 00 26"]));
     let report = m.run(1);
-    assert_eq!((fault(&report), report.backtrace), (Some(13), vec![(0, 2)]));
+    assert_eq!((fault(&report), places(&report)), (Some(13), vec![(0, 2)]));
 
     // Differing counts, kinds or struct numbers: no pair is visited.
     for (left, right, spent) in [

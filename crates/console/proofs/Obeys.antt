@@ -30,8 +30,9 @@ module _ (line s : List ℕ) {one : Args} (e : one ≡ frameArgs line 2) where
   unfolding frameAsked
   frame-shown h = rw (← e, h)
 
-  module _ (h : one .good ≡ false) {all : Args} (f : all ≡ frameArgs line 5) where
-    pub frame-put : all .good ≡ true → {s′ : List ℕ} → s′ ≡ frameAt s (all .a) (record { function = all .b; position = all .c; base = all .d }) → s′ ≡ frameAsked line s
+  module _ (h : one .good ≡ false) {all : Args} (f : all ≡ frameArgs line 6) where
+    pub frame-put : all .good ≡ true → {s′ : List ℕ} → s′ ≡ frameAt s (all .a) (record { function = all .b; position = all .c; base = all .d; entered = all .e })
+        → s′ ≡ frameAsked line s
     unfolding frameAsked
     frame-put g q = rw (← e, h, ← f, g) q
 

@@ -20,7 +20,7 @@ use Rattle.console.specs.Turns.{obeyed, TurnedBy, Turned, Played, over, 
 
 pub over-is : (m : Vm) (call : Call) (image : List ℕ) (lent : Lent)
     {constants structs functions text main mainPlaces other otherPlaces stack cells copy trace frames : List ℕ} {n j : ℕ} → n ≡ 2 * min (lent .copy) (length copy / 2)
-    → j ≡ 2 * min (lent .trace) (length trace / 2) → {a : Answer} {constants′ structs′ functions′ text′ main′ mainPlaces′ other′ otherPlaces′ stack′ cells′ copy′ trace′ frames′ : List ℕ}
+    → j ≡ 3 * min (lent .trace) (length trace / 3) → {a : Answer} {constants′ structs′ functions′ text′ main′ mainPlaces′ other′ otherPlaces′ stack′ cells′ copy′ trace′ frames′ : List ℕ}
     → Bridged m call image (held constants structs functions text main mainPlaces other otherPlaces stack cells (take n copy) (take j trace) frames) a
     (held constants′ structs′ functions′ text′ main′ mainPlaces′ other′ otherPlaces′ stack′ cells′ copy′ trace′ frames′)
     → {r : Vm} → r ≡ afterAnswer m a

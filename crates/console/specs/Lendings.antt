@@ -10,9 +10,9 @@ use Rattle.console_frames.specs.Calls.{Held, Bridged}
 use Rattle.console.specs.declared.commands.Lent.{Lent}
 use Rattle.console.specs.Said.{afterAnswer}
 
--- the words of so many places of a store, at most all
-unfoldable pub wordsLent : (room : ℕ) (store : List ℕ) → ℕ
-wordsLent room store = 2 * min room (length store / 2)
+-- the words of so many places of a store, at most all; each place is so many words
+unfoldable pub wordsLent : (each room : ℕ) (store : List ℕ) → ℕ
+wordsLent each room store = each * min room (length store / each)
 
 -- the stores, those two cut to what is lent of them
 unfoldable pub lentTo : (lent : Lent) (s : Held) → Held
@@ -20,8 +20,8 @@ lentTo lent s = record {
   program = s .program;
   stack = s .stack;
   cells = s .cells;
-  copy = take (wordsLent (lent .copy) (s .copy)) (s .copy);
-  trace = take (wordsLent (lent .trace) (s .trace)) (s .trace);
+  copy = take (wordsLent 2 (lent .copy) (s .copy)) (s .copy);
+  trace = take (wordsLent 3 (lent .trace) (s .trace)) (s .trace);
   frames = s .frames;
 }
 
@@ -31,8 +31,8 @@ backFrom lent s left = record {
   program = left .program;
   stack = left .stack;
   cells = left .cells;
-  copy = left .copy ++ drop (wordsLent (lent .copy) (s .copy)) (s .copy);
-  trace = left .trace ++ drop (wordsLent (lent .trace) (s .trace)) (s .trace);
+  copy = left .copy ++ drop (wordsLent 2 (lent .copy) (s .copy)) (s .copy);
+  trace = left .trace ++ drop (wordsLent 3 (lent .trace) (s .trace)) (s .trace);
   frames = left .frames;
 }
 

@@ -409,7 +409,7 @@ fn frame_args(line: &[u8], end: usize) -> Args
     )
 }
 
-// `frame I` shows a frame, `frame I FUNCTION POSITION BASE` puts one.
+// `frame I` shows a frame, `frame I FUNCTION POSITION BASE ENTERED` puts one.
 fn frame(line: &[u8], number: u64, frames: &mut [u64])
     ensures { λ _. ⌜ now (frames .exit) ≡ frameAsked (now (line .entry)) (now (frames .entry)) ⌝ }
 {
@@ -418,12 +418,13 @@ fn frame(line: &[u8], number: u64, frames: &mut [u64])
         say::say_frame(console_damage::frame_in(frames, one.a as usize));
         return;
     }
-    let all = frame_args(line, 5);
+    let all = frame_args(line, 6);
     if all.good {
         let f = Frame {
             function: all.b as usize,
             position: all.c as usize,
             base: all.d as usize,
+            entered: all.e,
         };
         console_damage::put_frame(frames, all.a as usize, f);
         return;
@@ -445,7 +446,7 @@ fn sum(
     stack: &[u64],
     cells: &[u64],
     copy: &[u64],
-    trace: &[u32],
+    trace: &[u64],
     frames: &[u64],
 ) -> u64
     ensures { λ r. ⌜ r ≡ sumOf m (now (constants .entry)) (now (structs .entry)) (now (functions .entry)) (now (text .entry)) (now (main .entry)) (now («main_places» .entry)) (now (other .entry)) (now («other_places» .entry)) (now (stack .entry)) (now (cells .entry)) (now (copy .entry)) (now (trace .entry)) (now (frames .entry)) ⌝ }
@@ -462,7 +463,7 @@ fn sum(
     let j = console_damage::mixed_words(i, stack);
     let k = console_damage::mixed_words(j, cells);
     let n = console_damage::mixed_words(k, copy);
-    let o = console_damage::mixed_places(n, trace);
+    let o = console_damage::mixed_words(n, trace);
     console_damage::mixed_words(o, frames)
 }
 

@@ -19,6 +19,7 @@ use console_script::first_line;
 use console_script::front;
 use console_script::next_line;
 use console_script::stores;
+use console_script::three_each;
 use console_script::two_each;
 use model::Vm;
 ghost use Rattle.console_script.specs.Words.{firstLine, lineOf};
@@ -45,13 +46,13 @@ fn over_frames(
     stack: &mut stores::Stack,
     cells: &mut stores::Cells,
     copy: &mut [u64],
-    trace: &mut [u32],
+    trace: &mut [u64],
     frames: &mut stores::Frames,
 ) -> Vm
     ensures { λ r. ⌜ OverFrames m call (now (image .entry)) lent (held (now (constants .entry)) (now (structs .entry)) (now (functions .entry)) (now (text .entry)) (now (main .entry)) (now («main_places» .entry)) (now (other .entry)) (now («other_places» .entry)) (now (stack .entry)) (now (cells .entry)) (now (copy .entry)) (now (trace .entry)) (now (frames .entry))) r (held (now (constants .exit)) (now (structs .exit)) (now (functions .exit)) (now (text .exit)) (now (main .exit)) (now («main_places» .exit)) (now (other .exit)) (now («other_places» .exit)) (now (stack .exit)) (now (cells .exit)) (now (copy .exit)) (now (trace .exit)) (now (frames .exit))) ⌝ }
 {
     let words = two_each(lent.copy, copy.len());
-    let entries = two_each(lent.trace, trace.len());
+    let entries = three_each(lent.trace, trace.len());
     let lent_copy = &mut copy[..words];
     let lent_trace = &mut trace[..entries];
     let answer = with_frames(
@@ -191,7 +192,7 @@ fn play(
 }
 
 fn main() {
-    let mut input = io::large_buffer();
+    let mut input = [0u8; 131072];
     let n = io::read_full(0, &mut input);
     let mut constants = [0u64; 512];
     let mut structs = [0u64; 512];
@@ -204,8 +205,8 @@ fn main() {
     let mut stack = [0u64; 2048];
     let mut cells = [0u64; 4096];
     let mut copy = [0u64; 2048];
-    let mut trace = [0u32; 512];
-    let mut frames = [0u64; 768];
+    let mut trace = [0u64; 768];
+    let mut frames = [0u64; 1024];
     play(
         cut(&input, 0, n),
         &mut constants,

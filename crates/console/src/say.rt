@@ -137,22 +137,18 @@ fn say_left(m: Vm, did: Tally) {
     say(b"\n");
 }
 
-fn wide(n: u32) -> usize
-    ensures { λ r. ⌜ r ≡ n ⌝ }
-{
-    n as usize
-}
-
 // Entry i of a backtrace.
-fn say_entry(i: usize, trace: &[u32]) {
-    if i < trace.len() / 2 {
-        say_count(b"at ", wide(trace[2 * i]));
-        say_count(b" ", wide(trace[2 * i + 1]));
+fn say_entry(i: usize, trace: &[u64]) {
+    if i < trace.len() / 3 {
+        let at = 3 * i;
+        say_count(b"at ", trace[at] as usize);
+        say_count(b" ", trace[at + 1] as usize);
+        say_count(b" ", trace[at + 2] as usize);
         say(b"\n");
     }
 }
 
-fn say_entries(n: usize, trace: &[u32]) {
+fn say_entries(n: usize, trace: &[u64]) {
     let mut i = 0;
     while i < n {
         say_entry(i, trace);
@@ -172,7 +168,7 @@ fn so_far(m: Vm) -> Tally
 }
 
 // What a call of a run answers; the machine is then as it says, or as it was.
-fn say_run(m: Vm, r: RunResult, cells: &[u64], trace: &[u32], number: u64) -> Vm
+fn say_run(m: Vm, r: RunResult, cells: &[u64], trace: &[u64], number: u64) -> Vm
     ensures { λ left. ⌜ left ≡ afterRun m r ⌝ }
 {
     match r {
@@ -293,7 +289,7 @@ pub fn say_text(t: Told, space: &stores::Space, number: u64) {
 }
 
 // A backtrace, or its refusal; the machine is as it was.
-fn say_trace(m: Vm, t: Told, trace: &[u32], number: u64) -> Vm
+fn say_trace(m: Vm, t: Told, trace: &[u64], number: u64) -> Vm
     ensures { λ r. ⌜ r ≡ m ⌝ }
 {
     match t {
@@ -307,6 +303,7 @@ pub fn say_frame(f: Frame) {
     say_count(b"frame ", f.function);
     say_count(b" ", f.position);
     say_count(b" ", f.base);
+    say_count(b" ", f.entered as usize);
     say(b"\n");
 }
 
@@ -317,7 +314,7 @@ pub fn say_sum(h: u64) {
 }
 
 // What a call over frames answers; the machine as it then is.
-pub fn say_answer(m: Vm, a: Answer, cells: &[u64], trace: &[u32], number: u64) -> Vm
+pub fn say_answer(m: Vm, a: Answer, cells: &[u64], trace: &[u64], number: u64) -> Vm
     ensures { λ r. ⌜ r ≡ afterAnswer m a ⌝ }
 {
     match a {

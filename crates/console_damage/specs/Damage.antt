@@ -166,21 +166,27 @@ unfoldable pub placesAsked : List ℕ → List ℕ → List ℕ → PokedPlaces
 placesAsked line mainPlaces otherPlaces = if pokeArgs line .good then pokedPlaces (wordOf line 1) (pokeArgs line .a)
     (pokeArgs line .b) mainPlaces otherPlaces else record { good = false; mainPlaces = mainPlaces; otherPlaces = otherPlaces }
 
--- the frame that rests at i, in three numbers; one of zeros where there is none
+-- the frame that rests at i, in four numbers; one of zeros where there is none
 unfoldable pub frameIn : List ℕ → ℕ → Frame
-frameIn s i = if ltb i (length s / 3) then record { function = getD s (3 * i) 0; position = getD s (3 * i + 1) 0; base = getD s (3 * i + 2) 0 } else record { function = 0; position = 0; base = 0 }
+frameIn s i =
+    if ltb i (length s / 4)
+    then record { function = getD s (4 * i) 0; position = getD s (4 * i + 1) 0; base = getD s (4 * i + 2) 0; entered = getD s (4 * i + 3) 0 }
+    else record { function = 0; position = 0; base = 0; entered = 0 }
 
 -- frame i put there, where there is room for one
 unfoldable pub frameAt : List ℕ → ℕ → Frame → List ℕ
-frameAt s i f = if ltb i (length s / 3) then putAt (putAt (putAt s (3 * i) (f .function)) (3 * i + 1) (f .position)) (3 * i + 2) (f .base) else s
+frameAt s i f =
+    if ltb i (length s / 4)
+    then putAt (putAt (putAt (putAt s (4 * i) (f .function)) (4 * i + 1) (f .position)) (4 * i + 2) (f .base)) (4 * i + 3) (f .entered)
+    else s
 
--- `frame I` shows a frame, `frame I FUNCTION POSITION BASE` puts one
+-- `frame I` shows a frame, `frame I FUNCTION POSITION BASE ENTERED` puts one
 unfoldable pub frameArgs : List ℕ → ℕ → Args
 frameArgs line end = argsOf line 1 end (record { a = 281474976710655; b = 281474976710655; c = 281474976710655; d = 281474976710655; e = 281474976710655 })
 
 unfoldable pub frameAsked : List ℕ → List ℕ → List ℕ
 frameAsked line s =
     if frameArgs line 2 .good then s else (
-    if frameArgs line 5 .good then frameAt s (frameArgs line 5 .a)
-    (record { function = frameArgs line 5 .b; position = frameArgs line 5 .c; base = frameArgs line 5 .d }) else
+    if frameArgs line 6 .good then frameAt s (frameArgs line 6 .a)
+    (record { function = frameArgs line 6 .b; position = frameArgs line 6 .c; base = frameArgs line 6 .d; entered = frameArgs line 6 .e }) else
     s)

@@ -118,34 +118,38 @@ pub fn mixed_counts(h: u64, m: Vm) -> u64
     mixed_run(d, m.run)
 }
 
-// ---- frames, which rest between calls as three numbers each
+// ---- frames, which rest between calls as four numbers each
 
 // The frame at i; one of zeros where there is none.
 pub fn frame_in(words: &[u64], i: usize) -> Frame
     ensures { λ r. ⌜ r ≡ frameIn (now (words .entry)) i ⌝ }
 {
-    if i < words.len() / 3 {
+    if i < words.len() / 4 {
+        let at = 4 * i;
         return Frame {
-            function: words[3 * i] as usize,
-            position: words[3 * i + 1] as usize,
-            base: words[3 * i + 2] as usize,
+            function: words[at] as usize,
+            position: words[at + 1] as usize,
+            base: words[at + 2] as usize,
+            entered: words[at + 3],
         };
     }
     Frame {
         function: 0,
         position: 0,
         base: 0,
+        entered: 0,
     }
 }
 
 pub fn put_frame(words: &mut [u64], i: usize, f: Frame)
     ensures { λ _. ⌜ now (words .exit) ≡ frameAt (now (words .entry)) i f ⌝ }
 {
-    if i < words.len() / 3 {
-        let at = 3 * i;
+    if i < words.len() / 4 {
+        let at = 4 * i;
         put_word(words, at, f.function as u64);
         put_word(words, at + 1, f.position as u64);
         put_word(words, at + 2, f.base as u64);
+        put_word(words, at + 3, f.entered);
     }
 }
 

@@ -60,13 +60,13 @@ module _ (m : Vm) (image constants structs functions text main mainPlaces other 
   running call stack′ cells′ fs′ copy′ trace′ {x} p ek er = record { result = x; answer = er; post = p; program = refl; words = ek }
 
   -- a beginning is lent no backtrace store: this one is as any other
-  pub begin-called : (copy′ : List ℕ) {x : RunResult}
+  pub begin-called : (fs′ : List Frame) (copy′ : List ℕ) {x : RunResult}
       → ((backtrace : List ℕ) → RunPost begins m (programLent structs constants functions text main mainPlaces other otherPlaces) (runLent stack cells fs copy backtrace) x
-      (runLent stack cells fs copy′ backtrace))
-      → {words′ : List ℕ} → words′ ≡ allKept fs words → {r : Answer} → r ≡ Ran x
-      → Called m Begin image fs before r fs (held constants structs functions text main mainPlaces other otherPlaces stack cells copy′ trace words′)
+      (runLent stack cells fs′ copy′ backtrace))
+      → {words′ : List ℕ} → words′ ≡ allKept fs′ words → {r : Answer} → r ≡ Ran x
+      → Called m Begin image fs before r fs′ (held constants structs functions text main mainPlaces other otherPlaces stack cells copy′ trace words′)
   unfolding Called
-  begin-called copy′ p ek er = running begins stack cells fs copy′ trace (p trace) ek er
+  begin-called fs′ copy′ p ek er = running begins stack cells fs′ copy′ trace (p trace) ek er
 
   pub continue-called : (units : ℕ) (stack′ cells′ : List ℕ) (fs′ : List Frame) (trace′ : List ℕ) {x : RunResult}
       → RunPost (continues units) m (programLent structs constants functions text main mainPlaces other otherPlaces) (runLent stack cells fs copy trace) x

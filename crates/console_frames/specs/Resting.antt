@@ -1,4 +1,4 @@
--- The frames rest between calls in words, three to a frame. For a call they are laid as records, and after it they are kept in words again:
+-- The frames rest between calls in words, four to a frame. For a call they are laid as records, and after it they are kept in words again:
 -- from the last to the first.
 use mathlib.Core.Bool.{true, false}
 use mathlib.Core.List.{List}

@@ -144,7 +144,7 @@ pub fn act(
     cells: &mut [u64],
     frames: &mut [Frame],
     copy: &mut [u64],
-    trace: &mut [u32],
+    trace: &mut [u64],
     words: &mut [u64],
 ) -> Answer
     ensures { λ r. ⌜ Called m call (now (image .entry)) (allLaid (now (words .entry)) (now (frames .entry))) (held (now (constants .entry)) (now (structs .entry)) (now (functions .entry)) (now (text .entry)) (now (main .entry)) (now («main_places» .entry)) (now (other .entry)) (now («other_places» .entry)) (now (stack .entry)) (now (cells .entry)) (now (copy .entry)) (now (trace .entry)) (now (words .entry))) r (now (frames .exit)) (held (now (constants .exit)) (now (structs .exit)) (now (functions .exit)) (now (text .exit)) (now (main .exit)) (now («main_places» .exit)) (now (other .exit)) (now («other_places» .exit)) (now (stack .exit)) (now (cells .exit)) (now (copy .exit)) (now (trace .exit)) (now (words .exit))) ⌝ }
@@ -275,7 +275,7 @@ pub fn with_frames(
     stack: &mut [u64],
     cells: &mut [u64],
     copy: &mut [u64],
-    trace: &mut [u32],
+    trace: &mut [u64],
     words: &mut [u64],
 ) -> Answer
     ensures { λ r. ⌜ Bridged m call (now (image .entry)) (held (now (constants .entry)) (now (structs .entry)) (now (functions .entry)) (now (text .entry)) (now (main .entry)) (now («main_places» .entry)) (now (other .entry)) (now («other_places» .entry)) (now (stack .entry)) (now (cells .entry)) (now (copy .entry)) (now (trace .entry)) (now (words .entry))) r (held (now (constants .exit)) (now (structs .exit)) (now (functions .exit)) (now (text .exit)) (now (main .exit)) (now («main_places» .exit)) (now (other .exit)) (now («other_places» .exit)) (now (stack .exit)) (now (cells .exit)) (now (copy .exit)) (now (trace .exit)) (now (words .exit))) ⌝ }
@@ -284,6 +284,7 @@ pub fn with_frames(
         function: 0,
         position: 0,
         base: 0,
+        entered: 0,
     };
     let mut frames = [none; 256];
     act(

@@ -331,6 +331,13 @@ pub fn two_each(room: usize, n: usize) -> usize
     2 * lesser(room, n / 2)
 }
 
+// The same of three words each.
+pub fn three_each(room: usize, n: usize) -> usize
+    ensures { λ r. ⌜ (r ≡ 3 * min room (n / 3)) × (r ≤ n) ⌝ }
+{
+    3 * lesser(room, n / 3)
+}
+
 // The room that word k says, the last of the line; that of a whole store where there is no such word.
 pub fn read_room(line: &[u8], k: usize) -> Number
     ensures { λ r. ⌜ r ≡ roomOf (now (line .entry)) k ⌝ }

@@ -17,6 +17,6 @@ pub type Stack = [u64; 2048];
 
 pub type Cells = [u64; 4096];
 
-pub type Trace = [u32; 512];
+pub type Trace = [u64; 768];
 
-pub type Frames = [u64; 768];
+pub type Frames = [u64; 1024];

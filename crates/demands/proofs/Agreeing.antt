@@ -59,6 +59,7 @@ module _ (m : Vm) (s : Stores) {l l' : Lent} (k : LentAlike m l l') where
           cells = rw (cells-alike (m .run .mark) marked t) at (o .cells);
           copy = rw (same-mark, stack-alike (m .run .saved) (k .copy) t H) at (o .copy);
           last = rw same-mark at (o .last);
+          entered = rw same-frame at (o .entered);
           inside = rw same-frame at (o .inside);
         }
 
@@ -99,7 +100,7 @@ module _ (m : Vm) (s : Stores) {l l' : Lent} (k : LentAlike m l l') where
 
   pub trace-short-alike : traceShort l ≡ traceShort l'
   unfolding traceShort
-  trace-short-alike = rw (places-alike (l .backtrace) (l' .backtrace) (k .backtrace) 2, room-alike (k .frames))
+  trace-short-alike = rw (places-alike (l .backtrace) (l' .backtrace) (k .backtrace) 3, room-alike (k .frames))
 
   pub machine-alike : 1 ≤ m .frames → machineIn m l ≡ machineIn m l'
   unfolding machineIn

@@ -44,7 +44,7 @@ holds text i j cells n p = record {
     other = [];
     otherPlaces = [];
   };
-  lent = record { stack = 4 ∷ p ∷ []; cells = cells; frames = root 0 ∷ []; copy = 4 ∷ p ∷ []; backtrace = 0 ∷ 0 ∷ [] };
+  lent = record { stack = 4 ∷ p ∷ []; cells = cells; frames = root 0 ∷ []; copy = 4 ∷ p ∷ []; backtrace = 0 ∷ 0 ∷ 0 ∷ [] };
 }
 
 -- a list of true
@@ -80,7 +80,7 @@ mean-the-same = record {
   on = refl;
   under = λ _. record {
     given = refl;
-    state = record { machine = record { stack = more refl none; last = is refl; frame = refl; callers = refl; free = refl }; units = refl };
+    state = record { machine = record { stack = more refl none; last = is refl; frame = refl; callers = refl; free = refl }; spent = refl; units = refl };
     start = more refl none;
     marks = record { last = is refl; free = refl; returns = refl };
     answers = not-yet refl refl;

@@ -15,7 +15,7 @@ use Rattle.model.specs.declared.Value.{Value}
 use Rattle.model.specs.declared.Value.the-variants as v
 use Rattle.model.specs.Values.{places, mostPlaces, kind, payload, kindAt, payloadAt, valueAt, vals, exactValue}
 use Rattle.model.specs.Heap.{Cell, item, cellKind, cellPayload, cellAt, cellsFrom, heapOf, exactCell, exactCells}
-use Rattle.model.specs.Runs.{Machine, begin, machineOf, root, Under}
+use Rattle.model.specs.Runs.{Machine, standing as stateOf, machineOf, root, Under}
 use Rattle.model.specs.Stores.{Stores, functionsFrom, worldIn}
 use Rattle.model.specs.Orders.{stackOk, framesOk, frameStoreOk}
 use Rattle.model.specs.Machines.{Lent, innermost, callersIn, machineIn, progressIn, underIn, worldOf, runOrder, noRun}
@@ -95,7 +95,6 @@ pub record Standing (m : Vm) (l : Lent) : Type 0 where
   pub cells : 2 * m .cells ≤ length (l .cells)
   pub frames : m .frames ≤ length (l .frames)
   pub exact : Exact m l
-  pub spent : m .run .spent ≤ m .run .given
   pub copy : 2 * m .run .saved ≤ length (l .copy)
   pub saved : (i : ℕ) → i < m .run .saved → exactValue (kindAt (l .copy) i) (payloadAt (l .copy) i) ≡ true
 
@@ -104,9 +103,8 @@ values-stand : (t : ℕ) (H : List Cell) (n : ℕ) (a : List ℕ) → stackOk t 
     → (2 * n ≤ length a) × ((i : ℕ) → i < n → exactValue (kindAt a i) (payloadAt a i) ≡ true)
 values-stand t H n a e = (two-words n a (stack-of t H n a e .0), λ i h. slots-of t H n a e i h .0)
 
--- what is judged of the copy, and of the units
+-- what is judged of the copy
 record Saving (m : Vm) (l : Lent) : Type 0 where
-  spent : m .run .spent ≤ m .run .given
   copy : 2 * m .run .saved ≤ length (l .copy)
   saved : (i : ℕ) → i < m .run .saved → exactValue (kindAt (l .copy) i) (payloadAt (l .copy) i) ≡ true
 
@@ -115,9 +113,8 @@ saving m s l e = either-way (m .run .on)
     (λ on.
     let o = under-of m s l e on in
     let z = values-stand (m .program .text) (heapOf (m .run .mark) (l .cells)) (m .run .saved) (l .copy) (o .copy) in
-    record { spent = o .spent; copy = z .0; saved = z .1 })
+    record { copy = z .0; saved = z .1 })
     (λ off. let q = idle-of m s l e off in record {
-      spent = rw q (omega arith);
       copy = rw q (omega arith);
       saved = rw q (λ i h. absurd (let z : ⊥ = omega arith in z));
     })
@@ -139,7 +136,6 @@ standing m s l e =
       cells = two-words (m .cells) (l .cells) (rw (length-heap (m .cells) (l .cells)) at (h .cells));
       frames = omega arith;
       exact = order-exact m s l e;
-      spent = c .spent;
       copy = c .copy;
       saved = c .saved;
     }
@@ -151,7 +147,7 @@ unfolding underIn machineIn
 machine-under m m' l l' e = ap (λ (r : Under). machineOf (r .state)) e
 
 abbrev resting : Machine → Under
-resting x = record { given = 0; start = []; progress = record { answer = Nothing; returns = 0; heap = []; last = x .last }; state = begin x 0 }
+resting x = record { given = 0; start = []; progress = record { answer = Nothing; returns = 0; heap = []; last = x .last }; state = stateOf x 0 0 }
 
 idle-rests : (m : Vm) (l : Lent) → m .run ≡ noRun → underIn m l ≡ resting (machineIn m l)
 unfolding underIn progressIn machineIn vals heapOf cellsFrom
@@ -161,12 +157,11 @@ pub idle-under : (m m' : Vm) (l l' : Lent) → m .run ≡ noRun → m' .run ≡ 
 idle-under m m' l l' p q e = idle-rests m l p ∙ ap resting e ∙ sym (idle-rests m' l' q)
 
 -- the same record of it
-run-fixes : {m m' : Vm} {l l' : Lent} → Standing m l → Standing m' l' → m .run .on ≡ m' .run .on → underIn m l ≡ underIn m' l' → m .run ≡ m' .run
+run-fixes : (m m' : Vm) (l l' : Lent) → m .run .on ≡ m' .run .on → underIn m l ≡ underIn m' l' → m .run ≡ m' .run
 unfolding underIn progressIn
-run-fixes {m} {m'} {l} {l'} a b on e =
+run-fixes m m' l l' on e =
     let given : m .run .given ≡ m' .run .given = ap (λ (r : Under). r .given) e in
-    let left : m .run .given - m .run .spent ≡ m' .run .given - m' .run .spent = ap (λ (r : Under). r .state .units) e in
-    let spent : m .run .spent ≡ m' .run .spent = omega (arith, a .spent, b .spent) in
+    let spent : m .run .spent ≡ m' .run .spent = ap (λ (r : Under). r .state .spent) e in
     let returns : m .run .returns ≡ m' .run .returns = ap (λ (r : Under). r .progress .returns) e in
     let mark : m .run .mark ≡ m' .run .mark = sym (length-heap (m .run .mark) (l .cells)) ∙ ap (λ (r : Under). length (r .progress .heap)) e ∙ length-heap (m' .run .mark) (l' .cells) in
     let saved : m .run .saved ≡ m' .run .saved = sym (length-vals (m .run .saved) (l .copy)) ∙ ap (λ (r : Under). length (r .start)) e ∙ length-vals (m' .run .saved) (l' .copy) in
@@ -182,7 +177,7 @@ counts-fix {m} {m'} {l} {l'} a b p on u =
     let frames : m .frames ≡ m' .frames = sym (counted (m .frames) (l .frames) (a .exact .frames) (a .frames))
     ∙ ap (λ (x : Machine). suc (length (x .callers))) e ∙ counted (m' .frames) (l' .frames) (b .exact .frames) (b .frames) in
     let last : m .last ≡ m' .last = ap (λ (x : Machine). x .last) e in
-    let run : m .run ≡ m' .run = run-fixes a b on u in
+    let run : m .run ≡ m' .run = run-fixes m m' l l' on u in
     rw (p, stack, cells, frames, last, run)
 
 -- and in stores of the same lengths the same below them

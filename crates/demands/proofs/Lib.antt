@@ -1,7 +1,7 @@
 -- The theorems. Demand 1: `refuses`, `steps-within`, `new-in-order`, `load-in-order`, `chain-kept`, `run-in-order`.
 -- A run in parts: `parts-come-to`, `over-is-one`, `dealings-agree`, `dealt-ends-agree`, `more-units-change-nothing`, `any-call-goes-on`.
 -- Demand 2: `run-written`, `pause-written`, `paused-where-one-run-ends-in-13`, with `step-cost`, `fault-cost`, `path-units`, `run-is-steps` and `as-trees`.
--- Demand 3: `fault-recovers`, with `fault-leaves`, `chain-alike`, `chains-agree` and `past-counts-unseen`. Demand 4: `run-one`, `ask-one`.
+-- Demand 3: `fault-recovers`, with `fault-leaves`, `a-backtrace-tells-when-its-frames-were-entered`, `chain-alike`, `chains-agree` and `past-counts-unseen`. Demand 4: `run-one`, `ask-one`.
 
 -- lent stores that are the same below the counts; a machine in good order fixes its words
 pub mod Fronts
@@ -36,6 +36,8 @@ pub mod MeantRuns
 pub mod MeantAsks
 pub mod MeantChains
 pub mod Example
+-- `a-backtrace-tells-when-its-frames-were-entered`
+pub mod Traces
 -- `fault-leaves`, `fault-recovers`
 pub mod Recovering
 -- `relent-stands`, `relent-alike`

@@ -83,7 +83,7 @@ pub under-self : (w : World) (m : Vm) (l : Lent) → AlikeUnder w (record { text
 unfolding underIn progressIn machineIn
 under-self w m l = record {
   given = refl;
-  state = record { machine = machine-self w (machineIn m l); units = refl };
+  state = record { machine = machine-self w (machineIn m l); spent = refl; units = refl };
   start = values-self _ _ _;
   marks = record { last = last-self _ _ _; free = refl; returns = refl };
   answers = answer-self (m .run .returns) _;

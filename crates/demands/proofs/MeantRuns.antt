@@ -113,7 +113,7 @@ module _ {r : Bool} {h d : Held} (a : AlikeHeld r h d) where
 
   trace-short-same : traceShort (d .lent) ≡ traceShort (h .lent)
   unfolding traceShort frameRoom
-  trace-short-same = rw (places-alike (d .lent .backtrace) (h .lent .backtrace) (a .backtrace) 2, a .frames)
+  trace-short-same = rw (places-alike (d .lent .backtrace) (h .lent .backtrace) (a .backtrace) 3, a .frames)
 
   -- both are refused by one number, or come to parts that mean the same
   data AlikeAnswers : RunAnswer → RunAnswer → Type 0 where
@@ -184,7 +184,7 @@ module _ {r : Bool} {h d : Held} (a : AlikeHeld r h d) where
     waiting-alike e e' k p q =
         let under : AlikeUnder (worldIn h') (layoutOf d') (underOf h') (underOf d') = rw (one p q, other p q, p .stands .under, q .stands .under) k in
         record {
-          says = rw (e, e', k .given, k .state .units, k .marks .returns);
+          says = rw (e, e', k .given, k .state .spent, k .marks .returns);
           held = held-alike o o' p q (rw (state-machine (h' .vm) (h' .lent), state-machine (d' .vm) (d' .lent)) at (under .state .machine)) (q .stands .on ∙ sym (p .stands .on)) (λ _. under);
         }
 

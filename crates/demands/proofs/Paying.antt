@@ -3,7 +3,7 @@ use mathlib.Core.Path.{_≡_, refl, sym, subst}
 use mathlib.Core.Bool.{Bool, true, false, not}
 use mathlib.Core.List.{List, [], _∷_, _++_}
 use mathlib.Core.Option.{Option, none as no, some}
-use Prim.Native.Nat.{ℕ, suc, _+_, _-_, _*_, _≤_, _<_}
+use Prim.Native.Nat.{ℕ, suc, _+_, _*_, _≤_, _<_}
 use native.Mathlib.Omega.{arith}
 use borrow.Author.Tests.{leb-true, leb-false, eqb-true, eqb-false}
 use lib.Dec.{eqb, leb, ltb}
@@ -25,19 +25,27 @@ use Rattle.model.specs.Values.{popping, poppingScalar, poppingBoolean, faultNum
 use Rattle.model.specs.Scalars.{zeroDivisor}
 use Rattle.model.specs.Heap.{Cell, deepest, blockOf, built, unbuilt, buildOf, fieldOf}
 use Rattle.model.specs.Equality.{Same, same, sameOf}
-use Rattle.model.specs.Steps.{World, State, Outcome, went, returned, faulted, short, withStack, withHeap, withUnits, at, position, codeOf, pushing, onFound, constantOf, slotOf, lastOf, loadStep, slotStep, lastStep, negateStep, arithmeticStep, orderingStep, onSame, equalStep, logicStep, notStep, jumpStep, jumpIfFalseStep, enter, callStep, enterNamed, callCallableStep, onBuilt, buildStep, structStep, fieldStep, returnTo, returnStep, execOf, operandsThen, decodedThen, fetched, stepOf}
+use Rattle.model.specs.Steps.{World, State, Outcome, went, returned, faulted, short, withStack, withHeap, paid, at, position, codeOf, pushing, onFound, constantOf, slotOf, lastOf, loadStep, slotStep, lastStep, negateStep, arithmeticStep, orderingStep, onSame, equalStep, logicStep, notStep, jumpStep, jumpIfFalseStep, enter, callStep, enterNamed, callCallableStep, onBuilt, buildStep, structStep, fieldStep, returnTo, returnStep, execOf, operandsThen, decodedThen, fetched, stepOf}
 use Rattle.laws_runs.proofs.Combinators.{if-each, ifScalar-each, ifBoolean-each, ifReference-each, ifStruct-each}
 use Rattle.model.specs.Runs.{Machine, begin, machineOf, Progress, atStart, Ended, ended, stopped, paused, endOf, traceOf, fault, tally, answered, cutAt, recovered, partOf, abandonOf, givenUp, runOf}
-use Rattle.laws_runs.specs.Paths.{Steps, none, on, ret, rootReturns, By, EndedBy, StoppedBy, PausedBy}
+use Rattle.laws_runs.specs.Paths.{Balances, Steps, none, on, ret, rootReturns, By, EndedBy, StoppedBy, PausedBy}
+use Rattle.laws_runs.proofs.Spends.{step-balances}
 use Rattle.laws_runs.proofs.Ends.{end-of}
 use Rattle.laws_runs.proofs.Paths.{run-path, returns-counted}
-use Rattle.demands.specs.Units.{pairs, topPairs, pairsOf, pairsBy, pairsAt, Spent, Costs, spentOn, RunIs, ends, faults, gives-up}
+use Rattle.demands.specs.Units.{pairs, topPairs, pairsOf, pairsBy, pairsAt, SpentBetween, Costs, spentOn, RunIs, ends, faults, gives-up}
 
 -- ---- an instruction whose opcode has been fetched
 
+-- `Spent`, of the units that are left
+abbrev Fewer : (k i : ℕ) → State → Outcome → Type 0
+Fewer k i s (went t) = s .units ≡ t .units + k
+Fewer k i s (returned x t) = s .units ≡ t .units + k
+Fewer k i s (faulted n t) = s .units ≡ t .units + i
+Fewer k i s short = s .units < k
+
 -- k units are spent, and none by a fault; the law of each combinator is about two outcomes, and the second is not looked at
 record Pays (s : State) (k : ℕ) (x y : Outcome) : Type 0 where
-  costs : Spent k 0 s x
+  costs : Fewer k 0 s x
 
 fails : {s : State} {k : ℕ} {n : Fault} {t : State} {y : Outcome} → t .units ≡ s .units → Pays s k (faulted n t) y
 fails e = record { costs = omega arith }
@@ -114,16 +122,16 @@ module _ (w : World) (s : State) where
 
   -- ---- the comparisons
 
-  same-by : (b : Bool) (k : ℕ) (t : State) → (b ≡ true → s .units ≡ t .units + k) → (b ≡ false → s .units < k) → Spent k 0 s (if b then went t else short)
+  same-by : (b : Bool) (k : ℕ) (t : State) → (b ≡ true → s .units ≡ t .units + k) → (b ≡ false → s .units < k) → Fewer k 0 s (if b then went t else short)
   same-by true k t h l = h refl
   same-by false k t h l = l refl
 
-  same-costs : (t : Bool → Bool) (r : List Value) (x : Same) → Spent (pairs x) 0 s (onSame t r s x)
+  same-costs : (t : Bool → Bool) (r : List Value) (x : Same) → Fewer (pairs x) 0 s (onSame t r s x)
   unfolding onSame pairs
   same-costs t r (same b k) = same-by (leb k (s .units)) k _ (λ e. let z : k ≤ s .units = leb-true _ _ e in omega arith) (λ e. leb-false _ _ e)
 
   equal-costs : (t : Bool → Bool) (vs : List Value)
-      → Spent (topPairs w (s .heap) vs) 0 s (popping vs (λ n. faulted n s) (λ y r. popping r (λ n. faulted n s) (λ x q. onSame t q s (sameOf (w .text) (s .heap) x y))))
+      → Fewer (topPairs w (s .heap) vs) 0 s (popping vs (λ n. faulted n s) (λ y r. popping r (λ n. faulted n s) (λ x q. onSame t q s (sameOf (w .text) (s .heap) x y))))
   unfolding popping topPairs
   equal-costs t [] = omega arith
   equal-costs t (y ∷ []) = omega arith
@@ -156,7 +164,7 @@ module _ (w : World) (s : State) where
 -- ---- a step
 
 -- the unit of the opcode
-and-one : (k : ℕ) (s t : State) (x y : Outcome) → s .units ≡ t .units + 1 → Pays t k x y → Costs (suc k) s x
+and-one : (k : ℕ) (s t : State) (x y : Outcome) → s .units ≡ t .units + 1 → Pays t k x y → Fewer (suc k) 1 s x
 and-one k s t (went q) y e c = omega (arith, c .costs)
 and-one k s t (returned v q) y e c = omega (arith, c .costs)
 and-one k s t (faulted n q) y e c = omega (arith, c .costs)
@@ -164,12 +172,12 @@ and-one k s t short y e c = omega (arith, c .costs)
 
 module _ (w : World) (s : State) where
   abbrev C : ℕ → Outcome → Outcome → Type 0
-  C k x y = Costs k s x
+  C k x y = Fewer k 1 s x
 
-  decoded-cost : 1 ≤ s .units → (x : Decoded) (n : ℕ) → Costs (suc (pairsBy w x s)) s (decodedThen w x n (at (suc (position s)) (withUnits (s .units - 1) s)))
+  decoded-cost : 1 ≤ s .units → (x : Decoded) (n : ℕ) → Fewer (suc (pairsBy w x s)) 1 s (decodedThen w x n (at (suc (position s)) (paid 1 s)))
   unfolding decodedThen operandsThen pairsBy codeOf
   decoded-cost h (d.Carried p) n =
-      let t = at (suc (position s) + 2 * n) (withUnits (s .units - 1) s) in
+      let t = at (suc (position s) + 2 * n) (paid 1 s) in
       let k = pairsOf w p (s .heap) (s .stack) in
       if-each {B = Outcome} (C (suc k)) (leb (suc (position s) + 2 * n) (length (codeOf w s))) {x' = short} {y' = short}
       (λ e. and-one k s t _ _ (omega arith) (exec-costs w t p _ _)) (λ e. omega arith)
@@ -179,28 +187,44 @@ module _ (w : World) (s : State) where
   positive : (n : ℕ) → (n ≡ 0 → ⊥) → 1 ≤ n
   positive n h = omega arith
 
-  -- a step that completes spends one unit, and one for each pair that it visits; a step that faults spends one; a step is short only if fewer are left
-  pub step-cost : Costs (suc (pairsAt w s)) s (stepOf w s)
+  step-fewer : Fewer (suc (pairsAt w s)) 1 s (stepOf w s)
   unfolding stepOf fetched pairsAt
-  step-cost =
+  step-fewer =
       if-each {B = Outcome} (C _) (eqb (s .units) 0) {x' = short} {y' = short} (λ e. let z = eqb-true (s .units) 0 e in omega arith)
       (λ e. decoded-cost (positive (s .units) (eqb-false (s .units) 0 e)) _ _)
 
-  pub went-cost : {t : State} → stepOf w s ≡ went t → s .units ≡ t .units + suc (pairsAt w s)
+  -- what is no longer left is spent
+  balanced : (k : ℕ) (t : State) → s .units ≡ t .units + k → t .spent + t .units ≡ s .spent + s .units → SpentBetween k s t
+  balanced k t e b = record { left = e; spent = omega arith }
+
+  both-so : (k : ℕ) (x : Outcome) → Fewer k 1 s x → Balances s x → Costs k s x
+  both-so k (went t) e b = balanced k t e b
+  both-so k (returned v t) e b = balanced k t e b
+  both-so k (faulted n t) e b = balanced 1 t e b
+  both-so k short e b = e
+
+  -- a step that completes spends one unit, and one for each pair that it visits; a step that faults spends one; a step is short only if fewer are left
+  pub step-cost : Costs (suc (pairsAt w s)) s (stepOf w s)
+  step-cost = both-so (suc (pairsAt w s)) (stepOf w s) step-fewer (step-balances w s)
+
+  went-cost : {t : State} → stepOf w s ≡ went t → SpentBetween (suc (pairsAt w s)) s t
   went-cost e = subst (Costs (suc (pairsAt w s)) s) e step-cost
 
-  pub returned-cost : {t : State} {x : Value} → stepOf w s ≡ returned x t → s .units ≡ t .units + suc (pairsAt w s)
+  returned-cost : {t : State} {x : Value} → stepOf w s ≡ returned x t → SpentBetween (suc (pairsAt w s)) s t
   returned-cost e = subst (Costs (suc (pairsAt w s)) s) e step-cost
 
-  pub fault-cost : {n : Fault} {t : State} → stepOf w s ≡ faulted n t → s .units ≡ t .units + 1
+  pub fault-cost : {n : Fault} {t : State} → stepOf w s ≡ faulted n t → SpentBetween 1 s t
   fault-cost e = subst (Costs (suc (pairsAt w s)) s) e step-cost
 
 -- ---- a path
 
-pub path-units : {w : World} {n : ℕ} {m k : Progress} {s t : State} (p : Steps w n m s k t) → s .units ≡ t .units + spentOn p
-path-units none = omega arith
-path-units {w} (on {s = s} o q p) = omega (arith, went-cost w s q, path-units p)
-path-units {w} (ret {s = s} o q p) = omega (arith, returned-cost w s q, path-units p)
+then-spent : {i j : ℕ} {s t q : State} → SpentBetween i s t → SpentBetween j t q → SpentBetween (i + j) s q
+then-spent a b = record { left = let x = a .left in let y = b .left in omega arith; spent = let x = a .spent in let y = b .spent in omega arith }
+
+pub path-units : {w : World} {n : ℕ} {m k : Progress} {s t : State} (p : Steps w n m s k t) → SpentBetween (spentOn p) s t
+path-units none = record { left = omega arith; spent = omega arith }
+path-units {w} (on {s = s} o q p) = then-spent (went-cost w s q) (path-units p)
+path-units {w} (ret {s = s} o q p) = then-spent (returned-cost w s q) (path-units p)
 
 -- ---- a run
 
@@ -212,13 +236,13 @@ module _ (w : World) (m : Machine) (u : ℕ) where
   run-ends : {k : Progress} {t : State} → EndedBy w (atStart (begin m u)) (begin m u) k t → RunIs w m u (givenUp w (partOf w (m .stack) u (ended k t)))
   unfolding partOf givenUp
   run-ends {k} {t} r =
-      let z : spentOn (r .path) ≡ u - t .units = omega (arith, path-units (r .path)) in
+      let z : spentOn (r .path) ≡ t .spent = omega (arith, path-units (r .path) .spent) in
       subst (λ (x : Tally). RunIs w m u (record { reply = answered (k .answer) x; machine = machineOf t })) (did-is (r .path) z) (ends (r .path) (r .over))
 
   run-faults : {i : Fault} {t : State} {k : Progress} → StoppedBy w (atStart (begin m u)) (begin m u) i t k → RunIs w m u (givenUp w (partOf w (m .stack) u (stopped i t k)))
   unfolding partOf givenUp
   run-faults {i} {t} {k} r =
-      let z : spentOn (r .path) + 1 ≡ u - t .units = omega (arith, path-units (r .path), fault-cost w (r .at) (r .stops)) in
+      let z : spentOn (r .path) + 1 ≡ t .spent = omega (arith, path-units (r .path) .spent, fault-cost w (r .at) (r .stops) .spent) in
       subst (λ (x : Tally). RunIs w m u (record { reply = fault (faultNumber i) x (traceOf (w .functions) (t .frame ∷ t .callers)); machine = recovered w (m .stack) k })) (did-is (r .path) z)
       (faults (r .path) (r .goes-on) (r .stops))
 

@@ -26,6 +26,7 @@ use Rattle.demands.proofs.Fronts.{rooms-back, rooms-then}
 use Rattle.demands.proofs.Fixed.{Standing, standing, counted, values-fix, idle-under, machine-fixes}
 use Rattle.demands.proofs.Chains.{chains-agree}
 use Rattle.demands.proofs.Parting.{over-is-one}
+use Rattle.demands.proofs.Traces.{a-backtrace-tells-when-its-frames-were-entered}
 use Rattle.demands.proofs.MeantChains.{chain-alike, self-alike}
 
 -- what the mark of a path kept
@@ -69,6 +70,7 @@ module _ {h k : Held} {u n : ℕ} {did : Tally} {trace : List Entry} {x : Ran} (
   unfolding machineIn recovered innermost
   leaves-so = record {
     rules = by-rules;
+    entered = a-backtrace-tells-when-its-frames-were-entered w by-rules;
     height = same-height;
     stack = same-stack;
     frames = one-frame;

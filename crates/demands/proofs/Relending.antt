@@ -23,7 +23,7 @@ use Rattle.laws_programs.proofs.Every.{pass-all}
 use Rattle.laws_programs.proofs.Known.{Limited, limited, text-inside, constants-known, Structs, structs-known, structs-good, Known, function-known, ascending}
 use Rattle.laws_programs.proofs.Keeping.{Good, good-of, of-good}
 use Rattle.laws_runs.specs.Ordered.{CodeBytes, UnderOrdered}
-use Rattle.laws_runs.proofs.Ordered.{order-sane, order-exact, idle-of, idle-to, under-of, under-to, sane-ordered}
+use Rattle.laws_runs.proofs.Ordered.{order-machine, order-exact, idle-of, idle-to, under-of, under-to, sane-ordered}
 use Rattle.demands.specs.Host.{Held}
 use Rattle.demands.specs.Kept.{InOrder, WorldGrew}
 use Rattle.demands.specs.Agree.{Front, Rooms}
@@ -324,6 +324,7 @@ module _ {h k : Held} (o : InOrder h) (g : Relent h k) where
         cells = cells-anew (h .vm .run .mark) marked (h .vm .program .text) (u .cells);
         copy = rw mark-anew (stack-anew (h .vm .run .saved) (g .copy) (h .vm .program .text) _ (u .copy));
         last = rw mark-anew (u .last);
+        entered = rw same-frame (u .entered);
         inside = rw (same-frame, same-functions) (u .inside);
       }
 
@@ -336,13 +337,13 @@ module _ {h k : Held} (o : InOrder h) (g : Relent h k) where
   order-anew : runOrder (h .vm) (k .stores) (k .lent) ≡ true
   order-anew =
       let x = order-exact (h .vm) (h .stores) (h .lent) (o .machine) in
-      sane-ordered (h .vm) (k .stores) (k .lent) 0 (program-ok (h .vm .program) (h .stores) (k .stores) (g .program) (o .program))
+      sane-ordered (h .vm) (k .stores) (k .lent) (machineIn (h .vm) (h .lent) .frame .entered) 0 (program-ok (h .vm .program) (h .stores) (k .stores) (g .program) (o .program))
       (record {
         cells = rw (exact-alike (h .vm .cells) (g .cells .front)) (x .cells);
         stack = λ i l. rw (kind-alike (h .vm .stack) (g .stack .front) i l, payload-alike (h .vm .stack) (g .stack .front) i l) (x .stack i l);
         frames = x .frames;
       })
-      (rw machine-anew (sane-wider rooms-grew (order-sane (h .vm) (h .stores) (h .lent) (o .machine) 0)))
+      (rw machine-anew (sane-wider rooms-grew (order-machine (h .vm) (h .stores) (h .lent) (o .machine) 0)))
       part-order
 
   -- STORES LENT ANEW: good order is kept, and they stand for the same program and the same machine

@@ -23,7 +23,7 @@ use Rattle.model.specs.Machines.{Lent, machineIn, worldOf, runOrder}
 use Rattle.value.proofs.Coding.{and-left, and-right}
 use Rattle.cells.proofs.Order.{and-both}
 use Rattle.laws_runs.specs.Sane.{AllPlaced, LastPlaced, FrameFits, CallersFit, Sane}
-use Rattle.laws_runs.proofs.Ordered.{order-of, order-sane, order-exact, idle-of, idle-to, sane-ordered, text-length}
+use Rattle.laws_runs.proofs.Ordered.{order-of, order-machine, order-exact, idle-of, idle-to, sane-ordered, text-length}
 use Rattle.laws_runs.proofs.Programs.{length-functions, parts-of, code-size}
 use Rattle.demands.specs.Kept.{Grew, WorldGrew}
 
@@ -110,6 +110,7 @@ module _ {w w' : World} (g : WorldGrew w w') where
     frame = frame-wider (h .frame);
     callers = callers-wider (s .callers) (h .callers);
     root = h .root;
+    rising = h .rising;
   }
 
 -- ---- a machine whose program grew
@@ -139,5 +140,5 @@ module _ (m : Vm) (s : Stores) (l : Lent) (c : Counts) (s' : Stores) (e : runOrd
   unfolding machineIn
   order-wider =
       let x = order-exact m s l e in
-      sane-ordered (withProgram c m) s' l 0 e' (record { cells = x .cells; stack = x .stack; frames = x .frames }) (sane-wider world-grew (order-sane m s l e 0))
+      sane-ordered (withProgram c m) s' l _ 0 e' (record { cells = x .cells; stack = x .stack; frames = x .frames }) (sane-wider world-grew (order-machine m s l e 0))
       (idle-to (withProgram c m) s' l (idle-of m s l e off))

@@ -2,7 +2,7 @@
 use mathlib.Core.Path.{_≡_, refl, sym, ap, _∙_}
 use mathlib.Core.Bool.{not}
 use mathlib.Core.List.{List}
-use Prim.Native.Nat.{ℕ, _+_, _-_, _≤_}
+use Prim.Native.Nat.{ℕ, _+_, _≤_}
 use native.Mathlib.Omega.{arith}
 use borrow.Author.Tests.{eqb-true, eqb-false, not-true, not-false}
 use lib.Dec.{eqb}
@@ -19,6 +19,7 @@ use Rattle.laws_runs.specs.Paths.{Steps, rootReturns, By, PausedBy}
 use Rattle.laws_runs.specs.Demand.{Cut, faulting, unpaid}
 use Rattle.laws_runs.proofs.Ends.{end-of}
 use Rattle.laws_runs.proofs.Paths.{run-path, returns-counted, path-spends, a-run-that-starts-has-no-value, a-run-has-a-value-exactly-behind-a-root-return}
+use Rattle.laws_runs.proofs.Entered.{every-frame-tells-when-it-was-entered}
 use Rattle.laws_runs.proofs.Demands.{run-recovered}
 use Rattle.laws_runs.proofs.Ordered.{order-world, order-sane}
 use Rattle.laws_runs.proofs.Runs.{path-sane}
@@ -26,9 +27,8 @@ use Rattle.demands.specs.Units.{spentOn, Within, Demand2}
 use Rattle.demands.specs.Host.{Held}
 use Rattle.demands.specs.Meant.{worldIn, machineOf, underOf}
 use Rattle.demands.specs.Parts.{Parts, Over, IsThirteen, PausedAtThirteen, StandsBefore}
-use Rattle.demands.proofs.Fixed.{standing}
 use Rattle.demands.proofs.Parting.{parts-come-to, over-is-one}
-use Rattle.demands.proofs.Paying.{path-units, run-is-steps}
+use Rattle.demands.proofs.Paying.{fault-cost, path-units, run-is-steps}
 use Rattle.demands.proofs.Growing.{as-trees}
 
 fault-known : (n : Fault) → (1 ≤ faultNumber n) × (faultNumber n ≤ 14)
@@ -56,9 +56,12 @@ module _ (w : World) (m : Machine) (u : ℕ) where
   settled-within : (e : Ended) → By w (atStart (begin m u)) (begin m u) e → Within u (givenUp w (partOf w (m .stack) u e) .reply)
   unfolding partOf givenUp abandonOf
   settled-within (ended k t) r =
-      answered-within (k .answer) (tally (u - t .units) k) (omega arith)
+      answered-within (k .answer) (tally (t .spent) k) (omega (arith, path-units (r .path) .spent, path-units (r .path) .left))
       (a-run-has-a-value-exactly-behind-a-root-return w (a-run-that-starts-has-no-value (begin m u)) (r .path))
-  settled-within (stopped n t k) r = (omega arith, fault-known n)
+  settled-within (stopped n t k) r =
+      let path = path-units (r .path) in
+      let cut = fault-cost w (r .at) (r .stops) in
+      (omega (arith, path .spent, path .left, cut .spent, cut .left), fault-known n)
   settled-within (paused k t) r = (omega arith, (omega arith, omega arith))
 
   run-within : Within u (runOf w m u .reply)
@@ -90,8 +93,8 @@ module _ (w : World) (m : Machine) (u : ℕ) where
   run-whole did es e = whole-cut refl (run-recovered w m u 13 did es e .cut)
 
 -- DEMAND 1: no code makes a run go on; with u units there is no path of more than u written steps
-pub steps-within : {w : World} {m : Machine} {u n : ℕ} {j k : Progress} {t : State} → Steps w n j (begin m u) k t → n ≤ u
-steps-within {w} p = omega (arith, path-spends w p)
+pub steps-within : {w : World} (m : Machine) {u n : ℕ} {j k : Progress} {t : State} → Steps w n j (begin m u) k t → n ≤ u
+steps-within {w} m p = omega (arith, path-spends w p)
 
 -- DEMAND 2
 pub run-written : {h k : Held} {u : ℕ} {x : Ran} → Over h u x k → Demand2 (h .vm) (h .stores) (h .lent) u (k .vm .program) x
@@ -150,7 +153,6 @@ pause-written {h} {k} {g} p =
     let is : pauses (underOf k) ≡ partOf (worldIn h) (machineOf h .stack) g (endOf (worldIn h) (begin (machineOf h) g)) = ap pauses (z .stands .under) ∙ z .one in
     let by = paused-by (worldIn h) (machineOf h) g (endOf (worldIn h) (begin (machineOf h) g)) refl is in
     let given : k .vm .run .given ≡ g = paused-given (worldIn h) (machineOf h) g (endOf (worldIn h) (begin (machineOf h) g)) is in
-    let few = standing (k .vm) (k .stores) (k .lent) (z .beside .order) .spent in
-    let units : g ≡ k .vm .run .given - k .vm .run .spent + spentOn (by .path) = path-units (by .path) in
+    let units : k .vm .run .spent ≡ 0 + spentOn (by .path) = path-units (by .path) .spent in
     let returns : k .vm .run .returns ≡ 0 + rootReturns (by .path) = returns-counted (worldIn h) (by .path) in
-    record { by = by; given = given; spent = omega arith; returns = omega arith }
+    record { by = by; given = given; spent = omega arith; returns = omega arith; entered = every-frame-tells-when-it-was-entered (worldIn h) (by .path) }

@@ -2,7 +2,7 @@
 use mathlib.Core.Path.{_≡_}
 use mathlib.Core.Bool.{Bool, true}
 use mathlib.Core.List.{List, [], _∷_}
-use Prim.Native.Nat.{ℕ, _-_}
+use Prim.Native.Nat.{ℕ}
 use lib.ListN.{length}
 use Rattle.model.specs.declared.Shown.the-variants as w
 use Rattle.model.specs.declared.Tally.{Tally}
@@ -58,7 +58,7 @@ pub record AlikeHeld (anew : Bool) (h d : Held) : Type 0 where
   pub counts : d .vm .program ≡ h .vm .program
   pub program : programIn (d .vm .program) (d .stores) ≡ programIn (h .vm .program) (h .stores)
   pub stores : AsLong (d .stores) (h .stores)
-  -- stack and last result of the same trees, the same frames, as many cells free
+  -- stack and last result of the same trees, the same frames with the units at which they were entered, as many cells free
   pub machine : AlikeMachine (worldIn h) (layoutOf d) (machineOf h) (machineOf d)
   -- a run is under way in both or in neither; in both it was given and has spent as much, has come as far, and its starting stack is of the same trees
   pub on : d .vm .run .on ≡ h .vm .run .on
@@ -90,7 +90,7 @@ pub data Said : Type 0 where
 -- values are those of the machine that is then held
 unfoldable pub saidIn : List ℕ → List Cell → Answer → Said
 saidIn t H (ran (m.ran c (ends x))) = ended (meantIn t H (x .reply))
-saidIn t H (ran (m.ran c (pauses r))) = paused (r .given) (tally (r .given - r .state .units) (r .progress))
+saidIn t H (ran (m.ran c (pauses r))) = paused (r .given) (tally (r .state .spent) (r .progress))
 saidIn t H (ran (m.refused n)) = plain (ran (m.refused n))
 saidIn t H (emitted a) = plain (emitted a)
 saidIn t H (started a) = plain (started a)

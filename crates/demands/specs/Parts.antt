@@ -7,6 +7,7 @@ use Rattle.model.specs.Runs.{begin, atStart, endOf, Reply, value, continue, fau
 use Rattle.model.specs.Machines.{runOrder, begins, continues, abandons, RunCall, noRun}
 use Rattle.model.specs.Machines as m
 use Rattle.laws_runs.specs.Paths.{rootReturns, PausedBy}
+use Rattle.laws_runs.specs.Entered.{enteredIn, notedAlong}
 use Rattle.demands.specs.Units.{spentOn}
 use Rattle.demands.specs.Host.{Held, Ask, Call, run, ask, Answer, ran, emitted, started, told, put, shown, headed, RanBy, After}
 use Rattle.demands.specs.Agree.{Front, Rooms, Agree}
@@ -80,12 +81,13 @@ pub record IsOne (h : Held) (g : ℕ) (x : Ran) (k : Held) : Type 0 where
   pub beside : Beside h k
 
 -- DEMAND 2, of a run that is paused in k: written steps lead to where it stands, before an instruction that cannot be paid for; the record tells the units
--- that it was given, those that the steps have spent, and the root Returns among them
+-- that it was given, those that the steps have spent, and the root Returns among them; and each frame tells what was spent when its step had entered it
 pub record StandsBefore (h : Held) (g : ℕ) (k : Held) : Type 0 where
   pub by : PausedBy (worldIn h) (atStart (begin (machineOf h) g)) (begin (machineOf h) g) (underOf k .progress) (underOf k .state)
   pub given : k .vm .run .given ≡ g
   pub spent : k .vm .run .spent ≡ spentOn (by .path)
   pub returns : k .vm .run .returns ≡ rootReturns (by .path)
+  pub entered : enteredIn (underOf k .state) ≡ notedAlong (by .path) (enteredIn (begin (machineOf h) g))
 
 -- the units that a continuing with u units gives: all, unless it is refused
 abbrev pub grantedOf : (u : ℕ) → Answer → ℕ

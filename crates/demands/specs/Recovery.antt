@@ -1,7 +1,7 @@
 -- Demand 3: what a run that ends in a fault or is abandoned leaves, and that no later answer tells it from a machine set up so by hand.
 use mathlib.Core.Path.{_≡_}
 use mathlib.Core.Bool.{true, false}
-use mathlib.Core.List.{List}
+use mathlib.Core.List.{List, map}
 use Prim.Native.Nat.{ℕ, _*_}
 use lib.ListN.{length, getD}
 use Rattle.model.specs.declared.Value.{Value}
@@ -18,6 +18,7 @@ use Rattle.model.specs.Machines.{Lent, machineIn, worldOf, runOrder, noRun}
 use Rattle.laws_runs.specs.Ordered.{CodeBytes}
 use Rattle.laws_runs.specs.Sane.{Faults}
 use Rattle.laws_runs.specs.Paths.{Steps}
+use Rattle.laws_runs.specs.Entered.{enteredIn, notedAlong}
 use Rattle.laws_runs.specs.Demand.{Quiet, Recovered}
 use Rattle.demands.specs.Host.{Held, Call, Answer, Chain}
 use Rattle.demands.specs.Jobs.{anew, AllTyped}
@@ -36,10 +37,12 @@ pub data Kept (w : World) (s t : State) : Last → List Cell → Type 0 where
 pub record Recovers (m : Vm) (s : Stores) (l : Lent) (u : ℕ) (m' : Vm) (n : ℕ) (did : Tally) (trace : List Entry) (l' : Lent) : Type 0 where
   -- the written steps up to the cut, and the step that faulted there
   pub rules : Recovered (worldOf m s l) (machineIn m l) u n did trace
+  -- the backtrace tells of each frame how many units were spent when the step that entered it had completed
+  pub entered : map (λ (e : Entry). e .entered) trace ≡ notedAlong (rules .path) (enteredIn (begin (machineIn m l) u))
   -- the stack of its start, word by word
   pub height : m' .stack ≡ m .stack
   pub stack : Alike (2 * m .stack) (l' .stack) (l .stack)
-  -- one frame: function 0, base 0, position at the end of main
+  -- one frame: function 0, base 0, position at the end of main, entered at 0
   pub frames : m' .frames ≡ 1
   pub frame : getD (l' .frames) 0 (root 0) ≡ root (length (functionAt (worldOf m s l .functions) 0 .code))
   -- unchanged code and constants, and no run is under way

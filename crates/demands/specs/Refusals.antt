@@ -180,7 +180,7 @@ askChecks (disassemble out) h =
     ∷ listChecks out (listingOf (programIn (h .vm .program) (h .stores)))
 askChecks (backtrace out) h =
     must (traceOrder (h .vm) (h .stores) (h .lent .stack) (h .lent .frames)) 19
-    ∷ mustNot (ltb (places 2 out) (h .vm .frames)) 17
+    ∷ mustNot (ltb (places 3 out) (h .vm .frames)) 17
     ∷ must (traceable (functionsFrom (h .vm .program .functions) 0 (h .stores)) (innermost (h .vm .frames) (h .lent .frames) ∷ callersIn (h .vm .frames) (h .lent .frames))) 16
     ∷ []
 askChecks lastResult h = mustNot (noLast (h .vm .last)) 7 ∷ []

@@ -67,11 +67,16 @@ pairsBy w d.Unknown s = 0
 unfoldable pub pairsAt : World → State → ℕ
 pairsAt w s = pairsBy w (opcodeIn (codeOf w s) (position s) .what) s
 
+-- from s to t, k units fewer are left and k more are spent
+pub record SpentBetween (k : ℕ) (s t : State) : Type 0 where
+  pub left : s .units ≡ t .units + k
+  pub spent : t .spent ≡ s .spent + k
+
 -- k units are spent by a step that completes, i by one that faults; a step is short only if fewer than k are left
 abbrev pub Spent : (k i : ℕ) → State → Outcome → Type 0
-Spent k i s (went t) = s .units ≡ t .units + k
-Spent k i s (returned x t) = s .units ≡ t .units + k
-Spent k i s (faulted n t) = s .units ≡ t .units + i
+Spent k i s (went t) = SpentBetween k s t
+Spent k i s (returned x t) = SpentBetween k s t
+Spent k i s (faulted n t) = SpentBetween i s t
 Spent k i s short = s .units < k
 
 -- a step costs k units: one that completes has spent them, and one that faults its opcode's

@@ -53,7 +53,7 @@ unfolding backtraceIn backtraceOf
 trace-says m s stack frames out g e =
     let fs = functionsFrom (m .program .functions) 0 s in
     let rs = innermost (m .frames) frames ∷ callersIn (m .frames) frames in
-    rw (← e) (order-first g _ out (short-first (ltb (places 2 out) (m .frames)) _ out (traced (traceable fs rs) (traceOf fs rs) out)))
+    rw (← e) (order-first g _ out (short-first (ltb (places 3 out) (m .frames)) _ out (traced (traceable fs rs) (traceOf fs rs) out)))
 
 -- ---- a run
 

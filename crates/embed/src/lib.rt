@@ -122,7 +122,8 @@ pub extern "C" fn chaffwheel_load(
     n
 }
 
-// A run of the machine is begun: the stack is copied. No backtrace is written, so what is promised is so of any store for one.
+// A run of the machine is begun: the stack is copied, and all frames were entered at 0 units. No backtrace is written, so what is promised is so of any
+// store for one.
 #[no_mangle]
 pub extern "C" fn chaffwheel_begin(
     vm: &mut [u64],
@@ -136,7 +137,7 @@ pub extern "C" fn chaffwheel_begin(
     other_places: &[u32],
     stack: &[u64],
     cells: &[u64],
-    frames: &[Frame],
+    frames: &mut [Frame],
     copy: &mut [u64],
     answer: &mut [u64],
 ) -> u32
@@ -145,7 +146,7 @@ pub extern "C" fn chaffwheel_begin(
         (now (main .entry)) (now («main_places» .entry)) (now (other .entry)) (now («other_places» .entry)))
         (runLent (now (stack .entry)) (now (cells .entry)) (now (frames .entry)) (now (copy .entry)) trace)
         (record { number = r; vm = now (vm .exit); answer = now (answer .exit) })
-        (runLent (now (stack .entry)) (now (cells .entry)) (now (frames .entry)) (now (copy .exit)) trace)) ⌝ }
+        (runLent (now (stack .entry)) (now (cells .entry)) (now (frames .exit)) (now (copy .exit)) trace)) ⌝ }
 {
     let why = slices_refusal(vm, 5, answer);
     let m = vm_of(vm);
@@ -204,7 +205,7 @@ pub extern "C" fn chaffwheel_continue(
     cells: &mut [u64],
     frames: &mut [Frame],
     copy: &[u64],
-    trace: &mut [u32],
+    trace: &mut [u64],
     answer: &mut [u64],
 ) -> u32
     ensures { λ r. ⌜ RunThrough (continues units) (now (vm .entry)) (now (answer .entry))
@@ -272,7 +273,7 @@ pub extern "C" fn chaffwheel_abandon(
     cells: &[u64],
     frames: &mut [Frame],
     copy: &[u64],
-    trace: &mut [u32],
+    trace: &mut [u64],
     answer: &mut [u64],
 ) -> u32
     ensures { λ r. ⌜ RunThrough abandons (now (vm .entry)) (now (answer .entry))
@@ -335,7 +336,7 @@ pub extern "C" fn chaffwheel_backtrace(
     other_places: &[u32],
     stack: &[u64],
     frames: &[Frame],
-    out: &mut [u32],
+    out: &mut [u64],
     answer: &mut [u64],
 ) -> u32
     ensures { λ r. ⌜ ((structs constants : List ℕ) → record { coded = record { number = r; vm = now (vm .entry); answer = now (answer .exit) }; out = now (out .exit) }

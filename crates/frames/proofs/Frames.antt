@@ -28,11 +28,14 @@ fval = T′.lowered
 pub tells : Tells R (Is R) (λ f. fval f ∷ [])
 tells = LL.tells T.the-type T′.the-laws
 
--- the place of frame i: 24 bytes for each frame before it
-pub place-frame : (o i : ℕ) → i * 24 + o ≡ place 24 o i
-place-frame o i = sym (place-is 24 o i)
+pub entered-fits : (f : Frame) → Is R f (fval f ∷ []) → f .entered < 2 ^ 64
+entered-fits f is = LL.owed T.the-type T′.the-laws f _ is .1 .1 .1 .0 .1
 
-pub times-fits : (i n : ℕ) → i < n → Room R n → i * 24 < 2 ^ 64
+-- the place of frame i: 32 bytes for each frame before it
+pub place-frame : (o i : ℕ) → i * 32 + o ≡ place 32 o i
+place-frame o i = sym (place-is 32 o i)
+
+pub times-fits : (i n : ℕ) → i < n → Room R n → i * 32 < 2 ^ 64
 times-fits i n l room = omega (arith, l, room .1)
 
 module _ {M : Type 1} (𝓤 : URA M) (H : Heap 𝓤) (A : Atoms 𝓤) (W : Given 𝓤 H A) where

@@ -6,5 +6,6 @@ pub mod Scans
 pub mod Orders
 pub mod Traces
 pub mod Meaning
+pub mod Unentering
 -- a machine's frames in a slice
 pub mod Callers

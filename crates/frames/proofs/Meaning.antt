@@ -20,7 +20,7 @@ use Rattle.model.specs.Programs.{Function, functionAt}
 use Rattle.model.specs.Stores.{start, size, part, codeWord}
 use Rattle.model.specs.Orders.{frameOk, callerOk, framesFrom, framesOk, frameStoreOk}
 use Rattle.model.specs.Runs.{traceOf, traceable}
-use Rattle.frames.specs.Links.{noFrame, frameGood, firstGood, callerGood, placeGood, framesGood, callersOf, placesOf, placeAt, placeOf, traceWords, entryWords, insideGood, traceGood}
+use Rattle.frames.specs.Links.{noFrame, frameGood, enteredGood, callerGood, placeGood, callerEntered, framesGood, callersOf, placesOf, placeAt, placeOf, traceWords, entryWords, insideGood, traceGood}
 
 last : (a f : Bool) → (a && f && true && true) ≡ (f && a)
 last true true = refl
@@ -28,16 +28,17 @@ last true false = refl
 last false true = refl
 last false false = refl
 
--- the test of the first frame stands in front in the model
-in-front : (a f c x : Bool) → (a && f && c && x) ≡ (f && (a && c && x))
-in-front true true c x = refl
-in-front true false c x = refl
-in-front false true c x = refl
-in-front false false c x = refl
+-- the test of how a frame was entered stands in front of its others in the model
+in-front : (a f c l x : Bool) → (a && f && c && (l && x)) ≡ (f && (a && c && l && x))
+in-front true true true l x = refl
+in-front true true false l x = refl
+in-front true false c l x = refl
+in-front false true c l x = refl
+in-front false false c l x = refl
 
-not-first : (i : ℕ) (r : Frame) (x : Bool) → (firstGood (suc i) r && x) ≡ x
-unfolding firstGood
-not-first i r x = rw (eqb·suc-zero i)
+not-first : (i caller : ℕ) (r : Frame) → enteredGood (suc i) caller r ≡ leb caller (r .entered)
+unfolding enteredGood
+not-first i caller r = rw (eqb·suc-zero i)
 
 module _ (words : List ℕ) (count slots : ℕ) (fs : List Function) (counted : length fs ≡ count) (sizes : (i : ℕ) → i < count → length (functionAt fs i .code) ≡ size (codeWord words i)) where
   same-frame : (r : Frame) → frameGood count slots r ≡ frameOk fs slots r
@@ -55,21 +56,31 @@ module _ (words : List ℕ) (count slots : ℕ) (fs : List Function) (counted : 
     abbrev at : ℕ → Frame
     at i = getD frames i noFrame
 
-    from-here : (k i : ℕ) → i + suc k ≡ n → everyFrom (suc k) i (λ j. placeGood words count slots n j (at j)) ≡ (firstGood i (at i) && framesFrom fs slots (at i) (take k (drop (suc i) frames)))
+    abbrev entry : ℕ → Bool
+    entry i = enteredGood i (callerEntered frames i) (at i)
+
+    abbrev inwards : ℕ → ℕ → Bool
+    inwards k i = framesFrom fs slots (at i) (take k (drop (suc i) frames))
+
+    -- the frame at the next place was entered no earlier than the one at i
+    next-entry : (i : ℕ) → entry (suc i) ≡ leb (at i .entered) (at (suc i) .entered)
+    unfolding callerEntered
+    next-entry i = not-first i (at i .entered) (at (suc i))
+
+    from-here : (k i : ℕ) → i + suc k ≡ n → everyFrom (suc k) i (λ j. placeGood words count slots n j (callerEntered frames j) (at j)) ≡ (entry i && inwards k i)
     unfolding everyFrom placeGood callerGood framesFrom
-    from-here zero i e = let h : n ≤ i + 1 = omega arith in rw (le-ltb (i + 1) n) (last (frameGood count slots (at i)) (firstGood i (at i)) ∙ rw same-frame)
+    from-here zero i e = let h : n ≤ i + 1 = omega arith in rw (le-ltb (i + 1) n) (last (frameGood count slots (at i)) (entry i) ∙ rw same-frame)
     from-here (suc k) i e =
         let h : i + 1 < n = omega arith in let l : suc i < length frames = omega arith in
         rw (lt-ltb (i + 1) n, drop-cons frames (suc i) noFrame)
-        (ap (λ (x : Bool). frameGood count slots (at i) && firstGood i (at i) &&
-        (leb 1 (at i .position) && leb (at i .position) (size (codeWord words (at i .function)))) && x)
-        (from-here k (suc i) (omega arith) ∙ not-first i (at (suc i)) _)
-        ∙ in-front (frameGood count slots (at i)) (firstGood i (at i)) _ (framesFrom fs slots (at (suc i)) (take k (drop (suc (suc i)) frames)))
-        ∙ ap (λ (b : Bool). firstGood i (at i) && (b && framesFrom fs slots (at (suc i)) (take k (drop (suc (suc i)) frames)))) (by-known (at i) (ltb (at i .function) count) refl))
+        (ap (λ (x : Bool). frameGood count slots (at i) && entry i && (leb 1 (at i .position) && leb (at i .position) (size (codeWord words (at i .function)))) && x)
+        (from-here k (suc i) (omega arith) ∙ ap (λ (b : Bool). b && inwards k (suc i)) (next-entry i))
+        ∙ in-front (frameGood count slots (at i)) (entry i) _ (leb (at i .entered) (at (suc i) .entered)) (inwards k (suc i))
+        ∙ ap (λ (b : Bool). entry i && (b && leb (at i .entered) (at (suc i) .entered) && inwards k (suc i))) (by-known (at i) (ltb (at i .function) count) refl))
 
   -- whether there is room for the frames, as both say it
   by-room : (m : ℕ) (frames : List Frame) (b : Bool) → leb (suc m) (min (length frames) mostPlaces) ≡ b → framesGood words count slots (suc m) frames ≡ frameStoreOk fs slots (suc m) frames
-  unfolding framesGood frameStoreOk framesOk firstGood
+  unfolding framesGood frameStoreOk framesOk enteredGood
   by-room m frames true e =
       let h : suc m ≤ length frames = omega (arith, leb-true (suc m) (min (length frames) mostPlaces) e) in let l : 0 < length frames = omega arith in
       rw (e, le-leb 1 (suc m) (omega arith)) (from-here (suc m) frames h m 0 (omega arith) ∙ sym (ap (λ (rs : List Frame). framesOk fs slots (take (suc m) rs)) (drop-cons frames 0 noFrame l)))

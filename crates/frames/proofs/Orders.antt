@@ -15,7 +15,7 @@ use Rattle.model.specs.declared.Frame.{Frame}
 use Rattle.model.specs.Basics.{if_then_else_, everyFrom}
 use Rattle.model.specs.Values.{mostPlaces, payloadAt}
 use Rattle.model.specs.Stores.{size, codeWord}
-use Rattle.frames.specs.Links.{frameGood, firstGood, callerGood, placeGood, begun, looked, scan}
+use Rattle.frames.specs.Links.{noFrame, frameGood, enteredGood, callerGood, placeGood, callerEntered, begun, looked, scan}
 use Rattle.frames.specs.declared.order.Scan.{Scan}
 
 -- ---- a frame, by its place
@@ -38,17 +38,17 @@ module _ (count slots : ℕ) (r : Frame) where
   function-known h = ltb-true (r .function) count (and-elim-left (ltb (r .function) count) (leb (r .base) slots)
       (and-elim-left (ltb (r .function) count && leb (r .base) slots) (leb (r .position) 131070) h))
 
-module _ (i : ℕ) (r : Frame) where
-  pub not-first : (i ≡ 0 → ⊥) → true ≡ firstGood i r
-  unfolding firstGood
+module _ (i caller : ℕ) (r : Frame) where
+  pub not-first : (i ≡ 0 → ⊥) → leb caller (r .entered) ≡ enteredGood i caller r
+  unfolding enteredGood
   not-first h = rw (ne-eqb i 0)
 
-  pub not-main : i ≡ 0 → (r .function ≡ 0 → ⊥) → false ≡ firstGood i r
-  unfolding firstGood
+  pub not-main : i ≡ 0 → (r .function ≡ 0 → ⊥) → false ≡ enteredGood i caller r
+  unfolding enteredGood
   not-main h k = rw (eq-eqb i 0, ne-eqb (r .function) 0)
 
-  pub main : i ≡ 0 → r .function ≡ 0 → eqb (r .base) 0 ≡ firstGood i r
-  unfolding firstGood
+  pub main : i ≡ 0 → r .function ≡ 0 → eqb (r .base) 0 ≡ enteredGood i caller r
+  unfolding enteredGood
   main h k = rw (eq-eqb i 0, eq-eqb (r .function) 0)
 
 module _ (words : List ℕ) (n i : ℕ) (r : Frame) where
@@ -64,16 +64,16 @@ module _ (words : List ℕ) (n i : ℕ) (r : Frame) where
   unfolding callerGood
   behind l h k e = rw (lt-ltb (i + 1) n, le-leb 1 (r .position), e)
 
-module _ (words : List ℕ) (count slots n i : ℕ) (r : Frame) where
-  pub bad-frame : false ≡ frameGood count slots r → false ≡ placeGood words count slots n i r
+module _ (words : List ℕ) (count slots n i caller : ℕ) (r : Frame) where
+  pub bad-frame : false ≡ frameGood count slots r → false ≡ placeGood words count slots n i caller r
   unfolding placeGood
   bad-frame e = rw (← e)
 
-  pub bad-first : true ≡ frameGood count slots r → false ≡ firstGood i r → false ≡ placeGood words count slots n i r
+  pub bad-entry : true ≡ frameGood count slots r → false ≡ enteredGood i caller r → false ≡ placeGood words count slots n i caller r
   unfolding placeGood
-  bad-first e f = rw (← e, ← f)
+  bad-entry e f = rw (← e, ← f)
 
-  pub all-good : (b : Bool) → true ≡ frameGood count slots r → true ≡ firstGood i r → b ≡ callerGood words n i r → b ≡ placeGood words count slots n i r
+  pub all-good : (b : Bool) → true ≡ frameGood count slots r → true ≡ enteredGood i caller r → b ≡ callerGood words n i r → b ≡ placeGood words count slots n i caller r
   unfolding placeGood
   all-good b e f g = rw (← e, ← f, g)
 
@@ -108,6 +108,26 @@ module _ (b : Bool) (n i : ℕ) where
   pub over : b ≡ true → n ≤ i + 1 → scan i false true ≡ looked b n i
   unfolding looked
   over e h = rw (e, le-ltb (i + 1) n)
+
+-- ---- the caller's number: before the first place there is none, and the frame that was looked at is the next one's caller
+
+pub no-caller : (frames : List Frame) (n room : ℕ) → 0 ≡ callerEntered frames (begun n room .at)
+unfolding begun callerEntered
+no-caller frames n room = by-case (leb 1 n && leb n (min room mostPlaces))
+  where
+    by-case : (b : Bool) → 0 ≡ callerEntered frames ((if b then scan 0 true true else scan 0 false false) .at)
+    by-case true = refl
+    by-case false = refl
+
+pub next-caller : (frames : List Frame) (b : Bool) (n i : ℕ) → looked b n i .more ≡ true → getD frames i noFrame .entered ≡ callerEntered frames (looked b n i .at)
+unfolding looked callerEntered
+next-caller frames b n i = by-case b (ltb (i + 1) n)
+  where
+    by-case : (b c : Bool) → (if b then (if c then scan (i + 1) true true else scan i false true) else scan i false false) .more ≡ true
+        → getD frames i noFrame .entered ≡ callerEntered frames ((if b then (if c then scan (i + 1) true true else scan i false true) else scan i false false) .at)
+    by-case true true e = rw (add-one i)
+    by-case true false e = absurd (false≢true e)
+    by-case false c e = absurd (false≢true e)
 
 -- ---- the search as a loop: what is ahead of it is the verdict, and falls
 

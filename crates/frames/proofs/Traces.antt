@@ -60,8 +60,11 @@ no-next zero h = refl
 no-next (suc i) h = absurd (omega (arith, h))
 
 pub puts : (words main other : List ℕ) (callers i : ℕ) (r : Frame) (out : List ℕ) (p : ℕ) (next : Left) → p ≡ placeOf words main other r → next ≡ leftOf i
-    → Put words main other callers i r out (set (set out (2 * (callers - i)) (r .function)) (2 * (callers - i) + 1) p) next
-puts words main other callers i r out p next e f = record { is = ap (set (set out (2 * (callers - i)) (r .function)) (2 * (callers - i) + 1)) e; goes = f }
+    → Put words main other callers i r out (set (set (set out (3 * (callers - i)) (r .function)) (3 * (callers - i) + 1) p) (3 * (callers - i) + 2) (r .entered)) next
+puts words main other callers i r out p next e f = record {
+  is = ap (λ (q : ℕ). set (set (set out (3 * (callers - i)) (r .function)) (3 * (callers - i) + 1) q) (3 * (callers - i) + 2) (r .entered)) e;
+  goes = f;
+}
 
 -- ---- whether a place lies inside its code
 
@@ -148,7 +151,7 @@ module _ (words : List ℕ) (frames : List Frame) where
 
 module _ (words main other : List ℕ) (callers : ℕ) (frames : List Frame) where
   abbrev ahead-of : List ℕ → Left → List ℕ
-  ahead-of out s = if s .more then written out (2 * (callers - s .at)) (traceWords words main other (callersOf (suc (s .at)) frames)) else out
+  ahead-of out s = if s .more then written out (3 * (callers - s .at)) (traceWords words main other (callersOf (suc (s .at)) frames)) else out
 
   abbrev pub toWrite : Left → ℕ
   toWrite s = if s .more then suc (s .at) else 0
@@ -161,15 +164,19 @@ module _ (words main other : List ℕ) (callers : ℕ) (frames : List Frame) whe
   Puts i r out out′ s = Put words main other callers i r out out′ s
 
   spelled : (i : ℕ) (r : Frame) (out : List ℕ) → i ≤ callers
-      → ahead-of (set (set out (2 * (callers - i)) (r .function)) (2 * (callers - i) + 1) (placeOf words main other r)) (leftOf i) ≡ written out
-      (2 * (callers - i)) (traceWords words main other (r ∷ callersOf i frames))
+      → ahead-of (set (set (set out (3 * (callers - i)) (r .function)) (3 * (callers - i) + 1) (placeOf words main other r)) (3 * (callers - i) + 2) (r .entered)) (leftOf i) ≡ written out
+      (3 * (callers - i)) (traceWords words main other (r ∷ callersOf i frames))
   unfolding leftOf callersOf traceWords written
-  spelled zero r out h = ap (λ (k : ℕ). set (set out (2 * (callers - 0)) (r .function)) k (placeOf words main other r)) (add-one (2 * (callers - 0)))
+  spelled zero r out h =
+      let two : 3 * (callers - 0) + 2 ≡ suc (suc (3 * (callers - 0))) = omega arith in
+      rw (two, add-one (3 * (callers - 0)))
   spelled (suc m) r out h =
-      let e : 2 * (callers - m) ≡ suc (suc (2 * (callers - suc m))) = omega arith in rw (e, add-one (2 * (callers - suc m)))
+      let e : 3 * (callers - m) ≡ suc (suc (suc (3 * (callers - suc m)))) = omega arith in
+      let two : 3 * (callers - suc m) + 2 ≡ suc (suc (3 * (callers - suc m))) = omega arith in
+      rw (e, two, add-one (3 * (callers - suc m)))
 
   wrote : (i : ℕ) (r : Frame) (out out′ : List ℕ) (s : Left) → i ≤ callers → Puts i r out out′ s
-      → ahead-of out′ s ≡ written out (2 * (callers - i)) (traceWords words main other (r ∷ callersOf i frames))
+      → ahead-of out′ s ≡ written out (3 * (callers - i)) (traceWords words main other (r ∷ callersOf i frames))
   wrote i r out out′ s h p = rw (p .is, p .goes) (spelled i r out h)
 
   next-below : (i : ℕ) → leftOf i .more ≡ true → leftOf i .at < i
@@ -184,7 +191,7 @@ module _ (words main other : List ℕ) (callers : ℕ) (frames : List Frame) whe
 
   pub writes : (inner : Frame) (out out′ : List ℕ) (s : Left) → Puts callers inner out out′ s → Writing (written out 0 (traceWords words main other (inner ∷ callersOf callers frames))) out′ s
   writes inner out out′ s p = record {
-    same = let e : 2 * (callers - callers) ≡ 0 = omega arith in rw e at (wrote callers inner out out′ s (omega arith) p);
+    same = let e : 3 * (callers - callers) ≡ 0 = omega arith in rw e at (wrote callers inner out out′ s (omega arith) p);
     inside = λ e. rw (p .goes) (next-below callers (rw (p .goes) at e));
   }
 

@@ -1,4 +1,4 @@
-// A backtrace: two numbers to an entry, the function and the place, the innermost frame first.
+// A backtrace: three numbers to an entry, the function, the place and when it was entered, the innermost frame first.
 use crate::order::Scan;
 use crate::order::code_length;
 use crate::read_frame;
@@ -65,19 +65,20 @@ fn put_entry(
     callers: usize,
     i: usize,
     f: Frame,
-    out: &mut [u32],
+    out: &mut [u64],
 ) -> Left
-    requires { ⌜ Readable (now functions) (now «main_places») (now «other_places») f × (i ≤ callers) × (2 * callers + 2 ≤ length (now out)) ⌝ }
+    requires { ⌜ Readable (now functions) (now «main_places») (now «other_places») f × (i ≤ callers) × (3 * callers + 3 ≤ length (now out)) ⌝ }
     ensures { λ r. ⌜ Put (now (functions .entry)) (now («main_places» .entry)) (now («other_places» .entry)) callers i f (now (out .entry)) (now (out .exit)) r ⌝ }
 {
-    let j = 2 * (callers - i);
+    let j = 3 * (callers - i);
     let place = place_of(functions, main_places, other_places, f);
-    let number = f.function as u32;
-    out[j] = number;
-    out[j + 1] = place;
+    out[j] = f.function as u64;
+    out[j + 1] = place as u64;
+    out[j + 2] = f.entered;
     if i > 0 {
+        let next = i - 1;
         return Left {
-            at: i - 1,
+            at: next,
             more: true,
         };
     }
@@ -92,7 +93,7 @@ pub fn trace(
     inner: Frame,
     callers: usize,
     frames: &[Frame],
-    out: &mut [u32],
+    out: &mut [u64],
 )
     requires { ⌜ TraceFits (now functions) (now «main_places») (now «other_places») inner callers (now frames) (length (now out)) ⌝ }
     ensures { λ _. ⌜ now (out .exit) ≡ written (now (out .entry)) 0 (traceWords (now (functions .entry)) (now («main_places» .entry)) (now («other_places» .entry)) (inner ∷ callersOf callers (now (frames .entry)))) ⌝ }

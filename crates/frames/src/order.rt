@@ -9,7 +9,7 @@ ghost use mathlib.Core.Path.{_≡_};
 ghost use Prim.Native.Nat.{_+_, _*_, _<_, _≤_};
 ghost use lib.ListN.{length};
 ghost use Rattle.model.specs.Stores.{size, codeWord};
-ghost use Rattle.frames.specs.Links.{frameGood, firstGood, callerGood, placeGood, framesGood, begun, looked};
+ghost use Rattle.frames.specs.Links.{frameGood, enteredGood, callerGood, placeGood, framesGood, begun, looked};
 
 // A search for a frame that is not good: the place to look at, whether there is more to look at, and the verdict so far.
 pub struct Scan {
@@ -37,11 +37,12 @@ fn frame_ok(count: usize, slots: usize, f: Frame) -> bool
     f.position <= POSITION_LIMIT
 }
 
-fn first_ok(i: usize, f: Frame) -> bool
-    ensures { λ r. ⌜ r ≡ firstGood i f ⌝ }
+// How the frame f at place i was entered; its caller, if it has one, was at `caller` units.
+fn entered_ok(i: usize, caller: u64, f: Frame) -> bool
+    ensures { λ r. ⌜ r ≡ enteredGood i caller f ⌝ }
 {
     if i != 0 {
-        return true;
+        return caller <= f.entered;
     }
     if f.function != 0 {
         return false;
@@ -64,15 +65,23 @@ fn caller_ok(functions: &[u64], n: usize, i: usize, f: Frame) -> bool
     f.position <= length
 }
 
-// The frame f at place i of n.
-fn place_ok(functions: &[u64], count: usize, slots: usize, n: usize, i: usize, f: Frame) -> bool
+// The frame f at place i of n, behind a caller that was entered at `caller` units.
+fn place_ok(
+    functions: &[u64],
+    count: usize,
+    slots: usize,
+    n: usize,
+    i: usize,
+    caller: u64,
+    f: Frame,
+) -> bool
     requires { ⌜ (2 * count ≤ length (now functions)) × (i < n) ⌝ }
-    ensures { λ r. ⌜ r ≡ placeGood (now (functions .entry)) count slots n i f ⌝ }
+    ensures { λ r. ⌜ r ≡ placeGood (now (functions .entry)) count slots n i caller f ⌝ }
 {
     let known = frame_ok(count, slots, f);
     if known {
-        let first = first_ok(i, f);
-        if first {
+        let entered = entered_ok(i, caller, f);
+        if entered {
             return caller_ok(functions, n, i, f);
         }
         return false;
@@ -111,11 +120,19 @@ fn begin(n: usize, room: usize) -> Scan
     }
 }
 
-fn look(functions: &[u64], count: usize, slots: usize, n: usize, i: usize, f: Frame) -> Scan
+fn look(
+    functions: &[u64],
+    count: usize,
+    slots: usize,
+    n: usize,
+    i: usize,
+    caller: u64,
+    f: Frame,
+) -> Scan
     requires { ⌜ (2 * count ≤ length (now functions)) × (i < n) ⌝ }
-    ensures { λ r. ⌜ r ≡ looked (placeGood (now (functions .entry)) count slots n i f) n i ⌝ }
+    ensures { λ r. ⌜ r ≡ looked (placeGood (now (functions .entry)) count slots n i caller f) n i ⌝ }
 {
-    let good = place_ok(functions, count, slots, n, i, f);
+    let good = place_ok(functions, count, slots, n, i, caller, f);
     if good {
         if i + 1 < n {
             return Scan {
@@ -143,9 +160,11 @@ pub fn frames_ok(functions: &[u64], count: usize, slots: usize, n: usize, frames
     ensures { λ r. ⌜ r ≡ framesGood (now (functions .entry)) count slots n (now (frames .entry)) ⌝ }
 {
     let mut s = begin(n, frames.len());
+    let mut caller = 0;
     while s.more {
         let f = read_frame(frames, s.at);
-        let t = look(functions, count, slots, n, s.at, f);
+        let t = look(functions, count, slots, n, s.at, caller, f);
+        caller = f.entered;
         s = t;
     }
     s.good

@@ -18,7 +18,7 @@ use Rattle.model.specs.declared.Frame.{Frame}
 use Rattle.model.specs.Basics.{ascii}
 use Rattle.model.specs.Opcodes.{firstNames, secondNames, asCount, popped, opcodes, opcodeAt}
 use Rattle.model.specs.Programs.{Program, opcodeIn, nextIn}
-use Rattle.model.specs.Steps.{World, State, Outcome, at, position, withUnits, execOf, stepOf}
+use Rattle.model.specs.Steps.{World, State, Outcome, at, position, paid, execOf, stepOf}
 use Rattle.model.specs.Steps as steps
 use Rattle.laws_code.specs.Walk.{walked}
 use Rattle.laws_code.proofs.Walks.{step-takes-the-walk}
@@ -30,7 +30,7 @@ use Rattle.laws_check.proofs.Rows.{a-step-keeps-its-row}
 use Rattle.laws_check.proofs.Walked.{or-left, or-right, whole-here, numbers-here, call-here, suffices-here, count-here}
 
 -- a state by its frame, its callers and how many values it has
-pub good-at : (p : Program) (t : State) {g i base h : ℕ} {cs : List Frame} → t .frame ≡ record { function = g; position = i; base = base } → t .callers ≡ cs
+pub good-at : (p : Program) (t : State) {g i base e h : ℕ} {cs : List Frame} → t .frame ≡ record { function = g; position = i; base = base; entered = e } → t .callers ≡ cs
     → Waiting p cs g base → base + h ≡ length (t .stack) → Stands p g i h → Good p t
 good-at p t {h = h} u c waits sum stands = record { waiting = rw (u, c) waits; height = h; sum = rw u sum; stands = rw u stands }
 
@@ -73,7 +73,7 @@ module _ (p : Program) (ok : Passed p) (w : World) (of : Serves p w) (s : State)
   second = secondAt code (position s)
 
   abbrev behind : State
-  behind = at (nextIn code (position s)) (withUnits (s .units - 1) s)
+  behind = at (nextIn code (position s)) (paid 1 s)
 
   abbrev takes : ℕ
   takes = popped (opcodeAt byte) first second

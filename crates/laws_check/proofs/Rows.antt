@@ -195,7 +195,7 @@ module _ (k a b : ℕ) (w : World) (s : State) where
   -- ---- calls: n values are counted, and vs is what the row's own pops leave
 
   entered : (g n : ℕ) (vs : List Value) → State
-  entered g n vs = withStack vs (withFrames (record { function = g; position = 0; base = length vs - n }) (s .frame ∷ s .callers) s)
+  entered g n vs = withStack vs (withFrames (record { function = g; position = 0; base = length vs - n; entered = s .spent }) (s .frame ∷ s .callers) s)
 
   module _ (g n : ℕ) (vs : List Value) (p : popped (opcodeAt k) a b ≡ opcodeAt k .pops + n) (e : length vs + opcodeAt k .pops ≡ length (s .stack)) where
     inward : n ≤ length vs → Inward k a b g s (entered g n vs)

@@ -1,7 +1,7 @@
 -- THE THEOREMS over a program that passed the check: what its runs never meet, and how high its frames grow.
-use mathlib.Core.Path.{_≡_, refl, sym, subst}
+use mathlib.Core.Path.{_≡_, refl, sym, ap, subst}
 use mathlib.Core.Bool.{Bool, true, false}
-use mathlib.Core.List.{List, [], _∷_}
+use mathlib.Core.List.{List, [], _∷_, map}
 use Prim.Native.Nat.{ℕ, _≤_, _<_}
 use native.Mathlib.Omega.{arith}
 use borrow.Author.Tests.{leb-true, leb-false, eqb-true}
@@ -15,7 +15,7 @@ use Rattle.model.specs.Values.{faultNumber}
 use Rattle.model.specs.Programs.{Program, opcodeIn}
 use Rattle.model.specs.Steps.{World, State, faulted, position, stepOf}
 use Rattle.model.specs.Steps as steps
-use Rattle.model.specs.Runs.{Machine, Progress, Entry, fault, begin, over}
+use Rattle.model.specs.Runs.{Machine, Progress, Entry, fault, unentered, begin, over}
 use Rattle.laws_runs.specs.Paths.{Steps, none, on, ret}
 use Rattle.laws_runs.specs.Demand.{Cut, faulting, unpaid, Recovered}
 use Rattle.laws_runs.proofs.Demands.{run-recovered}
@@ -69,7 +69,7 @@ module _ (p : Program) (ok : Passed p) where
   a-fresh-machine-is-good main m loaded u =
       let taken = main-is-taken-with-none p ok in
       let empty : length (m .stack) ≡ 0 = rw (loaded .stack) in
-      good-at p (begin m u) (loaded .frame) (loaded .callers) (refl, refl) (omega arith) (record { known = main; path = starts })
+      good-at p (begin m u) (ap unentered (loaded .frame)) (ap (map unentered) (loaded .callers)) (refl, refl) (omega arith) (record { known = main; path = starts })
 
   module _ (w : World) (of : Serves p w) where
     next-safe : (s : State) → Good p s → over w s ≡ false → Safe p (opcodeIn (steps.codeOf w s) (position s) .what) (stepOf w s)

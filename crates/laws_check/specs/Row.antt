@@ -54,11 +54,11 @@ pub record Onward (k a b i : ℕ) (s t : State) : Type 0 where
   pub frame : t .frame ≡ at i s .frame
   pub callers : t .callers ≡ s .callers
 
--- into function g: of the values that the row pops those that an operand counts stay, above the new base
+-- into function g: of the values that the row pops those that an operand counts stay, above the new base; the frame was entered at the units that are spent
 pub record Inward (k a b g : ℕ) (s t : State) : Type 0 where
   pub enough : popped (opcodeAt k) a b ≤ length (s .stack)
   pub stack : length (t .stack) ≡ length (s .stack) - opcodeAt k .pops
-  pub frame : t .frame ≡ record { function = g; position = 0; base = length (s .stack) - popped (opcodeAt k) a b }
+  pub frame : t .frame ≡ record { function = g; position = 0; base = length (s .stack) - popped (opcodeAt k) a b; entered = s .spent }
   pub callers : t .callers ≡ s .frame ∷ s .callers
 
 -- back to the caller c: no more values than the base says are left, and one is pushed

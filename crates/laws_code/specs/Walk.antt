@@ -5,7 +5,7 @@ use Rattle.model.specs.declared.Op.{Op}
 use Rattle.model.specs.Images.{joined}
 use Rattle.model.specs.Programs.{Function, wordAt, nextIn, stands}
 use Rattle.model.specs.Listings.{lineOf, headerLine}
-use Rattle.model.specs.Steps.{World, State, Outcome, at, position, withUnits, codeOf, execOf}
+use Rattle.model.specs.Steps.{World, State, Outcome, at, position, paid, codeOf, execOf}
 
 -- one line for each position where the walk stands, in the walk's order
 unfoldable pub shownCode : List ℕ → List ℕ
@@ -20,4 +20,4 @@ shownFrom i (f ∷ fs) = headerLine i (f .name) ++ (shownCode (f .code) ++ shown
 unfoldable pub walked : World → Op → State → Outcome
 walked w p s =
     execOf w p (wordAt (codeOf w s) (suc (position s))) (wordAt (codeOf w s) (suc (position s) + 2))
-    (at (nextIn (codeOf w s) (position s)) (withUnits (s .units - 1) s))
+    (at (nextIn (codeOf w s) (position s)) (paid 1 s))

@@ -3,7 +3,7 @@ use mathlib.Core.Path.{_≡_, refl, sym, ap, _∙_}
 use mathlib.Core.Bool.{true}
 use mathlib.Core.List.{List}
 use mathlib.Core.Option.{none, some}
-use Prim.Native.Nat.{ℕ, _-_, _≤_}
+use Prim.Native.Nat.{ℕ, _≤_}
 use native.Mathlib.Omega.{arith}
 use lib.ListN.{length}
 use Rattle.model.specs.declared.Vm.{Vm}
@@ -24,7 +24,6 @@ use Rattle.model.specs.Basics.{written}
 use Rattle.model.specs.Stores.{Stores}
 use Rattle.model.specs.Loading.{OutRes}
 use Rattle.model.specs.Machines.{Lent, underIn, progressIn, runOrder, answerIn, Left}
-use Rattle.laws_runs.proofs.Ordered.{under-of}
 use Rattle.embed_words.specs.Coding.{vmIn, vmWords, recordOk, FineLast, TypedLast, Coded, runWords, runCoded, startedCoded, emittedCoded, toldCoded, shownCoded, headedCoded}
 use Rattle.embed_words.proofs.Back.{record-back}
 use Rattle.demands.specs.Host.{Done, counted, replaced, vmAfter, backtrace, run, Answer, ran, emitted, started, told, put, shown, headed}
@@ -87,8 +86,5 @@ module _ (w a : List ℕ) (long : 16 ≤ length w) (s : Stores) (l l' : Lent) wh
   ran-as (r.Value m v n) y t = left-as m _ _ (y .order) t refl refl refl refl
   ran-as (r.Continue m n) y t = left-as m _ _ (y .order) t refl refl refl refl
   ran-as (r.Fault m k n j) y t = left-as m _ _ (y .order) t refl refl refl (rw (length-entries j 0 (l' .backtrace)))
-  ran-as (r.Paused m) y t =
-      let z = under-of m s l' (y .order) (y .run) .spent in
-      let e : m .run .given - (m .run .given - m .run .spent) ≡ m .run .spent = omega arith in
-      left-as m _ _ (y .order) t refl refl refl (rw e)
+  ran-as (r.Paused m) y t = left-as m _ _ (y .order) t refl refl refl refl
   ran-as (r.Refused n) y t = record { machine = refl; taken = λ ok. ok; number = refl; words = refl; kept = λ i y. refl }

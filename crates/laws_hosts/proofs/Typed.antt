@@ -33,8 +33,8 @@ use Rattle.model.specs.Values.{popping, poppingScalar, poppingBoolean, kindAt, 
 use Rattle.model.specs.Scalars.{arithOf, zeroDivisor}
 use Rattle.model.specs.Heap.{Cell, item, head, headerOf, cellOf, cellAt, cellsFrom, heapOf, cellIn, itemIn, headIn, fieldOf, listElements, structFields, blockOf, Built, built, unbuilt, buildOf}
 use Rattle.model.specs.Equality.{Same, same}
-use Rattle.model.specs.Steps.{World, State, Outcome, went, returned, faulted, short, withStack, withUnits, at, codeOf, pushing, onFound, constantOf, slotOf, lastOf, loadStep, slotStep, lastStep, negateStep, arithmeticStep, orderingStep, onSame, equalStep, logicStep, notStep, jumpStep, jumpIfFalseStep, enter, callStep, enterNamed, callCallableStep, onBuilt, buildStep, structStep, fieldStep, cut, returnTo, returnStep, execOf, operandsThen, decodedThen, fetched, stepOf}
-use Rattle.model.specs.Runs.{begin, Progress, atStart, Ended, ended, stopped, paused, endFrom, endOf, recovered, Part, ends, pauses, partOf, beginOf, continueOf, abandonOf}
+use Rattle.model.specs.Steps.{World, State, Outcome, went, returned, faulted, short, withStack, withUnits, paid, at, codeOf, pushing, onFound, constantOf, slotOf, lastOf, loadStep, slotStep, lastStep, negateStep, arithmeticStep, orderingStep, onSame, equalStep, logicStep, notStep, jumpStep, jumpIfFalseStep, enter, callStep, enterNamed, callCallableStep, onBuilt, buildStep, structStep, fieldStep, cut, returnTo, returnStep, execOf, operandsThen, decodedThen, fetched, stepOf}
+use Rattle.model.specs.Runs.{standing, begin, Progress, atStart, Ended, ended, stopped, paused, endFrom, endOf, recovered, Part, ends, pauses, partOf, beginOf, continueOf, abandonOf}
 use Rattle.model.specs.Stores.{Stores, worldIn}
 use Rattle.model.specs.Machines.{Lent, machineIn, progressIn, underIn, worldOf, runOrder, copyShort, traceShort, RunAnswer, ran, refused, RunCall, begins, continues, abandons, beginAnswer, continueAnswer, abandonAnswer, runAnswer, answerIn, RunPost}
 use Rattle.value.specs.Links.{lastIn}
@@ -275,11 +275,11 @@ module _ (w : World) (constants : Every TypedValue (w .constants)) (s : State) (
 -- ---- a step, and the written steps of a run
 
 module _ (w : World) (constants : Every TypedValue (w .constants)) where
-  decoded-typed : (x : Decoded) (n i u : ℕ) (s : State) → TypedState s → TypedOutcome (decodedThen w x n (at i (withUnits u s)))
+  decoded-typed : (x : Decoded) (n i k : ℕ) (s : State) → TypedState s → TypedOutcome (decodedThen w x n (at i (paid k s)))
   unfolding decodedThen operandsThen codeOf
-  decoded-typed (d.Carried p) n i u s t = if-typed (leb (i + 2 * n) (length (codeOf w s))) (exec-typed w constants _ (record { stack = t .stack; heap = t .heap; last = t .last }) p _ _) (fails _)
-  decoded-typed d.NotCarried n i u s t = fails _
-  decoded-typed d.Unknown n i u s t = fails _
+  decoded-typed (d.Carried p) n i k s t = if-typed (leb (i + 2 * n) (length (codeOf w s))) (exec-typed w constants _ (record { stack = t .stack; heap = t .heap; last = t .last }) p _ _) (fails _)
+  decoded-typed d.NotCarried n i k s t = fails _
+  decoded-typed d.Unknown n i k s t = fails _
 
   step-typed : (s : State) → TypedState s → TypedOutcome (stepOf w s)
   unfolding stepOf fetched
@@ -331,19 +331,23 @@ module _ (m : Vm) (s : Stores) (l : Lent) (last : TypedLast (m .last)) where
   unfolding worldOf worldIn
   constants-typed = values-typed _ _ _
 
-  machine-typed : (u : ℕ) → TypedState (begin (machineIn m l) u)
+  machine-typed : (e u : ℕ) → TypedState (standing (machineIn m l) e u)
   unfolding machineIn heapOf
-  machine-typed u = record { stack = vals-typed _ _; heap = cells-typed _ _ _; last = last }
+  machine-typed e u = record { stack = vals-typed _ _; heap = cells-typed _ _ _; last = last }
+
+  -- when its frames were entered is no matter of types
+  begun-typed : (u : ℕ) → TypedState (begin (machineIn m l) u)
+  begun-typed u = let z = machine-typed 0 u in record { stack = z .stack; heap = z .heap; last = z .last }
 
   answer-typed : (c : RunCall) → TypedAnswer (runAnswer c m s l)
   unfolding runAnswer beginAnswer continueAnswer abandonAnswer beginOf endOf continueOf abandonOf recovered underIn progressIn machineIn
   answer-typed begins =
       let w = worldOf m s l in let x = begin (machineIn m l) 0 in
-      let p = part-typed w constants-typed (atStart x) x (machine-typed 0) last (machineIn m l .stack) 0 in
+      let p = part-typed w constants-typed (atStart x) x (begun-typed 0) last (machineIn m l .stack) 0 in
       answer-if (runOrder m s l) (answer-if (m .run .on) (not-run 25) (answer-if (copyShort l) (not-run 17) (runs _ _ p))) (not-run 19)
   answer-typed (continues u) =
       let w = worldOf m s l in let r = underIn m l in let x = withUnits (r .state .units + u) (r .state) in
-      let p = part-typed w constants-typed (r .progress) x (machine-typed _) last (r .start) (r .given + u) in
+      let p = part-typed w constants-typed (r .progress) x (machine-typed _ _) last (r .start) (r .given + u) in
       let within = answer-if (ltb 0xFFFF_FFFF_FFFF_FFFF (m .run .given + u)) (not-run 22) (runs _ _ p) in
       answer-if (runOrder m s l) (answer-if (m .run .on) (answer-if (traceShort l) (not-run 17) within) (not-run 18)) (not-run 19)
   answer-typed abandons = answer-if (runOrder m s l) (answer-if (m .run .on) (answer-if (traceShort l) (not-run 17) (runs _ _ last)) (not-run 18)) (not-run 19)

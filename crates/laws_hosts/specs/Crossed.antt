@@ -3,7 +3,7 @@ use mathlib.Core.Path.{_≡_}
 use mathlib.Core.Bool.{true}
 use mathlib.Core.List.{List, [], _∷_}
 use mathlib.Core.Option.{Option, none, some}
-use Prim.Native.Nat.{ℕ, _-_, _≤_}
+use Prim.Native.Nat.{ℕ, _≤_}
 use lib.Dec.{leb}
 use lib.ListN.{length}
 use Rattle.model.specs.declared.Value.{Value}
@@ -114,7 +114,7 @@ replyWords (fault k n es) = 3 ∷ n .spent ∷ n .returns ∷ k ∷ length es �
 
 abbrev pub partWords : RunAnswer → List ℕ
 partWords (answered c (ends x)) = replyWords (x .reply)
-partWords (answered c (pauses r)) = 4 ∷ (r .given - r .state .units) ∷ r .progress .returns ∷ 0 ∷ 0 ∷ []
+partWords (answered c (pauses r)) = 4 ∷ r .state .spent ∷ r .progress .returns ∷ 0 ∷ 0 ∷ []
 partWords (refused n) = []
 
 abbrev pub emittedWords : Emitted → List ℕ

@@ -1,8 +1,8 @@
 -- A run of two machines that mean the same: the same answer by meaning, and machines that mean the same again, after a fault too.
 use mathlib.Core.Path.{_≡_, refl, sym, ap, subst, _∙_}
 use mathlib.Core.Bool.{Bool, true, false}
-use mathlib.Core.List.{List, _∷_}
-use Prim.Native.Nat.{ℕ, zero, suc, _+_, _-_}
+use mathlib.Core.List.{List, _∷_, map}
+use Prim.Native.Nat.{ℕ, zero, suc, _+_}
 use native.Mathlib.Omega.{arith}
 use lib.ListN.{length}
 use Rattle.model.specs.declared.Value.{Value}
@@ -13,7 +13,7 @@ use Rattle.model.specs.declared.Tally.{Tally}
 use Rattle.model.specs.Values.{faultNumber}
 use Rattle.model.specs.Heap.{Cell, heapOk}
 use Rattle.model.specs.Steps.{World, State, Outcome, codeOf}
-use Rattle.model.specs.Runs.{Machine, begin, Progress, atStart, Ended, ended, stopped, paused, over, next, turn, runFor, endFrom, endOf, machineOf, traceOf, fault, tally, answered, cutAt, recovered, Under, Part, partOf, beginOf, continueOf, abandonOf, givenUp, runOf}
+use Rattle.model.specs.Runs.{Machine, unentered, begin, Progress, atStart, Ended, ended, stopped, paused, over, next, turn, runFor, endFrom, endOf, machineOf, traceOf, fault, tally, answered, cutAt, recovered, Under, Part, partOf, beginOf, continueOf, abandonOf, givenUp, runOf}
 use Rattle.cells.proofs.Meaning.{meaning-kept}
 use Rattle.laws_runs.specs.Sane.{SaneWorld, Sane, SaneMark, Kept}
 use Rattle.laws_runs.specs.Paths.{Grows, Adds, By, Marked, more}
@@ -119,26 +119,26 @@ module _ (w : World) (lay : Layout) (good : SaneWorld w) (beside-good : SaneWorl
     unfolding recovered
     recovered-alike k b = record { stack = b; last = k .last; frame = refl; callers = refl; free = k .free }
 
-    ended-alike : (g : ℕ) (k k' : Progress) {t t' : State} → AlikeLast (w .text) (lay .text) (t .heap) (t' .heap) (k .answer) (k' .answer) → k .returns ≡ k' .returns → AlikeState w lay t t'
-        → AlikeRan w lay (record { reply = answered (k .answer) (tally (g - t .units) k); machine = machineOf t })
-        (record { reply = answered (k' .answer) (tally (g - t' .units) k'); machine = machineOf t' })
+    ended-alike : (k k' : Progress) {t t' : State} → AlikeLast (w .text) (lay .text) (t .heap) (t' .heap) (k .answer) (k' .answer) → k .returns ≡ k' .returns → AlikeState w lay t t'
+        → AlikeRan w lay (record { reply = answered (k .answer) (tally (t .spent) k); machine = machineOf t })
+        (record { reply = answered (k' .answer) (tally (t' .spent) k'); machine = machineOf t' })
     unfolding meant
-    ended-alike g k k' b c a = record { answer = rw (a .units, c) (answered-alike _ b); machine = a .machine }
+    ended-alike k k' b c a = record { answer = rw (a .spent, c) (answered-alike _ b); machine = a .machine }
 
-    stopped-alike : (g : ℕ) (i i' : Fault) {k k' : Progress} {t t' : State} → faultNumber i ≡ faultNumber i' → AlikeState w lay t t' → AlikeMark w lay k k'
+    stopped-alike : (i i' : Fault) {k k' : Progress} {t t' : State} → faultNumber i ≡ faultNumber i' → AlikeState w lay t t' → AlikeMark w lay k k'
         → AlikeValues (w .text) (lay .text) (k .heap) (k' .heap) vs vs'
-        → AlikeRan w lay (record { reply = fault (faultNumber i) (tally (g - t .units) k) (traceOf (w .functions) (t .frame ∷ t .callers)); machine = recovered w vs k })
-        (record { reply = fault (faultNumber i') (tally (g - t' .units) k') (traceOf (w .functions) (t' .frame ∷ t' .callers)); machine = recovered (laidOut lay w) vs' k' })
+        → AlikeRan w lay (record { reply = fault (faultNumber i) (tally (t .spent) k) (traceOf (w .functions) (t .frame ∷ t .callers)); machine = recovered w vs k })
+        (record { reply = fault (faultNumber i') (tally (t' .spent) k') (traceOf (w .functions) (t' .frame ∷ t' .callers)); machine = recovered (laidOut lay w) vs' k' })
     unfolding meant meantIn
-    stopped-alike g i i' e b k c = record {
-      answer = rw (e, b .units, k .returns, b .machine .frame, b .machine .callers);
+    stopped-alike i i' e b k c = record {
+      answer = rw (e, b .spent, k .returns, b .machine .frame, b .machine .callers);
       machine = recovered-alike k c;
     }
 
     came-alike : (g : ℕ) {x x' : Ended} → AlikeEnded w lay x x' → GrowsTo (m .heap) x → GrowsTo (m' .heap) x' → AlikePart w lay (partOf w vs g x) (partOf (laidOut lay w) vs' g x')
     unfolding partOf
-    came-alike g (over-both {k = k} {k' = k'} b c a) q q' = ends (ended-alike g k k' b c a)
-    came-alike g (stops {i = i} {i' = i'} e b k) q q' = ends (stopped-alike g i i' e b k (start-on q q'))
+    came-alike g (over-both {k = k} {k' = k'} b c a) q q' = ends (ended-alike k k' b c a)
+    came-alike g (stops {i = i} {i' = i'} e b k) q q' = ends (stopped-alike i i' e b k (start-on q q'))
     came-alike g (waits b k c) q q' = pauses (record { given = refl; state = b; start = start-on q q'; marks = k; answers = c })
 
     pub part-alike : (g : ℕ) → AlikePart w lay (partOf w vs g (endFrom w m s)) (partOf (laidOut lay w) vs' g (endFrom (laidOut lay w) m' s'))
@@ -151,9 +151,13 @@ module _ (w : World) (lay : Layout) (good : SaneWorld w) (beside-good : SaneWorl
 
   -- ---- a beginning, a continuing, an abandoning
 
-  -- machines do not have units
+  -- machines do not have units, and when their frames were entered is 0 for all
   started : {m m' : Machine} (u : ℕ) → AlikeMachine w lay m m' → AlikeState w lay (begin m u) (begin m' u)
-  started u a = record { machine = a; units = refl }
+  started u a = record {
+    machine = record { stack = a .stack; last = a .last; frame = ap unentered (a .frame); callers = ap (map unentered) (a .callers); free = a .free };
+    spent = refl;
+    units = refl;
+  }
 
   running : {m m' : Machine} (u : ℕ) → Sane w (begin m u) → Sane (laidOut lay w) (begin m' u) → AlikeMachine w lay m m'
       → Running w lay (atStart (begin m u)) (atStart (begin m' u)) (begin m u) (begin m' u)
@@ -170,7 +174,7 @@ module _ (w : World) (lay : Layout) (good : SaneWorld w) (beside-good : SaneWorl
 
     given-more : (u : ℕ) → Running w lay (r .progress) (r' .progress) (more u (r .state)) (more u (r' .state))
     given-more u = record {
-      alike = record { machine = a .state .machine; units = rw (a .state .units) };
+      alike = record { machine = a .state .machine; spent = a .state .spent; units = rw (a .state .units) };
       left = any-units (r .state) (h .state);
       right = any-units (r' .state) (h' .state);
       answers = still refl refl (a .answers);

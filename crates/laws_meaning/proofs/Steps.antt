@@ -27,7 +27,7 @@ use Rattle.model.specs.Heap.{Cell, Built, listElements, structFields, fieldOf, 
 use Rattle.model.specs.Equality.{Same, same}
 use Rattle.model.specs.Trees.{treeOf, meaningTo, meaning}
 use Rattle.model.specs.Programs.{functionNamed}
-use Rattle.model.specs.Steps.{World, State, Outcome, went, faulted, withStack, withHeap, withUnits, withFrames, at, position, codeOf, pushing, onFound, constantOf, slotOf, lastOf, loadStep, slotStep, lastStep, negateStep, arithmeticStep, orderingStep, onSame, equalStep, logicStep, notStep, jumpStep, jumpIfFalseStep, enter, callStep, enterNamed, callCallableStep, onBuilt, buildStep, structStep, fieldStep, cut, returnTo, returnStep, execOf, operandsThen, decodedThen, fetched, stepOf}
+use Rattle.model.specs.Steps.{World, State, Outcome, went, faulted, withStack, withHeap, paid, withFrames, at, position, codeOf, pushing, onFound, constantOf, slotOf, lastOf, loadStep, slotStep, lastStep, negateStep, arithmeticStep, orderingStep, onSame, equalStep, logicStep, notStep, jumpStep, jumpIfFalseStep, enter, callStep, enterNamed, callCallableStep, onBuilt, buildStep, structStep, fieldStep, cut, returnTo, returnStep, execOf, operandsThen, decodedThen, fetched, stepOf}
 use Rattle.cells.proofs.Meaning.{meaning-kept}
 use Rattle.laws_runs.specs.Sane.{SaneWorld, Sane}
 use Rattle.laws_runs.proofs.Combinators.{if-each}
@@ -54,7 +54,11 @@ no-cells t = refl
 
 -- s with another stack, other cells and another last result
 abbrev beside : State → List Value → List Cell → Last → State
-beside s vs H l = record { stack = vs; frame = s .frame; callers = s .callers; heap = H; last = l; units = s .units }
+beside s vs H l = record { stack = vs; frame = s .frame; callers = s .callers; heap = H; last = l; spent = s .spent; units = s .units }
+
+-- s when e units are spent and u are left
+abbrev dealing : (e u : ℕ) → State → State
+dealing e u s = record { stack = s .stack; frame = s .frame; callers = s .callers; heap = s .heap; last = s .last; spent = e; units = u }
 
 -- they mean the same
 record Beside (w : World) (lay : Layout) (s : State) (vs' : List Value) (H' : List Cell) (l' : Last) : Type 0 where
@@ -79,17 +83,23 @@ module _ (w : World) (lay : Layout) (good : SaneWorld w) (beside-good : SaneWorl
   Bs = Boths (w .text) (lay .text) (s .heap) H'
 
   -- other stacks, other frames, other units
-  states : (q : Frame) (cs : List Frame) (u : ℕ) {r r' : List Value} → Bs r r' → AlikeState w lay (withStack r (withFrames q cs (withUnits u s))) (withStack r' (withFrames q cs (withUnits u other)))
-  states q cs u b = record {
+  states : (q : Frame) (cs : List Frame) (e u : ℕ) {r r' : List Value} → Bs r r'
+      → AlikeState w lay (withStack r (withFrames q cs (dealing e u s))) (withStack r' (withFrames q cs (dealing e u other)))
+  states q cs e u b = record {
     machine = record { stack = values-on (λ x x' c. c .alike) b; last = last-on (λ x x' c. c .alike) (sides .last); frame = refl; callers = refl; free = sides .free };
+    spent = refl;
     units = refl;
   }
 
+  -- and no units are spent
+  framed : (q : Frame) (cs : List Frame) {r r' : List Value} → Bs r r' → AlikeState w lay (withStack r (withFrames q cs s)) (withStack r' (withFrames q cs other))
+  framed q cs b = states q cs (s .spent) (s .units) b
+
   stacks : {r r' : List Value} → Bs r r' → R (went (withStack r s)) (went (withStack r' other))
-  stacks b = goes (states (s .frame) (s .callers) (s .units) b)
+  stacks b = goes (framed (s .frame) (s .callers) b)
 
   here : AlikeState w lay s other
-  here = states (s .frame) (s .callers) (s .units) (sides .stack)
+  here = framed (s .frame) (s .callers) (sides .stack)
 
   halt : (i : Fault) → R (faulted i s) (faulted i other)
   halt i = faults refl here
@@ -185,14 +195,14 @@ module _ (w : World) (lay : Layout) (good : SaneWorld w) (beside-good : SaneWorl
   onSame-alike : (t : Bool → Bool) (z : Same) {r r' : List Value} → Bs r r' → R (onSame t r s z) (onSame t r' other z)
   unfolding onSame
   onSame-alike t (same b k) bs =
-      if-each R (leb k (s .units)) (λ h. goes (states (s .frame) (s .callers) (s .units - k) (over (truth (t b)) bs))) (λ h. runs-short)
+      if-each R (leb k (s .units)) (λ h. goes (states (s .frame) (s .callers) _ _ (over (truth (t b)) bs))) (λ h. runs-short)
 
   enter-alike : (i k : ℕ) {r r' : List Value} → Bs r r' → R (enter w i k r s) (enter (laidOut lay w) i k r' other)
   unfolding enter
   enter-alike i k {r} {r'} b =
       rw (← length-alike _ _ _ _ b)
       (if-each R (ltb (length r) k) (λ h. halt f.TooFewValues)
-      (λ h. if-each R (leb (w .frameRoom) (suc (length (s .callers)))) (λ h'. halt f.FramesFull) (λ h'. goes (states _ (s .frame ∷ s .callers) (s .units) b))))
+      (λ h. if-each R (leb (w .frameRoom) (suc (length (s .callers)))) (λ h'. halt f.FramesFull) (λ h'. goes (framed _ (s .frame ∷ s .callers) b))))
 
   named-alike : (k : ℕ) (x : Option ℕ) {r r' : List Value} → Bs r r' → R (enterNamed w k r s x) (enterNamed (laidOut lay w) k r' other x)
   unfolding enterNamed
@@ -203,9 +213,10 @@ module _ (w : World) (lay : Layout) (good : SaneWorld w) (beside-good : SaneWorl
   unfolding returnTo cut
   return-alike [] b bs = returns (b .alike) (record {
     machine = record { stack = values-on (λ x x' c. c .alike) bs; last = a.is (b .alike); frame = refl; callers = refl; free = sides .free };
+    spent = refl;
     units = refl;
   })
-  return-alike (c ∷ cs) {r = r} b bs = rw (← length-alike _ _ _ _ bs) (goes (states c cs (s .units) (over b (drop-alike _ _ _ _ (length r - s .frame .base) bs))))
+  return-alike (c ∷ cs) {r = r} b bs = rw (← length-alike _ _ _ _ bs) (goes (framed c cs (over b (drop-alike _ _ _ _ (length r - s .frame .base) bs))))
 
   -- ---- what is found, and what is built
 
@@ -244,7 +255,7 @@ module _ (w : World) (lay : Layout) (good : SaneWorld w) (beside-good : SaneWorl
       let q = withStack r (withHeap K s) in
       let q' = withStack r' (withHeap K' other) in
       let after : (x x' : List Value) → AlikeValues (w .text) (lay .text) K K' x x' → AlikeState w lay (withStack x q) (withStack x' q') =
-      (λ x x' h. record { machine = record { stack = h; last = last-on (g .old) (sides .last); frame = refl; callers = refl; free = g .free }; units = refl }) in
+      (λ x x' h. record { machine = record { stack = h; last = last-on (g .old) (sides .last); frame = refl; callers = refl; free = g .free }; spent = refl; units = refl }) in
       pushing-alike q q' _ _ (length-alike _ _ _ _ b) (after r r' (values-on (g .old) b)) (goes (after _ _ (a.more (made-alike m g) (values-on (g .old) b))))
 
   build : {c : ℕ → Value} {elements : ℕ → List Value → List Value} (k i : ℕ) → Makes c elements k → R (buildStep w c elements k i s) (buildStep (laidOut lay w) c elements k i other)
@@ -257,7 +268,7 @@ module _ (w : World) (lay : Layout) (good : SaneWorld w) (beside-good : SaneWorl
 
   unless : (x : Bool) (i : ℕ) {r r' : List Value} → Bs r r' → R (went (withStack r (if x then s else at (position s + i) s))) (went (withStack r' (if x then other else at (position s + i) other)))
   unless true i b = stacks b
-  unless false i b = goes (states _ (s .callers) (s .units) b)
+  unless false i b = goes (framed _ (s .callers) b)
 
   -- ---- a line for each opcode
 
@@ -277,7 +288,7 @@ module _ (w : World) (lay : Layout) (good : SaneWorld w) (beside-good : SaneWorl
   exec-alike o.LogicalOr i j = poppingBoolean-alike _ _ (sides .stack) (λ y r r' b. poppingBoolean-alike _ _ b (λ z q q' c. stacks (over (truth _) c)))
   exec-alike o.LogicalNeg i j = poppingBoolean-alike _ _ (sides .stack) (λ y r r' b. stacks (over (truth _) b))
   exec-alike o.JumpIfFalse i j = poppingBoolean-alike _ _ (sides .stack) (λ x r r' b. unless x i b)
-  exec-alike o.Jump i j = goes (states _ (s .callers) (s .units) (sides .stack))
+  exec-alike o.Jump i j = goes (framed _ (s .callers) (sides .stack))
   exec-alike o.Call i j = if-each R (ltb i (length (w .functions))) (λ h. enter-alike i j (sides .stack)) (λ h. halt f.OutOfRange)
   exec-alike o.CallCallable i j =
       popping-alike (sides .stack) (λ x x' r r' c b. reference-alike (kind-of c) (λ z. enterNamed w i r s (functionNamed z (w .functions)))
@@ -303,14 +314,14 @@ module _ (w : World) (lay : Layout) (good : SaneWorld w) (beside-good : SaneWorl
   fault-beside s c i = halt w lay good beside-good same-constants s vs' H' l' c i
 
   -- another position and other units
-  moved : (s : State) → C s → (i u : ℕ) → C (at i (withUnits u s))
-  moved s c i u = record { left = c .left; right = c .right; stack = c .stack; last = c .last; free = c .free }
+  moved : (s : State) → C s → (i e u : ℕ) → C (at i (dealing e u s))
+  moved s c i e u = record { left = c .left; right = c .right; stack = c .stack; last = c .last; free = c .free }
 
   operands-alike : (s : State) → C s → (p : Op) (k : ℕ) → Rs s (λ x q. operandsThen x p k q)
   unfolding operandsThen codeOf
   operands-alike s c p k =
       if-each (AlikeOutcome w lay) (leb (position s + 2 * k) (length (codeOf w s)))
-      (λ h. exec-alike w lay good beside-good same-constants (at (position s + 2 * k) s) vs' H' l' (moved s c _ (s .units)) p _ _)
+      (λ h. exec-alike w lay good beside-good same-constants (at (position s + 2 * k) s) vs' H' l' (moved s c _ (s .spent) (s .units)) p _ _)
       (λ h. fault-beside s c f.CodeEnds)
 
   decoded-alike : (s : State) → C s → (x : Decoded) (k : ℕ) → Rs s (λ y q. decodedThen y x k q)
@@ -323,11 +334,11 @@ module _ (w : World) (lay : Layout) (good : SaneWorld w) (beside-good : SaneWorl
   unfolding stepOf fetched codeOf
   step-beside s c =
       if-each (AlikeOutcome w lay) (eqb (s .units) 0) (λ h. runs-short)
-      (λ h. decoded-alike (at (suc (position s)) (withUnits (s .units - 1) s)) (moved s c _ _) _ _)
+      (λ h. decoded-alike (at (suc (position s)) (paid 1 s)) (moved s c _ _ _) _ _)
 
-  step-parts : (s : State) → C s → (q : Frame) (cs : List Frame) (u : ℕ) → q ≡ s .frame → cs ≡ s .callers → u ≡ s .units
-      → AlikeOutcome w lay (stepOf w s) (stepOf (laidOut lay w) (record { stack = vs'; frame = q; callers = cs; heap = H'; last = l'; units = u }))
-  step-parts s c q cs u x y z = rw (x, y, z) (step-beside s c)
+  step-parts : (s : State) → C s → (q : Frame) (cs : List Frame) (e u : ℕ) → q ≡ s .frame → cs ≡ s .callers → e ≡ s .spent → u ≡ s .units
+      → AlikeOutcome w lay (stepOf w s) (stepOf (laidOut lay w) (record { stack = vs'; frame = q; callers = cs; heap = H'; last = l'; spent = e; units = u }))
+  step-parts s c q cs e u x y y' z = rw (x, y, y', z) (step-beside s c)
 
 -- two machines in good order that mean the same take the same step
 pub step-alike : (w : World) (lay : Layout) → SaneWorld w → SaneWorld (laidOut lay w) → AlikeConstants w lay → (s s' : State) → Sane w s
@@ -342,4 +353,4 @@ step-alike w lay good beside-good same-constants s s' h h' a =
       last = last-of (m .last) (h .last) (h' .last);
       free = m .free;
     })
-    (s' .frame) (s' .callers) (s' .units) (m .frame) (m .callers) (a .units)
+    (s' .frame) (s' .callers) (s' .spent) (s' .units) (m .frame) (m .callers) (a .spent) (a .units)

@@ -55,7 +55,7 @@ AlikeConstants w o = AlikeValues (w .text) (o .text) [] [] (w .constants) (o .co
 abbrev pub SameFree : ℕ → ℕ → List Cell → List Cell → Type 0
 SameFree n n' H H' = n + length H' ≡ n' + length H
 
--- m in w, and m' in w laid out as o
+-- m in w, and m' in w laid out as o; their frames are the same, with the units at which they were entered
 pub record AlikeMachine (w : World) (o : Layout) (m m' : Machine) : Type 0 where
   pub stack : AlikeValues (w .text) (o .text) (m .heap) (m' .heap) (m .stack) (m' .stack)
   pub last : AlikeLast (w .text) (o .text) (m .heap) (m' .heap) (m .last) (m' .last)
@@ -65,6 +65,7 @@ pub record AlikeMachine (w : World) (o : Layout) (m m' : Machine) : Type 0 where
 
 pub record AlikeState (w : World) (o : Layout) (s s' : State) : Type 0 where
   pub machine : AlikeMachine w o (machineOf s) (machineOf s')
+  pub spent : s' .spent ≡ s .spent
   pub units : s' .units ≡ s .units
 
 -- ---- outcomes of a step

@@ -19,7 +19,7 @@ use Rattle.model.specs.Basics.{if_then_else_}
 use Rattle.model.specs.Values.{ifScalar, ifBoolean, ifReference, ifStruct, popping, poppingScalar, poppingBoolean}
 use Rattle.model.specs.Heap.{Cell, Built, built, unbuilt}
 use Rattle.model.specs.Equality.{Same, same}
-use Rattle.model.specs.Steps.{World, State, Outcome, went, faulted, short, withStack, withHeap, withUnits, withFrames, pushing, onFound, onSame, enter, onBuilt}
+use Rattle.model.specs.Steps.{World, State, Outcome, went, faulted, short, withStack, withHeap, withUnits, paid, withFrames, pushing, onFound, onSame, enter, onBuilt}
 
 module _ {A B : Type 0} (R : A → B → Type 0) where
   pub if-each : (b : Bool) {x y : A} {x' y' : B} → (b ≡ true → R x x') → (b ≡ false → R y y') → R (if b then x else y) (if b then x' else y')
@@ -102,7 +102,7 @@ module _ (R : Outcome → Outcome → Type 0) where
     -- where s has too few units, nothing is asked of the other
     pub onSame-each : (t : Bool → Bool) (r : List Value) (x : Same) → s .units ≤ u → ((y : Outcome) → R short y)
         → ((b : Bool) (k : ℕ) → x ≡ same b k → k ≤ s .units
-        → R (went (withStack (v.Boolean (t b) ∷ r) (withUnits (s .units - k) s))) (went (withStack (v.Boolean (t b) ∷ r) (withUnits (u - k) s))))
+        → R (went (withStack (v.Boolean (t b) ∷ r) (paid k s))) (went (withStack (v.Boolean (t b) ∷ r) (paid k (withUnits u s)))))
         → R (onSame t r s x) (onSame t r (withUnits u s) x)
     unfolding onSame
     onSame-each t r (same b k) h p q =
@@ -117,8 +117,8 @@ module _ (R : Outcome → Outcome → Type 0) where
 
     pub enter-each : (i n : ℕ) (r : List Value) → ((m : Fault) → R (faulted m s) (faulted m (withUnits u s)))
         → (n ≤ length r → suc (length (s .callers)) < w .frameRoom
-        → R (went (withStack r (withFrames (record { function = i; position = 0; base = length r - n }) (s .frame ∷ s .callers) s)))
-        (went (withStack r (withFrames (record { function = i; position = 0; base = length r - n }) (s .frame ∷ s .callers) (withUnits u s)))))
+        → R (went (withStack r (withFrames (record { function = i; position = 0; base = length r - n; entered = s .spent }) (s .frame ∷ s .callers) s)))
+        (went (withStack r (withFrames (record { function = i; position = 0; base = length r - n; entered = s .spent }) (s .frame ∷ s .callers) (withUnits u s)))))
         → R (enter w i n r s) (enter w i n r (withUnits u s))
     unfolding enter
     enter-each i n r p q =

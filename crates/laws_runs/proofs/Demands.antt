@@ -2,7 +2,7 @@
 use mathlib.Core.Path.{_≡_, refl, sym, ap, subst, _∙_}
 use mathlib.Core.Bool.{false}
 use mathlib.Core.List.{List, _∷_}
-use Prim.Native.Nat.{ℕ, _-_}
+use Prim.Native.Nat.{ℕ}
 use native.Mathlib.Omega.{arith}
 use Rattle.model.specs.declared.Value.{Value}
 use Rattle.model.specs.declared.Last.{Last}
@@ -67,7 +67,7 @@ module _ (w : World) where
 
     settled-recovered : (x : Ended) → endOf w (begin m u) ≡ x → givenUp w (partOf w (m .stack) u x) .reply ≡ fault n did trace → Recovered w m u n did trace
     unfolding partOf abandonOf givenUp
-    settled-recovered (ended k t) q e = absurd (no-fault (k .answer) (tally (u - t .units) k) n did trace e)
+    settled-recovered (ended k t) q e = absurd (no-fault (k .answer) (tally (t .spent) k) n did trace e)
     settled-recovered (stopped i t k) q e =
         let s = begin m u in
         let r : StoppedBy w (atStart s) s i t k = run-path w (atStart s) s (sym (end-of w s) ∙ q) in

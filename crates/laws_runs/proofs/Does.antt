@@ -27,7 +27,7 @@ use Rattle.model.specs.Scalars.{zeroDivisor}
 use Rattle.model.specs.Heap.{Cell, built, buildOf, listElements, structFields, fieldOf}
 use Rattle.model.specs.Equality.{Same, sameBytes}
 use Rattle.model.specs.Programs.{Function, functionNamed, newestFrom, orElse, wordAt}
-use Rattle.model.specs.Steps.{World, State, Outcome, went, returned, faulted, short, withStack, withHeap, withLast, withUnits, withFrames, at, position, codeOf, pushing, onFound, constantOf, slotOf, lastOf, loadStep, slotStep, lastStep, negateStep, arithmeticStep, orderingStep, onSame, equalStep, logicStep, notStep, jumpStep, jumpIfFalseStep, enter, callStep, enterNamed, callCallableStep, buildStep, structStep, fieldStep, cut, returnTo, returnStep, execOf, operandsThen, decodedThen, fetched, stepOf}
+use Rattle.model.specs.Steps.{World, State, Outcome, went, returned, faulted, short, withStack, withHeap, withLast, withUnits, paid, withFrames, at, position, codeOf, pushing, onFound, constantOf, slotOf, lastOf, loadStep, slotStep, lastStep, negateStep, arithmeticStep, orderingStep, onSame, equalStep, logicStep, notStep, jumpStep, jumpIfFalseStep, enter, callStep, enterNamed, callCallableStep, buildStep, structStep, fieldStep, cut, returnTo, returnStep, execOf, operandsThen, decodedThen, fetched, stepOf}
 use Rattle.cells.proofs.Meaning.{got}
 use Rattle.laws_runs.proofs.Combinators.{if-each, if-left, popping-each, ifReference-each, ifStruct-each, poppingScalar-each, poppingBoolean-each, onFound-each, pushing-each, onSame-each, onBuilt-each, enter-each}
 
@@ -72,12 +72,12 @@ pub data Does (w : World) (a : ℕ) (s t : State) : Outcome → Outcome → Type
   -- the value x and those above it become y
   answer : {x y : Value} {r : List Value} → Below (x ∷ r) (s .stack) → Plain y → Does w a s t (went (withStack (y ∷ r) s)) (went (withStack (y ∷ r) t))
   compare : {x : Value} {r : List Value} (b : Bool) (k : ℕ) → Below (x ∷ r) (s .stack) → k ≤ s .units
-      → Does w a s t (went (withStack (v.Boolean b ∷ r) (withUnits (s .units - k) s))) (went (withStack (v.Boolean b ∷ r) (withUnits (t .units - k) t)))
+      → Does w a s t (went (withStack (v.Boolean b ∷ r) (paid k s))) (went (withStack (v.Boolean b ∷ r) (paid k t)))
   fall : {r : List Value} → Below r (s .stack) → Does w a s t (went (withStack r s)) (went (withStack r t))
   leap : {r : List Value} → Below r (s .stack) → Does w a s t (went (withStack r (at (position s + a) s))) (went (withStack r (at (position s + a) t)))
   call : {r : List Value} (i n : ℕ) → Below r (s .stack) → i < length (w .functions) → n ≤ length r → suc (length (s .callers)) < w .frameRoom
-      → Does w a s t (went (withStack r (withFrames (record { function = i; position = 0; base = length r - n }) (s .frame ∷ s .callers) s)))
-      (went (withStack r (withFrames (record { function = i; position = 0; base = length r - n }) (s .frame ∷ s .callers) t)))
+      → Does w a s t (went (withStack r (withFrames (record { function = i; position = 0; base = length r - n; entered = s .spent }) (s .frame ∷ s .callers) s)))
+      (went (withStack r (withFrames (record { function = i; position = 0; base = length r - n; entered = s .spent }) (s .frame ∷ s .callers) t)))
   build : {c : ℕ → Value} {elements : ℕ → List Value → List Value} {k n : ℕ} {H : List Cell} → Builds w s c elements k n H → length (drop n (s .stack)) < w .stackRoom
       → Does w a s t (went (withStack (c (length (s .heap)) ∷ drop n (s .stack)) (withHeap H s))) (went (withStack (c (length (s .heap)) ∷ drop n (s .stack)) (withHeap H t)))
   field : {x : Value} {r : List Value} (p i : ℕ) → Below (v.StructInstance p ∷ r) (s .stack) → fieldOf (s .heap) p i ≡ g.Got x
@@ -88,7 +88,7 @@ pub data Does (w : World) (a : ℕ) (s t : State) : Outcome → Outcome → Type
 
 -- one unit is paid, and the position is i
 abbrev pub fetchedAt : ℕ → State → State
-fetchedAt i s = at i (withUnits (s .units - 1) s)
+fetchedAt i s = at i (paid 1 s)
 
 -- what a step does from s; and, beside it, from t
 pub data Stepped (w : World) (s t : State) : Outcome → Outcome → Type 0 where

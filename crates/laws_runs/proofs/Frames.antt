@@ -16,7 +16,7 @@ use Rattle.model.specs.Runs.{root}
 use Rattle.model.specs.Orders.{frameOk, callerOk, framesFrom, framesOk, frameStoreOk}
 use Rattle.model.specs.Machines.{frameRoom, innermost, callersIn}
 use Rattle.value.proofs.Coding.{and-left, and-right}
-use Rattle.laws_runs.specs.Sane.{FrameFits, CallerFits, CallersFit, Rooted}
+use Rattle.laws_runs.specs.Sane.{FrameFits, CallerFits, CallersFit, Rooted, Rising}
 
 -- ---- the root stays last
 
@@ -35,6 +35,7 @@ pub record FramesFit (w : World) (f : Frame) (cs : List Frame) : Type 0 where
   pub frame : FrameFits w f
   pub callers : CallersFit w cs
   pub root : Rooted f cs
+  pub rising : Rising (f .entered) cs
 
 pub some-frame : (gs : List Function) (room n : ℕ) (fs : List Frame) → frameStoreOk gs room n fs ≡ true → 1 ≤ n
 unfolding frameStoreOk framesOk
@@ -76,15 +77,36 @@ module _ (w : World) where
   from-of c [] f acc e a =
       let x = frameOk (w .functions) (w .stackRoom) c in
       let y = callerOk (w .functions) c in
+      let r = leb (c .entered) (f .entered) in
       let z = frameOk (w .functions) (w .stackRoom) f in
-      let d = and-left (x && y) z e in
-      ((caller-of c (frame-of c (and-left x y d)) (and-right x y d), a), frame-of f (and-right (x && y) z e))
+      let d = and-left (x && y) r (and-left (x && y && r) z e) in
+      ((caller-of c (frame-of c (and-left x y d)) (and-right x y d), a), frame-of f (and-right (x && y && r) z e))
   from-of c (q ∷ cs) f acc e a =
       let x = frameOk (w .functions) (w .stackRoom) c in
       let y = callerOk (w .functions) c in
+      let r = leb (c .entered) (q .entered) in
       let z = framesFrom (w .functions) (w .stackRoom) q (cs ++ f ∷ []) in
-      let d = and-left (x && y) z e in
-      from-of q cs f (c ∷ acc) (and-right (x && y) z e) (caller-of c (frame-of c (and-left x y d)) (and-right x y d), a)
+      let d = and-left (x && y) r (and-left (x && y && r) z e) in
+      from-of q cs f (c ∷ acc) (and-right (x && y && r) z e) (caller-of c (frame-of c (and-left x y d)) (and-right x y d), a)
+
+  -- and when they were entered
+  rising-of : (c : Frame) (cs : List Frame) (f : Frame) (acc : List Frame) → framesFrom (w .functions) (w .stackRoom) c (cs ++ f ∷ []) ≡ true → Rising (c .entered) acc
+      → Rising (f .entered) (reverseAux cs (c ∷ acc))
+  unfolding framesFrom Rising
+  rising-of c [] f acc e a =
+      let x = frameOk (w .functions) (w .stackRoom) c && callerOk (w .functions) c in
+      let r = leb (c .entered) (f .entered) in
+      (leb-true _ _ (and-right x r (and-left (x && r) (frameOk (w .functions) (w .stackRoom) f) e)), a)
+  rising-of c (q ∷ cs) f acc e a =
+      let x = frameOk (w .functions) (w .stackRoom) c && callerOk (w .functions) c in
+      let r = leb (c .entered) (q .entered) in
+      let z = framesFrom (w .functions) (w .stackRoom) q (cs ++ f ∷ []) in
+      rising-of q cs f (c ∷ acc) (and-right (x && r) z e) (leb-true _ _ (and-right x r (and-left (x && r) z e)), a)
+
+  turned-rising : (most : ℕ) (cs : List Frame) (q : Frame) (acc : List Frame) → Rising most (reverseAux cs (q ∷ acc)) → Rising (q .entered) acc
+  unfolding Rising
+  turned-rising most [] q acc r = r .1
+  turned-rising most (c ∷ cs) q acc r = turned-rising most cs c (q ∷ acc) r .1
 
   turned-rest : (cs acc : List Frame) → CallersFit w (reverseAux cs acc) → CallersFit w acc
   unfolding CallersFit
@@ -92,35 +114,43 @@ module _ (w : World) where
   turned-rest (q ∷ cs) acc h = turned-rest cs (q ∷ acc) h .1
 
   from-to : (c : Frame) (cs : List Frame) (f : Frame) (acc : List Frame) → CallersFit w (reverseAux cs (c ∷ acc)) → FrameFits w f
-      → framesFrom (w .functions) (w .stackRoom) c (cs ++ f ∷ []) ≡ true
-  unfolding framesFrom CallersFit
-  from-to c [] f acc h g = let k = h .0 in rw (frame-to c (k .frame), caller-to c k, frame-to f g)
-  from-to c (q ∷ cs) f acc h g = let k = turned-rest (q ∷ cs) (c ∷ acc) h .0 in rw (frame-to c (k .frame), caller-to c k) (from-to q cs f (c ∷ acc) h g)
+      → Rising (f .entered) (reverseAux cs (c ∷ acc)) → framesFrom (w .functions) (w .stackRoom) c (cs ++ f ∷ []) ≡ true
+  unfolding framesFrom CallersFit Rising
+  from-to c [] f acc h g r = let k = h .0 in rw (frame-to c (k .frame), caller-to c k, le-leb _ _ (r .0), frame-to f g)
+  from-to c (q ∷ cs) f acc h g r =
+      let k = turned-rest (q ∷ cs) (c ∷ acc) h .0 in
+      let l : c .entered ≤ q .entered = turned-rising (f .entered) cs q (c ∷ acc) r .0 in
+      rw (frame-to c (k .frame), caller-to c k, le-leb _ _ l) (from-to q cs f (c ∷ acc) h g r)
 
   -- ---- all frames
 
   frames-of : (cs : List Frame) (f : Frame) → framesOk (w .functions) (w .stackRoom) (cs ++ f ∷ []) ≡ true → FramesFit w f (reverse cs)
-  unfolding framesOk framesFrom Rooted CallersFit
+  unfolding framesOk framesFrom Rooted CallersFit Rising
   frames-of [] f e =
       let x = eqb (f .function) 0 in
       let y = eqb (f .base) 0 in
       let z = frameOk (w .functions) (w .stackRoom) f in
       let d = and-left (x && y) z e in
-      record { frame = frame-of f (and-right (x && y) z e); callers = tt; root = (eqb-true _ _ (and-left x y d), eqb-true _ _ (and-right x y d)) }
+      record { frame = frame-of f (and-right (x && y) z e); callers = tt; root = (eqb-true _ _ (and-left x y d), eqb-true _ _ (and-right x y d)); rising = tt }
   frames-of (c ∷ cs) f e =
       let x = eqb (c .function) 0 in
       let y = eqb (c .base) 0 in
       let z = framesFrom (w .functions) (w .stackRoom) c (cs ++ f ∷ []) in
       let d = and-left (x && y) z e in
       let g = from-of c cs f [] (and-right (x && y) z e) tt in
-      record { frame = g .1; callers = g .0; root = rooted-of f cs c [] (eqb-true _ _ (and-left x y d), eqb-true _ _ (and-right x y d)) }
+      record {
+        frame = g .1;
+        callers = g .0;
+        root = rooted-of f cs c [] (eqb-true _ _ (and-left x y d), eqb-true _ _ (and-right x y d));
+        rising = rising-of c cs f [] (and-right (x && y) z e) tt;
+      }
 
   frames-to : (cs : List Frame) (f : Frame) → FramesFit w f (reverse cs) → framesOk (w .functions) (w .stackRoom) (cs ++ f ∷ []) ≡ true
   unfolding framesOk framesFrom Rooted
   frames-to [] f h = rw (eq-eqb _ _ (h .root .0), eq-eqb _ _ (h .root .1)) (frame-to f (h .frame))
   frames-to (c ∷ cs) f h =
       let r : (c .function ≡ 0) × (c .base ≡ 0) = rooted-to f cs c [] (h .root) in
-      rw (eq-eqb _ _ (r .0), eq-eqb _ _ (r .1)) (from-to c cs f [] (h .callers) (h .frame))
+      rw (eq-eqb _ _ (r .0), eq-eqb _ _ (r .1)) (from-to c cs f [] (h .callers) (h .frame) (h .rising))
 
   -- ---- in a slice
 

@@ -12,10 +12,10 @@ use Rattle.model.specs.declared.Frame.{Frame}
 use Rattle.model.specs.Basics.{if_then_else_}
 use Rattle.model.specs.Heap.{Cell}
 use Rattle.model.specs.Programs.{Function, functionAt, wordAt}
-use Rattle.model.specs.Steps.{World, State, Outcome, went, returned, faulted, short, withStack, withHeap, withUnits, at, position, codeOf, cut, stepOf}
+use Rattle.model.specs.Steps.{World, State, Outcome, went, returned, faulted, short, withStack, withHeap, at, position, codeOf, cut, stepOf}
 use Rattle.model.specs.Runs.{over, traceable, cutAt}
 use Rattle.cells.proofs.Order.{Placed}
-use Rattle.laws_runs.specs.Sane.{AllPlaced, LastPlaced, CodesFit, SaneWorld, FrameFits, CallerFits, CallersFit, Rooted, Sane, SameFrames, Faults, Kept}
+use Rattle.laws_runs.specs.Sane.{AllPlaced, LastPlaced, CodesFit, SaneWorld, FrameFits, CallerFits, CallersFit, Rooted, Rising, Sane, SameFrames, Faults, Kept}
 use Rattle.laws_runs.proofs.Does.{Below, here, under, truth, Held, constant, slot, last, Does, fault, spent, full, push, answer, compare, fall, leap, call, build, field, back, home, fetchedAt, Stepped, unpaid, unread, ran, step-one}
 use Rattle.laws_runs.proofs.Adds.{built-grows}
 use Rattle.laws_runs.proofs.Placed.{grows-placed, plain-placed, all-at, all-below, all-drop, all-grows, last-grows, built-made, field-placed}
@@ -41,10 +41,16 @@ word-fits w good s i = omega (arith, good .bytes (s .frame .function) i, good .b
 
 -- ---- frames
 
-rooted-at : (f : Frame) (i : ℕ) (cs : List Frame) → Rooted f cs → Rooted (record { function = f .function; position = i; base = f .base }) cs
+rooted-at : (f : Frame) (i : ℕ) (cs : List Frame) → Rooted f cs → Rooted (record { function = f .function; position = i; base = f .base; entered = f .entered }) cs
 unfolding Rooted
 rooted-at f i [] r = r
 rooted-at f i (c ∷ cs) r = r
+
+-- a later bound, and the frame elsewhere
+rises : (most n i : ℕ) (f : Frame) (cs : List Frame) → most ≤ n → Rising most (f ∷ cs)
+    → Rising n (record { function = f .function; position = i; base = f .base; entered = f .entered } ∷ cs)
+unfolding Rising
+rises most n i f cs h r = (let z = r .0 in omega arith, r .1)
 
 module _ (w : World) where
   trace-on : (f : Frame) (cs : List Frame) → f .position - 1 < length (functionAt (w .functions) (f .function) .code) → traceable (w .functions) cs ≡ true → traceable (w .functions) (f ∷ cs) ≡ true
@@ -59,6 +65,10 @@ module _ (w : World) where
 
 -- ---- a state
 
+-- s when e units are spent and u are left
+abbrev dealing : (e u : ℕ) → State → State
+dealing e u s = record { stack = s .stack; frame = s .frame; callers = s .callers; heap = s .heap; last = s .last; spent = e; units = u }
+
 -- the bytes of text
 abbrev text : World → ℕ
 text w = length (w .text)
@@ -68,9 +78,10 @@ module _ (w : World) (s : State) (sane : Sane w s) where
   moved : (i : ℕ) → i ≤ 131070 → FrameFits w (at i s .frame)
   moved i h = record { known = sane .frame .known; base = sane .frame .base; position = omega arith }
 
-  -- another stack, another position, other units
-  stacked : (n i : ℕ) (vs : List Value) → FrameFits w (at i s .frame) → length vs ≤ w .stackRoom → AllPlaced (text w) (s .heap) vs → Sane w (withStack vs (at i (withUnits n s)))
-  stacked n i vs f l a = record {
+  -- another stack, another position, more units spent
+  stacked : (e u i : ℕ) (vs : List Value) → s .spent ≤ e → FrameFits w (at i s .frame) → length vs ≤ w .stackRoom → AllPlaced (text w) (s .heap) vs
+      → Sane w (withStack vs (at i (dealing e u s)))
+  stacked e u i vs h f l a = record {
     stack = l;
     frames = sane .frames;
     cells = sane .cells;
@@ -80,16 +91,18 @@ module _ (w : World) (s : State) (sane : Sane w s) where
     frame = f;
     callers = sane .callers;
     root = rooted-at (s .frame) i (s .callers) (sane .root);
+    rising = rises (s .spent) e i (s .frame) (s .callers) h (sane .rising);
   }
 
   -- a stack that is not higher
-  popped : (n i : ℕ) (vs : List Value) → FrameFits w (at i s .frame) → length vs ≤ length (s .stack) → AllPlaced (text w) (s .heap) vs → Sane w (withStack vs (at i (withUnits n s)))
-  popped n i vs f l a = stacked n i vs f (let z = sane .stack in omega arith) a
+  popped : (e u i : ℕ) (vs : List Value) → s .spent ≤ e → FrameFits w (at i s .frame) → length vs ≤ length (s .stack) → AllPlaced (text w) (s .heap) vs
+      → Sane w (withStack vs (at i (dealing e u s)))
+  popped e u i vs h f l a = stacked e u i vs h f (let z = sane .stack in omega arith) a
 
   -- a fault at i
-  stops : (n i : ℕ) (vs : List Value) (H : List Cell) → i - 1 < length (codeOf w s) → Faults w s (withStack vs (withHeap H (at i (withUnits n s))))
+  stops : (e u i : ℕ) (vs : List Value) (H : List Cell) → i - 1 < length (codeOf w s) → Faults w s (withStack vs (withHeap H (at i (dealing e u s))))
   unfolding codeOf
-  stops n i vs H h = record {
+  stops e u i vs H h = record {
     frames = record { function = refl; base = refl; callers = refl };
     traced = trace-on w (at i s .frame) (s .callers) h (callers-traced w (s .callers) (sane .callers));
   }
@@ -97,13 +110,17 @@ module _ (w : World) (s : State) (sane : Sane w s) where
 -- ---- an instruction: s has read it whole
 
 module _ (w : World) (good : SaneWorld w) (s : State) (sane : Sane w s) (ready : CallerFits w (s .frame)) where
-  here-stops : (n : ℕ) (vs : List Value) (H : List Cell) → Faults w s (withStack vs (withHeap H (withUnits n s)))
+  here-stops : (vs : List Value) (H : List Cell) → Faults w s (withStack vs (withHeap H s))
   unfolding codeOf
-  here-stops n vs H = stops w s sane n (position s) vs H (let a = ready .from in let b = ready .to in omega arith)
+  here-stops vs H = stops w s sane (s .spent) (s .units) (position s) vs H (let a = ready .from in let b = ready .to in omega arith)
 
   -- the stack becomes vs, which is not higher
-  here-popped : (n : ℕ) (vs : List Value) → length vs ≤ length (s .stack) → AllPlaced (text w) (s .heap) vs → Sane w (withStack vs (withUnits n s))
-  here-popped n vs l a = popped w s sane n (position s) vs (sane .frame) l a
+  here-popped : (e u : ℕ) (vs : List Value) → s .spent ≤ e → length vs ≤ length (s .stack) → AllPlaced (text w) (s .heap) vs → Sane w (withStack vs (dealing e u s))
+  here-popped e u vs h l a = popped w s sane e u (position s) vs h (sane .frame) l a
+
+  -- and no units are spent
+  here-left : (vs : List Value) → length vs ≤ length (s .stack) → AllPlaced (text w) (s .heap) vs → Sane w (withStack vs s)
+  here-left vs l a = here-popped (s .spent) (s .units) vs (omega arith) l a
 
   within : position s ≤ 65535
   within = let z = ready .to in let y = code-fits (w .functions) (good .codes) (s .frame .function) in omega arith
@@ -123,15 +140,16 @@ module _ (w : World) (good : SaneWorld w) (s : State) (sane : Sane w s) (ready :
   first b = all-below (text w) (s .heap) b (sane .placed) .0
 
   does-kept : {a : ℕ} {t : State} {x y : Outcome} → a ≤ 65535 → Does w a s t x y → Kept w s x
-  unfolding AllPlaced LastPlaced CallersFit Rooted cut
-  does-kept h (fault n) = here-stops (s .units) (s .stack) (s .heap)
+  unfolding AllPlaced LastPlaced CallersFit Rooted Rising cut
+  does-kept h (fault n) = here-stops (s .stack) (s .heap)
   does-kept h (spent x) = tt
-  does-kept h (full b) = here-stops (s .units) _ _
-  does-kept h (push g l) = stacked w s sane (s .units) (position s) _ (sane .frame) l (held-placed g, sane .placed)
-  does-kept h (answer b p) = here-popped (s .units) _ (below-length b) (plain-placed (text w) (s .heap) _ p, rest b)
-  does-kept h (compare b k l g) = here-popped _ _ (below-length l) (plain-placed (text w) (s .heap) _ (truth b), rest l)
-  does-kept h (fall b) = here-popped (s .units) _ (below-length b) (all-below (text w) (s .heap) b (sane .placed))
-  does-kept h (leap b) = popped w s sane (s .units) _ _ (moved w s sane _ (let z = within in omega arith)) (below-length b) (all-below (text w) (s .heap) b (sane .placed))
+  does-kept h (full b) = here-stops _ _
+  does-kept h (push g l) = stacked w s sane (s .spent) (s .units) (position s) _ (omega arith) (sane .frame) l (held-placed g, sane .placed)
+  does-kept h (answer b p) = here-left _ (below-length b) (plain-placed (text w) (s .heap) _ p, rest b)
+  does-kept h (compare b k l g) = here-popped _ _ _ (omega arith) (below-length l) (plain-placed (text w) (s .heap) _ (truth b), rest l)
+  does-kept h (fall b) = here-left _ (below-length b) (all-below (text w) (s .heap) b (sane .placed))
+  does-kept h (leap b) =
+      popped w s sane (s .spent) (s .units) _ _ (omega arith) (moved w s sane _ (let z = within in omega arith)) (below-length b) (all-below (text w) (s .heap) b (sane .placed))
   does-kept h (call i n b l m g) = let z = below-length b in let y = sane .stack in record {
     stack = omega arith;
     frames = g;
@@ -142,6 +160,7 @@ module _ (w : World) (good : SaneWorld w) (s : State) (sane : Sane w s) (ready :
     frame = record { known = l; base = omega arith; position = omega arith };
     callers = (ready, sane .callers);
     root = sane .root;
+    rising = (omega arith, sane .rising);
   }
   does-kept h (build {n = n} {H = H} b l) =
       let m = built-made (text w) (sane .heap) (sane .placed) b in
@@ -156,11 +175,13 @@ module _ (w : World) (good : SaneWorld w) (s : State) (sane : Sane w s) (ready :
         frame = sane .frame;
         callers = sane .callers;
         root = sane .root;
+        rising = sane .rising;
       }
-  does-kept h (field p i b e) = here-popped (s .units) _ (below-length b) (field-placed (text w) (s .heap) (sane .heap) p i (first b) e, rest b)
+  does-kept h (field p i b e) = here-left _ (below-length b) (field-placed (text w) (s .heap) (sane .heap) p i (first b) e, rest b)
   does-kept h (back {r = r} {c = c} {cs = cs} b e) =
       let all : CallersFit w (c ∷ cs) = subst (CallersFit w) e (sane .callers) in
       let root : Rooted (s .frame) (c ∷ cs) = subst (Rooted (s .frame)) e (sane .root) in
+      let rising : Rising (s .frame .entered) (c ∷ cs) = subst (Rising (s .frame .entered)) e (sane .rising .1) in
       let z : length (s .callers) ≡ suc (length cs) = ap length e in
       let y = below-length b in let x = sane .stack in let n = drop-length (length r - s .frame .base) r in
       record {
@@ -173,6 +194,7 @@ module _ (w : World) (good : SaneWorld w) (s : State) (sane : Sane w s) (ready :
         frame = all .0 .frame;
         callers = all .1;
         root = root;
+        rising = (let f = sane .rising .0 in let d = rising .0 in omega arith, rising .1);
       }
   does-kept h (home b e) = record {
     sane = record {
@@ -185,6 +207,7 @@ module _ (w : World) (good : SaneWorld w) (s : State) (sane : Sane w s) (ready :
       frame = sane .frame;
       callers = sane .callers;
       root = sane .root;
+      rising = sane .rising;
     };
     last = refl;
     frames = record { function = refl; base = refl; callers = refl };
@@ -205,17 +228,17 @@ module _ (w : World) (good : SaneWorld w) (s : State) (sane : Sane w s) (l : pos
   stepped-kept : {t : State} {x y : Outcome} → Stepped w s t x y → Kept w s x
   unfolding codeOf
   stepped-kept (unpaid e x) = tt
-  stepped-kept (unread h n) = stops w s sane (s .units - 1) (suc (position s)) (s .stack) (s .heap) (omega arith)
+  stepped-kept (unread h n) = stops w s sane _ _ (suc (position s)) (s .stack) (s .heap) (omega arith)
   stepped-kept {x = x} (ran i a h g k e d) =
       let z : length (codeOf w s) ≤ 65535 = code-fits (w .functions) (good .codes) (s .frame .function) in
       let f : FrameFits w (at i s .frame) = moved w s sane i (omega arith) in
-      let b = stacked w s sane (s .units - 1) i (s .stack) f (sane .stack) (sane .placed) in
+      let b : Sane w (fetchedAt i s) = stacked w s sane _ _ i (s .stack) (omega arith) f (sane .stack) (sane .placed) in
       kept-before i x (does-kept w good (fetchedAt i s) b (record { frame = f; from = omega arith; to = k }) (rw e (word-fits w good s (suc (position s)))) d)
 
 -- a run that is given up is cut where it stands, or behind an opcode that was fetched
 pub cut-faults : (w : World) (s : State) → Sane w s → over w s ≡ false → Faults w s (cutAt s)
 unfolding over cutAt
-cut-faults w s sane o = let l : position s < length (codeOf w s) = leb-false _ _ o in stops w s sane (s .units) _ (s .stack) (s .heap) (by (eqb (s .units) 0) l)
+cut-faults w s sane o = let l : position s < length (codeOf w s) = leb-false _ _ o in stops w s sane (s .spent) (s .units) _ (s .stack) (s .heap) (by (eqb (s .units) 0) l)
   where
     by : (b : Bool) → position s < length (codeOf w s) → (if b then position s else suc (position s)) - 1 < length (codeOf w s)
     by true l = omega arith

@@ -14,6 +14,8 @@ pub mod Runs
 -- more units, and units that are dealt out
 pub mod More
 pub mod Parts
+-- when frames were entered
+pub mod Entered
 -- good order as a run judges it
 pub mod Tests
 pub mod Programs

@@ -16,7 +16,7 @@ use Rattle.model.specs.Values.{places, kindAt, payloadAt, valueAt, vals, exactV
 use Rattle.model.specs.Heap.{Cell, cellsFrom, heapOf, blocksFrom, heapOk, exactCells, placedBelow}
 use Rattle.model.specs.Programs.{functionAt}
 use Rattle.model.specs.Steps.{codeOf}
-use Rattle.model.specs.Runs.{begin, over, Under}
+use Rattle.model.specs.Runs.{standing, begin, over, Under}
 use Rattle.model.specs.Stores.{Stores, functionsFrom, worldIn}
 use Rattle.model.specs.Orders.{programOk, cellsOk, stackOk, lastOk, frameStoreOk}
 use Rattle.model.specs.Machines.{Lent, frameRoom, innermost, callersIn, machineIn, progressIn, underIn, worldOf, machineOrder, someLast, underOrder, idle, partOrder, runOrder, noRun}
@@ -24,12 +24,13 @@ use Rattle.value.proofs.Coding.{and-left, and-right}
 use Rattle.value.proofs.Stores.{length-vals, vals-slot}
 use Rattle.cells.proofs.Order.{Placed, and-both}
 use Rattle.cells.proofs.Stands.{length-heap, heap-split}
-use Rattle.laws_runs.specs.Sane.{AllPlaced, LastPlaced, SaneWorld, CallersFit, Rooted, Sane}
-use Rattle.laws_runs.specs.Parts.{SaneUnder}
+use Rattle.laws_runs.specs.Sane.{AllPlaced, LastPlaced, SaneWorld, CallersFit, Rooted, Rising, Sane}
+use Rattle.laws_runs.specs.Parts.{SaneUnder, SaneMachine}
 use Rattle.laws_runs.specs.Ordered.{CodeBytes, Ordered, UnderOrdered, Exact, Beside, Fresh}
 use Rattle.laws_runs.proofs.Tests.{every-of, every-to}
 use Rattle.laws_runs.proofs.Placed.{all-at}
 use Rattle.laws_runs.proofs.Programs.{length-functions, parts-of, has-main, length-text, program-world}
+use Rattle.laws_runs.proofs.Runs.{begins-sane}
 use Rattle.laws_runs.proofs.Frames.{some-frame, frames-counted, frames-in, frames-back}
 
 -- ---- the parts of good order
@@ -109,6 +110,9 @@ module _ (m : Vm) (s : Stores) (l : Lent) where
   abbrev kept : Bool
   kept = lastOk (m .program .text) (heapOf (m .run .mark) (l .cells)) (m .last)
 
+  abbrev entered : Bool
+  entered = leb (innermost (m .frames) (l .frames) .entered) (m .run .spent)
+
   abbrev here : Bool
   here = ltb (innermost (m .frames) (l .frames) .position)
       (length (functionAt (functionsFrom (m .program .functions) 0 s) (innermost (m .frames) (l .frames) .function) .code))
@@ -117,7 +121,8 @@ module _ (m : Vm) (s : Stores) (l : Lent) where
   unfolding partOrder underOrder
   under-of e on =
       let z : underOrder m s l ≡ true = rw on at (order-of e .part) in
-      let z3 = and-left (bounds && mark && copy && kept) here z in
+      let z4 = and-left (bounds && mark && copy && kept && entered) here z in
+      let z3 = and-left (bounds && mark && copy && kept) entered z4 in
       let z2 = and-left (bounds && mark && copy) kept z3 in
       let z1 = and-left (bounds && mark) copy z2 in
       let b = and-left bounds mark z1 in
@@ -138,12 +143,13 @@ module _ (m : Vm) (s : Stores) (l : Lent) where
         cells = and-right bounds mark z1;
         copy = and-right (bounds && mark) copy z2;
         last = and-right (bounds && mark && copy) kept z3;
-        inside = ltb-true _ _ (and-right (bounds && mark && copy && kept) here z);
+        entered = leb-true _ _ (and-right (bounds && mark && copy && kept) entered z4);
+        inside = ltb-true _ _ (and-right (bounds && mark && copy && kept && entered) here z);
       }
 
   pub under-to : m .run .on ≡ true → UnderOrdered m s l → partOrder m s l ≡ true
   unfolding partOrder underOrder
-  under-to on o = rw (on, le-leb _ _ (o .spent), le-leb _ _ (o .returns), o .answer, le-leb _ _ (o .mark), le-leb _ _ (o .saved), o .cells, o .copy, o .last, lt-ltb _ _ (o .inside))
+  under-to on o = rw (on, le-leb _ _ (o .spent), le-leb _ _ (o .returns), o .answer, le-leb _ _ (o .mark), le-leb _ _ (o .saved), o .cells, o .copy, o .last, le-leb _ _ (o .entered), lt-ltb _ _ (o .inside))
 
 -- ---- cells
 
@@ -228,10 +234,11 @@ module _ (m : Vm) (s : Stores) (l : Lent) where
   unfolding worldOf
   order-world e b = program-world (m .program) s (places 2 (l .stack)) (frameRoom (l .frames)) (places 2 (l .cells)) (order-of m s l e .program) b
 
-  pub order-sane : runOrder m s l ≡ true → (u : ℕ) → Sane (worldOf m s l) (begin (machineIn m l) u)
-  unfolding worldOf worldIn machineIn
-  order-sane e u =
-      let o = order-of m s l e in
+  -- when e units are spent, at which no frame was entered later
+  order-standing : runOrder m s l ≡ true → (e u : ℕ) → innermost (m .frames) (l .frames) .entered ≤ e → Sane (worldOf m s l) (standing (machineIn m l) e u)
+  unfolding worldOf worldIn machineIn Rising
+  order-standing h e u most =
+      let o = order-of m s l h in
       let t = text-length (o .program) in
       let H = heapOf (m .cells) (l .cells) in
       let cells = cells-of (m .program .text) (m .cells) (l .cells) (o .cells) in
@@ -247,7 +254,15 @@ module _ (m : Vm) (s : Stores) (l : Lent) where
         frame = frames .frame;
         callers = frames .callers;
         root = frames .root;
+        rising = (most, frames .rising);
       }
+
+  pub order-machine : runOrder m s l ≡ true → SaneMachine (worldOf m s l) (machineIn m l)
+  unfolding machineIn
+  order-machine h u = order-standing h _ u (omega arith)
+
+  pub order-sane : runOrder m s l ≡ true → (u : ℕ) → Sane (worldOf m s l) (begin (machineIn m l) u)
+  order-sane h u = begins-sane (worldOf m s l) (machineIn m l) _ 0 u (order-machine h 0)
 
   -- the run under way
   pub order-under : runOrder m s l ≡ true → m .run .on ≡ true → SaneUnder (worldOf m s l) (underIn m l)
@@ -259,7 +274,7 @@ module _ (m : Vm) (s : Stores) (l : Lent) where
       let cells = cells-of (m .program .text) (m .run .mark) (l .cells) (o .cells) in
       let copy = stack-of (m .program .text) H (m .run .saved) (l .copy) (o .copy) in
       record {
-        state = order-sane e _;
+        state = order-standing e _ _ (o .entered);
         inside = lt-leb _ _ (o .inside);
         units = omega arith;
         start = rw (length-vals (m .run .saved) (l .copy)) (o .saved);
@@ -281,9 +296,9 @@ module _ (m : Vm) (s : Stores) (l : Lent) where
 
   -- ---- and back
 
-  pub sane-ordered : (u : ℕ) → programOk (m .program) s ≡ true → Exact m l → Sane (worldOf m s l) (begin (machineIn m l) u) → partOrder m s l ≡ true → runOrder m s l ≡ true
-  unfolding worldOf worldIn machineIn
-  sane-ordered u e x h part =
+  pub sane-ordered : (d u : ℕ) → programOk (m .program) s ≡ true → Exact m l → Sane (worldOf m s l) (standing (machineIn m l) d u) → partOrder m s l ≡ true → runOrder m s l ≡ true
+  unfolding worldOf worldIn machineIn Rising
+  sane-ordered d u e x h part =
       let t = text-length e in
       let H = heapOf (m .cells) (l .cells) in
       order-to m s l (record {
@@ -291,7 +306,7 @@ module _ (m : Vm) (s : Stores) (l : Lent) where
         cells = cells-to (m .program .text) (m .cells) (l .cells) (rw (length-heap (m .cells) (l .cells)) at (h .cells)) (x .cells) (rw t at (h .heap));
         stack = stack-to (m .program .text) H (m .stack) (l .stack) (rw (length-vals (m .stack) (l .stack)) at (h .stack)) (x .stack) (rw t at (h .placed));
         last = last-to (m .program .text) H (m .last) (rw t at (h .last));
-        frames = frames-back (worldOf m s l) (m .frames) (l .frames) (x .frames) (h .frames) (record { frame = h .frame; callers = h .callers; root = h .root });
+        frames = frames-back (worldOf m s l) (m .frames) (l .frames) (x .frames) (h .frames) (record { frame = h .frame; callers = h .callers; root = h .root; rising = h .rising .1 });
         part = part;
       })
 
@@ -302,9 +317,9 @@ unfolding worldOf worldIn places frameRoom
 same-world s b = rw (b .program, b .stack, b .cells, b .frames)
 
 -- what the rules leave in good order, in exact words, is in good order for the next call
-pub sane-order : {m m' : Vm} {l l' : Lent} (s : Stores) (u : ℕ) → runOrder m s l ≡ true → Beside m l m' l' → Exact m' l' → Sane (worldOf m s l) (begin (machineIn m' l') u)
+pub sane-order : {m m' : Vm} {l l' : Lent} (s : Stores) (d u : ℕ) → runOrder m s l ≡ true → Beside m l m' l' → Exact m' l' → Sane (worldOf m s l) (standing (machineIn m' l') d u)
     → partOrder m' s l' ≡ true → runOrder m' s l' ≡ true
-sane-order {m} {m'} {l} {l'} s u e b x h part = sane-ordered m' s l' u (rw (b .program) (order-of m s l e .program)) x (rw (same-world s b) h) part
+sane-order {m} {m'} {l} {l'} s d u e b x h part = sane-ordered m' s l' d u (rw (b .program) (order-of m s l e .program)) x (rw (same-world s b) h) part
 
 -- ---- a machine that has not run
 
@@ -313,8 +328,8 @@ unfolding exactCells
 fresh-exact f = record { cells = rw (f .cells); stack = (λ i h. absurd (let z : ⊥ = omega (arith, f .stack) in z)); frames = omega (arith, f .frames) }
 
 module _ (m : Vm) (s : Stores) (l : Lent) (p : programOk (m .program) s ≡ true) (f : Fresh m l) where
-  pub fresh-sane : (u : ℕ) → Sane (worldOf m s l) (begin (machineIn m l) u)
-  unfolding worldOf worldIn machineIn innermost callersIn frameRoom vals heapOf cellsFrom heapOk blocksFrom AllPlaced LastPlaced CallersFit Rooted
+  pub fresh-sane : SaneMachine (worldOf m s l) (machineIn m l)
+  unfolding worldOf worldIn machineIn innermost callersIn frameRoom vals heapOf cellsFrom heapOk blocksFrom AllPlaced LastPlaced CallersFit Rooted Rising
   fresh-sane u = record {
     stack = rw (f .stack) (omega arith);
     frames = rw (f .frames) (omega (arith, f .room));
@@ -329,7 +344,8 @@ module _ (m : Vm) (s : Stores) (l : Lent) (p : programOk (m .program) s ≡ true
     });
     callers = rw (f .frames) tt;
     root = rw (f .frames, f .frame) (refl, refl);
+    rising = rw (f .frames) (omega arith, tt);
   }
 
   pub fresh-order : runOrder m s l ≡ true
-  fresh-order = sane-ordered m s l 0 p (fresh-exact f) (fresh-sane 0) (idle-to m s l (f .run))
+  fresh-order = sane-ordered m s l _ 0 p (fresh-exact f) (fresh-sane 0) (idle-to m s l (f .run))

@@ -2,21 +2,21 @@
 use mathlib.Core.Path.{_≡_, refl, sym, ap, _∙_}
 use mathlib.Core.Bool.{true, false}
 use mathlib.Core.List.{List, [], _∷_}
-use Prim.Native.Nat.{ℕ, _+_, _-_}
+use Prim.Native.Nat.{ℕ, _+_}
 use native.Mathlib.Omega.{arith}
 use Rattle.model.specs.declared.Value.{Value}
 use Rattle.model.specs.Steps.{World, stepOf}
-use Rattle.model.specs.Runs.{Machine, begin, atStart, Ended, ended, stopped, paused, over, next, endFrom, endOf, continue, answered, Under, Part, ends, pauses, partOf, beginOf, continueOf, dealt, givenUp, runOf}
+use Rattle.model.specs.Runs.{Machine, begin, machineOf, atStart, Ended, ended, stopped, paused, over, next, endFrom, endOf, continue, answered, Under, Part, ends, pauses, partOf, beginOf, continueOf, dealt, givenUp, runOf}
 use Rattle.laws_runs.specs.Paths.{more, resumed}
 use Rattle.laws_runs.specs.Parts.{onward, sumOf}
 use Rattle.laws_runs.proofs.Ends.{end-of, end-over, end-step}
 use Rattle.laws_runs.proofs.More as more-law
 
 module _ (w : World) where
-  -- ---- a beginning: "over at once, with 'continue'", and nothing changes; or paused before its first instruction, with all of it still to do
+  -- ---- a beginning: "over at once, with 'continue'", and nothing changes but when its frames were entered; or paused before its first instruction, with all of it still to do
 
   module _ (m : Machine) where
-    pub a-run-begun-at-its-end-is-over-at-once : over w (begin m 0) ≡ true → beginOf w m ≡ ends (record { reply = continue (record { spent = 0; returns = 0 }); machine = m })
+    pub a-run-begun-at-its-end-is-over-at-once : over w (begin m 0) ≡ true → beginOf w m ≡ ends (record { reply = continue (record { spent = 0; returns = 0 }); machine = machineOf (begin m 0) })
     unfolding beginOf partOf answered
     a-run-begun-at-its-end-is-over-at-once e = rw (end-of w (begin m 0), end-over w (atStart (begin m 0)) (begin m 0) e)
 
@@ -30,8 +30,8 @@ module _ (w : World) where
   -- d units more, given to a run that has come to e with g units in all
   part-resumed : (start : List Value) (g d : ℕ) (e : Ended) → partOf w start (g + d) (resumed w d e) ≡ onward w d (partOf w start g e)
   unfolding partOf onward continueOf
-  part-resumed start g d (ended k t) = let z : g + d - (t .units + d) ≡ g - t .units = omega arith in rw z
-  part-resumed start g d (stopped n t k) = let z : g + d - (t .units + d) ≡ g - t .units = omega arith in rw z
+  part-resumed start g d (ended k t) = refl
+  part-resumed start g d (stopped n t k) = refl
   part-resumed start g d (paused k t) = refl
 
   -- two parts are one with the sum

@@ -8,8 +8,8 @@ use Rattle.model.specs.declared.Value.{Value}
 use Rattle.model.specs.Steps.{World, State, Outcome, went, returned, faulted, short, stepOf}
 use Rattle.model.specs.Runs.{Progress, atStart, counted, Ended, ended, stopped, paused, over, endFrom, next, turn, runFor}
 use Rattle.model.specs.Machines.{someLast}
-use Rattle.laws_runs.specs.Paths.{Grows, Adds, Steps, none, on, ret, rootReturns, By, Marked, AnswersReturns}
-use Rattle.laws_runs.proofs.Spends.{went-spends, returned-spends}
+use Rattle.laws_runs.specs.Paths.{Balances, Grows, Adds, Steps, none, on, ret, rootReturns, By, Marked, AnswersReturns}
+use Rattle.laws_runs.proofs.Spends.{went-spends, returned-spends, step-balances}
 use Rattle.laws_runs.proofs.Adds.{grows-none, grows-on, step-adds}
 use Rattle.laws_runs.proofs.Ends.{end-over, end-step}
 
@@ -88,6 +88,12 @@ module _ (w : World) where
   path-spends none = omega arith
   path-spends (on {s = s} o q p) = let z = went-spends w s q in let y = path-spends p in omega arith
   path-spends (ret {s = s} o q p) = let z = returned-spends w s q in let y = path-spends p in omega arith
+
+  -- units are spent or left
+  pub path-balances : {n : ℕ} {m k : Progress} {s t : State} → Steps w n m s k t → t .spent + t .units ≡ s .spent + s .units
+  path-balances none = refl
+  path-balances (on {s = s} o q p) = path-balances p ∙ subst (Balances s) q (step-balances w s)
+  path-balances (ret {s = s} o q p) = path-balances p ∙ subst (Balances s) q (step-balances w s)
 
   -- the number that a run tells is that of the root Returns among its written steps
   pub returns-counted : {n : ℕ} {m k : Progress} {s t : State} (p : Steps w n m s k t) → k .returns ≡ m .returns + rootReturns p

@@ -1,23 +1,24 @@
 -- A run keeps good order, whether it ends or faults.
 use mathlib.Core.Path.{_≡_, refl, sym, subst, _∙_}
 use mathlib.Core.Bool.{true, false}
-use mathlib.Core.List.{List, _∷_}
+use mathlib.Core.List.{List, [], _∷_, map}
 use Prim.Native.Nat.{ℕ, _+_, _≤_}
 use native.Mathlib.Omega.{arith}
-use lib.ListN.{length}
+use lib.ListN.{length, length-map}
 use Rattle.model.specs.declared.Value.{Value}
 use Rattle.model.specs.declared.Fault.{Fault}
+use Rattle.model.specs.declared.Frame.{Frame}
 use Rattle.model.specs.Steps.{World, State, went, returned, withUnits, stepOf}
-use Rattle.model.specs.Runs.{Machine, begin, Progress, atStart, counted, Ended, ended, stopped, paused, over, endFrom, endOf, traceable, cutAt, recovered, Under, Part, ends, pauses, partOf, beginOf, continueOf, abandonOf, givenUp, runOf}
-use Rattle.laws_runs.specs.Sane.{AllPlaced, SaneWorld, CallersFit, Rooted, Sane, SaneMark, Returns, Faults, Kept}
+use Rattle.model.specs.Runs.{Machine, standing, unentered, begin, machineOf, Progress, atStart, counted, Ended, ended, stopped, paused, over, endFrom, endOf, traceable, cutAt, recovered, Under, Part, ends, pauses, partOf, beginOf, continueOf, abandonOf, givenUp, runOf}
+use Rattle.laws_runs.specs.Sane.{AllPlaced, SaneWorld, CallersFit, Rooted, Rising, Sane, SaneMark, Returns, Faults, Kept}
 use Rattle.laws_runs.specs.Paths.{Steps, none, on, ret, By, EndedBy, StoppedBy, PausedBy, Marked, AnswersReturns}
-use Rattle.laws_runs.specs.Parts.{SaneUnder, SanePart}
+use Rattle.laws_runs.specs.Parts.{SaneUnder, SaneMachine, SanePart}
 use Rattle.laws_runs.proofs.Ends.{end-of}
-use Rattle.laws_runs.proofs.Paths.{run-by, run-path, path-spends, marked, mark-last, mark-grows, a-run-that-starts-has-no-value, a-run-has-a-value-exactly-behind-a-root-return}
+use Rattle.laws_runs.proofs.Paths.{run-by, run-path, path-balances, marked, mark-last, mark-grows, a-run-that-starts-has-no-value, a-run-has-a-value-exactly-behind-a-root-return}
 use Rattle.laws_runs.proofs.Placed.{all-grows}
 use Rattle.laws_runs.proofs.Keeps.{code-fits, cut-faults, step-keeps}
 
--- good order does not ask for the units
+-- good order does not ask for the units that are left
 pub any-units : {w : World} (q : State) {n : ℕ} → Sane w q → Sane w (withUnits n q)
 any-units q s = record {
   stack = s .stack;
@@ -29,7 +30,60 @@ any-units q s = record {
   frame = s .frame;
   callers = s .callers;
   root = s .root;
+  rising = s .rising;
 }
+
+-- a machine at rest is in good order where its last state was
+at-rest : {w : World} (q : State) {n : ℕ} → Sane w q → Sane w (standing (machineOf q) (q .frame .entered) n)
+unfolding Rising
+at-rest q s = record {
+  stack = s .stack;
+  frames = s .frames;
+  cells = s .cells;
+  heap = s .heap;
+  placed = s .placed;
+  last = s .last;
+  frame = s .frame;
+  callers = s .callers;
+  root = s .root;
+  rising = (omega arith, s .rising .1);
+}
+
+-- ---- a beginning: when frames were entered is no matter of good order, if it is 0 for all
+
+module _ (w : World) where
+  callers-unentered : (cs : List Frame) → CallersFit w cs → CallersFit w (map unentered cs)
+  unfolding CallersFit
+  callers-unentered [] h = tt
+  callers-unentered (c ∷ cs) h =
+      let f = h .0 .frame in
+      (record { frame = record { known = f .known; base = f .base; position = f .position }; from = h .0 .from; to = h .0 .to }, callers-unentered cs (h .1))
+
+  root-unentered : (f : Frame) (cs : List Frame) → Rooted f cs → Rooted (unentered f) (map unentered cs)
+  unfolding Rooted
+  root-unentered f [] r = r
+  root-unentered f (c ∷ cs) r = root-unentered c cs r
+
+  unentered-rises : (cs : List Frame) → Rising 0 (map unentered cs)
+  unfolding Rising
+  unentered-rises [] = tt
+  unentered-rises (c ∷ cs) = (omega arith, unentered-rises cs)
+
+  -- a machine in good order is begun in good order
+  pub begins-sane : (m : Machine) (e u n : ℕ) → Sane w (standing m e u) → Sane w (begin m n)
+  unfolding Rising
+  begins-sane m e u n s = record {
+    stack = s .stack;
+    frames = rw (length-map (m .callers) unentered) (s .frames);
+    cells = s .cells;
+    heap = s .heap;
+    placed = s .placed;
+    last = s .last;
+    frame = record { known = s .frame .known; base = s .frame .base; position = s .frame .position };
+    callers = callers-unentered (m .callers) (s .callers);
+    root = root-unentered (m .frame) (m .callers) (s .root);
+    rising = (omega arith, unentered-rises (m .callers));
+  }
 
 pub mark-sane : {w : World} {s : State} → Sane w s → SaneMark w (atStart s)
 mark-sane s = record { cells = s .cells; heap = s .heap; last = s .last }
@@ -75,8 +129,8 @@ module _ (w : World) (good : SaneWorld w) where
 
   -- a starting stack over a good mark
   pub recover-sane : {s : State} (start : List Value) {k : Progress} → Sane w s → length start ≤ w .stackRoom → AllPlaced (length (w .text)) (k .heap) start → SaneMark w k
-      → (i : ℕ) → Sane w (begin (recovered w start k) i)
-  unfolding recovered CallersFit Rooted
+      → SaneMachine w (recovered w start k)
+  unfolding recovered CallersFit Rooted Rising
   recover-sane start h l p g i = record {
     stack = l;
     frames = let z = h .frames in omega arith;
@@ -91,20 +145,21 @@ module _ (w : World) (good : SaneWorld w) where
     };
     callers = tt;
     root = (refl, refl);
+    rising = (omega arith, tt);
   }
 
   -- ---- a part of a run, from s, where the run had come as far as m and was given g units in all
 
   module _ {m : Progress} {s : State} (start : List Value) {g : ℕ} (h : Sane w s) (k : SaneMark w m) (f : Marked m s) (a : AnswersReturns m) (l : length start ≤ w .stackRoom)
-      (p : AllPlaced (length (w .text)) (m .heap) start) (u : s .units ≤ g) where
+      (p : AllPlaced (length (w .text)) (m .heap) start) (u : s .spent + s .units ≡ g) where
     by-sane : (e : Ended) → By w m s e → SanePart w (partOf w start g e)
     unfolding partOf
-    by-sane (ended j t) r = λ i. any-units t (path-sane h (r .path))
+    by-sane (ended j t) r = λ i. at-rest t (path-sane h (r .path))
     by-sane (stopped n t j) r = recover-sane start h l (all-grows (length (w .text)) (mark-grows w f (r .path)) start p) (path-mark h k (r .path))
     by-sane (paused j t) r = record {
       state = path-sane h (r .path);
       inside = r .goes-on;
-      units = let z = path-spends w (r .path) in omega arith;
+      units = path-balances w (r .path) ∙ u;
       start = l;
       placed = all-grows (length (w .text)) (mark-grows w f (r .path)) start p;
       mark = path-mark h k (r .path);
@@ -131,17 +186,17 @@ module _ (w : World) (good : SaneWorld w) where
       part-sane (r .start) (any-units (r .state) (h .state)) (h .mark) (record { last = h .marked .last; heap = h .marked .heap }) (h .answer) (h .start) (h .placed)
       (let z = h .units in omega arith)
 
-  pub abandoned-sane : (r : Under) → SaneUnder w r → (i : ℕ) → Sane w (begin (abandonOf w r .machine) i)
+  pub abandoned-sane : (r : Under) → SaneUnder w r → SaneMachine w (abandonOf w r .machine)
   unfolding abandonOf
-  abandoned-sane r h i = recover-sane (r .start) (h .state) (h .start) (h .placed) (h .mark) i
+  abandoned-sane r h = recover-sane (r .start) (h .state) (h .start) (h .placed) (h .mark)
 
   -- whatever a part comes to, giving it up leaves a machine in good order
-  given-up-sane : (x : Part) → SanePart w x → (i : ℕ) → Sane w (begin (givenUp w x .machine) i)
+  given-up-sane : (x : Part) → SanePart w x → SaneMachine w (givenUp w x .machine)
   unfolding givenUp
-  given-up-sane (ends x) h i = h i
-  given-up-sane (pauses r) h i = abandoned-sane r h i
+  given-up-sane (ends x) h = h
+  given-up-sane (pauses r) h = abandoned-sane r h
 
   -- so is what one run leaves
-  pub ran-sane : (m : Machine) (u : ℕ) → Sane w (begin m u) → (i : ℕ) → Sane w (begin (runOf w m u .machine) i)
+  pub ran-sane : (m : Machine) (u : ℕ) → Sane w (begin m u) → SaneMachine w (runOf w m u .machine)
   unfolding runOf
   ran-sane m u h = given-up-sane _ (first-part-sane m u h)

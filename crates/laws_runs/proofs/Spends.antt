@@ -1,13 +1,13 @@
 -- Every step that completes spends a unit, and without units there is none.
-use mathlib.Core.Path.{_≡_, subst}
-use Prim.Native.Nat.{ℕ, _-_, _≤_, _<_}
+use mathlib.Core.Path.{_≡_, refl, subst}
+use Prim.Native.Nat.{ℕ, _+_, _-_, _≤_, _<_}
 use native.Mathlib.Omega.{arith}
 use borrow.Author.Tests.{eq-eqb}
 use Rattle.model.specs.declared.Value.{Value}
 use Rattle.model.specs.declared.Fault.{Fault}
 use Rattle.model.specs.Steps.{World, State, Outcome, went, returned, faulted, short, stepOf}
-use Rattle.laws_runs.specs.Paths.{Spends}
-use Rattle.laws_runs.proofs.Does.{Does, fault, spent, full, push, answer, compare, fall, leap, call, build, field, back, home, Stepped, unpaid, unread, ran, step-one}
+use Rattle.laws_runs.specs.Paths.{Spends, Balances}
+use Rattle.laws_runs.proofs.Does.{Does, fault, spent, full, push, answer, compare, fall, leap, call, build, field, back, home, fetchedAt, Stepped, unpaid, unread, ran, step-one}
 
 -- at most n units are left
 abbrev Left : ℕ → Outcome → Type 0
@@ -57,3 +57,35 @@ faulted-spends w s e = subst (Spends s) e (step-spends w s)
 pub no-units : (w : World) (s : State) → s .units ≡ 0 → stepOf w s ≡ short
 unfolding stepOf
 no-units w s e = rw (eq-eqb (s .units) 0 e)
+
+-- ---- what a step spends is no longer left
+
+does-balances : {w : World} {a : ℕ} {s t : State} {x y : Outcome} → Does w a s t x y → Balances s x
+does-balances (fault n) = refl
+does-balances (spent x) = tt
+does-balances (full b) = refl
+does-balances (push h l) = refl
+does-balances (answer b p) = refl
+does-balances (compare b k l h) = omega arith
+does-balances (fall b) = refl
+does-balances (leap b) = refl
+does-balances (call i n b l h g) = refl
+does-balances (build b l) = refl
+does-balances (field p i b e) = refl
+does-balances (back b e) = refl
+does-balances (home b e) = refl
+
+-- the opcode was fetched for one unit
+fetched-balances : (s : State) → 1 ≤ s .units → (i : ℕ) (x : Outcome) → Balances (fetchedAt i s) x → Balances s x
+fetched-balances s h i (went t) e = omega arith
+fetched-balances s h i (returned v t) e = omega arith
+fetched-balances s h i (faulted n t) e = omega arith
+fetched-balances s h i short e = tt
+
+stepped-balances : {w : World} {s t : State} {x y : Outcome} → Stepped w s t x y → Balances s x
+stepped-balances (unpaid e x) = tt
+stepped-balances (unread h n) = omega arith
+stepped-balances {s = s} {x = x} (ran i a h l k e d) = fetched-balances s h i x (does-balances d)
+
+pub step-balances : (w : World) (s : State) → Balances s (stepOf w s)
+step-balances w s = stepped-balances (step-one w s)

@@ -2,7 +2,7 @@
 use mathlib.Core.Path.{_≡_}
 use mathlib.Core.Bool.{false}
 use mathlib.Core.List.{List, [], _∷_}
-use Prim.Native.Nat.{ℕ, _-_}
+use Prim.Native.Nat.{ℕ}
 use Rattle.model.specs.declared.Value.{Value}
 use Rattle.model.specs.declared.Fault.{Fault}
 use Rattle.model.specs.declared.Tally.{Tally}
@@ -33,7 +33,7 @@ repliesOf (c ∷ cs) m = runOf (c .world) m (c .units) .reply ∷ repliesOf cs (
 -- why a run that was given u units was cut at s; the state that its backtrace tells of; and the number and the units that come back
 pub data Cut (w : World) (u : ℕ) (s : State) : State → (n spent : ℕ) → Type 0 where
   -- the step from s faults
-  faulting : (f : Fault) (t : State) → stepOf w s ≡ faulted f t → Cut w u s t (faultNumber f) (u - t .units)
+  faulting : (f : Fault) (t : State) → stepOf w s ≡ faulted f t → Cut w u s t (faultNumber f) (t .spent)
   -- it cannot be paid for, and the run is given up: all the units count
   unpaid : stepOf w s ≡ short → Cut w u s (cutAt s) 13 u
 

@@ -4,3 +4,4 @@ pub mod Paths
 pub mod Parts
 pub mod Ordered
 pub mod Demand
+pub mod Entered

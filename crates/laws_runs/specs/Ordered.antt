@@ -38,6 +38,7 @@ pub record UnderOrdered (m : Vm) (s : Stores) (l : Lent) : Type 0 where
   pub cells : cellsOk (m .program .text) (m .run .mark) (l .cells) ≡ true
   pub copy : stackOk (m .program .text) (heapOf (m .run .mark) (l .cells)) (m .run .saved) (l .copy) ≡ true
   pub last : lastOk (m .program .text) (heapOf (m .run .mark) (l .cells)) (m .last) ≡ true
+  pub entered : innermost (m .frames) (l .frames) .entered ≤ m .run .spent
   pub inside : innermost (m .frames) (l .frames) .position
       < length (functionAt (functionsFrom (m .program .functions) 0 s) (innermost (m .frames) (l .frames) .function) .code)
 

@@ -22,6 +22,13 @@ Spends s (returned x s') = s' .units < s .units
 Spends s (faulted n s') = s' .units ≤ s .units
 Spends s short = Unit
 
+-- what it spends is no longer left
+abbrev pub Balances : State → Outcome → Type 0
+Balances s (went s') = s' .spent + s' .units ≡ s .spent + s .units
+Balances s (returned x s') = s' .spent + s' .units ≡ s .spent + s .units
+Balances s (faulted n s') = s' .spent + s' .units ≡ s .spent + s .units
+Balances s short = Unit
+
 -- the heap H' is H with cells behind it
 pub record Grows (H H' : List Cell) : Type 0 where
   pub more : List Cell

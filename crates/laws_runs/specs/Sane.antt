@@ -52,6 +52,11 @@ unfoldable pub Rooted : Frame → List Frame → Type 0
 Rooted f [] = (f .function ≡ 0) × (f .base ≡ 0)
 Rooted f (c ∷ cs) = Rooted c cs
 
+-- [entered] frames, the innermost first: it was entered when at most so many units were spent, and no caller was entered later than what it called
+unfoldable pub Rising : (most : ℕ) → List Frame → Type 0
+Rising most [] = Unit
+Rising most (f ∷ fs) = (f .entered ≤ most) × Rising (f .entered) fs
+
 pub record Sane (w : World) (s : State) : Type 0 where
   pub stack : length (s .stack) ≤ w .stackRoom
   pub frames : suc (length (s .callers)) ≤ w .frameRoom
@@ -62,6 +67,7 @@ pub record Sane (w : World) (s : State) : Type 0 where
   pub frame : FrameFits w (s .frame)
   pub callers : CallersFit w (s .callers)
   pub root : Rooted (s .frame) (s .callers)
+  pub rising : Rising (s .spent) (s .frame ∷ s .callers)
 
 -- what a fault goes back to
 pub record SaneMark (w : World) (m : Progress) : Type 0 where

@@ -2,7 +2,7 @@
 use mathlib.Core.Path.{_≡_, refl, sym, ap, subst, _∙_}
 use mathlib.Core.Bool.{Bool, true, false}
 use mathlib.Core.List.{List, [], _∷_, _++_, reverse}
-use Prim.Native.Nat.{ℕ, suc, _+_, _-_, _≤_, _<_}
+use Prim.Native.Nat.{ℕ, suc, _+_, _≤_, _<_}
 use native.Mathlib.Omega.{arith}
 use borrow.Author.Tests.{ltb-true, ltb-false}
 use lib.Dec.{ltb, leb}
@@ -15,7 +15,7 @@ use Rattle.model.specs.Basics.{if_then_else_}
 use Rattle.model.specs.Heap.{Cell, built, unbuilt, buildOf, blockOf, deepest, headIn, elementsIn, itemIn, fieldOf, listElements, structFields}
 use Rattle.model.specs.Equality.{Same}
 use Rattle.model.specs.Trees.{Tree, treesOf, treeOf, meaningTo, meaning, boolean, list, struct, none as end}
-use Rattle.model.specs.Steps.{World, State, went, faulted, short, withStack, withHeap, withUnits, pushing, onFound, onSame, equalStep, onBuilt, buildStep, structStep, fieldStep}
+use Rattle.model.specs.Steps.{World, State, went, faulted, short, withStack, withHeap, paid, pushing, onFound, onSame, equalStep, onBuilt, buildStep, structStep, fieldStep}
 use Rattle.cells.proofs.Order.{Placed, good-of}
 use Rattle.cells.proofs.Meaning.{equal-is-trees, meaning-step, new-list, new-struct, field-is, length-elements}
 use Rattle.laws_runs.specs.Sane.{AllPlaced}
@@ -42,7 +42,7 @@ module _ (w : World) (s : State) where
   unfolding onSame push rustOf meaning meaningTo treeOf Agrees FaultsAs
   pays t q (says {b = b} {k = k}) = on (leb k (s .units))
     where
-      on : (paid : Bool) → Agrees w (if paid then went (withStack (v.Boolean (t b) ∷ q) (withUnits (s .units - k) s)) else short)
+      on : (enough : Bool) → Agrees w (if enough then went (withStack (v.Boolean (t b) ∷ q) (paid k s)) else short)
           (rust.went (push (rustAt w (withStack q s)) (boolean (t b))))
       on true = refl
       on false = tt

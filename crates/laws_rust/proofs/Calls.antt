@@ -36,12 +36,12 @@ module _ (w : World) (s : State) where
   -- the base is the stack length less the count; of room for frames the Rust knows nothing
   framed : (i n : ℕ) (vs : List Value) → n ≤ length vs
       → rust.push-frame i n (rustAt w (withStack vs s))
-      ≡ rust.went (rustAt w (withStack vs (withFrames (record { function = i; position = 0; base = length vs - n }) (s .frame ∷ s .callers) s)))
+      ≡ rust.went (rustAt w (withStack vs (withFrames (record { function = i; position = 0; base = length vs - n; entered = s .spent }) (s .frame ∷ s .callers) s)))
   unfolding rust.push-frame rustOf
   framed i n vs h =
       let z : length (map tree vs) ≡ length vs = length-map vs tree in
       sub-there (length (map tree vs)) n _ (omega arith)
-      ∙ ap (λ (l : ℕ). rust.went (rustAt w (withStack vs (withFrames (record { function = i; position = 0; base = l - n }) (s .frame ∷ s .callers) s)))) z
+      ∙ ap (λ (l : ℕ). rust.went (rustAt w (withStack vs (withFrames (record { function = i; position = 0; base = l - n; entered = s .spent }) (s .frame ∷ s .callers) s)))) z
 
   unframed : (i n : ℕ) (vs : List Value) → length vs < n → rust.push-frame i n (rustAt w (withStack vs s)) ≡ panic
   unfolding rust.push-frame rustOf
@@ -53,7 +53,7 @@ module _ (w : World) (s : State) where
     where
       on : (few : Bool) → ltb (length vs) n ≡ few → (full : Bool)
           → Agrees w (if few then faulted f.TooFewValues s else (if full then faulted f.FramesFull s else
-          went (withStack vs (withFrames (record { function = i; position = 0; base = length vs - n }) (s .frame ∷ s .callers) s)))) (rust.push-frame i n (rustAt w (withStack vs s)))
+          went (withStack vs (withFrames (record { function = i; position = 0; base = length vs - n; entered = s .spent }) (s .frame ∷ s .callers) s)))) (rust.push-frame i n (rustAt w (withStack vs s)))
       on true e full = agrees-as w (faulted f.TooFewValues s) (unframed i n vs (ltb-true _ _ e)) tt
       on false e true = tt
       on false e false = framed i n vs (ltb-false _ _ e)

@@ -9,10 +9,11 @@ use lib.ListN.{length}
 use Rattle.model.specs.declared.Value.{Value}
 use Rattle.model.specs.declared.Fault.{Fault}
 use Rattle.model.specs.declared.Fault.the-variants as f
+use Rattle.model.specs.declared.Frame.{Frame}
 use Rattle.model.specs.Trees.{Tree}
 use Rattle.model.specs.Programs.{Function, functionAt}
 use Rattle.model.specs.Steps.{World, State, Outcome, went, returned, faulted, short, stepOf}
-use Rattle.model.specs.Runs.{Machine, begin, Progress, atStart, counted, Ended, ended, stopped, paused, over, endOf, recovered, partOf, givenUp, runOf}
+use Rattle.model.specs.Runs.{Machine, unentered, begin, Progress, atStart, counted, Ended, ended, stopped, paused, over, endOf, recovered, partOf, givenUp, runOf}
 use Rattle.laws_runs.specs.Sane.{LastPlaced, SaneWorld, Sane, SaneMark}
 use Rattle.laws_runs.specs.Paths.{Grows, Adds, Steps, EndedBy, StoppedBy, Marked}
 use Rattle.laws_runs.specs.Paths as paths
@@ -24,7 +25,7 @@ use Rattle.laws_runs.proofs.Placed.{last-grows}
 use Rattle.laws_runs.proofs.Runs.{mark-sane, path-sane, path-mark}
 use Rattle.laws_rust.specs.Vm as rust
 use Rattle.laws_rust.specs.Vm.{Did, run-without-cleanup}
-use Rattle.laws_rust.specs.Same.{chunkOf, lastIn, rustOf, rustAt, Panics, DividesByZero, FaultsAs, Agrees, RunAs}
+use Rattle.laws_rust.specs.Same.{chunkOf, frameOf, lastIn, rustOf, rustAt, Panics, DividesByZero, FaultsAs, Agrees, RunAs}
 use Rattle.laws_rust.proofs.Reading.{end-is-over}
 use Rattle.laws_rust.proofs.Stacks.{stack-grown, last-grown}
 use Rattle.laws_rust.proofs.Turns.{step-same}
@@ -97,23 +98,23 @@ main-is (f ∷ fs) = refl
 -- what the Rust's cleanup leaves of vm, whose stack is vs: the stack of the start, one frame at the end of main, and the last result as it is
 module _ (w : World) (m : Machine) (u : ℕ) (sane : Sane w (begin m u)) (k : Progress) (t : State) (mark : SaneMark w k) (last : k .last ≡ t .last)
     (start : Grows (m .heap) (k .heap)) (since : Grows (k .heap) (t .heap)) where
-  cleaned-is : (vs : List Tree) → rust.cleaned (rustOf w m) (rust.with-stack vs (rustAt w t)) ≡ rustOf w (recovered w (m .stack) k)
+  cleaned-is : (vs : List Tree) → rust.cleaned (rustAt w (begin m u)) (rust.with-stack vs (rustAt w t)) ≡ rustOf w (recovered w (m .stack) k)
   unfolding rust.cleaned rustOf recovered
   cleaned-is vs =
       rw (main-is (w .functions), sym last, last-grown (w .text) (mark .heap) since (k .last) (mark .last), stack-grown (w .text) (sane .heap) start (m .stack) (sane .placed)) refl
 
   -- d is what the turn did from which the rules fault
   module _ (turns : ℕ) (r : Option Tree) (d : Did) where
-    comes-to : {d' : Did} → d ≡ d' → rust.clean-up (rustOf w m) (rust.behind (run-without-cleanup (suc turns)) r d)
-        ≡ rust.clean-up (rustOf w m) (rust.behind (run-without-cleanup (suc turns)) r d')
-    comes-to h = ap (λ (x : Did). rust.clean-up (rustOf w m) (rust.behind (run-without-cleanup (suc turns)) r x)) h
+    comes-to : {d' : Did} → d ≡ d' → rust.clean-up (rustAt w (begin m u)) (rust.behind (run-without-cleanup (suc turns)) r d)
+        ≡ rust.clean-up (rustAt w (begin m u)) (rust.behind (run-without-cleanup (suc turns)) r d')
+    comes-to h = ap (λ (x : Did). rust.clean-up (rustAt w (begin m u)) (rust.behind (run-without-cleanup (suc turns)) r x)) h
 
-    comes-to-panic : Panics d → rust.clean-up (rustOf w m) (rust.behind (run-without-cleanup (suc turns)) r d) ≡ rust.panics
+    comes-to-panic : Panics d → rust.clean-up (rustAt w (begin m u)) (rust.behind (run-without-cleanup (suc turns)) r d) ≡ rust.panics
     unfolding rust.clean-up
-    comes-to-panic h = ap (rust.clean-up (rustOf w m)) (panicked-behind turns r d h)
+    comes-to-panic h = ap (rust.clean-up (rustAt w (begin m u))) (panicked-behind turns r d h)
 
     stops-so : (n : Fault) → FaultsAs (rustAt w t) n d
-        → RunAs w (recovered w (m .stack) k) (stopped n t k) (rust.clean-up (rustOf w m) (rust.behind (run-without-cleanup (suc turns)) r d))
+        → RunAs w (recovered w (m .stack) k) (stopped n t k) (rust.clean-up (rustAt w (begin m u)) (rust.behind (run-without-cleanup (suc turns)) r d))
     unfolding FaultsAs RunAs DividesByZero rust.clean-up rust.behind
     stops-so f.UnknownOpcode h = comes-to h
     stops-so f.NotCarried h = comes-to h
@@ -133,12 +134,12 @@ module _ (w : World) (m : Machine) (u : ℕ) (sane : Sane w (begin m u)) (k : Pr
 
 module _ (w : World) (good : SaneWorld w) (few : length (w .functions) ≤ 65536) (m : Machine) (u : ℕ) (sane : Sane w (begin m u)) where
   ended-same : {k : Progress} {t : State} → EndedBy w (atStart (begin m u)) (begin m u) k t → (turns : ℕ)
-      → RunAs w (givenUp w (partOf w (m .stack) u (ended k t)) .machine) (ended k t) (rust.run (suc u + turns) (rustOf w m))
+      → RunAs w (givenUp w (partOf w (m .stack) u (ended k t)) .machine) (ended k t) (rust.run (suc u + turns) (rustAt w (begin m u)))
   unfolding RunAs partOf givenUp rust.run rust.clean-up rust.test LastPlaced
   ended-same {k} {t} by turns =
       let spent = path-spends w (by .path) in
       let z : suc u + turns ≡ by .steps + suc (u - by .steps + turns) = omega arith in
-      rw z (ap (rust.clean-up (rustOf w m))
+      rw z (ap (rust.clean-up (rustAt w (begin m u)))
       (along w good few (by .path) sane tt (suc (u - by .steps + turns)) ∙ tested w t (path-sane w good sane (by .path)) _ _ true (by .over)))
 
   module _ {n : Fault} {t : State} {k : Progress} (by : StoppedBy w (atStart (begin m u)) (begin m u) n t k) where
@@ -153,14 +154,14 @@ module _ (w : World) (good : SaneWorld w) (few : length (w .functions) ≤ 65536
     adds = subst (Adds (by .at .heap) (by .at .last)) (by .stops) (step-adds w (by .at))
 
     turns-to : (turns : ℕ)
-        → rust.run (by .steps + suc turns) (rustOf w m)
-        ≡ rust.clean-up (rustOf w m) (rust.behind (run-without-cleanup turns) (answerIn w k (by .at)) (rust.turn (rustAt w (by .at))))
+        → rust.run (by .steps + suc turns) (rustAt w (begin m u))
+        ≡ rust.clean-up (rustAt w (begin m u)) (rust.behind (run-without-cleanup turns) (answerIn w k (by .at)) (rust.turn (rustAt w (by .at))))
     unfolding rust.run rust.test LastPlaced
     turns-to turns =
-        ap (rust.clean-up (rustOf w m)) (along w good few (by .path) sane tt (suc turns) ∙ tested w (by .at) before turns _ false (by .goes-on))
+        ap (rust.clean-up (rustAt w (begin m u))) (along w good few (by .path) sane tt (suc turns) ∙ tested w (by .at) before turns _ false (by .goes-on))
 
     -- there is a unit for the step, and so there are two turns: the one that faults, and the test behind it
-    stopped-paid : (turns : ℕ) → 1 ≤ by .at .units → RunAs w (recovered w (m .stack) k) (stopped n t k) (rust.run (suc u + turns) (rustOf w m))
+    stopped-paid : (turns : ℕ) → 1 ≤ by .at .units → RunAs w (recovered w (m .stack) k) (stopped n t k) (rust.run (suc u + turns) (rustAt w (begin m u)))
     unfolding Agrees
     stopped-paid turns paid =
         let spent = path-spends w (by .path) in
@@ -170,23 +171,34 @@ module _ (w : World) (good : SaneWorld w) (few : length (w .functions) ≤ 65536
         (stops-so w m u sane k t (path-mark w good sane (mark-sane sane) (by .path)) (so .last ∙ sym (adds .1)) (mark-grows w (marked (begin m u)) (by .path))
         (grows-on (so .heap) (adds .0)) _ _ _ n d)
 
-    stopped-same : (turns : ℕ) → RunAs w (givenUp w (partOf w (m .stack) u (stopped n t k)) .machine) (stopped n t k) (rust.run (suc u + turns) (rustOf w m))
+    stopped-same : (turns : ℕ) → RunAs w (givenUp w (partOf w (m .stack) u (stopped n t k)) .machine) (stopped n t k) (rust.run (suc u + turns) (rustAt w (begin m u)))
     unfolding partOf givenUp RunAs
     stopped-same turns = on (by .at .units) refl
       where
-        on : (x : ℕ) → by .at .units ≡ x → RunAs w (recovered w (m .stack) k) (stopped n t k) (rust.run (suc u + turns) (rustOf w m))
+        on : (x : ℕ) → by .at .units ≡ x → RunAs w (recovered w (m .stack) k) (stopped n t k) (rust.run (suc u + turns) (rustAt w (begin m u)))
         on zero e =
             let z : short ≡ faulted n t = sym (no-units w (by .at) e) ∙ by .stops in
             absurd (let y : _≡_ {A = ℕ} 0 1 = cc in let no : ⊥ = omega arith in no)
         on (suc x) e = stopped-paid turns (omega arith)
 
-  settled-same : (e : Ended) → endOf w (begin m u) ≡ e → (turns : ℕ) → RunAs w (givenUp w (partOf w (m .stack) u e) .machine) e (rust.run (suc u + turns) (rustOf w m))
+  settled-same : (e : Ended) → endOf w (begin m u) ≡ e → (turns : ℕ) → RunAs w (givenUp w (partOf w (m .stack) u e) .machine) e (rust.run (suc u + turns) (rustAt w (begin m u)))
   settled-same (ended k t) q turns = ended-same (run-path w (atStart (begin m u)) (begin m u) (sym (end-of w (begin m u)) ∙ q)) turns
   settled-same (stopped n t k) q turns = stopped-same (run-path w (atStart (begin m u)) (begin m u) (sym (end-of w (begin m u)) ∙ q)) turns
   settled-same (paused k t) q turns = unfold RunAs in tt
+
+-- when a frame was entered is not the Rust's, and so a beginning, which sets that to 0, leaves what the Rust sees
+unentered-same : (fs : List Frame) → map frameOf (map unentered fs) ≡ map frameOf fs
+unentered-same [] = refl
+unentered-same (f ∷ fs) = ap (λ (rest : List rust.CallFrame). frameOf f ∷ rest) (unentered-same fs)
+
+begun-same : (w : World) (m : Machine) (u : ℕ) → rustAt w (begin m u) ≡ rustOf w m
+unfolding rustOf
+begun-same w m u = rw (unentered-same (m .callers)) refl
 
 -- THE THEOREM: in one turn more than there are units, and in any more than that, the Rust comes to what the rules' run comes to, and leaves its machine
 pub run-same : (w : World) → SaneWorld w → length (w .functions) ≤ 65536 → (m : Machine) (u : ℕ) → Sane w (begin m u) → (turns : ℕ)
     → RunAs w (runOf w m u .machine) (endOf w (begin m u)) (rust.run (suc u + turns) (rustOf w m))
 unfolding runOf
-run-same w good few m u sane turns = settled-same w good few m u sane (endOf w (begin m u)) refl turns
+run-same w good few m u sane turns =
+    subst (λ (vm : rust.Vm). RunAs w (runOf w m u .machine) (endOf w (begin m u)) (rust.run (suc u + turns) vm)) (begun-same w m u)
+    (settled-same w good few m u sane (endOf w (begin m u)) refl turns)

@@ -14,7 +14,7 @@ use Rattle.model.specs.declared.Fault.the-variants as f
 use Rattle.model.specs.Basics.{if_then_else_}
 use Rattle.model.specs.Heap.{heapOk}
 use Rattle.model.specs.Programs.{Function, functionAt, wordAt}
-use Rattle.model.specs.Steps.{World, State, Outcome, faulted, withUnits, at, position, codeOf, execOf, operandsThen}
+use Rattle.model.specs.Steps.{World, State, Outcome, faulted, paid, at, position, codeOf, execOf, operandsThen}
 use Rattle.model.specs.Runs.{over}
 use Rattle.cells.proofs.Order.{by-less}
 use Rattle.laws_runs.specs.Sane.{AllPlaced, LastPlaced, Sane}
@@ -33,8 +33,11 @@ pub sane-orderly : {w : World} {s : State} → Sane w s → Orderly w s
 sane-orderly h = record { heap = h .heap; placed = h .placed; last = h .last; known = h .frame .known }
 
 -- the position and the units do not matter
-pub orderly-at : {w : World} {s : State} (i u : ℕ) → Orderly w s → Orderly w (at i (withUnits u s))
-orderly-at i u h = record { heap = h .heap; placed = h .placed; last = h .last; known = h .known }
+pub orderly-at : {w : World} {s : State} (i : ℕ) → Orderly w s → Orderly w (at i s)
+orderly-at i h = record { heap = h .heap; placed = h .placed; last = h .last; known = h .known }
+
+pub orderly-paid : {w : World} {s : State} (k : ℕ) → Orderly w s → Orderly w (paid k s)
+orderly-paid k h = record { heap = h .heap; placed = h .placed; last = h .last; known = h .known }
 
 -- ---- an index
 
@@ -132,13 +135,13 @@ module _ (w : World) (s : State) (h : Orderly w s) (inside : position s ≤ leng
   unfolding rustOf
   reads-none y same =
       let here : position s + 2 * 0 ≡ position s = omega arith in
-      operands-same 0 (arm y (rustAt w s)) (λ l. rw here (same (at (position s) s) (orderly-at (position s) (s .units) h) _ _)) (λ l. absurd (let z : ⊥ = omega arith in z))
+      operands-same 0 (arm y (rustAt w s)) (λ l. rw here (same (at (position s) s) (orderly-at (position s) h) _ _)) (λ l. absurd (let z : ⊥ = omega arith in z))
 
   pub reads-one : (body : ℕ → Vm → Did) → ((t : State) → Orderly w t → (a b : ℕ) → Agrees w (execOf w p a b t) (body a (rustAt w t)))
       → Agrees w (operandsThen w p 1 s) (read-u16 (rustAt w s) body)
   reads-one body same =
       operands-same 1 _
-      (λ l. agrees-as w _ (word-there w s (h .known) body l) (same (at (position s + 2) s) (orderly-at (position s + 2) (s .units) h) _ _))
+      (λ l. agrees-as w _ (word-there w s (h .known) body l) (same (at (position s + 2) s) (orderly-at (position s + 2) h) _ _))
       (λ l. word-past w s (h .known) body l)
 
   -- a test of the first operand may stand before the second is read
@@ -154,7 +157,7 @@ module _ (w : World) (s : State) (h : Orderly w s) (inside : position s ≤ leng
       operands-same 2 _
       (λ l. agrees-as w _
       (word-there w s (h .known) body (omega arith) ∙ is a t ∙ ap (λ (d : Did). if test a then d else panic) (word-there w t (h .known) (body' a) (omega arith)))
-      (rw (← four) (same (at (position s + 2 + 2) s) (orderly-at (position s + 2 + 2) (s .units) h) _ _)))
+      (rw (← four) (same (at (position s + 2 + 2) s) (orderly-at (position s + 2 + 2) h) _ _)))
       (λ l. ⊎-elim (λ g. word-past w s (h .known) body g)
       (λ g. word-there w s (h .known) body g ∙ is a t ∙ ap (λ (d : Did). if test a then d else panic) (word-past w t (h .known) (body' a) (omega arith)) ∙ either-way (test a))
       (by-less (length (codeOf w s)) (position s + 2)))

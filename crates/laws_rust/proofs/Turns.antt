@@ -2,7 +2,7 @@
 use mathlib.Core.Path.{_≡_, refl}
 use mathlib.Core.Bool.{Bool, true, false, not, _&&_, _||_}
 use mathlib.Core.List.{List, [], _∷_}
-use Prim.Native.Nat.{ℕ, zero, suc, _+_, _-_, _≤_, _<_}
+use Prim.Native.Nat.{ℕ, zero, suc, _+_, _≤_, _<_}
 use borrow.Author.Tests.{leb-false}
 use lib.Dec.{eqb, ltb}
 use lib.ListN.{length, getD}
@@ -17,12 +17,12 @@ use Rattle.model.specs.declared.Fault.the-variants as f
 use Rattle.model.specs.Basics.{if_then_else_, ascii}
 use Rattle.model.specs.Opcodes.{Opcode, op, operands, opcodes, opcodeAt}
 use Rattle.model.specs.Programs.{opcodeIn}
-use Rattle.model.specs.Steps.{World, State, faulted, short, withUnits, at, position, codeOf, execOf, operandsThen, decodedThen, fetched, stepOf}
+use Rattle.model.specs.Steps.{World, State, faulted, short, paid, at, position, codeOf, execOf, operandsThen, decodedThen, fetched, stepOf}
 use Rattle.model.specs.Runs.{over}
 use Rattle.laws_runs.specs.Sane.{SaneWorld, Sane}
 use Rattle.laws_rust.specs.Vm as rust
 use Rattle.laws_rust.specs.Same.{rustOf, rustAt, FaultsAs, Agrees}
-use Rattle.laws_rust.proofs.Reading.{Orderly, sane-orderly, orderly-at, byte-there, agrees-as, reads-none, reads-one, reads-two}
+use Rattle.laws_rust.proofs.Reading.{Orderly, sane-orderly, orderly-at, orderly-paid, byte-there, agrees-as, reads-none, reads-one, reads-two}
 use Rattle.laws_rust.proofs.Arms as arms
 use Rattle.laws_rust.proofs.Calls as calls
 use Rattle.laws_rust.proofs.Builds as builds
@@ -162,7 +162,7 @@ step-same w good few s sane o = on (eqb (s .units) 0)
     on true = tt
     on false =
         let l : position s < length (codeOf w s) = leb-false _ _ o in
-        let t = at (suc (position s)) (withUnits (s .units - 1) s) in
-        let h : Orderly w t = orderly-at (suc (position s)) (s .units - 1) (sane-orderly sane) in
+        let t = at (suc (position s)) (paid 1 s) in
+        let h : Orderly w t = orderly-at (suc (position s)) (orderly-paid 1 (sane-orderly sane)) in
         agrees-as w (fetched w (opcodeIn (codeOf w s) (position s)) s) (byte-there w s (sane .frame .known) _ l)
         (decodes-the-same w good few t h l rows (getD (codeOf w s) (position s) 0))

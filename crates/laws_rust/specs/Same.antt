@@ -31,7 +31,7 @@ abbrev pub lastIn : List ℕ → List Cell → Last → Option Tree
 lastIn t H Nothing = none
 lastIn t H (Is v) = some (meaning t H v)
 
--- a machine between runs, and so the state of a run: units and cells are not the Rust's
+-- a machine between runs, and so the state of a run: units, when frames were entered, and cells are not the Rust's
 unfoldable pub rustOf : World → Machine → Vm
 rustOf w m = record {
   bytecode = map chunkOf (w .functions);

@@ -2,7 +2,7 @@
 --     position-small, current-ready     the current frame can be read, and its position counted on
 --     abandons                          the run is stopped there
 -- Assumes nothing.
-use mathlib.Core.Path.{_≡_, refl, sym, ap}
+use mathlib.Core.Path.{_≡_, refl, sym, ap, subst}
 use Prim.Native.Nat.{_-_, _≤_, _<_}
 use native.Mathlib.Omega.{arith}
 use lib.ListN.{length, getD}
@@ -19,7 +19,7 @@ use Rattle.frames.specs.Links.{noFrame, callersOf}
 use Rattle.frames.proofs.Callers.{innermost-is, callers-are}
 use Rattle.run_arms.specs.declared.Going.{Going}
 use Rattle.run_ends.specs.Links.{Begun, cutFrame}
-use Rattle.run_ends.proofs.Ruled.{an-abandoned-run-keeps-how-far-it-had-come, an-abandoned-run-is-cut-by-the-rules, an-abandoned-run-answers-by-the-rules}
+use Rattle.run_ends.proofs.Ruled.{cut, an-abandoned-run-keeps-how-far-it-had-come, an-abandoned-run-is-cut-by-the-rules, an-abandoned-run-answers-by-the-rules}
 use Rattle.machine.specs.Links.{Granted}
 use Rattle.machine.proofs.Granted.{lengths-of, saved-of, trace-long}
 use Rattle.machine.proofs.Leaves.{part-sane}
@@ -37,14 +37,21 @@ module _ (m : Vm) (s : Stores) (l : Lent) (can : Granted abandonsCall m s l) whe
       let small : innermost (m .frames) (l .frames) .position ≤ 131070 = unfold machineIn in order-sane m s l (can .order) 0 .frame .position in
       rw (innermost-is (m .frames) (l .frames) refl) at small
 
-  module _ (bytes : CodeBytes s) (g : Going) (cut : Begun m (cutFrame m here) 0 g) where
-    at : Begun m (cutFrame m (innermost (m .frames) (l .frames))) 0 g
-    at = rw (innermost-is (m .frames) (l .frames) refl) cut
+  -- the frame in which the run is cut
+  abbrev cutHere : Frame
+  cutHere = cutFrame m here
+
+  cut-is : cut m l ≡ cutHere
+  cut-is = ap (cutFrame m) (innermost-is (m .frames) (l .frames) refl)
+
+  module _ (bytes : CodeBytes s) (g : Going) (begun : Begun m cutHere (m .run .given) g) where
+    at : Begun m (cut m l) (m .run .given) g
+    at = subst (λ (f : Frame). Begun m f (m .run .given) g) (sym cut-is) begun
 
     callers-are-here : callersOf (g .callers) (l .frames) ≡ callersIn (m .frames) (l .frames)
-    callers-are-here = sym (callers-are (m .frames) (l .frames) (sym (cut .callers)) (let z = current-ready in omega (arith, cut .callers)))
+    callers-are-here = sym (callers-are (m .frames) (l .frames) (sym (begun .callers)) (let z = current-ready in omega (arith, begun .callers)))
 
-    pub abandons : Stops abandonsCall m s l (m .run .given) g 13 (l .stack) (l .cells) (l .frames)
+    pub abandons : Stops abandonsCall m s l g cutHere 13 (l .stack) (l .cells) (l .frames)
     unfolding worldOf worldIn
     abandons =
         let o = can .order in
@@ -56,12 +63,12 @@ module _ (m : Vm) (s : Stores) (l : Lent) (can : Granted abandonsCall m s l) whe
           saved = saved-of m s l o on;
           long = trace-long l (can .fits .1);
           copyStays = refl;
-          answer = rw callers-are-here (ap ends (an-abandoned-run-answers-by-the-rules m l g at (worldOf m s l)));
-          traced = rw (callers-are-here, an-abandoned-run-is-cut-by-the-rules m l g at)
+          answer = rw (callers-are-here, ← cut-is) (ap ends (an-abandoned-run-answers-by-the-rules m l g at (worldOf m s l)));
+          traced = rw (callers-are-here, ← cut-is, an-abandoned-run-is-cut-by-the-rules m l)
               (unfold cutAt underIn machineIn in cut-faults (worldOf m s l) (underIn m l .state) (order-under m s l o on .state) (order-under m s l o on .inside) .traced);
-          sane = (λ i. rw (an-abandoned-run-keeps-how-far-it-had-come m l g at) (unfold abandonOf underIn in part-sane m s l abandonsCall can bytes i));
-          exactCells = rw (cut .mark) (exact-cut (m .cells) (m .run .mark) (l .cells) (r .mark) (order-exact m s l o .cells));
-          few = omega (arith, cut .callers, n .some, n .frames);
+          sane = rw (an-abandoned-run-keeps-how-far-it-had-come m l g at) (unfold abandonOf underIn in part-sane m s l abandonsCall can bytes);
+          exactCells = rw (begun .mark) (exact-cut (m .cells) (m .run .mark) (l .cells) (r .mark) (order-exact m s l o .cells));
+          few = omega (arith, begun .callers, n .some, n .frames);
           stackRoom = refl;
           cellRoom = refl;
           framesRoom = refl;

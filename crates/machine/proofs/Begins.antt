@@ -17,14 +17,14 @@ use Rattle.model.specs.Machines as mc
 use Rattle.laws_runs.specs.Sane.{Sane}
 use Rattle.laws_runs.specs.Ordered.{CodeBytes}
 use Rattle.laws_runs.proofs.Programs.{parts-of}
-use Rattle.laws_runs.proofs.Ordered.{order-of, under-of, order-exact, order-sane}
-use Rattle.frames.specs.Links.{noFrame, callersOf}
+use Rattle.laws_runs.proofs.Runs.{any-units}
+use Rattle.laws_runs.proofs.Ordered.{order-of, under-of, order-exact, order-under}
+use Rattle.frames.specs.Links.{noFrame}
 use Rattle.run_arms.specs.declared.Fixed.{Fixed}
 use Rattle.run_arms.specs.declared.Going.{Going}
-use Rattle.run_arms.specs.Links.{stateOf}
 use Rattle.run_arms.proofs.Keeping.{exact-all}
 use Rattle.run_steps.specs.Links.{answerIn, progressIn}
-use Rattle.run_loop.specs.Links.{Under}
+use Rattle.run_loop.specs.Links.{stateIn, Under}
 use Rattle.run_ends.specs.Links.{Begun}
 use Rattle.machine.specs.Links.{Granted}
 use Rattle.frames.proofs.Callers.{innermost-is, callers-are}
@@ -34,12 +34,16 @@ use Rattle.machine.proofs.Lends.{FixedIn, text-taken, lent-is, coded-is
 pub record Begins (m : Vm) (s : Stores) (l : Lent) (u : ℕ) (k : Fixed) (g : Going) : Type 0 where
   pub granted : Granted (continues u) m s l
   pub bytes : CodeBytes s
-  pub fixed : FixedIn m l k
-  pub begun : Begun m (getD (l .frames) (m .frames - 1) noFrame) (m .run .given - m .run .spent + u) g
+  pub fixed : FixedIn m l (m .run .given + u) k
+  pub begun : Begun m (getD (l .frames) (m .frames - 1) noFrame) (m .run .spent) g
 
 module _ (m : Vm) (s : Stores) (l : Lent) (u : ℕ) (k : Fixed) (g : Going) (h : Begins m s l u k g) where
+  -- when the current frame was entered
+  abbrev entered : ℕ
+  entered = getD (l .frames) (m .frames - 1) noFrame .entered
+
   abbrev start : State
-  start = stateOf g (l .stack) (l .cells) (callersOf (g .callers) (l .frames))
+  start = stateIn k g entered (l .stack) (l .cells) (l .frames)
 
   -- the running machine stands for the run that is under way, with the units that are left and those that come to them
   start-is : withUnits (underIn m l .state .units + u) (underIn m l .state) ≡ start
@@ -47,7 +51,11 @@ module _ (m : Vm) (s : Stores) (l : Lent) (u : ℕ) (k : Fixed) (g : Going) (h :
   start-is =
       let b = h .begun in
       let n = lengths-of m s l (h .granted .order) in
+      let r = under-of m s l (h .granted .order) (h .granted .fits .0) in
+      let units : m .run .given - m .run .spent + u ≡ m .run .given + u - m .run .spent = omega (arith, r .spent) in
       rw (
+        units,
+        h .fixed .given,
         callers-are (m .frames) (l .frames) refl (let z = n .current in omega arith),
         innermost-is (m .frames) (l .frames) refl,
         b .sp,
@@ -56,7 +64,7 @@ module _ (m : Vm) (s : Stores) (l : Lent) (u : ℕ) (k : Fixed) (g : Going) (h :
         b .base,
         b .callers,
         b .used,
-        b .units,
+        b .spent,
         b .last,
       )
 
@@ -68,7 +76,7 @@ module _ (m : Vm) (s : Stores) (l : Lent) (u : ℕ) (k : Fixed) (g : Going) (h :
       ≡ endFrom (worldOf m s l) (progressIn g (l .cells)) start
   begins-end = rw (start-is, same-progress)
 
-  pub run-under : Under (worldOf m s l) k g (m .program .text) (s .constants) (s .functions) (s .text) (s .main) (s .other) (l .stack) (l .cells) (l .frames)
+  pub run-under : Under (worldOf m s l) k g entered (m .program .text) (s .constants) (s .functions) (s .text) (s .main) (s .other) (l .stack) (l .cells) (l .frames)
   unfolding frameRoom places
   run-under =
       let o = h .granted .order in
@@ -77,9 +85,8 @@ module _ (m : Vm) (s : Stores) (l : Lent) (u : ℕ) (k : Fixed) (g : Going) (h :
       let exact = order-exact m s l o in
       let n = lengths-of m s l o in
       let r = under-of m s l o (h .granted .fits .0) in
-      let few = h .granted .fits .1 .1 in
-      let sane : Sane (worldOf m s l) (withUnits (underIn m l .state .units + u) (underIn m l .state)) =
-      unfold underIn in order-sane m s l o (m .run .given - m .run .spent + u) in
+      let under = order-under m s l o (h .granted .fits .0) in
+      let sane : Sane (worldOf m s l) (withUnits (underIn m l .state .units + u) (underIn m l .state)) = any-units (underIn m l .state) (under .state) in
       record {
         taken = text-taken (m .program) s (parts-of (m .program) s (order-of m s l o .program));
         lent = lent-is m s l k x o (h .bytes);
@@ -89,7 +96,8 @@ module _ (m : Vm) (s : Stores) (l : Lent) (u : ℕ) (k : Fixed) (g : Going) (h :
           stack = record { count = omega arith; room = omega arith; exact = rw (b .sp) (exact-all (m .stack) (l .stack) (exact .stack)); callers = omega arith };
           cells = record { count = rw (b .used) (n .cells); exact = rw (b .used) (exact .cells) };
           mark = omega (arith, b .mark, b .used, r .mark);
-          returns = omega (arith, b .returns, b .units, r .returns, r .spent);
+          spent = omega (arith, b .spent, x .given, r .spent);
+          returns = omega (arith, b .returns, b .spent, r .returns);
         };
         sane = rw start-is at sane;
       }

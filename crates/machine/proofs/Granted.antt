@@ -177,6 +177,6 @@ pub copy-long : (m : Vm) (s : Stores) (l : Lent) → runOrder m s l ≡ true →
 unfolding copyShort places
 copy-long m s l e short = let z : places 2 (l .stack) ≤ places 2 (l .copy) = ltb-false _ _ short in let n = lengths-of m s l e in omega arith
 
-pub trace-long : (l : Lent) → traceShort l ≡ false → frameRoom (l .frames) ≤ places 2 (l .backtrace)
+pub trace-long : (l : Lent) → traceShort l ≡ false → frameRoom (l .frames) ≤ places 3 (l .backtrace)
 unfolding traceShort
 trace-long l short = ltb-false _ _ short

@@ -17,13 +17,13 @@ use Rattle.model.specs.declared.Vm.{Vm}
 use Rattle.model.specs.declared.RunResult.{RunResult}
 use Rattle.model.specs.Basics.{if_then_else_, written}
 use Rattle.model.specs.Values.{places}
-use Rattle.model.specs.Runs.{begin, Part, ends, beginOf, continueOf, abandonOf}
+use Rattle.model.specs.Runs.{Part, ends, beginOf, continueOf, abandonOf}
 use Rattle.model.specs.Stores.{Stores, worldIn}
 use Rattle.model.specs.Orders.{programOk}
 use Rattle.model.specs.Machines.{Lent, frameRoom, machineIn, underIn, worldOf, runOrder, ran, refused, RunCall, begins, continues, abandons, runAnswer, beginAnswer, continueAnswer, abandonAnswer, copied, copyAfter, entryWords, traceOfPart, traceAfter, noRun, SameRooms, Leaves, Left, RunPost}
 use Rattle.model.specs.Machines as mc
 use Rattle.laws_runs.specs.Sane.{Sane}
-use Rattle.laws_runs.specs.Parts.{SaneUnder, SanePart}
+use Rattle.laws_runs.specs.Parts.{SaneUnder, SaneMachine, SanePart}
 use Rattle.laws_runs.specs.Ordered.{CodeBytes, Exact, Beside}
 use Rattle.laws_runs.proofs.Runs.{begun-sane, continued-sane, abandoned-sane}
 use Rattle.laws_runs.proofs.Ordered.{order-of, order-world, order-sane, order-under, same-world, sane-order, idle-to}
@@ -90,12 +90,12 @@ module _ (m : Vm) (s : Stores) (l : Lent) where
 -- ---- what is left is in good order: m' over l', beside m over l
 
 module _ {m m' : Vm} {l l' : Lent} (s : Stores) (order : runOrder m s l ≡ true) (beside : Beside m l m' l') (exact : Exact m' l') where
-  pub leaves-idle : m' .run ≡ noRun → ((u : ℕ) → Sane (worldOf m s l) (begin (machineIn m' l') u)) → Leaves false m' s l'
-  leaves-idle idle sane = record { order = sane-order s 0 order beside exact (sane 0) (idle-to m' s l' idle); run = rw idle }
+  pub leaves-idle : m' .run ≡ noRun → SaneMachine (worldOf m s l) (machineIn m' l') → Leaves false m' s l'
+  leaves-idle idle sane = record { order = sane-order s _ 0 order beside exact (sane 0) (idle-to m' s l' idle); run = rw idle }
 
   pub leaves-under : m' .run .on ≡ true → PausedExact m' l' → SaneUnder (worldOf m s l) (underIn m' l') → Leaves true m' s l'
   leaves-under on paused sane =
       let program : programOk (m' .program) s ≡ true = rw (beside .program) (order-of m s l order .program) in
       let part = a-paused-run-is-in-order m' s l' program paused (rw (same-world s beside) sane) on in
       let stands : Sane (worldOf m s l) (underIn m' l' .state) = sane .state in
-      record { order = sane-order s (m' .run .given - m' .run .spent) order beside exact (unfold underIn in stands) part; run = on }
+      record { order = sane-order s (m' .run .spent) (m' .run .given - m' .run .spent) order beside exact (unfold underIn in stands) part; run = on }

@@ -31,13 +31,14 @@ use Rattle.run_arms.specs.declared.Fixed.{Fixed}
 use Rattle.run_steps.specs.Links as st
 use Rattle.run_loop.specs.Links.{codeIn}
 
--- the counts and rooms that no step changes
-pub record FixedIn (m : Vm) (l : Lent) (k : Fixed) : Type 0 where
+-- the counts and rooms that no step changes, and the u units that are given in all
+pub record FixedIn (m : Vm) (l : Lent) (u : ℕ) (k : Fixed) : Type 0 where
   pub constants : k .constants ≡ m .program .constants
   pub structs : k .structs ≡ m .program .structs
   pub functions : k .functions ≡ m .program .functions
   pub slots : k .slots ≡ places 2 (l .stack)
   pub frames : k .frames ≡ frameRoom (l .frames)
+  pub given : k .given ≡ u
 
 -- a part of the front of a store is a part of the store
 part-taken : (t : ℕ) (xs : List ℕ) (w : ℕ) → t ≤ length xs → start w + size w ≤ t → part (take t xs) w ≡ part xs w
@@ -77,7 +78,7 @@ module _ (c : Counts) (s : Stores) (p : Parts c s) where
   names-are zero i h = refl
   names-are (suc n) i h = rw (part-taken (c .text) (s .text) (nameWord (s .functions) i) text-taken (name-inside i (omega arith)), names-are n (suc i) (omega arith))
 
-module _ (m : Vm) (s : Stores) (l : Lent) (k : Fixed) (x : FixedIn m l k) where
+module _ (m : Vm) (s : Stores) (l : Lent) {u : ℕ} (k : Fixed) (x : FixedIn m l u k) where
   pub lent-is : runOrder m s l ≡ true → CodeBytes s → st.Lent (worldOf m s l) k (s .constants) (s .functions) (take (m .program .text) (s .text)) (l .cells)
   unfolding worldOf worldIn namesLent
   lent-is e b =

@@ -29,10 +29,10 @@ use Rattle.run_ends.specs.Links.{programLent, valuesOk, restOrder, countsBy, pa
 use Rattle.machine.specs.Links.{runLent}
 use Rattle.machine.proofs.Granted.{functions-there, frames-there}
 
--- a test and then three are four in a row
-nested : (a b c d : Bool) → (a && (b && c && d)) ≡ (a && b && c && d)
-nested true b c d = refl
-nested false b c d = refl
+-- a test and then three, with two behind them, are six in a row
+nested : (a b c d e f : Bool) → (a && (b && c && d) && e && f) ≡ (a && b && c && d && e && f)
+nested true b c d e f = refl
+nested false b c d e f = refl
 
 module _ (m : Vm) (s : Stores) (l : Lent) where
   abbrev functions : ℕ
@@ -101,7 +101,7 @@ module _ (m : Vm) (s : Stores) (l : Lent) where
     part-judged : partBy m here (places 2 (l .stack)) (s .functions) (l .cells) (l .copy) ≡ partOrder m s l
     unfolding partBy partOrder underOrder countsBy valuesOk
     part-judged =
-        rw (here-is, its-code, nested (countsBy (m .run) (m .last) (m .cells) (places 2 (l .stack))) _ _ _)
+        rw (here-is, its-code, nested (countsBy (m .run) (m .last) (m .cells) (places 2 (l .stack))) _ _ _ _ _)
 
     whole-is : {whole : Bool} → whole ≡ partBy m here (places 2 (l .stack)) (s .functions) (l .cells) (l .copy) → whole ≡ runOrder m s l
     unfolding runOrder

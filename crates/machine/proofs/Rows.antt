@@ -145,7 +145,10 @@ pub course-going : (c : Course) → IsCourse c → IsGoing (c .going)
 course-going c is = LL.owed C.the-type C′.the-laws c _ is .0
 
 pub course-fault : (c : Course) → IsCourse c → c .fault < 2 ^ 8
-course-fault c is = LL.owed C.the-type C′.the-laws c _ is .1 .1 .0 .1
+course-fault c is = LL.owed C.the-type C′.the-laws c _ is .1 .1 .1 .0 .1
+
+pub course-entered : (c : Course) → IsCourse c → c .entered < 2 ^ 64
+course-entered c is = LL.owed C.the-type C′.the-laws c _ is .1 .0 .1
 
 module _ {M : Type 1} (𝓤 : URA M) (H : Heap 𝓤) (A : Atoms 𝓤) (W : Given 𝓤 H A) where
   pub vm-typed : (m : Vm) → IsVm m → T (hasTy VM′.mir (vmVal m)) × WT (vmVal m)

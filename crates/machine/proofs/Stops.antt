@@ -19,17 +19,16 @@ use Rattle.model.specs.Values.{places, vals}
 use Rattle.model.specs.Heap.{exactCells}
 use Rattle.model.specs.Programs.{Function, functionAt}
 use Rattle.model.specs.Steps.{World}
-use Rattle.model.specs.Runs.{begin, root, traceOf, traceable, recovered, fault, ends}
+use Rattle.model.specs.Runs.{root, traceOf, traceable, recovered, fault, ends}
 use Rattle.model.specs.Stores.{Stores, size, codeWord, functionsFrom, worldIn}
 use Rattle.model.specs.Machines.{Lent, frameRoom, innermost, callersIn, machineIn, worldOf, RunCall, entryWords, traceOfReply, traceOfPart, entriesIn, SameRooms, RunPost}
-use Rattle.laws_runs.specs.Sane.{Sane}
+use Rattle.laws_runs.specs.Parts.{SaneMachine}
 use Rattle.laws_runs.specs.Ordered.{Exact}
 use Rattle.laws_runs.proofs.Programs.{Parts, parts-of, has-main, code-size}
 use Rattle.laws_runs.proofs.Ordered.{order-of}
 use Rattle.frames.specs.Links.{noFrame, callersOf, traceWords, TraceFits}
 use Rattle.frames.proofs.Callers.{innermost-is, callers-are, length-callers}
 use Rattle.run_arms.specs.declared.Going.{Going}
-use Rattle.run_arms.specs.Links.{frameIn}
 use Rattle.run_steps.specs.Links.{progressIn}
 use Rattle.run_ends.specs.Links.{tallyOf, vmFaulted, faultedWith}
 use Rattle.run_ends.proofs.Ruled.{a-fault-leaves-the-recovered-machine, a-fault-answers-by-the-rules}
@@ -39,7 +38,8 @@ use Rattle.machine.proofs.Granted.{Saved}
 use Rattle.machine.proofs.Traced.{traced-first, traced-at, readable, trace-told, length-trace, entries-told}
 use Rattle.machine.proofs.Leaves.{comesTo, copyLeft, posted, leaves-idle}
 
-module _ (c : RunCall) (m : Vm) (s : Stores) (l : Lent) (given : ℕ) (now : Going) (n : ℕ) (stack cells : List ℕ) (frames : List Frame) where
+-- in the frame f
+module _ (c : RunCall) (m : Vm) (s : Stores) (l : Lent) (now : Going) (f : Frame) (n : ℕ) (stack cells : List ℕ) (frames : List Frame) where
   abbrev world : World
   world = worldOf m s l
 
@@ -56,14 +56,14 @@ module _ (c : RunCall) (m : Vm) (s : Stores) (l : Lent) (given : ℕ) (now : Goi
   pub record Stops : Type 0 where
     pub granted : Granted c m s l
     pub saved : Saved m l
-    pub long : frameRoom (l .frames) ≤ places 2 (l .backtrace)
+    pub long : frameRoom (l .frames) ≤ places 3 (l .backtrace)
     pub copyStays : l .copy ≡ copyLeft m l c
     pub answer : comesTo m s l c ≡ ends (record {
-      reply = fault n (tallyOf given now) (traceOf functions (frameIn now ∷ callers));
+      reply = fault n (tallyOf now) (traceOf functions (f ∷ callers));
       machine = recovered world start (progressIn now cells);
     })
-    pub traced : traceable functions (frameIn now ∷ callers) ≡ true
-    pub sane : (i : ℕ) → Sane world (begin (recovered world start (progressIn now cells)) i)
+    pub traced : traceable functions (f ∷ callers) ≡ true
+    pub sane : SaneMachine world (recovered world start (progressIn now cells))
     pub exactCells : exactCells (now .mark) 0 cells ≡ true
     pub few : now .callers < frameRoom (l .frames)
     pub stackRoom : length stack ≡ length (l .stack)
@@ -88,16 +88,16 @@ module _ (c : RunCall) (m : Vm) (s : Stores) (l : Lent) (given : ℕ) (now : Goi
     pub stack-there : 2 * m .run .saved ≤ length stack
     stack-there = omega (arith, h .stackRoom, h .saved .back)
 
-    pub trace-ready : TraceFits (s .functions) (s .mainPlaces) (s .otherPlaces) (frameIn now) (now .callers) frames (length (l .backtrace))
+    pub trace-ready : TraceFits (s .functions) (s .mainPlaces) (s .otherPlaces) f (now .callers) frames (length (l .backtrace))
     unfolding frameRoom places
     trace-ready =
-        let (first, rest) = traced-first functions (frameIn now) callers (h .traced) in
+        let (first, rest) = traced-first functions f callers (h .traced) in
         let z = h .few in
         let y = h .long in
         record {
           fits = omega arith;
           there = let y = callers-there in omega arith;
-          first = readable (m .program) s parts (frameIn now) first;
+          first = readable (m .program) s parts f first;
           each = (λ i l. readable (m .program) s parts (getD frames i noFrame) (traced-at functions (now .callers) frames rest i l));
         }
 
@@ -110,7 +110,7 @@ module _ (c : RunCall) (m : Vm) (s : Stores) (l : Lent) (given : ℕ) (now : Goi
     stackLeft = written stack 0 (take (2 * m .run .saved) (l .copy))
 
     abbrev told : List ℕ
-    told = written (l .backtrace) 0 (traceWords (s .functions) (s .mainPlaces) (s .otherPlaces) (frameIn now ∷ callers))
+    told = written (l .backtrace) 0 (traceWords (s .functions) (s .mainPlaces) (s .otherPlaces) (f ∷ callers))
 
     abbrev left : Lent
     left = runLent stackLeft cells framesLeft (l .copy) told
@@ -133,7 +133,7 @@ module _ (c : RunCall) (m : Vm) (s : Stores) (l : Lent) (given : ℕ) (now : Goi
 
     recovers : machineIn (vmFaulted m now) left ≡ recovered world start (progressIn now cells)
     unfolding runLent
-    recovers = a-fault-leaves-the-recovered-machine m given now left world stack-put-back main-put no-callers
+    recovers = a-fault-leaves-the-recovered-machine m now left world stack-put-back main-put no-callers
 
     rooms : SameRooms l left
     unfolding runLent written
@@ -154,20 +154,20 @@ module _ (c : RunCall) (m : Vm) (s : Stores) (l : Lent) (given : ℕ) (now : Goi
 
     -- ---- the backtrace, as it is told and as it is read
 
-    told-words : traceWords (s .functions) (s .mainPlaces) (s .otherPlaces) (frameIn now ∷ callers) ≡ entryWords (traceOf functions (frameIn now ∷ callers))
-    told-words = trace-told (m .program) s parts (frameIn now ∷ callers) (h .traced)
+    told-words : traceWords (s .functions) (s .mainPlaces) (s .otherPlaces) (f ∷ callers) ≡ entryWords (traceOf functions (f ∷ callers))
+    told-words = trace-told (m .program) s parts (f ∷ callers) (h .traced)
 
-    told-entries : entriesIn (suc (now .callers)) 0 told ≡ traceOf functions (frameIn now ∷ callers)
+    told-entries : entriesIn (suc (now .callers)) 0 told ≡ traceOf functions (f ∷ callers)
     told-entries =
-        let es = traceOf functions (frameIn now ∷ callers) in
-        let k : length es ≡ suc (now .callers) = length-trace functions (frameIn now ∷ callers) ∙ ap suc (length-callers (now .callers) frames) in
+        let es = traceOf functions (f ∷ callers) in
+        let k : length es ≡ suc (now .callers) = length-trace functions (f ∷ callers) ∙ ap suc (length-callers (now .callers) frames) in
         let z = trace-ready .fits in
         rw (told-words, sym k) (entries-told es (l .backtrace) (omega arith))
 
-    pub run-stopped : RunPost c m s l (faultedWith m given now n) left
+    pub run-stopped : RunPost c m s l (faultedWith m now n) left
     run-stopped =
-        posted m s l c (h .granted) (h .answer) (faultedWith m given now n) left
-        (unfold runLent in a-fault-answers-by-the-rules m given now left world stack-put-back main-put no-callers n told-entries)
+        posted m s l c (h .granted) (h .answer) (faultedWith m now n) left
+        (unfold runLent in a-fault-answers-by-the-rules m now left world stack-put-back main-put no-callers n told-entries)
         (unfold runLent in h .copyStays)
         (unfold runLent traceOfReply traceOfPart in rw told-words)
         rooms
@@ -175,4 +175,4 @@ module _ (c : RunCall) (m : Vm) (s : Stores) (l : Lent) (given : ℕ) (now : Goi
         (unfold vmFaulted in record { program = refl; stack = rooms .stack; cells = rooms .cells; frames = rooms .frames })
         exact
         (unfold vmFaulted in refl)
-        (λ i. rw recovers (h .sane i)))
+        (rw recovers (h .sane)))

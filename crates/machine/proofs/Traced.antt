@@ -82,7 +82,6 @@ module _ (c : Counts) (s : Stores) (p : Parts c s) where
       let whole = simp (length-take, length-drop) at (part-size c (s .functions) (p .functions) (s .mainPlaces) (s .otherPlaces) (p .places) (r .function) l) in
       record {
         known = omega arith;
-        small = omega arith;
         inside = omega arith;
       }
 
@@ -103,23 +102,25 @@ unfolding traceOf
 length-trace fs [] = refl
 length-trace fs (r ∷ rs) = ap suc (length-trace fs rs)
 
-length-entries : (es : List Entry) → length (entryWords es) ≡ 2 * length es
+length-entries : (es : List Entry) → length (entryWords es) ≡ 3 * length es
 unfolding entryWords
 length-entries [] = refl
 length-entries (e ∷ es) = let z = length-entries es in omega arith
 
-entries-behind : (n i a b : ℕ) (ws : List ℕ) → entriesIn n (suc i) (a ∷ b ∷ ws) ≡ entriesIn n i ws
+entries-behind : (n i a b c : ℕ) (ws : List ℕ) → entriesIn n (suc i) (a ∷ b ∷ c ∷ ws) ≡ entriesIn n i ws
 unfolding entriesIn
-entries-behind zero i a b ws = refl
-entries-behind (suc n) i a b ws =
-    let x : 2 * suc i ≡ suc (suc (2 * i)) = omega arith in
-    let y : 2 * suc i + 1 ≡ suc (suc (2 * i + 1)) = omega arith in
-    rw (y, x, entries-behind n (suc i) a b ws)
+entries-behind zero i a b c ws = refl
+entries-behind (suc n) i a b c ws =
+    let x : 3 * suc i ≡ suc (suc (suc (3 * i))) = omega arith in
+    let y : 3 * suc i + 1 ≡ suc (suc (suc (3 * i + 1))) = omega arith in
+    let z : 3 * suc i + 2 ≡ suc (suc (suc (3 * i + 2))) = omega arith in
+    rw (z, y, x, entries-behind n (suc i) a b c ws)
 
 entries-of : (es : List Entry) (rest : List ℕ) → entriesIn (length es) 0 (entryWords es ++ rest) ≡ es
 unfolding entriesIn entryWords
 entries-of [] rest = refl
-entries-of (e ∷ es) rest = ap (λ (t : List Entry). e ∷ t) (entries-behind (length es) 0 (e .function) (e .place) (entryWords es ++ rest) ∙ entries-of es rest)
+entries-of (e ∷ es) rest =
+    ap (λ (t : List Entry). e ∷ t) (entries-behind (length es) 0 (e .function) (e .place) (e .entered) (entryWords es ++ rest) ∙ entries-of es rest)
 
-pub entries-told : (es : List Entry) (b : List ℕ) → 2 * length es ≤ length b → entriesIn (length es) 0 (written b 0 (entryWords es)) ≡ es
+pub entries-told : (es : List Entry) (b : List ℕ) → 3 * length es ≤ length b → entriesIn (length es) 0 (written b 0 (entryWords es)) ≡ es
 entries-told es b h = rw (written-front b (entryWords es) (omega (arith, length-entries es))) (entries-of es (drop (length (entryWords es)) b))

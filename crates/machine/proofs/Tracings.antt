@@ -30,7 +30,7 @@ use Rattle.value.proofs.Coding.{and-left, and-right}
 use Rattle.laws_runs.proofs.Tests.{every-of}
 use Rattle.laws_runs.proofs.Programs.{Parts, length-functions, code-size}
 use Rattle.laws_runs.proofs.Frames.{some-frame}
-use Rattle.frames.specs.Links.{noFrame, frameGood, firstGood, callerGood, placeGood, framesGood, callersOf, traceWords, traceGood, TraceFits}
+use Rattle.frames.specs.Links.{noFrame, frameGood, enteredGood, callerGood, placeGood, callerEntered, framesGood, callersOf, traceWords, traceGood, TraceFits}
 use Rattle.frames.proofs.Orders.{function-known}
 use Rattle.frames.proofs.Meaning.{AllKnown, frames-are-good, known-callers, trace-is-good}
 use Rattle.run_ends.specs.Links.{programLent}
@@ -42,13 +42,13 @@ use Rattle.machine.proofs.Traced.{traced-first, traced-at, readable, tr
 -- ---- 19, 17, or neither
 
 module _ (good : Bool) (n : ℕ) (out : List ℕ) where
-  pub is-short : good ≡ true → {room : ℕ} → room ≡ places 2 out → room < n → 17 ≡ traceRefusal good n out
+  pub is-short : good ≡ true → {room : ℕ} → room ≡ places 3 out → room < n → 17 ≡ traceRefusal good n out
   unfolding traceRefusal
-  is-short g e h = rw (g, lt-ltb (places 2 out) n (omega (arith, e, h)))
+  is-short g e h = rw (g, lt-ltb (places 3 out) n (omega (arith, e, h)))
 
-  pub has-room : good ≡ true → {room : ℕ} → room ≡ places 2 out → n ≤ room → 0 ≡ traceRefusal good n out
+  pub has-room : good ≡ true → {room : ℕ} → room ≡ places 3 out → n ≤ room → 0 ≡ traceRefusal good n out
   unfolding traceRefusal
-  has-room g e h = rw (g, le-ltb (places 2 out) n (omega (arith, e, h)))
+  has-room g e h = rw (g, le-ltb (places 3 out) n (omega (arith, e, h)))
 
   pub is-bad : good ≡ false → 19 ≡ traceRefusal good n out
   unfolding traceRefusal
@@ -184,11 +184,12 @@ module _ (m : Vm) (structs constants functions text main mainPlaces other otherP
         unfolding framesGood placeGood
         known-at i h =
             let room = leb 1 n && leb n (min (length frames) mostPlaces) in
-            let at : ℕ → Bool = (λ j. placeGood functions (c .functions) slots n j (getD frames j noFrame)) in
+            let at : ℕ → Bool = (λ j. placeGood functions (c .functions) slots n j (callerEntered frames j) (getD frames j noFrame)) in
             let r = getD frames i noFrame in
+            let entry = enteredGood i (callerEntered frames i) r in
             let e = every-of at n 0 (and-right room (everyFrom n 0 at) (by-words ∙ good)) i (omega arith) (omega arith) in
-            function-known (c .functions) slots r (and-left (frameGood (c .functions) slots r) (firstGood i r)
-            (and-left (frameGood (c .functions) slots r && firstGood i r) (callerGood functions n i r) e))
+            function-known (c .functions) slots r (and-left (frameGood (c .functions) slots r) entry
+            (and-left (frameGood (c .functions) slots r && entry) (callerGood functions n i r) e))
 
         all-known : AllKnown (c .functions) (framesIn n frames)
         unfolding framesIn
@@ -198,7 +199,7 @@ module _ (m : Vm) (structs constants functions text main mainPlaces other otherP
         unfolding programLent
         good-is = trace-is-good functions (c .functions) (functionsFrom (c .functions) 0 without-constants) (code-size (bare c) without-constants parts) (framesIn n frames) all-known
 
-        fits : {room : ℕ} → 2 * n ≤ room → traceGood functions (framesIn n frames) ≡ true → TraceFits functions mainPlaces otherPlaces (getD frames (n - 1) noFrame) (n - 1) frames room
+        fits : {room : ℕ} → 3 * n ≤ room → traceGood functions (framesIn n frames) ≡ true → TraceFits functions mainPlaces otherPlaces (getD frames (n - 1) noFrame) (n - 1) frames room
         unfolding framesIn programLent
         fits h e =
             let gs = functionsFrom (c .functions) 0 without-constants in
@@ -210,7 +211,7 @@ module _ (m : Vm) (structs constants functions text main mainPlaces other otherP
               each = λ i l. readable (bare c) without-constants parts (getD frames i noFrame) (traced-at gs (n - 1) frames rest i l);
             }
 
-        ready : {room : ℕ} → 2 * n ≤ room → Traceable functions mainPlaces otherPlaces n frames room
+        ready : {room : ℕ} → 3 * n ≤ room → Traceable functions mainPlaces otherPlaces n frames room
         ready h = record { some = some; there = there; fits = fits h }
 
         counted : length (framesIn n frames) ≡ n
@@ -248,11 +249,11 @@ module _ (m : Vm) (structs constants functions text main mainPlaces other otherP
     module _ (none : w ≡ 0) where
       order : traceOrder m stores stack frames ≡ true
       unfolding traceRefusal
-      order = none-good (traceOrder m stores stack frames) (ltb (places 2 out) n) (sym told ∙ none) .0
+      order = none-good (traceOrder m stores stack frames) (ltb (places 3 out) n) (sym told ∙ none) .0
 
-      room : ltb (places 2 out) n ≡ false
+      room : ltb (places 3 out) n ≡ false
       unfolding traceRefusal
-      room = none-good (traceOrder m stores stack frames) (ltb (places 2 out) n) (sym told ∙ none) .1
+      room = none-good (traceOrder m stores stack frames) (ltb (places 3 out) n) (sym told ∙ none) .1
 
       program : traceProgram c stores ≡ true
       program = and-left (traceProgram c stores) (frameStoreOk fs (places 2 stack) n frames) (sym (by-parts stack frames) ∙ order)
@@ -262,7 +263,7 @@ module _ (m : Vm) (structs constants functions text main mainPlaces other otherP
 
       pub trace-ready : Traceable functions mainPlaces otherPlaces n frames (length out)
       unfolding places
-      trace-ready = ready program (places 2 stack) frames framed (omega (arith, ltb-false (places 2 out) n room))
+      trace-ready = ready program (places 2 stack) frames framed (omega (arith, ltb-false (places 3 out) n room))
 
       pub trace-is : traceInto functions mainPlaces otherPlaces n frames out ≡ backtraceIn m stores stack frames out
       unfolding backtraceIn framesIn
@@ -272,4 +273,4 @@ module _ (m : Vm) (structs constants functions text main mainPlaces other otherP
 
     pub trace-refused : (w ≡ 0 → ⊥) → refused-with w out ≡ backtraceIn m stores stack frames out
     unfolding backtraceIn traceRefusal
-    trace-refused some = refused-by (traceOrder m stores stack frames) (ltb (places 2 out) n) _ out told some
+    trace-refused some = refused-by (traceOrder m stores stack frames) (ltb (places 3 out) n) _ out told some

@@ -46,7 +46,7 @@ framesIn n frames = getD frames (n - 1) noFrame ∷ callersOf (n - 1) frames
 
 -- why there is no backtrace of n frames, before their places are looked at; 0 where there may be one
 unfoldable pub traceRefusal : Bool → ℕ → List ℕ → ℕ
-traceRefusal good n out = if good then (if ltb (places 2 out) n then 17 else 0) else 19
+traceRefusal good n out = if good then (if ltb (places 3 out) n then 17 else 0) else 19
 
 -- the frames have room, and where their places lie inside their codes they can be read
 pub record Traceable (words main other : List ℕ) (n : ℕ) (frames : List Frame) (room : ℕ) : Type 0 where

@@ -4,7 +4,6 @@ pub mod starting; // starting.rt: making a machine, all but its frame
 pub mod tracing; // tracing.rt: judging and writing a backtrace
 
 use crate::running::current;
-use crate::running::given_of;
 use crate::running::go;
 use crate::running::not_run;
 use crate::running::order;
@@ -18,6 +17,7 @@ use crate::tracing::refused;
 use crate::tracing::trace_order;
 use crate::tracing::trace_refusal;
 use frames::push_frame;
+use frames::unenter;
 use model::Frame;
 use model::RunResult;
 use model::Started;
@@ -29,6 +29,7 @@ use run_ends::begin_refusal;
 use run_ends::begun;
 use run_ends::continue_refusal;
 use run_ends::copy_front;
+use run_ends::cut_frame;
 ghost use mathlib.Core.Path.{_≡_};
 ghost use mathlib.Core.List.{List};
 ghost use Prim.Native.Nat.{ℕ};
@@ -39,7 +40,8 @@ ghost use Rattle.model.specs.Stores.{storesOf as lent};
 ghost use Rattle.run_ends.specs.Links.{programLent};
 ghost use Rattle.machine.specs.Links.{runLent};
 
-// A run is begun: the stack is copied. It writes no backtrace, so its promise is of any store for one.
+// A run is begun: the stack is copied, and the numbers of units at which its frames were entered are set to 0. It writes no backtrace, so its promise is
+// of any store for one.
 pub fn begin(
     m: Vm,
     constants: &[u64],
@@ -52,10 +54,10 @@ pub fn begin(
     other_places: &[u32],
     stack: &[u64],
     cells: &[u64],
-    frames: &[Frame],
+    frames: &mut [Frame],
     copy: &mut [u64],
 ) -> RunResult
-    ensures { λ r. ⌜ ((backtrace : List ℕ) → RunPost begins m (programLent (now (structs .entry)) (now (constants .entry)) (now (functions .entry)) (now (text .entry)) (now (main .entry)) (now («main_places» .entry)) (now (other .entry)) (now («other_places» .entry))) (runLent (now (stack .entry)) (now (cells .entry)) (now (frames .entry)) (now (copy .entry)) backtrace) r (runLent (now (stack .entry)) (now (cells .entry)) (now (frames .entry)) (now (copy .exit)) backtrace)) ⌝ }
+    ensures { λ r. ⌜ ((backtrace : List ℕ) → RunPost begins m (programLent (now (structs .entry)) (now (constants .entry)) (now (functions .entry)) (now (text .entry)) (now (main .entry)) (now («main_places» .entry)) (now (other .entry)) (now («other_places» .entry))) (runLent (now (stack .entry)) (now (cells .entry)) (now (frames .entry)) (now (copy .entry)) backtrace) r (runLent (now (stack .entry)) (now (cells .entry)) (now (frames .exit)) (now (copy .exit)) backtrace)) ⌝ }
 {
     let good = order(
         m,
@@ -76,6 +78,8 @@ pub fn begin(
     if why == 0 {
         let n = m.stack;
         copy_front(n, stack, copy);
+        let count = m.frames;
+        unenter(frames, count);
         let f = current(m, frames);
         let answer = begun(m, f, functions);
         return answer;
@@ -100,7 +104,7 @@ pub fn continue_run(
     cells: &mut [u64],
     frames: &mut [Frame],
     copy: &[u64],
-    backtrace: &mut [u32],
+    backtrace: &mut [u64],
 ) -> RunResult
     ensures { λ r. ⌜ RunPost (continues units) m (programLent (now (structs .entry)) (now (constants .entry)) (now (functions .entry)) (now (text .entry)) (now (main .entry)) (now («main_places» .entry)) (now (other .entry)) (now («other_places» .entry))) (runLent (now (stack .entry)) (now (cells .entry)) (now (frames .entry)) (now (copy .entry)) (now (backtrace .entry))) r (runLent (now (stack .exit)) (now (cells .exit)) (now (frames .exit)) (now (copy .entry)) (now (backtrace .exit))) ⌝ }
 {
@@ -159,7 +163,7 @@ pub fn abandon(
     cells: &[u64],
     frames: &mut [Frame],
     copy: &[u64],
-    backtrace: &mut [u32],
+    backtrace: &mut [u64],
 ) -> RunResult
     ensures { λ r. ⌜ RunPost abandons m (programLent (now (structs .entry)) (now (constants .entry)) (now (functions .entry)) (now (text .entry)) (now (main .entry)) (now («main_places» .entry)) (now (other .entry)) (now («other_places» .entry))) (runLent (now (stack .entry)) (now (cells .entry)) (now (frames .entry)) (now (copy .entry)) (now (backtrace .entry))) r (runLent (now (stack .exit)) (now (cells .entry)) (now (frames .exit)) (now (copy .entry)) (now (backtrace .exit))) ⌝ }
 {
@@ -181,12 +185,12 @@ pub fn abandon(
     let why = abandon_refusal(good, m, frames.len(), backtrace.len());
     if why == 0 {
         let f = current(m, frames);
-        let g = abandoned(m, f);
-        let given = given_of(m);
+        let cut = cut_frame(m, f);
+        let g = abandoned(m, cut);
         let answer = stop(
             m,
-            given,
             g,
+            cut,
             13,
             functions,
             main_places,
@@ -213,7 +217,7 @@ pub fn backtrace(
     other_places: &[u32],
     stack: &[u64],
     frames: &[Frame],
-    out: &mut [u32],
+    out: &mut [u64],
 ) -> Told
     ensures { λ r. ⌜ ((structs constants : List ℕ) → record { answer = r; out = now (out .exit) } ≡ backtraceIn m (programLent structs constants (now (functions .entry)) (now (text .entry)) (now (main .entry)) (now («main_places» .entry)) (now (other .entry)) (now («other_places» .entry))) (now (stack .entry)) (now (frames .entry)) (now (out .entry))) ⌝ }
 {

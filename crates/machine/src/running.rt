@@ -32,7 +32,6 @@ ghost use Rattle.model.specs.Runs.{root};
 ghost use Rattle.model.specs.Stores.{size, codeWord};
 ghost use Rattle.model.specs.Emission.{written};
 ghost use Rattle.model.specs.Machines.{runOrder, continues, RunPost};
-ghost use Rattle.run_arms.specs.Links.{frameIn};
 ghost use Rattle.frames.specs.Links.{noFrame, callersOf, traceWords, TraceFits};
 ghost use Rattle.run_ends.specs.Links.{programLent, Answerable, faultedWith, settledWith};
 ghost use Rattle.machine.specs.Links.{runLent, Granted};
@@ -99,12 +98,11 @@ fn text_of(m: Vm) -> usize
     m.program.text
 }
 
-// The end of a part that no fault stops: the innermost frame goes back to its store.
-fn finish(m: Vm, given: u64, g: Going, fault: u8, frames: &mut [Frame]) -> RunResult
-    requires { ⌜ (g .units ≤ given) × (g .callers < 2 ^ 32) × (g .callers < length (now frames)) × Answerable g ⌝ }
-    ensures { λ r. ⌜ (r ≡ settledWith m given g fault) × (now (frames .exit) ≡ set (now (frames .entry)) (g .callers) (frameIn g)) ⌝ }
+// The end of a part that no fault stops: the innermost frame f goes back to its store.
+fn finish(m: Vm, given: u64, g: Going, f: Frame, fault: u8, frames: &mut [Frame]) -> RunResult
+    requires { ⌜ (g .callers < 2 ^ 32) × (g .callers < length (now frames)) × Answerable g ⌝ }
+    ensures { λ r. ⌜ (r ≡ settledWith m given g fault) × (now (frames .exit) ≡ set (now (frames .entry)) (g .callers) f) ⌝ }
 {
-    let f = frame_of(g);
     let at = g.callers;
     push_frame(frames, at, f);
     let answer = settled(m, given, g, fault);
@@ -129,13 +127,6 @@ fn recover(n: usize, functions: &[u64], stack: &mut [u64], frames: &mut [Frame],
     push_frame(frames, 0, f);
 }
 
-// The units that the run under way was given in all.
-pub fn given_of(m: Vm) -> u64
-    ensures { λ r. ⌜ r ≡ m .run .given ⌝ }
-{
-    m.run.given
-}
-
 // How many values of the starting stack stand in the copy.
 fn saved_of(m: Vm) -> usize
     ensures { λ r. ⌜ r ≡ m .run .saved ⌝ }
@@ -143,11 +134,11 @@ fn saved_of(m: Vm) -> usize
     m.run.saved
 }
 
-// The end of a run that a fault stops, or that is abandoned: its backtrace, then recovery.
+// The end of a run that a fault stops, or that is abandoned, in the frame f: its backtrace, then recovery.
 pub fn stop(
     m: Vm,
-    given: u64,
     g: Going,
+    f: Frame,
     fault: u8,
     functions: &[u64],
     main_places: &[u32],
@@ -155,12 +146,11 @@ pub fn stop(
     stack: &mut [u64],
     frames: &mut [Frame],
     copy: &[u64],
-    backtrace: &mut [u32],
+    backtrace: &mut [u64],
 ) -> RunResult
-    requires { ⌜ (g .units ≤ given) × (g .callers < 2 ^ 32) × TraceFits (now functions) (now «main_places») (now «other_places») (frameIn g) (g .callers) (now frames) (length (now backtrace)) × (2 * m .run .saved ≤ length (now copy)) × (2 * m .run .saved ≤ length (now stack)) × (0 < length (now frames)) ⌝ }
-    ensures { λ r. ⌜ (r ≡ faultedWith m given g fault) × (now (backtrace .exit) ≡ written (now (backtrace .entry)) 0 (traceWords (now (functions .entry)) (now («main_places» .entry)) (now («other_places» .entry)) (frameIn g ∷ callersOf (g .callers) (now (frames .entry))))) × (now (stack .exit) ≡ written (now (stack .entry)) 0 (take (2 * m .run .saved) (now (copy .entry)))) × (now (frames .exit) ≡ set (now (frames .entry)) 0 (root (size (codeWord (now (functions .entry)) 0)))) ⌝ }
+    requires { ⌜ (g .callers < 2 ^ 32) × TraceFits (now functions) (now «main_places») (now «other_places») f (g .callers) (now frames) (length (now backtrace)) × (2 * m .run .saved ≤ length (now copy)) × (2 * m .run .saved ≤ length (now stack)) × (0 < length (now frames)) ⌝ }
+    ensures { λ r. ⌜ (r ≡ faultedWith m g fault) × (now (backtrace .exit) ≡ written (now (backtrace .entry)) 0 (traceWords (now (functions .entry)) (now («main_places» .entry)) (now («other_places» .entry)) (f ∷ callersOf (g .callers) (now (frames .entry))))) × (now (stack .exit) ≡ written (now (stack .entry)) 0 (take (2 * m .run .saved) (now (copy .entry)))) × (now (frames .exit) ≡ set (now (frames .entry)) 0 (root (size (codeWord (now (functions .entry)) 0)))) ⌝ }
 {
-    let f = frame_of(g);
     let callers = g.callers;
     trace(
         functions,
@@ -173,7 +163,7 @@ pub fn stop(
     );
     let n = saved_of(m);
     recover(n, functions, stack, frames, copy);
-    let answer = faulted(m, given, g, fault);
+    let answer = faulted(m, g, fault);
     answer
 }
 
@@ -194,19 +184,20 @@ pub fn go(
     cells: &mut [u64],
     frames: &mut [Frame],
     copy: &[u64],
-    backtrace: &mut [u32],
+    backtrace: &mut [u64],
 ) -> RunResult
     requires { ⌜ Granted (continues units) m (programLent (now structs) (now constants) (now functions) (now text) (now main) (now «main_places») (now other) (now «other_places»)) (runLent (now stack) (now cells) (now frames) (now copy) (now backtrace)) ⌝ }
     ensures { λ r. ⌜ RunPost (continues units) m (programLent (now (structs .entry)) (now (constants .entry)) (now (functions .entry)) (now (text .entry)) (now (main .entry)) (now («main_places» .entry)) (now (other .entry)) (now («other_places» .entry))) (runLent (now (stack .entry)) (now (cells .entry)) (now (frames .entry)) (now (copy .entry)) (now (backtrace .entry))) r (runLent (now (stack .exit)) (now (cells .exit)) (now (frames .exit)) (now (copy .entry)) (now (backtrace .exit))) ⌝ }
 {
-    let k = fixed(m, stack.len(), frames.len());
-    let f = current(m, frames);
-    let begun = resumed(m, f, units);
     let given = all_given(m, units);
+    let k = fixed(m, given, stack.len(), frames.len());
+    let f = current(m, frames);
+    let begun = resumed(m, f);
     let n = text_of(m);
     let c = turns(
         k,
         begun,
+        f.entered,
         n,
         constants,
         functions,
@@ -218,16 +209,17 @@ pub fn go(
         frames,
     );
     let g = c.going;
+    let at = frame_of(g, c.entered);
     let fault = c.fault;
     let fine = unfaulted(fault);
     if fine {
-        let answer = finish(m, given, g, fault, frames);
+        let answer = finish(m, given, g, at, fault, frames);
         return answer;
     }
     let answer = stop(
         m,
-        given,
         g,
+        at,
         fault,
         functions,
         main_places,

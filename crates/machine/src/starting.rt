@@ -11,6 +11,7 @@ use model::Loaded;
 use model::NAME_LIMIT;
 use model::Started;
 use run_ends::fresh_vm;
+use run_ends::root_frame;
 ghost use mathlib.Core.Path.{_≡_};
 ghost use mathlib.Core.Bool.{false};
 ghost use Prim.Native.Nat.{ℕ};
@@ -21,15 +22,11 @@ ghost use Rattle.layout.specs.Links.{namesLent};
 ghost use Rattle.model.specs.Stores.{storesOf as lent};
 ghost use Rattle.machine.specs.Links.{isDone, Makes};
 
-// The first frame: function 0, base 0, position 0.
+// The first frame: main's, at position 0.
 pub fn first_frame() -> Frame
     ensures { λ r. ⌜ r ≡ root 0 ⌝ }
 {
-    Frame {
-        function: 0,
-        position: 0,
-        base: 0,
-    }
+    root_frame(0)
 }
 
 pub fn is_done(r: Started) -> bool

@@ -89,7 +89,7 @@ pub fn trace_refusal(good: bool, n: usize, size: usize) -> u8
     ensures { λ r. ⌜ ((out : List ℕ) → length out ≡ size → r ≡ traceRefusal good n out) ⌝ }
 {
     if good {
-        let places = room(size, 2);
+        let places = room(size, 3);
         if places < n {
             return 17;
         }
@@ -117,7 +117,7 @@ pub fn put_trace(
     main_places: &[u32],
     other_places: &[u32],
     frames: &[Frame],
-    out: &mut [u32],
+    out: &mut [u64],
 ) -> Told
     requires { ⌜ Traceable (now functions) (now «main_places») (now «other_places») n (now frames) (length (now out)) ⌝ }
     ensures { λ r. ⌜ record { answer = r; out = now (out .exit) } ≡ traceInto (now (functions .entry)) (now («main_places» .entry)) (now («other_places» .entry)) n (now (frames .entry)) (now (out .entry)) ⌝ }

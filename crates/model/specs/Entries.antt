@@ -72,6 +72,10 @@ under given spent returns mark saved = record { on = true; given = given; spent 
 abbrev idle : Vm
 idle = vm 1 0 Nothing noRun
 
+-- the same, with n frames
+abbrev vmIn : ℕ → Vm
+vmIn n = record { program = countsFor twice; stack = 1; frames = n; cells = 0; last = Nothing; run = noRun }
+
 abbrev paused : Vm
 paused = vm 3 4 (Is (v.List 0)) (under 7 6 1 2 1)
 
@@ -79,20 +83,27 @@ paused = vm 3 4 (Is (v.List 0)) (under 7 6 1 2 1)
 abbrev block : List ℕ
 block = 6 ∷ 0x1_0000_0001 ∷ 0 ∷ n42 ∷ []
 
-abbrev lentWith : (copy backtrace : List ℕ) → (position : ℕ) → Lent
-lentWith copy backtrace i = record {
+abbrev lentOver : (copy backtrace : List ℕ) → List Frame → Lent
+lentOver copy backtrace frames = record {
   stack = 1 ∷ 1 ∷ 4 ∷ 2 ∷ 4 ∷ 0 ∷ 0 ∷ 0 ∷ [];
   cells = block ++ block;
-  frames = record { function = 0; position = i; base = 0 } ∷ [];
+  frames = frames;
   copy = copy;
   backtrace = backtrace;
 }
+
+abbrev lentWith : (copy backtrace : List ℕ) → (position : ℕ) → Lent
+lentWith copy backtrace i = lentOver copy backtrace (root i ∷ [])
 
 abbrev saved : List ℕ
 saved = 1 ∷ 1 ∷ 9 ∷ 9 ∷ 9 ∷ 9 ∷ 9 ∷ 9 ∷ []
 
 abbrev lentAt : ℕ → Lent
-lentAt i = lentWith saved (9 ∷ 9 ∷ []) i
+lentAt i = lentWith saved (9 ∷ 9 ∷ 9 ∷ []) i
+
+-- a frame of main that was entered when the run had spent e units
+abbrev mainAt : (position entered : ℕ) → Frame
+mainAt i e = record { function = 0; position = i; base = 0; entered = e }
 
 -- ---- what is shown: of a call that is not refused its answer, the copy and the backtrace; or a number
 
@@ -117,8 +128,8 @@ emittedAs (e.Done c n) = not 0
 emittedAs (e.Refused n) = not n
 
 -- a state of main
-abbrev state : List Value → ℕ → ℕ → Last → ℕ → steps.State
-state vs i n last u = record { stack = vs; frame = record { function = 0; position = i; base = 0 }; callers = []; heap = heapOf n (block ++ block); last = last; units = u }
+abbrev state : List Value → ℕ → ℕ → Last → (spent units : ℕ) → steps.State
+state vs i n last e u = record { stack = vs; frame = root i; callers = []; heap = heapOf n (block ++ block); last = last; spent = e; units = u }
 
 abbrev left : List Value → ℕ → ℕ → Last → Machine
 left vs i n last = record { stack = vs; frame = root i; callers = []; heap = heapOf n (block ++ block); last = last }
@@ -151,27 +162,32 @@ infix 4 _is_
 unfoldable pub entries : List Row
 entries =
     -- a beginning copies the stack, takes no unit and asks for no backtrace store
-    (asked begins idle (lentWith (replicate 8 9) [] 0) is part (waits 0 Nothing 0 0 Nothing (state (v.Boolean true ∷ []) 0 0 Nothing 0)) saved [])
+    (asked begins idle (lentWith (replicate 8 9) [] 0) is part (waits 0 Nothing 0 0 Nothing (state (v.Boolean true ∷ []) 0 0 Nothing 0 0)) saved [])
     -- abandoned right then: 0 units, byte 0
     ∷ (asked abandons (vm 1 0 Nothing (under 0 0 0 0 1)) (lentAt 0)
-    is part (ends (record { reply = fault 13 (paid 0 0) (entry 0 0 ∷ []); machine = left (v.Boolean true ∷ []) 16 0 Nothing })) saved (0 ∷ 0 ∷ []))
+    is part (ends (record { reply = fault 13 (paid 0 0) (entry 0 0 0 ∷ []); machine = left (v.Boolean true ∷ []) 16 0 Nothing })) saved (0 ∷ 0 ∷ 0 ∷ []))
+    -- it sets the numbers of units in all frames to 0
+    ∷ (asked begins idle (lentOver (replicate 8 9) [] (mainAt 0 9 ∷ []))
+    is part (waits 0 Nothing 0 0 Nothing (state (v.Boolean true ∷ []) 0 0 Nothing 0 0)) saved [])
+    ∷ (asked begins (vmIn 2) (lentOver (replicate 8 9) [] (mainAt 1 8 ∷ mainAt 16 9 ∷ []))
+    is part (ends (record { reply = continue (paid 0 0); machine = record { stack = v.Boolean true ∷ []; frame = root 16; callers = root 1 ∷ []; heap = []; last = Nothing } })) saved [])
     -- a former last result is no answer of the run
     ∷ (asked (continues 0) (vm 1 2 (Is (v.List 0)) (under 0 0 0 2 1)) (lentAt 0)
-    is part (waits 0 Nothing 0 2 (Is (v.List 0)) (state (v.Boolean true ∷ []) 0 2 (Is (v.List 0)) 0)) saved (9 ∷ 9 ∷ []))
+    is part (waits 0 Nothing 0 2 (Is (v.List 0)) (state (v.Boolean true ∷ []) 0 2 (Is (v.List 0)) 0 0)) saved (9 ∷ 9 ∷ 9 ∷ []))
     -- at the end of its code, and with a last result: over at once with "continue"; the stack is copied
-    ∷ (asked begins (vm 1 2 (Is (v.List 0)) noRun) (lentWith (replicate 8 9) (9 ∷ 9 ∷ []) 16)
-    is part (ends (record { reply = continue (paid 0 0); machine = left (v.Boolean true ∷ []) 16 2 (Is (v.List 0)) })) saved (9 ∷ 9 ∷ []))
+    ∷ (asked begins (vm 1 2 (Is (v.List 0)) noRun) (lentWith (replicate 8 9) (9 ∷ 9 ∷ 9 ∷ []) 16)
+    is part (ends (record { reply = continue (paid 0 0); machine = left (v.Boolean true ∷ []) 16 2 (Is (v.List 0)) })) saved (9 ∷ 9 ∷ 9 ∷ []))
     -- no units: as it was
-    ∷ (asked (continues 0) paused (lentAt 14) is part (waits 7 (Is (v.List 0)) 1 2 (Is (v.List 0)) (state lists 14 4 (Is (v.List 0)) 1)) saved (9 ∷ 9 ∷ []))
+    ∷ (asked (continues 0) paused (lentAt 14) is part (waits 7 (Is (v.List 0)) 1 2 (Is (v.List 0)) (state lists 14 4 (Is (v.List 0)) 6 1)) saved (9 ∷ 9 ∷ 9 ∷ []))
     -- one unit: it and the one that was left pay for Equal
     ∷ (asked (continues 1) paused (lentAt 14)
-    is part (waits 8 (Is (v.List 0)) 1 2 (Is (v.List 0)) (state (v.Boolean true ∷ v.Boolean true ∷ []) 15 4 (Is (v.List 0)) 0)) saved (9 ∷ 9 ∷ []))
+    is part (waits 8 (Is (v.List 0)) 1 2 (Is (v.List 0)) (state (v.Boolean true ∷ v.Boolean true ∷ []) 15 4 (Is (v.List 0)) 8 0)) saved (9 ∷ 9 ∷ 9 ∷ []))
     -- and as many as 64 bits hold in all: the value of the second root Return
     ∷ (asked (continues 0xFFFF_FFFF_FFFF_FFF8) paused (lentAt 14)
-    is part (ends (record { reply = value (v.Boolean true) (paid 9 2); machine = left (v.Boolean true ∷ []) 16 4 (Is (v.Boolean true)) })) saved (9 ∷ 9 ∷ []))
+    is part (ends (record { reply = value (v.Boolean true) (paid 9 2); machine = left (v.Boolean true ∷ []) 16 4 (Is (v.Boolean true)) })) saved (9 ∷ 9 ∷ 9 ∷ []))
     -- abandoned: all 7 units, the byte of Equal; the stack of the start, the cells and the last result of the first root Return
     ∷ (asked abandons paused (lentAt 14)
-    is part (ends (record { reply = fault 13 (paid 7 1) (entry 0 14 ∷ []); machine = left (v.Boolean true ∷ []) 16 2 (Is (v.List 0)) })) saved (0 ∷ 14 ∷ []))
+    is part (ends (record { reply = fault 13 (paid 7 1) (entry 0 14 0 ∷ []); machine = left (v.Boolean true ∷ []) 16 2 (Is (v.List 0)) })) saved (0 ∷ 14 ∷ 0 ∷ []))
     -- 25, and 19 before it, and 17 behind it
     ∷ (asked begins paused (lentAt 14) is not 25)
     ∷ (asked begins paused (lentWith (1 ∷ 1 ∷ []) [] 14) is not 25)
@@ -184,6 +200,7 @@ entries =
     -- 17 before 22, 22 of the units given, spent or not
     ∷ (asked (continues 0xFFFF_FFFF_FFFF_FFF9) paused (lentWith saved [] 14) is not 17)
     ∷ (asked abandons paused (lentWith saved [] 14) is not 17)
+    ∷ (asked abandons paused (lentWith saved (9 ∷ 9 ∷ []) 14) is not 17)
     ∷ (asked (continues 0xFFFF_FFFF_FFFF_FFF9) paused (lentAt 14) is not 22)
     -- good order of a run under way: more spent than given; more root Returns than units spent, or one and no last result; a mark above the cells, or
     -- inside a list
@@ -193,12 +210,15 @@ entries =
     ∷ (asked abandons (vm 1 2 (Is (v.List 0)) (under 7 6 1 4 1)) (lentAt 14) is not 19)
     ∷ (asked abandons (vm 3 4 (Is (v.List 0)) (under 7 6 1 3 1)) (lentAt 14) is not 19)
     -- more values in the copy than the stack has places; one of no known kind, or one above the mark
-    ∷ (asked abandons (vm 3 4 (Is (v.List 0)) (under 7 6 1 2 5)) (lentWith (1 ∷ 1 ∷ 1 ∷ 1 ∷ 1 ∷ 1 ∷ 1 ∷ 1 ∷ 1 ∷ 1 ∷ []) (9 ∷ 9 ∷ []) 14) is not 19)
-    ∷ (asked abandons paused (lentWith (replicate 8 9) (9 ∷ 9 ∷ []) 14) is not 19)
-    ∷ (asked abandons paused (lentWith (4 ∷ 2 ∷ replicate 6 9) (9 ∷ 9 ∷ []) 14) is not 19)
+    ∷ (asked abandons (vm 3 4 (Is (v.List 0)) (under 7 6 1 2 5)) (lentWith (1 ∷ 1 ∷ 1 ∷ 1 ∷ 1 ∷ 1 ∷ 1 ∷ 1 ∷ 1 ∷ 1 ∷ []) (9 ∷ 9 ∷ 9 ∷ []) 14) is not 19)
+    ∷ (asked abandons paused (lentWith (replicate 8 9) (9 ∷ 9 ∷ 9 ∷ []) 14) is not 19)
+    ∷ (asked abandons paused (lentWith (4 ∷ 2 ∷ replicate 6 9) (9 ∷ 9 ∷ 9 ∷ []) 14) is not 19)
     -- a last result above the mark; a position at the end of the code
     ∷ (asked abandons (vm 3 4 (Is (v.List 2)) (under 7 6 1 2 1)) (lentAt 14) is not 19)
     ∷ (asked abandons paused (lentAt 16) is not 19)
+    -- a frame that was entered at more units than are spent; one that was entered before its caller
+    ∷ (asked abandons paused (lentOver saved (9 ∷ 9 ∷ 9 ∷ []) (mainAt 14 7 ∷ [])) is not 19)
+    ∷ (asked begins (vmIn 2) (lentOver (replicate 8 9) [] (mainAt 1 9 ∷ mainAt 16 8 ∷ [])) is not 19)
     -- loading and making anew: 25 first, also of what is no image
     ∷ (startedAs (loadMachineOf true (0x80 ∷ []) lentStores [] .answer) is not 25)
     ∷ (startedAs (loadMachineOf false (0x80 ∷ []) lentStores [] .answer) is not 20)

@@ -146,6 +146,13 @@ jumped = record {
   } ∷ [];
 }
 
+-- main calls f, f calls g, and g divides 42 by 0
+unfoldable pub calling : Program
+calling = program n42 n0
+    (coded mainName (0x00 ∷ 0x00 ∷ 0x00 ∷ 0x1C ∷ 0x01 ∷ 0x00 ∷ 0x00 ∷ 0x00 ∷ [])
+    ∷ coded (ascii "f") (0x00 ∷ 0x00 ∷ 0x00 ∷ 0x00 ∷ 0x00 ∷ 0x00 ∷ 0x1C ∷ 0x02 ∷ 0x00 ∷ 0x00 ∷ 0x00 ∷ [])
+    ∷ coded (ascii "g") (0x00 ∷ 0x00 ∷ 0x00 ∷ 0x00 ∷ 0x01 ∷ 0x00 ∷ 0x0B ∷ []) ∷ [])
+
 -- ---- running them in the runner's stores, on a machine as it is loaded
 
 unfoldable pub world : Program → World
@@ -168,8 +175,12 @@ run p u = inParts p loaded (u ∷ [])
 unfoldable pub again : Program → ℕ → Ran
 again p u = inParts p (run p u .machine) (u ∷ [])
 
+-- a frame that was entered when the run had spent e units
+abbrev called : ℕ → ℕ → ℕ → ℕ → Frame
+called f i b e = record { function = f; position = i; base = b; entered = e }
+
 abbrev frame : ℕ → ℕ → ℕ → Frame
-frame f i b = record { function = f; position = i; base = b }
+frame f i b = called f i b 0
 
 -- the units spent, and the root Returns completed
 abbrev did : ℕ → ℕ → Tally
@@ -195,29 +206,29 @@ examples =
     ∷ (bytes (runnerText p1-image) shows bytes (ascii "value scalar 4045800000000000\nspent 4\nstack 0\n"))
     ∷ (bytes (listerText p1-image) shows bytes p1-listing)
     -- P2: 3 units
-    ∷ (shown (run p1 3) shows ran (fault 13 (did 3 0) (entry 0 6 ∷ [])) [] (frame 0 8 0 ∷ []) Nothing)
+    ∷ (shown (run p1 3) shows ran (fault 13 (did 3 0) (entry 0 6 0 ∷ [])) [] (frame 0 8 0 ∷ []) Nothing)
     -- P3
-    ∷ (shown (run p3 1000000) shows ran (fault 8 (did 3 0) (entry 0 6 ∷ [])) [] (frame 0 8 0 ∷ []) Nothing)
+    ∷ (shown (run p3 1000000) shows ran (fault 8 (did 3 0) (entry 0 6 0 ∷ [])) [] (frame 0 8 0 ∷ []) Nothing)
     -- P4: the last result stays
-    ∷ (shown (run p4 1000000) shows ran (fault 8 (did 5 1) (entry 0 10 ∷ [])) [] (frame 0 12 0 ∷ []) (Is (scalarOf n1)))
+    ∷ (shown (run p4 1000000) shows ran (fault 8 (did 5 1) (entry 0 10 0 ∷ [])) [] (frame 0 12 0 ∷ []) (Is (scalarOf n1)))
     -- P4 with its units dealt out: the root Return of the first part counts
-    ∷ (shown (inParts p4 loaded (2 ∷ 2 ∷ 1 ∷ [])) shows ran (fault 8 (did 5 1) (entry 0 10 ∷ [])) [] (frame 0 12 0 ∷ []) (Is (scalarOf n1)))
+    ∷ (shown (inParts p4 loaded (2 ∷ 2 ∷ 1 ∷ [])) shows ran (fault 8 (did 5 1) (entry 0 10 0 ∷ [])) [] (frame 0 12 0 ∷ []) (Is (scalarOf n1)))
     -- P4 abandoned behind its root Return: that has counted, and its last result stays
-    ∷ (shown (inParts p4 loaded (3 ∷ [])) shows ran (fault 13 (did 3 1) (entry 0 6 ∷ [])) [] (frame 0 12 0 ∷ []) (Is (scalarOf n1)))
+    ∷ (shown (inParts p4 loaded (3 ∷ [])) shows ran (fault 13 (did 3 1) (entry 0 6 0 ∷ [])) [] (frame 0 12 0 ∷ []) (Is (scalarOf n1)))
     -- P1 begun again at its end: "continue", though there is a last result
     ∷ (shown (inParts p1 (run p1 1000000 .machine) []) shows ran (continue (did 0 0)) [] (frame 0 8 0 ∷ []) (Is (scalarOf n43)))
     -- P5
     ∷ (shown (run p5 1000000) shows ran (value (v.Boolean true) (did 10 1)) [] (frame 0 20 0 ∷ []) (Is (v.Boolean true)))
     -- given up: with 6 units before Equal, which was not fetched; with 7 and 8 in Equal, whose two pairs they do not pay for
-    ∷ (shown (run p5 6) shows ran (fault 13 (did 6 0) (entry 0 17 ∷ [])) [] (frame 0 20 0 ∷ []) Nothing)
-    ∷ (shown (run p5 7) shows ran (fault 13 (did 7 0) (entry 0 18 ∷ [])) [] (frame 0 20 0 ∷ []) Nothing)
-    ∷ (shown (run p5 8) shows ran (fault 13 (did 8 0) (entry 0 18 ∷ [])) [] (frame 0 20 0 ∷ []) Nothing)
+    ∷ (shown (run p5 6) shows ran (fault 13 (did 6 0) (entry 0 17 0 ∷ [])) [] (frame 0 20 0 ∷ []) Nothing)
+    ∷ (shown (run p5 7) shows ran (fault 13 (did 7 0) (entry 0 18 0 ∷ [])) [] (frame 0 20 0 ∷ []) Nothing)
+    ∷ (shown (run p5 8) shows ran (fault 13 (did 8 0) (entry 0 18 0 ∷ [])) [] (frame 0 20 0 ∷ []) Nothing)
     -- P5 with its 10 units dealt out, 0 among them: paused before Equal with 1 and 2 of its 3 units, and then it goes on
     ∷ (shown (inParts p5 loaded (6 ∷ 0 ∷ 1 ∷ 1 ∷ 1 ∷ 1 ∷ [])) shows ran (value (v.Boolean true) (did 10 1)) [] (frame 0 20 0 ∷ []) (Is (v.Boolean true)))
     -- abandoned with nothing given: fault 13, byte 0, nothing spent
-    ∷ (shown (inParts p1 loaded []) shows ran (fault 13 (did 0 0) (entry 0 0 ∷ [])) [] (frame 0 8 0 ∷ []) Nothing)
-    -- P6: both runs
-    ∷ (shown (run p6 1000000) shows ran (continue (did 1 0)) [] (frame 1 0 0 ∷ frame 0 5 0 ∷ []) Nothing)
+    ∷ (shown (inParts p1 loaded []) shows ran (fault 13 (did 0 0) (entry 0 0 0 ∷ [])) [] (frame 0 8 0 ∷ []) Nothing)
+    -- P6: both runs; the second begins with the frames of the first, and their numbers are then 0
+    ∷ (shown (run p6 1000000) shows ran (continue (did 1 0)) [] (called 1 0 0 1 ∷ frame 0 5 0 ∷ []) Nothing)
     ∷ (shown (again p6 1000000) shows ran (continue (did 0 0)) [] (frame 1 0 0 ∷ frame 0 5 0 ∷ []) Nothing)
     -- begun at the end of its code it is over at once
     ∷ (shown (inParts p6 (run p6 1000000 .machine) []) shows ran (continue (did 0 0)) [] (frame 1 0 0 ∷ frame 0 5 0 ∷ []) Nothing)
@@ -227,8 +238,11 @@ examples =
     -- P8
     ∷ (shown (run p8 1000000) shows ran (value (scalarOf n43) (did 6 1)) [] (frame 0 12 0 ∷ []) (Is (scalarOf n43)))
     -- the jump: 2 units complete no root Return, 4 complete one
-    ∷ (shown (run jumped 2) shows ran (fault 13 (did 2 0) (entry 0 4 ∷ [])) [] (frame 0 14 0 ∷ []) Nothing)
+    ∷ (shown (run jumped 2) shows ran (fault 13 (did 2 0) (entry 0 4 0 ∷ [])) [] (frame 0 14 0 ∷ []) Nothing)
     ∷ (shown (run jumped 4) shows ran (value (scalarOf n1) (did 4 1)) [] (frame 0 14 0 ∷ []) (Is (scalarOf n1)))
+    -- when each call began: main calls f with its second unit, f calls g with its fifth, and g divides by zero; so too where the units are dealt out
+    ∷ (shown (run calling 1000000) shows ran (fault 8 (did 8 0) (entry 2 6 5 ∷ entry 1 10 2 ∷ entry 0 7 0 ∷ [])) [] (frame 0 8 0 ∷ []) Nothing)
+    ∷ (shown (inParts calling loaded (1 ∷ 3 ∷ 0 ∷ 2 ∷ 9 ∷ [])) shows ran (fault 8 (did 8 0) (entry 2 6 5 ∷ entry 1 10 2 ∷ entry 0 7 0 ∷ [])) [] (frame 0 8 0 ∷ []) Nothing)
     -- P9
     ∷ (bytes (digits 127) shows bytes (0x7F ∷ []))
     ∷ (bytes (digits 128) shows bytes (0x80 ∷ 0x01 ∷ []))
@@ -237,9 +251,9 @@ examples =
     ∷ (read (number (0xFF ∷ 0xFF ∷ 0xFF ∷ 0xFF ∷ 0x1F ∷ [])) shows read (bad 5))
     ∷ []
 
--- P1 to P9 and the jump, together: the rules give what they are said to give
+-- P1 to P9, the jump and the calls, together: the rules give what they are said to give
 pub examples-hold : map (λ e. e .gives) examples ≡ map (λ e. e .says) examples
-unfolding from coded program alone p1 p1-flat p1-image p1-listing counted-operands counted-listing p3 p4 p5 p6 p7 p8 jumped world loaded shown inParts run again scalarOf examples trailingZeros
+unfolding from coded program alone p1 p1-flat p1-image p1-listing counted-operands counted-listing p3 p4 p5 p6 p7 p8 jumped calling world loaded shown inParts run again scalarOf examples trailingZeros
     basics.computes opcodes.computes numbers.computes values.computes scalars.computes heap.computes equality.computes programs.computes
     images.computes listings.computes steps.computes runs.computes stores.computes orders.computes loading.computes machines.computes
     reports.computes Ieee.ofBits Ieee.ofFields Ieee.odd Ieee.add Ieee.sum Ieee.round Ieee.units Ieee.size Ieee.span Ieee.climb Ieee.div Ieee.eq

@@ -25,7 +25,7 @@ use Rattle.model.specs.Values.{places, mostPlaces, vals}
 use Rattle.model.specs.Heap.{heapOf}
 use Rattle.model.specs.Programs.{functionAt}
 use Rattle.model.specs.Steps.{World}
-use Rattle.model.specs.Runs.{Machine, begin, Progress, root, Entry, entry, Traced, trace, untraced, backtraceOf, Reply, value, continue, fault, Under, Part, ends, pauses, beginOf, continueOf, abandonOf}
+use Rattle.model.specs.Runs.{Machine, standing, Progress, root, Entry, entry, Traced, trace, untraced, backtraceOf, Reply, value, continue, fault, Under, Part, ends, pauses, beginOf, continueOf, abandonOf}
 use Rattle.model.specs.Stores.{Stores, worldIn, functionsFrom}
 use Rattle.model.specs.Orders.{traces, judgedBy, programOk, cellsOk, stackOk, lastOk, frameStoreOk}
 use Rattle.model.specs.Emission.{written, newOf}
@@ -78,7 +78,7 @@ underIn m l = record {
   given = m .run .given;
   start = vals (m .run .saved) (l .copy);
   progress = progressIn m l;
-  state = begin (machineIn m l) (m .run .given - m .run .spent);
+  state = standing (machineIn m l) (m .run .spent) (m .run .given - m .run .spent);
 }
 
 -- ---- [order.machine] the good order that a run judges: the whole program's, and then the machine's cells, stack, last result and frames
@@ -96,7 +96,8 @@ someLast Nothing = false
 someLast (Is v) = true
 
 -- [order.run] "the units spent be at most those given and the innermost position be below its code length"; what abandoning would leave, the copy's
--- values, the last result and the cells of the mark, is in order; each root Return has spent a unit, and left a last result
+-- values, the last result and the cells of the mark, is in order; each root Return has spent a unit, and left a last result. The numbers of units at which
+-- frames were entered "are at most the units spent": the innermost is, and no other is more.
 unfoldable pub underOrder : Vm → Stores → Lent → Bool
 underOrder m s l =
     leb (m .run .spent) (m .run .given)
@@ -107,6 +108,7 @@ underOrder m s l =
     && cellsOk (m .program .text) (m .run .mark) (l .cells)
     && stackOk (m .program .text) (heapOf (m .run .mark) (l .cells)) (m .run .saved) (l .copy)
     && lastOk (m .program .text) (heapOf (m .run .mark) (l .cells)) (m .last)
+    && leb (innermost (m .frames) (l .frames) .entered) (m .run .spent)
     && ltb (innermost (m .frames) (l .frames) .position)
     (length (functionAt (functionsFrom (m .program .functions) 0 s) (innermost (m .frames) (l .frames) .function) .code))
 
@@ -125,7 +127,7 @@ unfoldable pub copyShort : Lent → Bool
 copyShort l = ltb (places 2 (l .copy)) (places 2 (l .stack))
 
 unfoldable pub traceShort : Lent → Bool
-traceShort l = ltb (places 2 (l .backtrace)) (frameRoom (l .frames))
+traceShort l = ltb (places 3 (l .backtrace)) (frameRoom (l .frames))
 
 -- ---- [begin], [continue], [abandon] as entries: 19, then 18 or 25, 17, 22, then the run
 
@@ -196,7 +198,7 @@ copyAfter abandons m s l = l .copy
 
 unfoldable pub entryWords : List Entry → List ℕ
 entryWords [] = []
-entryWords (e ∷ es) = e .function ∷ e .place ∷ entryWords es
+entryWords (e ∷ es) = e .function ∷ e .place ∷ e .entered ∷ entryWords es
 
 unfoldable pub traceOfReply : Reply → List Entry
 traceOfReply (value v t) = []
@@ -216,7 +218,7 @@ traceAfter l (refused n) = l .backtrace
 
 unfoldable pub entriesIn : ℕ → ℕ → List ℕ → List Entry
 entriesIn zero i b = []
-entriesIn (suc n) i b = entry (getD b (2 * i) 0) (getD b (2 * i + 1) 0) ∷ entriesIn n (suc i) b
+entriesIn (suc n) i b = entry (getD b (3 * i) 0) (getD b (3 * i + 1) 0) (getD b (3 * i + 2) 0) ∷ entriesIn n (suc i) b
 
 abbrev pub endedAs : Vm → Lent → Reply → RunAnswer
 endedAs m l y = ran (m .program) (ends (record { reply = y; machine = machineIn m l }))
@@ -270,11 +272,11 @@ putTrace (untraced n) out = record { answer = t.Refused n; out = out }
 unfoldable pub backtraceIn : Vm → Stores → List ℕ → List Frame → List ℕ → OutRes
 backtraceIn m s stack frames out =
     if traceOrder m s stack frames then
-    (if ltb (places 2 out) (m .frames) then record { answer = t.Refused 17; out = out } else
+    (if ltb (places 3 out) (m .frames) then record { answer = t.Refused 17; out = out } else
     putTrace (backtraceOf (functionsFrom (m .program .functions) 0 s) (innermost (m .frames) frames ∷ callersIn (m .frames) frames)) out)
     else record { answer = t.Refused 19; out = out }
 
--- ---- [start] a machine that has not run: an empty stack, no last result, one frame: function 0, base 0, position 0
+-- ---- [start] a machine that has not run: an empty stack, no last result, one frame: function 0, base 0, position 0, entered at 0
 
 abbrev pub noRun : Run
 noRun = record { on = false; given = 0; spent = 0; returns = 0; mark = 0; saved = 0 }

@@ -110,7 +110,7 @@ treeOf w = treeScalar (ofBits binary64 w)
 
 -- a fault, at the place of a byte of main
 abbrev pub faulted : ℕ → ℕ → ℕ → Shown
-faulted n spent place = ran (fault n (record { spent = spent; returns = 0 }) (entry 0 place ∷ [])) []
+faulted n spent place = ran (fault n (record { spent = spent; returns = 0 }) (entry 0 place 0 ∷ [])) []
 
 abbrev pub gives : Value → ℕ → ℕ → Shown
 gives x spent returns = ran (value x (record { spent = spent; returns = returns })) []

@@ -180,10 +180,10 @@ frameOk fs room r = ltb (r .function) (length fs) && leb (r .base) room && leb (
 unfoldable pub callerOk : List Function → Frame → Bool
 callerOk fs r = leb 1 (r .position) && leb (r .position) (length (functionAt fs (r .function) .code))
 
--- the frames from r on, the innermost last
+-- the frames from r on, the innermost last; the numbers of units at which they were entered "never fall from the root inwards"
 unfoldable pub framesFrom : List Function → ℕ → Frame → List Frame → Bool
 framesFrom fs room r [] = frameOk fs room r
-framesFrom fs room r (q ∷ qs) = frameOk fs room r && callerOk fs r && framesFrom fs room q qs
+framesFrom fs room r (q ∷ qs) = frameOk fs room r && callerOk fs r && leb (r .entered) (q .entered) && framesFrom fs room q qs
 
 -- the first frame is function 0 with base 0
 unfoldable pub framesOk : List Function → ℕ → List Frame → Bool

@@ -45,11 +45,11 @@ valueText H (v.FunctionReference o n) = ascii "function " ++ decimal n
 valueText H (v.List p) = ascii "list " ++ decimal (headIn H p .count)
 valueText H (v.StructInstance p) = ascii "struct " ++ decimal (headIn H p .number) ++ ascii " " ++ decimal (headIn H p .count)
 
--- ---- a run: `value` and the value, or `continue`, or `fault N`; then `spent N`, `stack N`, and after a fault `at FUNCTION PLACE` for each frame
+-- ---- a run: `value` and the value, or `continue`, or `fault N`; then `spent N`, `stack N`, and after a fault `at FUNCTION PLACE ENTERED` for each frame
 
 unfoldable pub entryLines : List Entry → List ℕ
 entryLines [] = []
-entryLines (e ∷ es) = ascii "at " ++ decimal (e .function) ++ ascii " " ++ decimal (e .place) ++ ascii "\n" ++ entryLines es
+entryLines (e ∷ es) = ascii "at " ++ decimal (e .function) ++ ascii " " ++ decimal (e .place) ++ ascii " " ++ decimal (e .entered) ++ ascii "\n" ++ entryLines es
 
 unfoldable pub spentLines : Tally → Machine → List ℕ
 spentLines t m = ascii "spent " ++ decimal (t .spent) ++ ascii "\nstack " ++ decimal (length (m .stack)) ++ ascii "\n"
@@ -85,7 +85,7 @@ emptyStores = record {
 }
 
 unfoldable pub emptyLent : List Frame → Lent
-emptyLent frames = record { stack = replicate 2048 0; cells = replicate 4096 0; frames = frames; copy = replicate 2048 0; backtrace = replicate 512 0 }
+emptyLent frames = record { stack = replicate 2048 0; cells = replicate 4096 0; frames = frames; copy = replicate 2048 0; backtrace = replicate 768 0 }
 
 -- ---- [runner] an image of at most 16,384 bytes, run with 1,000,000 units
 

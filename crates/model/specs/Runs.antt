@@ -1,6 +1,6 @@
 -- [run] A run with units, its answer, what a fault leaves, and the backtrace.
 use mathlib.Core.Bool.{Bool, true, false, _&&_}
-use mathlib.Core.List.{List, [], _∷_}
+use mathlib.Core.List.{List, [], _∷_, map}
 use Prim.Native.Nat.{ℕ, zero, suc, _+_, _-_}
 use lib.Dec.{ltb, leb, eqb}
 use lib.ListN.{length, getD}
@@ -24,8 +24,16 @@ pub record Machine : Type 0 where
   pub heap : List Cell
   pub last : Last
 
-abbrev pub begin : Machine → ℕ → State
-begin m u = record { stack = m .stack; frame = m .frame; callers = m .callers; heap = m .heap; last = m .last; units = u }
+-- a machine as the state of a run that has spent so many units, and has so many left
+abbrev pub standing : Machine → (spent units : ℕ) → State
+standing m e u = record { stack = m .stack; frame = m .frame; callers = m .callers; heap = m .heap; last = m .last; spent = e; units = u }
+
+-- [entered] "beginning a run sets it to 0 in the root and in frames left by an earlier run"
+abbrev pub unentered : Frame → Frame
+unentered f = record { function = f .function; position = f .position; base = f .base; entered = 0 }
+
+abbrev pub begin : Machine → (units : ℕ) → State
+begin m u = record { stack = m .stack; frame = unentered (m .frame); callers = map unentered (m .callers); heap = m .heap; last = m .last; spent = 0; units = u }
 
 abbrev pub machineOf : State → Machine
 machineOf s = record { stack = s .stack; frame = s .frame; callers = s .callers; heap = s .heap; last = s .last }
@@ -82,18 +90,19 @@ endFrom w p s = runFor w (suc (s .units)) p s
 unfoldable pub endOf : World → State → Ended
 endOf w s = endFrom w (atStart s) s
 
--- ---- [backtrace] innermost frame first: function, and the place of code byte position less 1, or byte 0 at position 0
+-- ---- [backtrace] innermost frame first: function, the place of code byte position less 1, or byte 0 at position 0, and when it was entered
 
 pub record Entry : Type 0 where
   pub function : ℕ
   pub place : ℕ
+  pub entered : ℕ
 
-abbrev pub entry : ℕ → ℕ → Entry
-entry i p = record { function = i; place = p }
+abbrev pub entry : (function place entered : ℕ) → Entry
+entry i p e = record { function = i; place = p; entered = e }
 
 unfoldable pub traceOf : List Function → List Frame → List Entry
 traceOf fs [] = []
-traceOf fs (r ∷ rs) = entry (r .function) (getD (functionAt fs (r .function) .places) (r .position - 1) 0) ∷ traceOf fs rs
+traceOf fs (r ∷ rs) = entry (r .function) (getD (functionAt fs (r .function) .places) (r .position - 1) 0) (r .entered) ∷ traceOf fs rs
 
 -- every frame's place lies inside its code
 unfoldable pub traceable : List Function → List Frame → Bool
@@ -111,7 +120,7 @@ backtraceOf fs rs = if traceable fs rs then trace (traceOf fs rs) else untraced 
 -- ---- [recovery] the stack of the start, one frame at the end of main, the mark's cells and last result
 
 abbrev pub root : ℕ → Frame
-root i = record { function = 0; position = i; base = 0 }
+root i = record { function = 0; position = i; base = 0; entered = 0 }
 
 unfoldable pub recovered : World → (start : List Value) → Progress → Machine
 recovered w start p = record { stack = start; frame = root (length (functionAt (w .functions) 0 .code)); callers = []; heap = p .heap; last = p .last }
@@ -138,7 +147,7 @@ answered (Is v) t = value v t
 -- ---- [parts] a run in parts: a beginning, which copies the stack; a continuing, which takes units; an abandoning
 
 -- a run under way, as it stands between its parts: the units that it was given in all, the stack of its start, how far it has come; and its state,
--- which has the units that are left
+-- which has the units that it has spent and those that are left
 pub record Under : Type 0 where
   pub given : ℕ
   pub start : List Value
@@ -152,9 +161,9 @@ pub data Part : Type 0 where
 
 -- u is how many units the run was given in all, with this part
 unfoldable pub partOf : World → (start : List Value) → (u : ℕ) → Ended → Part
-partOf w start u (ended p s) = ends (record { reply = answered (p .answer) (tally (u - s .units) p); machine = machineOf s })
+partOf w start u (ended p s) = ends (record { reply = answered (p .answer) (tally (s .spent) p); machine = machineOf s })
 partOf w start u (stopped n s p) =
-    ends (record { reply = fault (faultNumber n) (tally (u - s .units) p) (traceOf (w .functions) (s .frame ∷ s .callers)); machine = recovered w start p })
+    ends (record { reply = fault (faultNumber n) (tally (s .spent) p) (traceOf (w .functions) (s .frame ∷ s .callers)); machine = recovered w start p })
 partOf w start u (paused p s) = pauses (record { given = u; start = start; progress = p; state = s })
 
 -- "A run begun with its position at or past the end is over at once, with 'continue'"; any other has no unit for its first instruction

@@ -40,13 +40,15 @@ pub record World : Type 0 where
   pub frameRoom : ℕ
   pub cellRoom : ℕ
 
--- what a step changes. The stack has its top first; the callers of the current frame stand innermost first.
+-- what a step changes, with the units that the run has spent and those that are left. The stack has its top first; the callers of the current frame stand
+-- innermost first.
 pub record State : Type 0 where
   pub stack : List Value
   pub frame : Frame
   pub callers : List Frame
   pub heap : List Cell
   pub last : Last
+  pub spent : ℕ
   pub units : ℕ
 
 pub data Outcome : Type 0 where
@@ -61,23 +63,27 @@ pub data Outcome : Type 0 where
 -- ---- the state's parts
 
 abbrev pub withStack : List Value → State → State
-withStack vs s = record { stack = vs; frame = s .frame; callers = s .callers; heap = s .heap; last = s .last; units = s .units }
+withStack vs s = record { stack = vs; frame = s .frame; callers = s .callers; heap = s .heap; last = s .last; spent = s .spent; units = s .units }
 
 abbrev pub withHeap : List Cell → State → State
-withHeap H s = record { stack = s .stack; frame = s .frame; callers = s .callers; heap = H; last = s .last; units = s .units }
+withHeap H s = record { stack = s .stack; frame = s .frame; callers = s .callers; heap = H; last = s .last; spent = s .spent; units = s .units }
 
 abbrev pub withLast : Value → State → State
-withLast v s = record { stack = s .stack; frame = s .frame; callers = s .callers; heap = s .heap; last = Is v; units = s .units }
+withLast v s = record { stack = s .stack; frame = s .frame; callers = s .callers; heap = s .heap; last = Is v; spent = s .spent; units = s .units }
 
 abbrev pub withUnits : ℕ → State → State
-withUnits u s = record { stack = s .stack; frame = s .frame; callers = s .callers; heap = s .heap; last = s .last; units = u }
+withUnits u s = record { stack = s .stack; frame = s .frame; callers = s .callers; heap = s .heap; last = s .last; spent = s .spent; units = u }
+
+-- [units] k units are spent
+abbrev pub paid : ℕ → State → State
+paid k s = record { stack = s .stack; frame = s .frame; callers = s .callers; heap = s .heap; last = s .last; spent = s .spent + k; units = s .units - k }
 
 abbrev pub withFrames : Frame → List Frame → State → State
-withFrames f fs s = record { stack = s .stack; frame = f; callers = fs; heap = s .heap; last = s .last; units = s .units }
+withFrames f fs s = record { stack = s .stack; frame = f; callers = fs; heap = s .heap; last = s .last; spent = s .spent; units = s .units }
 
 -- the current frame at position i
 abbrev pub at : ℕ → State → State
-at i s = withFrames (record { function = s .frame .function; position = i; base = s .frame .base }) (s .callers) s
+at i s = withFrames (record { function = s .frame .function; position = i; base = s .frame .base; entered = s .frame .entered }) (s .callers) s
 
 abbrev pub position : State → ℕ
 position s = s .frame .position
@@ -136,7 +142,7 @@ orderingStep c s =
 
 -- the verdict becomes a value by t; a comparison whose pairs cost more than is left spends nothing
 unfoldable pub onSame : (Bool → Bool) → List Value → State → Same → Outcome
-onSame t r s (same b k) = if leb k (s .units) then went (withStack (v.Boolean (t b) ∷ r) (withUnits (s .units - k) s)) else short
+onSame t r s (same b k) = if leb k (s .units) then went (withStack (v.Boolean (t b) ∷ r) (paid k s)) else short
 
 unfoldable pub equalStep : (Bool → Bool) → World → State → Outcome
 equalStep t w s =
@@ -161,13 +167,13 @@ jumpStep a s = went (at (position s + a) s)
 unfoldable pub jumpIfFalseStep : (offset : ℕ) → State → Outcome
 jumpIfFalseStep a s = poppingBoolean (s .stack) (λ n. faulted n s) (λ x r. went (withStack r (if x then s else at (position s + a) s)))
 
--- ---- [call] the base is the stack length less the count
+-- ---- [call] the base is the stack length less the count; [entered] the Call's own unit is among those spent
 
 unfoldable pub enter : World → (function count : ℕ) → (rest : List Value) → State → Outcome
 enter w i n vs s =
     if ltb (length vs) n then faulted f.TooFewValues s else
     (if leb (w .frameRoom) (suc (length (s .callers))) then faulted f.FramesFull s else
-    went (withStack vs (withFrames (record { function = i; position = 0; base = length vs - n }) (s .frame ∷ s .callers) s)))
+    went (withStack vs (withFrames (record { function = i; position = 0; base = length vs - n; entered = s .spent }) (s .frame ∷ s .callers) s)))
 
 unfoldable pub callStep : World → (function count : ℕ) → State → Outcome
 callStep w i n s = if ltb i (length (w .functions)) then enter w i n (s .stack) s else faulted f.OutOfRange s
@@ -254,7 +260,7 @@ decodedThen w d.Unknown n s = faulted f.UnknownOpcode s
 
 -- [units] the opcode is fetched for one unit; the position is then after it
 unfoldable pub fetched : World → Opcode → State → Outcome
-fetched w c s = decodedThen w (c .what) (operands c) (at (suc (position s)) (withUnits (s .units - 1) s))
+fetched w c s = decodedThen w (c .what) (operands c) (at (suc (position s)) (paid 1 s))
 
 unfoldable pub stepOf : World → State → Outcome
 stepOf w s = if eqb (s .units) 0 then short else fetched w (opcodeIn (codeOf w s) (position s)) s

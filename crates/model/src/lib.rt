@@ -126,12 +126,14 @@ pub enum Found {
     Bad(Fault),
 }
 
-// A call frame. Its layout is C's, so that a host in C can lend frames.
+// A call frame; `entered` is how many units the run had spent when the frame was entered, the Call's own included. Its layout is C's, so that a host
+// in C can lend frames.
 #[repr(C)]
 pub struct Frame {
     pub function: usize,
     pub position: usize,
     pub base: usize,
+    pub entered: u64,
 }
 
 // A constant as it is emitted. A string's or a reference's text is lent beside it. A scalar keeps its 64 bits.

@@ -10,6 +10,7 @@ use Rattle.model.specs.Entries.{entries-answer}
 use Rattle.model.specs.Mistakes.{mistakes-show}
 use Rattle.laws_checks.proofs.Keeping.{keeps-the-table}
 use Rattle.laws_runs.proofs.Paths.{returns-counted}
+use Rattle.laws_runs.proofs.Entered.{every-frame-tells-when-it-was-entered, a-paused-run-tells-when-its-frames-were-entered}
 use Rattle.laws_runs.proofs.More.{more-units}
 use Rattle.laws_runs.proofs.Parts.{a-run-begun-at-its-end-is-over-at-once, a-run-begun-before-an-instruction-is-paused-there, dealt-as-one, parts-are-one-run}
 use Rattle.laws_meaning.proofs.Runs.{begin-alike, continue-alike, abandon-alike}
@@ -27,6 +28,7 @@ use Rattle.demands.specs.Kept.{InOrder}
 use Rattle.demands.specs.Meant.{Fine, worldIn, machineOf}
 use Rattle.demands.specs.Relent.{Relent}
 use Rattle.demands.proofs.Refusing.{refuses}
+use Rattle.demands.proofs.WhileRunning.{kept-while-running}
 use Rattle.demands.proofs.Parting.{parts-come-to, over-is-one, any-call-goes-on, dealings-agree, dealt-ends-agree, more-units-change-nothing}
 use Rattle.demands.proofs.Written.{steps-within, run-written, pause-written, paused-where-one-run-ends-in-13}
 use Rattle.demands.proofs.Orderly.{new-in-order, load-in-order, chain-kept, run-in-order}
@@ -43,6 +45,7 @@ use Rattle.laws_code.proofs.Numbers.{listing-numbers}
 use Rattle.laws_code.proofs.Walks.{step-takes-the-walk, listing-shows-the-walk}
 use Rattle.demands.proofs.Paying.{step-cost, fault-cost, path-units, run-is-steps}
 use Rattle.demands.proofs.Growing.{as-trees}
+use Rattle.demands.proofs.Traces.{a-backtrace-tells-when-its-frames-were-entered}
 use Rattle.demands.proofs.Bytes.{fine-kept}
 use Rattle.demands.proofs.Recovering.{fault-leaves, fault-recovers, set-up-alike}
 use Rattle.demands.proofs.MeantChains.{chain-alike, self-alike}
@@ -86,7 +89,7 @@ same-rust h k o g =
 pub kept : Promises
 kept = record {
   refuses = λ c h h' a p. refuses c p;
-  steps-within = λ w m u n j k t p. steps-within p;
+  steps-within = λ w m u n j k t p. steps-within m p;
   listing-numbers = listing-numbers;
   new-in-order = λ h h' m p. new-in-order h p;
   load-in-order = λ h h' m image b p. load-in-order h image b p;
@@ -105,6 +108,9 @@ kept = record {
   step-cost = λ w s. step-cost w s;
   fault-cost = λ w s n t e. fault-cost w s e;
   path-units = λ w n m k s t p. path-units p;
+  every-frame-tells-when-it-was-entered = λ w n m k s t p. every-frame-tells-when-it-was-entered w p;
+  a-paused-run-tells-when-its-frames-were-entered = λ w m u us r e. a-paused-run-tells-when-its-frames-were-entered w m u us e;
+  a-backtrace-tells-when-its-frames-were-entered = λ w m u n did trace r. a-backtrace-tells-when-its-frames-were-entered w r;
   keeps-the-table = keeps-the-table;
   step-takes-the-walk = step-takes-the-walk;
   listing-shows-the-walk = listing-shows-the-walk;
@@ -117,6 +123,7 @@ kept = record {
   over-is-one = λ h k g x p. over-is-one p;
   paused-where-one-run-ends-in-13 = λ h k g x p. paused-where-one-run-ends-in-13 p;
   any-call-goes-on = λ h k k' g r q c a p. any-call-goes-on q c a p;
+  kept-while-running = λ h on q. kept-while-running h on q;
   dealings-agree = λ h k d g x y p q. dealings-agree p q;
   dealt-ends-agree = λ h k d g x y p q. dealt-ends-agree p q;
   more-units = more-units;

@@ -31,7 +31,7 @@ use Rattle.model.specs.Orders.{programOk}
 use Rattle.model.specs.Loading.{roomFor, loadOf, saveOf, putOut}
 use Rattle.model.specs.Steps.{World, State, position, codeOf, went, faulted, execOf, stepOf}
 use Rattle.model.specs.Listings.{text, unlisted, listingOf}
-use Rattle.model.specs.Runs.{Machine, Progress, Entry, fault, Ran, begin, over, endOf, root, Under, Part, pauses, partOf, beginOf, continueOf, abandonOf, dealt, givenUp, runOf, atStart, continue, ends}
+use Rattle.model.specs.Runs.{Machine, Progress, Entry, fault, Ran, begin, machineOf as machineAt, over, endOf, root, Under, Part, pauses, partOf, beginOf, continueOf, abandonOf, dealt, givenUp, runOf, atStart, continue, ends}
 use Rattle.model.specs.Machines.{Lent, innermost, RunCall, RunPost, fresh, loadMachineOf}
 use Rattle.model.specs.Examples.{Example, examples}
 use Rattle.model.specs.Entries.{Row as EntryRow, entries}
@@ -58,19 +58,21 @@ use Rattle.laws_runs.specs.Sane.{SaneWorld, Sane}
 use Rattle.laws_runs.specs.Ordered.{CodeBytes}
 use Rattle.laws_runs.specs.Paths.{Steps, rootReturns}
 use Rattle.laws_runs.specs.Parts.{SaneUnder, sumOf}
+use Rattle.laws_runs.specs.Entered.{enteredIn, notedAlong, Watched}
+use Rattle.laws_runs.specs.Demand.{Recovered}
 use Rattle.laws_meaning.specs.Alike.{Layout, laidOut, Both, AlikeConstants, AlikeMachine, AlikeUnder}
 use Rattle.laws_meaning.specs.Blocks.{AlikeBlock}
 use Rattle.laws_meaning.specs.Answers.{AlikeRan, AlikePart}
 use Rattle.laws_rust.specs.Vm as rust
 use Rattle.laws_rust.specs.Same.{rustOf, rustAt, Agrees, RunAs, Ends, Unlimited, AnswersAs, Means}
 use Rattle.image.specs.Loads.{Below, LoadsAs}
-use Rattle.demands.specs.Host.{Held, Ask, Call, run, ask, new, load, Answer, started, After, RanBy, Chain}
+use Rattle.demands.specs.Host.{Held, Ask, Call, run, ask, new, load, Answer, started, done, After, RanBy, Chain}
 use Rattle.demands.specs.Refusals.{Demand1, refusedBy}
 use Rattle.demands.specs.Kept.{InOrder}
 use Rattle.demands.specs.Jobs.{AllTyped, anew}
 use Rattle.demands.specs.Meant.{Fine, worldIn, machineOf, underOf, AsLong, AlikeHeld, AlikeChains, said}
 use Rattle.demands.specs.Parts.{Parts, Over, CameTo, PausedAtThirteen, IsOne, StandsBefore, unitsGiven, Onward, SameParts, SameEnd}
-use Rattle.demands.specs.Units.{RunIs, Demand2, Costs, pairsAt, spentOn}
+use Rattle.demands.specs.Units.{RunIs, Demand2, SpentBetween, Costs, pairsAt, spentOn}
 use Rattle.demands.specs.Trees.{AsTrees}
 use Rattle.demands.specs.Recovery.{Recovers, SetUp, Demand3}
 use Rattle.demands.specs.Agree.{Rooms, Agree, SameChain}
@@ -120,10 +122,18 @@ pub record Promises : Type 0 where
   pub pause-written : (h k : Held) (g : ℕ) (r : Under) → Parts h g (pauses r) k → StandsBefore h g k
   -- so is one run by the rules
   pub run-is-steps : (w : World) (m : Machine) (u : ℕ) → RunIs w m u (runOf w m u)
+  -- each root Return and each unit that it tells is that of a step; what is no longer left is spent
   pub returns-counted : (w : World) (n : ℕ) (m k : Progress) (s t : State) (p : Steps w n m s k t) → k .returns ≡ m .returns + rootReturns p
   pub step-cost : (w : World) (s : State) → Costs (suc (pairsAt w s)) s (stepOf w s)
-  pub fault-cost : (w : World) (s : State) (n : Fault) (t : State) → stepOf w s ≡ faulted n t → s .units ≡ t .units + 1
-  pub path-units : (w : World) (n : ℕ) (m k : Progress) (s t : State) (p : Steps w n m s k t) → s .units ≡ t .units + spentOn p
+  pub fault-cost : (w : World) (s : State) (n : Fault) (t : State) → stepOf w s ≡ faulted n t → SpentBetween 1 s t
+  pub path-units : (w : World) (n : ℕ) (m k : Progress) (s t : State) (p : Steps w n m s k t) → SpentBetween (spentOn p) s t
+  -- each frame tells how many units were spent when the step that entered it had completed: along written steps, however units are dealt out, and in a
+  -- backtrace
+  pub every-frame-tells-when-it-was-entered : (w : World) (n : ℕ) (m k : Progress) (s t : State) (p : Steps w n m s k t) → enteredIn t ≡ notedAlong p (enteredIn s)
+  pub a-paused-run-tells-when-its-frames-were-entered : (w : World) (m : Machine) (u : ℕ) (us : List ℕ) (r : Under) → dealt w (beginOf w m) (u ∷ us) ≡ pauses r
+      → Watched w m (sumOf (u ∷ us)) (r .state)
+  pub a-backtrace-tells-when-its-frames-were-entered : (w : World) (m : Machine) (u n : ℕ) (did : Tally) (trace : List Entry) (r : Recovered w m u n did trace)
+      → map (λ (e : Entry). e .entered) trace ≡ notedAlong (r .path) (enteredIn (begin m u))
   -- an instruction faults exactly if a check of its row fails, and by the number of the first that does
   pub keeps-the-table : (w : World) (op : Op) (a b : ℕ) (s : State) → Keeps (firstFailed w s (checksOf op (s .frame .base) a b)) (execOf w op a b s)
   -- a step of an opcode goes on from where the walk over instructions stands next, and a listing shows a line for each place where that walk stands
@@ -134,9 +144,10 @@ pub record Promises : Type 0 where
   pub as-trees : (w : World) (s : State) → Sane w s → AsTrees w s
   -- ---- A RUN IN PARTS: begun, continued with units, and abandoned where it is paused
 
-  -- "A run begun with its position at or past the end is over at once, with 'continue'"; any other is paused before its first instruction
+  -- "A run begun with its position at or past the end is over at once, with 'continue'", and nothing changes but when its frames were entered, which is
+  -- then 0; any other is paused before its first instruction
   pub a-run-begun-at-its-end-is-over-at-once : (w : World) (m : Machine) → over w (begin m 0) ≡ true
-      → beginOf w m ≡ ends (record { reply = continue (record { spent = 0; returns = 0 }); machine = m })
+      → beginOf w m ≡ ends (record { reply = continue (record { spent = 0; returns = 0 }); machine = machineAt (begin m 0) })
   pub a-run-begun-before-an-instruction-is-paused-there : (w : World) (m : Machine) → over w (begin m 0) ≡ false
       → beginOf w m ≡ pauses (record { given = 0; start = m .stack; progress = atStart (begin m 0); state = begin m 0 })
   -- however units are dealt out, zero among them, a run comes to what it comes to with their sum at once; abandoned where it is paused it is one run
@@ -149,6 +160,8 @@ pub record Promises : Type 0 where
   pub paused-where-one-run-ends-in-13 : (h k : Held) (g : ℕ) (x : Part) → Parts h g x k → PausedAtThirteen (runOf (worldIn h) (machineOf h) g .reply) x
   -- and any call may come: where a run is paused, it is then paused still or over
   pub any-call-goes-on : (h k k' : Held) (g : ℕ) (r : Under) → Parts h g (pauses r) k → (c : Call) (a : Answer) → After c k a k' → Onward h (g + unitsGiven c a) k'
+  -- no call but those of the run changes anything: readers look, and all else is refused
+  pub kept-while-running : (h : Held) → h .vm .run .on ≡ true → (q : Ask) → done q h .held ≡ h
   -- two ways to deal out the same sum come to the same, and leave what no answer tells apart
   pub dealings-agree : (h k d : Held) (g : ℕ) (x y : Part) → Parts h g x k → Parts h g y d → SameParts x y k d
   pub dealt-ends-agree : (h k d : Held) (g : ℕ) (x y : Ran) → Over h g x k → Over h g y d → SameEnd x y k d

@@ -167,12 +167,13 @@ value-short H (v.FunctionReference o n) = let a = short n in omega arith
 value-short H (v.List p) = let a = short (headIn H p .count) in omega arith
 value-short H (v.StructInstance p) = let a = short (headIn H p .number) in let b = short (headIn H p .count) in simp length-append (omega arith)
 
-entries-short : (es : List Entry) → length (entryLines es) ≤ 64 * length es
+entries-short : (es : List Entry) → length (entryLines es) ≤ 66 * length es
 unfolding entryLines ascii
 entries-short [] = omega arith
 entries-short (e ∷ es) =
     let a = short (e .function) in
     let b = short (e .place) in
+    let d = short (e .entered) in
     let z = entries-short es in
     simp length-append (omega arith)
 
@@ -180,10 +181,10 @@ spent-short : (n : Tally) (m : Machine) → length (spentLines n m) ≤ 54
 unfolding spentLines ascii
 spent-short n m = let a = short (n .spent) in let b = short (length (m .stack)) in simp length-append (omega arith)
 
--- a report fits in 128 bytes, and 64 for each entry that its backtrace's store has room for
+-- a report fits in 128 bytes, and 66 for each entry that its backtrace's store has room for
 module _ (m : Vm) (s : Stores) (bytes : CodeBytes s) (l : Lent) (long : traceShort l ≡ false) (u : ℕ) where
   abbrev Short : List ℕ → Type 0
-  Short b = length b ≤ 128 + 32 * length (l .backtrace)
+  Short b = length b ≤ 128 + 22 * length (l .backtrace)
 
   lines-short : eqb (runRefusal m s l) 0 ≡ true → (y : Reply) → runOf (worldOf m s l) (machineIn m l) u .reply ≡ y → (x : Machine) → Short (replyLines y x)
   unfolding replyLines ascii
@@ -311,7 +312,7 @@ module _ (image : List ℕ) (bytes : Bytes image) where
   started-fits (l.Done c) =
       let s = loadOf image emptyStores .stores in
       let lent = emptyLent (replicate 256 (root 0)) in
-      let k : length (lent .backtrace) ≡ 512 = (unfold emptyLent in length-replicate {A = ℕ} 512 0) in
+      let k : length (lent .backtrace) ≡ 768 = (unfold emptyLent in length-replicate {A = ℕ} 768 0) in
       let z = report-short (fresh c) s loaded-code lent runner-long 1000000 in
       omega arith
   started-fits (l.Broken i) = let z = refused-short 20 in omega arith

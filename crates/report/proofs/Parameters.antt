@@ -26,7 +26,7 @@ kinds =
     ∷ unique 9 tt u64
     ∷ unique 10 tt R
     ∷ unique 11 tt u64
-    ∷ unique 12 tt u32 ∷ []
+    ∷ unique 12 tt u64 ∷ []
 
 pub record Passing : Type 0 where
   pub κs : Lfts 13
@@ -155,7 +155,7 @@ module _ (p : Passing) where
   abbrev pub backtrace : List ℕ
   backtrace = now (p .a .1 .1 .1 .1 .1 .1 .1 .1 .1 .1 .1 .1 .1 .1 .0)
 
-  abbrev pub backtrace-room : Room u32 (backtrace-at .count)
+  abbrev pub backtrace-room : Room u64 (backtrace-at .count)
   backtrace-room = p .is .1 .1 .1 .1 .1 .1 .1 .1 .1 .1 .1 .1 .1 .1 .0 .0 .1
 
   abbrev pub slices : List ℕ → List ℕ → List Frame → List ℕ → List ℕ → List Arg
@@ -172,7 +172,7 @@ module _ (p : Passing) where
       ∷ mut u64 cells-at cells′
       ∷ mut R frames-at frames′
       ∷ mut u64 copy-at copy′
-      ∷ mut u32 backtrace-at backtrace′ ∷ []
+      ∷ mut u64 backtrace-at backtrace′ ∷ []
 
   abbrev pub xs : List ℕ → List ℕ → List Frame → List ℕ → List ℕ → List Arg
   xs stack′ cells′ frames′ copy′ backtrace′ = val VmRow m (vmVal m) ∷ val u64 units (vint w64 units) ∷ slices stack′ cells′ frames′ copy′ backtrace′

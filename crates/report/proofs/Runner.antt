@@ -42,7 +42,7 @@ lines-of-one m s l u = either-way (eqb (runRefusal m s l) 0) (λ e. rw e) (λ e.
 
 module _ (ss cs fs tx mn mp ot op : List ℕ) (m : Vm) (c : Counts) (f : m ≡ fresh c) (x : RunResult) (st ce co ba : List ℕ)
     (p : PlayPost m 1000000 (programLent ss cs fs tx mn mp ot op)
-    (λ frames. runLent (replicate 2048 0) (replicate 4096 0) frames (replicate 2048 0) (replicate 512 0)) x (λ frames. runLent st ce frames co ba)) where
+    (λ frames. runLent (replicate 2048 0) (replicate 4096 0) frames (replicate 2048 0) (replicate 768 0)) x (λ frames. runLent st ce frames co ba)) where
   run : OneRun (fresh c) 1000000 (programLent ss cs fs tx mn mp ot op) runnerLent x (runLent st ce (p .frames) co ba)
   unfolding emptyLent runLent
   run = rw f at (p .run)
@@ -50,7 +50,7 @@ module _ (ss cs fs tx mn mp ot op : List ℕ) (m : Vm) (c : Counts) (f : m ≡ f
   pub can-print : ((j : ℕ) → getD mn j 0 < 256) → ((j : ℕ) → getD ot j 0 < 256) → Shows x ce ba
   unfolding programLent runLent emptyLent
   can-print a b =
-      let few : length {A = ℕ} (replicate 512 0) < 2 ^ 32 = omega (arith, length-replicate {A = ℕ} 512 0) in
+      let few : length {A = ℕ} (replicate 768 0) < 2 ^ 32 = omega (arith, length-replicate {A = ℕ} 768 0) in
       run-shows (fresh c) (programLent ss cs fs tx mn mp ot op) runnerLent 1000000 (record { main = λ j l. a j; other = λ j l. b j }) (omega arith) runner-long few
       x (runLent st ce (p .frames) co ba) run
 

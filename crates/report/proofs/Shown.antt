@@ -59,16 +59,16 @@ module _ (m : Vm) (s : Stores) (l : Lent) where
   unfolding runRefusal
   granted-so e = either-way (runOrder m s l) (λ order. order) (λ bad. absurd (true≢false (sym (rw bad at e))))
 
-  room-for-trace : traceShort l ≡ false → 2 * frameRoom (l .frames) ≤ length (l .backtrace)
+  room-for-trace : traceShort l ≡ false → 3 * frameRoom (l .frames) ≤ length (l .backtrace)
   unfolding traceShort places
   room-for-trace e =
-      let z : frameRoom (l .frames) ≤ places 2 (l .backtrace) = ltb-false _ _ e in
+      let z : frameRoom (l .frames) ≤ places 3 (l .backtrace) = ltb-false _ _ e in
       omega arith
 
   module _ (u : ℕ) (bytes : CodeBytes s) (long : traceShort l ≡ false) where
     -- a fault's backtrace lies inside its store
-    pub run-trace : eqb (runRefusal m s l) 0 ≡ true → (n : ℕ) (k : Tally) (es : List Entry) → runOf (worldOf m s l) (machineIn m l) u .reply ≡ fault n k es → 2
-        * length es ≤ length (l .backtrace)
+    pub run-trace : eqb (runRefusal m s l) 0 ≡ true → (n : ℕ) (k : Tally) (es : List Entry) → runOf (worldOf m s l) (machineIn m l) u .reply ≡ fault n k es
+        → 3 * length es ≤ length (l .backtrace)
     run-trace granted n k es e =
         let ok = granted-so granted in
         let a = trace-short (worldOf m s l) (order-world m s l ok bytes) (machineIn m l) u (order-sane m s l ok u) n k es e in

@@ -37,7 +37,7 @@ fn run_program(
     let mut stack = [0u64; 2048];
     let mut cells = [0u64; 4096];
     let mut copy = [0u64; 2048];
-    let mut backtrace = [0u32; 512];
+    let mut backtrace = [0u64; 768];
     let m = fresh_vm(c);
     let r = play(
         m,

@@ -46,7 +46,7 @@ fn one_run(
     cells: &mut [u64],
     frames: &mut [Frame],
     copy: &mut [u64],
-    backtrace: &mut [u32],
+    backtrace: &mut [u64],
 ) -> RunResult
     ensures { λ r. ⌜ OneRun m units (programLent (now (structs .entry)) (now (constants .entry)) (now (functions .entry)) (now (text .entry)) (now (main .entry)) (now («main_places» .entry)) (now (other .entry)) (now («other_places» .entry))) (runLent (now (stack .entry)) (now (cells .entry)) (now (frames .entry)) (now (copy .entry)) (now (backtrace .entry))) r (runLent (now (stack .exit)) (now (cells .exit)) (now (frames .exit)) (now (copy .exit)) (now (backtrace .exit))) ⌝ }
 {
@@ -126,7 +126,7 @@ pub fn play(
     stack: &mut [u64],
     cells: &mut [u64],
     copy: &mut [u64],
-    backtrace: &mut [u32],
+    backtrace: &mut [u64],
 ) -> RunResult
     ensures { λ r. ⌜ PlayPost m units (programLent (now (structs .entry)) (now (constants .entry)) (now (functions .entry)) (now (text .entry)) (now (main .entry)) (now («main_places» .entry)) (now (other .entry)) (now («other_places» .entry))) (λ frames. runLent (now (stack .entry)) (now (cells .entry)) frames (now (copy .entry)) (now (backtrace .entry))) r (λ frames. runLent (now (stack .exit)) (now (cells .exit)) frames (now (copy .exit)) (now (backtrace .exit))) ⌝ }
 {
@@ -134,6 +134,7 @@ pub fn play(
         function: 0,
         position: 0,
         base: 0,
+        entered: 0,
     };
     let mut frames = [first; 256];
     let answer = one_run(

@@ -16,7 +16,7 @@ use Rattle.model.specs.Reports.{ranLines, refusedLine}
 abbrev pub Inside : RunResult → ℕ → ℕ → Type 0
 Inside (Value m v n) cells backtrace = 2 * m .cells ≤ cells
 Inside (Continue m n) cells backtrace = Unit
-Inside (Fault m k n j) cells backtrace = 2 * j ≤ backtrace
+Inside (Fault m k n j) cells backtrace = 3 * j ≤ backtrace
 Inside (Paused m) cells backtrace = Unit
 Inside (Refused n) cells backtrace = Unit
 

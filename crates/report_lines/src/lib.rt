@@ -27,7 +27,7 @@ pub fn print_refused(n: u8, out: &mut [u8]) -> usize
 }
 
 // What a run answered, with the stores as it left them. Likewise measured first.
-pub fn print_report(r: RunResult, cells: &[u64], backtrace: &[u32], out: &mut [u8]) -> usize
+pub fn print_report(r: RunResult, cells: &[u64], backtrace: &[u64], out: &mut [u8]) -> usize
     requires { ⌜ Shows r (now cells) (now backtrace) ⌝ }
     ensures { λ n. ⌜ ((stack : List ℕ) (frames : List Frame) (copy : List ℕ) → record { count = n; out = now (out .exit) } ≡ printed (answerLines (answerIn (record { stack = stack; cells = now (cells .entry); frames = frames; copy = copy; backtrace = now (backtrace .entry) }) r)) (now (out .entry))) ⌝ }
 {

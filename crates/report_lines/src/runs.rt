@@ -27,24 +27,26 @@ fn put_spent(units: u64, stack: usize, out: &mut [u8], at: usize) -> usize
     put_line(b"stack ", stack, out, next)
 }
 
-// An entry of a backtrace.
-fn put_entry(function: u32, place: u32, out: &mut [u8], at: usize) -> usize
-    requires { ⌜ at + 64 < 2 ^ 64 ⌝ }
-    ensures { λ r. ⌜ Put 64 (ascii "at " ++ decimal function ++ ascii " " ++ decimal place ++ ascii "\n") (now (out .entry)) at (now (out .exit)) r ⌝ }
+// An entry of a backtrace: the function, the place, and the units at which the frame was entered.
+fn put_entry(function: u64, place: u64, entered: u64, out: &mut [u8], at: usize) -> usize
+    requires { ⌜ at + 66 < 2 ^ 64 ⌝ }
+    ensures { λ r. ⌜ Put 66 (ascii "at " ++ decimal function ++ ascii " " ++ decimal place ++ ascii " " ++ decimal entered ++ ascii "\n") (now (out .entry)) at (now (out .exit)) r ⌝ }
 {
-    let next = put_count(b"at ", function as usize, out, at);
-    put_line(b" ", place as usize, out, next)
+    let behind = put_count(b"at ", function as usize, out, at);
+    let next = put_count(b" ", place as usize, out, behind);
+    put_line(b" ", entered as usize, out, next)
 }
 
 // The first n entries of a backtrace.
-fn put_entries(n: usize, backtrace: &[u32], out: &mut [u8], at: usize) -> usize
-    requires { ⌜ (2 * n ≤ length (now backtrace)) × (at + 64 * n < 2 ^ 64) ⌝ }
-    ensures { λ r. ⌜ Put (64 * n) (entryLines (entriesIn n 0 (now (backtrace .entry)))) (now (out .entry)) at (now (out .exit)) r ⌝ }
+fn put_entries(n: usize, backtrace: &[u64], out: &mut [u8], at: usize) -> usize
+    requires { ⌜ (3 * n ≤ length (now backtrace)) × (at + 66 * n < 2 ^ 64) ⌝ }
+    ensures { λ r. ⌜ Put (66 * n) (entryLines (entriesIn n 0 (now (backtrace .entry)))) (now (out .entry)) at (now (out .exit)) r ⌝ }
 {
     let mut i = 0;
     let mut next = at;
     while i < n {
-        next = put_entry(backtrace[2 * i], backtrace[2 * i + 1], out, next);
+        let j = 3 * i;
+        next = put_entry(backtrace[j], backtrace[j + 1], backtrace[j + 2], out, next);
         i += 1;
     }
     next
@@ -68,9 +70,9 @@ fn put_answer(v: Value, cells: &[u64], used: usize, out: &mut [u8]) -> usize
 }
 
 // What a run answered, with the stores as it left them. A run that is paused has no lines yet.
-pub fn put_report(r: RunResult, cells: &[u64], backtrace: &[u32], out: &mut [u8]) -> usize
+pub fn put_report(r: RunResult, cells: &[u64], backtrace: &[u64], out: &mut [u8]) -> usize
     requires { ⌜ Shows r (now cells) (now backtrace) ⌝ }
-    ensures { λ p. ⌜ ((stack : List ℕ) (frames : List Frame) (copy : List ℕ) → Put (128 + 32 * length (now (backtrace .entry))) (answerLines (answerIn (record { stack = stack; cells = now (cells .entry); frames = frames; copy = copy; backtrace = now (backtrace .entry) }) r)) (now (out .entry)) 0 (now (out .exit)) p) ⌝ }
+    ensures { λ p. ⌜ ((stack : List ℕ) (frames : List Frame) (copy : List ℕ) → Put (128 + 22 * length (now (backtrace .entry))) (answerLines (answerIn (record { stack = stack; cells = now (cells .entry); frames = frames; copy = copy; backtrace = now (backtrace .entry) }) r)) (now (out .entry)) 0 (now (out .exit)) p) ⌝ }
 {
     match r {
         RunResult::Value(m, v, did) => {

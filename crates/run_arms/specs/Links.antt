@@ -2,7 +2,7 @@
 use mathlib.Core.Path.{_≡_}
 use mathlib.Core.Bool.{Bool, true, false, not, _&&_, _||_}
 use mathlib.Core.List.{List, [], _∷_, map}
-use Prim.Native.Nat.{ℕ, _*_, _≤_, _<_}
+use Prim.Native.Nat.{ℕ, _-_, _*_, _≤_, _<_}
 use lib.ListN.{length}
 use Rattle.model.specs.declared.Value.{Value}
 use Rattle.model.specs.declared.Value.the-variants as v
@@ -20,17 +20,34 @@ use Rattle.run_arms.specs.declared.Going.{Going}
 use Rattle.run_arms.specs.declared.Answer.{Answer}
 use Rattle.run_arms.specs.declared.Answer.the-variants.{Went, Returned, Call, Back, Stopped, Short}
 
--- ---- what the words stand for: s is the stack's store, x the cells', cs the callers
+-- ---- what the words stand for: s is the stack's store, x the cells'
 
-abbrev pub frameIn : Going → Frame
-frameIn g = record { function = g .function; position = g .position; base = g .base }
+-- what an arm does not see of the frames: when the current one was entered, and its callers
+pub record Around : Type 0 where
+  pub entered : ℕ
+  pub callers : List Frame
 
-abbrev pub stateOf : Going → List ℕ → List ℕ → List Frame → State
-stateOf g s x cs = record { stack = vals (g .sp) s; frame = frameIn g; callers = cs; heap = heapOf (g .used) x; last = lastIn (g .kind) (g .payload); units = g .units }
+abbrev pub around : (entered : ℕ) → List Frame → Around
+around e cs = record { entered = e; callers = cs }
 
--- the frame that a call enters
-abbrev pub entered : ℕ → ℕ → Frame
-entered i b = record { function = i; position = 0; base = b }
+abbrev pub frameIn : Going → (entered : ℕ) → Frame
+frameIn g e = record { function = g .function; position = g .position; base = g .base; entered = e }
+
+-- the units that are left are those given less those spent
+abbrev pub stateOf : Fixed → Going → List ℕ → List ℕ → Around → State
+stateOf k g s x a = record {
+  stack = vals (g .sp) s;
+  frame = frameIn g (a .entered);
+  callers = a .callers;
+  heap = heapOf (g .used) x;
+  last = lastIn (g .kind) (g .payload);
+  spent = g .spent;
+  units = k .given - g .spent;
+}
+
+-- the frame that a call enters, whose own unit is among those spent
+abbrev pub entered : (function base spent : ℕ) → Frame
+entered i b e = record { function = i; position = 0; base = b; entered = e }
 
 -- back in the caller; there is one (`HasCaller`)
 abbrev pub backTo : List Frame → State → Outcome
@@ -38,13 +55,13 @@ backTo [] t = faulted f.FramesFull t
 backTo (c ∷ cs) t = went (withFrames c cs t)
 
 -- what an answer and the stores then stand for
-abbrev pub outcomeOf : List Frame → Answer → List ℕ → List ℕ → Outcome
-outcomeOf cs (Went g) s x = went (stateOf g s x cs)
-outcomeOf cs (Returned c) s x = returned (c .value) (withLast (c .value) (stateOf (c .going) s x cs))
-outcomeOf cs (Call g i b) s x = went (withFrames (entered i b) (frameIn g ∷ cs) (stateOf g s x cs))
-outcomeOf cs (Back g) s x = backTo cs (stateOf g s x cs)
-outcomeOf cs (Stopped g n) s x = faulted n (stateOf g s x cs)
-outcomeOf cs (Short g) s x = short
+abbrev pub outcomeOf : Fixed → Around → Answer → List ℕ → List ℕ → Outcome
+outcomeOf k a (Went g) s x = went (stateOf k g s x a)
+outcomeOf k a (Returned c) s x = returned (c .value) (withLast (c .value) (stateOf k (c .going) s x a))
+outcomeOf k a (Call g i b) s x = went (withFrames (entered i b (g .spent)) (frameIn g (a .entered) ∷ a .callers) (stateOf k g s x a))
+outcomeOf k a (Back g) s x = backTo (a .callers) (stateOf k g s x a)
+outcomeOf k a (Stopped g n) s x = faulted n (stateOf k g s x a)
+outcomeOf k a (Short g) s x = short
 
 -- ---- what the code leans on
 
@@ -115,7 +132,7 @@ Unwritten (Short g) s x s' x' = (s' ≡ s) × (x' ≡ x)
 
 -- what an arm ensures that is lent the stack alone: whatever the cells are, they stay
 pub record ArmPost (rule : State → Outcome) (k : Fixed) (g : Going) (s : List ℕ) (r : Answer) (s' : List ℕ) : Type 0 where
-  pub means : (x : List ℕ) (cs : List Frame) → length cs ≡ g .callers → outcomeOf cs r s' x ≡ rule (stateOf g s x cs)
+  pub means : (x : List ℕ) (a : Around) → length (a .callers) ≡ g .callers → outcomeOf k a r s' x ≡ rule (stateOf k g s x a)
   pub within : Within k (goingIn r) s'
   pub kept : Kept g (goingIn r)
   pub used : goingIn r .used ≡ g .used
@@ -127,16 +144,17 @@ pub record CellsWithin (g : Going) (x : List ℕ) : Type 0 where
   pub count : g .used ≤ places 2 x
   pub exact : exactCells (g .used) 0 x ≡ true
 
--- the heap is in good order over t bytes of text, and the stack's values are placed in it
+-- the heap is in good order over t bytes of text, the stack's values are placed in it, and no more units are spent than were given
 pub record Blocks (t : ℕ) (k : Fixed) (g : Going) (s x : List ℕ) : Type 0 where
   pub stack : Within k g s
   pub cells : CellsWithin g x
   pub good : heapOk t (heapOf (g .used) x) ≡ true
   pub placed : (i : ℕ) → i < g .sp → placedBelow t (heapOf (g .used) x) (g .used) (valueAt s i) ≡ true
+  pub spent : g .spent ≤ k .given
 
 -- what an arm ensures that is lent the cells too: the cells that were taken stay
 pub record BlockPost (rule : State → Outcome) (k : Fixed) (g : Going) (s x : List ℕ) (r : Answer) (s' x' : List ℕ) : Type 0 where
-  pub means : (cs : List Frame) → length cs ≡ g .callers → outcomeOf cs r s' x' ≡ rule (stateOf g s x cs)
+  pub means : (a : Around) → length (a .callers) ≡ g .callers → outcomeOf k a r s' x' ≡ rule (stateOf k g s x a)
   pub within : Within k (goingIn r) s'
   pub kept : Kept g (goingIn r)
   pub cells : CellsWithin (goingIn r) x'

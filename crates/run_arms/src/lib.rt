@@ -6,18 +6,19 @@ use model::Value;
 pub mod pushes; // pushes.rt: constants, slots, the last result
 pub mod frames; // frames.rt: calls and returns; the frames themselves are the run's
 
-// What no step changes: the counts of the program, and the rooms of stack and frames.
+// What no step changes: the counts of the program, the rooms of stack and frames, and the units that the run was given in all.
 pub struct Fixed {
     pub constants: usize,
     pub structs: usize,
     pub functions: usize,
     pub slots: usize,
     pub frames: usize,
+    pub given: u64,
 }
 
-// What a step changes, in plain words: the values on the stack, the current frame, how many callers it has, the cells taken, the units left, and
-// the last result as a kind and a payload (kind 7: none). `mark` is how many cells were taken at the run's last root Return, or at its start,
-// and `returns` how many there were.
+// What a step changes, in plain words: the values on the stack, the current frame (but when it was entered, which the run has), how many callers it
+// has, the cells taken, the units that the run has spent, and the last result as a kind and a payload (kind 7: none). `mark` is how many cells were
+// taken at the run's last root Return, or at its start, and `returns` how many there were.
 pub struct Going {
     pub sp: usize,
     pub function: usize,
@@ -25,7 +26,7 @@ pub struct Going {
     pub base: usize,
     pub callers: usize,
     pub used: usize,
-    pub units: u64,
+    pub spent: u64,
     pub kind: u64,
     pub payload: u64,
     pub mark: usize,

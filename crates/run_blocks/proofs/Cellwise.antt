@@ -2,9 +2,9 @@
 use mathlib.Core.Path.{_≡_, refl, sym, _∙_}
 use mathlib.Core.Bool.{Bool, true, false, not}
 use mathlib.Core.List.{List, _∷_}
-use Prim.Native.Nat.{ℕ, zero, suc, _-_, _*_, _≤_, _<_}
+use Prim.Native.Nat.{ℕ, zero, suc, _+_, _-_, _*_, _≤_, _<_}
 use native.Mathlib.Omega.{arith}
-use borrow.Author.Tests.{lt-ltb, le-ltb}
+use borrow.Author.Tests.{lt-ltb, le-ltb, leb-true}
 use lib.Dec.{leb}
 use lib.ListN.{length}
 use lib.Seq.{take-append-le}
@@ -14,12 +14,11 @@ use Rattle.model.specs.declared.Fault.{Fault}
 use Rattle.model.specs.declared.Fault.the-variants as f
 use Rattle.model.specs.declared.Found.{Found}
 use Rattle.model.specs.declared.Found.the-variants.{Got, Bad}
-use Rattle.model.specs.declared.Frame.{Frame}
 use Rattle.model.specs.Basics.{if_then_else_}
 use Rattle.model.specs.Values.{places, vals, valueAt, ifStruct}
 use Rattle.model.specs.Heap.{item, heapOf, fieldOf, listElements, placedBelow}
 use Rattle.model.specs.Equality.{Same, same, sameOf}
-use Rattle.model.specs.Steps.{World, State, Outcome, went, faulted, short, withStack, withUnits, pushing, onFound, onSame, equalStep, onBuilt, buildStep, structStep, fieldStep}
+use Rattle.model.specs.Steps.{World, State, Outcome, went, faulted, short, withStack, paid, pushing, onFound, onSame, equalStep, onBuilt, buildStep, structStep, fieldStep}
 use Rattle.value.specs.Links.{Written, popOf}
 use Rattle.value.proofs.Stores.{length-vals, vals-drop}
 use Rattle.value.proofs.Operands.{got-some}
@@ -34,21 +33,21 @@ use Rattle.run_arms.specs.declared.Fixed.{Fixed}
 use Rattle.run_arms.specs.declared.Going.{Going}
 use Rattle.run_arms.specs.declared.Answer.{Answer}
 use Rattle.run_arms.specs.declared.Answer.the-variants.{Went, Returned, Call, Back, Stopped, Short}
-use Rattle.run_arms.specs.Links.{stateOf, Within, Suits, Kept, Paid, Unwritten, ArmPost, CellsWithin, Blocks, BlockPost, verdictBy, builtBy}
+use Rattle.run_arms.specs.Links.{Around, stateOf, Within, Suits, Kept, Paid, Unwritten, ArmPost, CellsWithin, Blocks, BlockPost, verdictBy, builtBy}
 use Rattle.run_arms.proofs.Keeping.{fewer}
 use Rattle.run_arms.proofs.Rules.{no-top, top}
 use Rattle.run_arms.proofs.Posts.{withCount, One, refused, settled, one-none, one-wrong}
 
--- the machine with l units left
-abbrev pub withLeft : ℕ → Going → Going
-withLeft l g = record {
+-- the machine of a run that has spent e units
+abbrev pub withSpent : ℕ → Going → Going
+withSpent e g = record {
   sp = g .sp;
   function = g .function;
   position = g .position;
   base = g .base;
   callers = g .callers;
   used = g .used;
-  units = l;
+  spent = e;
   kind = g .kind;
   payload = g .payload;
   mark = g .mark;
@@ -64,7 +63,7 @@ withUsed u g = record {
   base = g .base;
   callers = g .callers;
   used = u;
-  units = g .units;
+  spent = g .spent;
   kind = g .kind;
   payload = g .payload;
   mark = g .mark;
@@ -73,8 +72,8 @@ withUsed u g = record {
 
 -- the rule goes another way to the same outcome
 pub same-block : {rule other : State → Outcome} {k : Fixed} {g : Going} {s x : List ℕ} {r : Answer} {t y : List ℕ}
-    → ((cs : List Frame) → other (stateOf g s x cs) ≡ rule (stateOf g s x cs)) → BlockPost rule k g s x r t y → BlockPost other k g s x r t y
-same-block e p = record { means = λ cs h. p .means cs h ∙ sym (e cs); within = p .within; kept = p .kept; cells = p .cells; before = p .before; caller = p .caller; unwritten = p .unwritten }
+    → ((ar : Around) → other (stateOf k g s x ar) ≡ rule (stateOf k g s x ar)) → BlockPost rule k g s x r t y → BlockPost other k g s x r t y
+same-block e p = record { means = λ ar h. p .means ar h ∙ sym (e ar); within = p .within; kept = p .kept; cells = p .cells; before = p .before; caller = p .caller; unwritten = p .unwritten }
 
 -- ---- an arm that ends as one does that is lent the stack alone
 
@@ -88,10 +87,10 @@ paid-written (Short g) s x s' x' h = absurd h
 
 module _ {rule other : State → Outcome} {k : Fixed} {g : Going} {s x : List ℕ} {r : Answer} {t : List ℕ} where
   -- it goes on from the machine h and the cells y, in which those that were taken stay
-  pub goes-on : {h : Going} {y : List ℕ} → ((cs : List Frame) → rule (stateOf g s x cs) ≡ other (stateOf h s y cs)) → Kept g h → CellsWithin h y
+  pub goes-on : {h : Going} {y : List ℕ} → ((ar : Around) → rule (stateOf k g s x ar) ≡ other (stateOf k h s y ar)) → Kept g h → CellsWithin h y
       → ((n : ℕ) → n ≤ g .used → heapOf n y ≡ heapOf n x) → ArmPost other k h s r t → BlockPost rule k g s x r t y
   goes-on {y = y} e q c b p = record {
-    means = λ cs d. p .means y cs (d ∙ sym (q .callers)) ∙ sym (e cs);
+    means = λ ar d. p .means y ar (d ∙ sym (q .callers)) ∙ sym (e ar);
     within = p .within;
     kept = record { callers = p .kept .callers ∙ q .callers; mark = p .kept .mark ∙ q .mark; returns = p .kept .returns ∙ q .returns };
     cells = record { count = rw (p .used) (c .count); exact = rw (p .used) (c .exact) };
@@ -101,13 +100,13 @@ module _ {rule other : State → Outcome} {k : Fixed} {g : Going} {s x : List �
   }
 
   -- or from where it is
-  pub stands : CellsWithin g x → ((cs : List Frame) → rule (stateOf g s x cs) ≡ other (stateOf g s x cs)) → ArmPost other k g s r t → BlockPost rule k g s x r t x
+  pub stands : CellsWithin g x → ((ar : Around) → rule (stateOf k g s x ar) ≡ other (stateOf k g s x ar)) → ArmPost other k g s r t → BlockPost rule k g s x r t x
   stands c e p = goes-on e (record { callers = refl; mark = refl; returns = refl }) c (λ n h. refl) p
 
 -- what an arm ensures that is lent the stack alone, said with the cells
 pub arm-block : {rule : State → Outcome} {k : Fixed} {g : Going} {s x : List ℕ} {r : Answer} {t : List ℕ}
     → CellsWithin g x → ArmPost rule k g s r t → BlockPost rule k g s x r t x
-arm-block c p = stands c (λ cs. refl) p
+arm-block c p = stands c (λ ar. refl) p
 
 -- ---- what the values and the cells are known to be
 
@@ -130,20 +129,29 @@ module _ {m : ℕ} {k : Fixed} {g : Going} {s x : List ℕ} (b : Blocks m k g s 
 
 -- ---- equality
 
--- what is done by a verdict
+-- what is done by a verdict, which says how many units are left then
 abbrev byVerdict : (Bool → Bool) → List Value → State → Verdict → Outcome
-byVerdict t r u (Done a l) = went (withStack (v.Boolean (t a) ∷ r) (withUnits l u))
+byVerdict t r u (Done a l) = went (withStack (v.Boolean (t a) ∷ r) (paid (u .units - l) u))
 byVerdict t r u Out = short
 
 on-verdict : (t : Bool → Bool) (r : List Value) (u : State) (z : Same) → onSame t r u z ≡ byVerdict t r u (verdict (u .units) z)
 unfolding onSame verdict
-on-verdict t r u (same a n) = on (leb n (u .units))
+on-verdict t r u (same a n) = on (leb n (u .units)) refl
   where
-    on : (y : Bool)
-        → (if y then went (withStack (v.Boolean (t a) ∷ r) (withUnits (u .units - n) u)) else short)
+    on : (y : Bool) → leb n (u .units) ≡ y
+        → (if y then went (withStack (v.Boolean (t a) ∷ r) (paid n u)) else short)
         ≡ byVerdict t r u (if y then Done a (u .units - n) else Out)
-    on true = refl
-    on false = refl
+    on true e = let z : u .units - (u .units - n) ≡ n = let l : n ≤ u .units = leb-true _ _ e in omega arith in rw z
+    on false e = refl
+
+-- no more units are left than there were
+pub left-of : (u : ℕ) (z : Same) {d : Verdict} {a : Bool} {l : ℕ} → d ≡ verdict u z → d ≡ Done a l → l ≤ u
+unfolding verdict
+left-of u (same b n) {d} {a} {l} e o = of (leb n u) (sym o ∙ e)
+  where
+    of : (y : Bool) → Done a l ≡ (if y then Done b (u - n) else Out) → l ≤ u
+    of true e = let z : l ≡ u - n = cc in omega arith
+    of false e = absurd (let z : _≡_ {A = ℕ} 0 1 = cc in let y : ⊥ = omega arith in y)
 
 -- the two equalities of the rules
 module _ (u : World) (st : State) where
@@ -158,12 +166,12 @@ module _ (u : World) (st : State) where
 module _ (text : List ℕ) {k : Fixed} {g : Going} {s x : List ℕ} (b : Blocks (length text) k g s x) {p : Found} (right : p ≡ popOf (vals (g .sp) s)) where
   pub equal-none : (t : Bool → Bool) (u : World) {n : Fault} → p ≡ Bad n → BlockPost (equalStep t u) k g s x (Stopped g f.TooFewValues) s x
   unfolding equalStep
-  equal-none t u e = arm-block (b .cells) (refused (b .stack) (λ x cs h. no-top (g .sp) s right _ _ e))
+  equal-none t u e = arm-block (b .cells) (refused (b .stack) (λ x ar h. no-top (g .sp) s right _ _ e))
 
   module _ {y : Value} (ey : p ≡ Got y) {q : Found} (left : q ≡ popOf (vals (g .sp - 1) s)) where
     pub equal-one : (t : Bool → Bool) (u : World) {n : Fault} → q ≡ Bad n → BlockPost (equalStep t u) k g s x (Stopped g f.TooFewValues) s x
     unfolding equalStep
-    equal-one t u e = arm-block (b .cells) (refused (b .stack) (λ x cs h. top (g .sp) s right _ _ ey ∙ no-top (g .sp - 1) s left _ _ e))
+    equal-one t u e = arm-block (b .cells) (refused (b .stack) (λ x ar h. top (g .sp) s right _ _ ey ∙ no-top (g .sp - 1) s left _ _ e))
 
     module _ {z : Value} (ez : q ≡ Got z) where
       pub equal-pre : EqualPre text x (g .used) z y
@@ -174,25 +182,25 @@ module _ (text : List ℕ) {k : Fixed} {g : Going} {s x : List ℕ} (b : Blocks 
         right = popped-placed b (g .sp) (omega arith) right ey;
       }
 
-      module _ {d : Verdict} (e : d ≡ verdict (g .units) (sameOf text (heapOf (g .used) x) z y)) (t : Bool → Bool) (u : World) (h : u .text ≡ text) where
-        judged : (cs : List Frame) → equalStep t u (stateOf g s x cs) ≡ byVerdict t (vals (g .sp - 1 - 1) s) (stateOf g s x cs) d
+      module _ {d : Verdict} (e : d ≡ verdict (k .given - g .spent) (sameOf text (heapOf (g .used) x) z y)) (t : Bool → Bool) (u : World) (h : u .text ≡ text) where
+        judged : (ar : Around) → equalStep t u (stateOf k g s x ar) ≡ byVerdict t (vals (g .sp - 1 - 1) s) (stateOf k g s x ar) d
         unfolding equalStep
-        judged cs = top (g .sp) s right _ _ ey ∙ top (g .sp - 1) s left _ _ ez ∙ rw (h, e) (on-verdict t _ _ _)
+        judged ar = top (g .sp) s right _ _ ey ∙ top (g .sp - 1) s left _ _ ez ∙ rw (h, e) (on-verdict t _ _ _)
 
-        -- the answer, with l units left then
-        spends : {other : State → Outcome} (l : ℕ) {r : Answer} {w : List ℕ}
-            → ((cs : List Frame) → byVerdict t (vals (g .sp - 1 - 1) s) (stateOf g s x cs) d ≡ other (stateOf (withLeft l g) s x cs))
-            → ArmPost other k (withLeft l g) s r w → BlockPost (equalStep t u) k g s x r w x
-        spends l o a =
-            goes-on (λ cs. judged cs ∙ o cs) (record { callers = refl; mark = refl; returns = refl }) (record { count = b .cells .count; exact = b .cells .exact })
+        -- the answer, where the run has then spent e units
+        spends : {other : State → Outcome} (e : ℕ) {r : Answer} {w : List ℕ}
+            → ((ar : Around) → byVerdict t (vals (g .sp - 1 - 1) s) (stateOf k g s x ar) d ≡ other (stateOf k (withSpent e g) s x ar))
+            → ArmPost other k (withSpent e g) s r w → BlockPost (equalStep t u) k g s x r w x
+        spends e o a =
+            goes-on (λ ar. judged ar ∙ o ar) (record { callers = refl; mark = refl; returns = refl }) (record { count = b .cells .count; exact = b .cells .exact })
             (λ n i. refl) a
 
-        still : (l : ℕ) → Within k (withLeft l g) s
-        still l = fewer (b .stack) (omega arith) refl
+        still : (e : ℕ) → Within k (withSpent e g) s
+        still e = fewer (b .stack) (omega arith) refl
 
         pub equal-out : d ≡ Out → BlockPost (equalStep t u) k g s x (Short g) s x
         equal-out o = record {
-          means = λ cs h. sym (judged cs ∙ rw o);
+          means = λ ar h. sym (judged ar ∙ rw o);
           within = b .stack;
           kept = record { callers = refl; mark = refl; returns = refl };
           cells = b .cells;
@@ -202,11 +210,14 @@ module _ (text : List ℕ) {k : Fixed} {g : Going} {s x : List ℕ} (b : Blocks 
         }
 
         pub equal-done : {a c : Bool} {l : ℕ} {w : List ℕ} → d ≡ Done a l → c ≡ t a → Written s (g .sp - 1 - 1) (item (v.Boolean c)) w
-            → BlockPost (equalStep t u) k g s x (Went (withCount (g .sp - 1) (withLeft l g))) w x
+            → BlockPost (equalStep t u) k g s x (Went (withCount (g .sp - 1) (withSpent (k .given - l) g))) w x
         equal-done {c = c} {l = l} o i q =
-            let z = got-some (g .sp - 1) s left ez in
-            spends {other = λ st. went (withStack (v.Boolean c ∷ vals (g .sp - 1 - 1) s) st)} l (λ cs. rw (o, i))
-            (settled (still l) q (omega arith) (omega (arith, b .stack .count)) (omega arith) (λ x cs. refl))
+            let some = got-some (g .sp - 1) s left ez in
+            let h : l ≤ k .given - g .spent = left-of _ (sameOf text (heapOf (g .used) x) z y) e o in
+            let spent : g .spent + (k .given - g .spent - l) ≡ k .given - l = omega (arith, b .spent) in
+            let units : k .given - g .spent - (k .given - g .spent - l) ≡ k .given - (k .given - l) = omega (arith, b .spent) in
+            spends {other = λ st. went (withStack (v.Boolean c ∷ vals (g .sp - 1 - 1) s) st)} (k .given - l) (λ ar. rw (o, i, spent, units))
+            (settled (still _) q (omega arith) (omega (arith, b .stack .count)) (omega arith) (λ x ar. refl))
 
 -- ---- a field
 
@@ -231,20 +242,20 @@ module _ {m : ℕ} {k : Fixed} {g : Going} {s x : List ℕ} (b : Blocks m k g s 
       field-pre = record { texts = m; room = cells-room b; good = b .good; placed = rw h at (popped-placed b (g .sp) (omega arith) popped e) }
 
       module _ {d : Found} (o : d ≡ fieldOf (heapOf (g .used) x) i a) where
-        looked : (cs : List Frame)
-            → fieldStep a (stateOf g s x cs) ≡ onFound d (stateOf g s x cs) (λ y. went (withStack (y ∷ vals (g .sp - 1) s) (stateOf g s x cs)))
-        looked cs = reads a .is _ ∙ top (g .sp) s popped _ _ e ∙ is-struct h _ _ ∙ rw o
+        looked : (ar : Around)
+            → fieldStep a (stateOf k g s x ar) ≡ onFound d (stateOf k g s x ar) (λ y. went (withStack (y ∷ vals (g .sp - 1) s) (stateOf k g s x ar)))
+        looked ar = reads a .is _ ∙ top (g .sp) s popped _ _ e ∙ is-struct h _ _ ∙ rw o
 
         pub field-bad : {n : Fault} → d ≡ Bad n → BlockPost (fieldStep a) k g s x (Stopped g n) s x
         unfolding onFound
-        field-bad {n} c = stands (b .cells) (λ cs. looked cs ∙ rw c) (refused (b .stack) {rule = faulted n} (λ x cs h. refl))
+        field-bad {n} c = stands (b .cells) (λ ar. looked ar ∙ rw c) (refused (b .stack) {rule = faulted n} (λ x ar h. refl))
 
         pub field-got : {u : Value} {w : List ℕ} → d ≡ Got u → Written s (g .sp - 1) (item u) w → BlockPost (fieldStep a) k g s x (Went g) w x
         unfolding onFound
         field-got {u} c q =
             let z = got-some (g .sp) s popped e in
-            stands {other = λ st. went (withStack (u ∷ vals (g .sp - 1) s) st)} (b .cells) (λ cs. looked cs ∙ rw c)
-            (settled (b .stack) q (omega arith) (omega (arith, b .stack .count)) (omega arith) (λ x cs. refl))
+            stands {other = λ st. went (withStack (u ∷ vals (g .sp - 1) s) st)} (b .cells) (λ ar. looked ar ∙ rw c)
+            (settled (b .stack) q (omega arith) (omega (arith, b .stack .count)) (omega arith) (λ x ar. refl))
 
 -- ---- a list or a struct is built
 
@@ -257,16 +268,16 @@ module _ (u : World) (j n : ℕ) {k : Fixed} {g : Going} {s x : List ℕ} {r : A
   pub builds-struct : Suits k u → j < k .structs → BlockPost (buildStep u (builtBy false) (elementsOf false) j n) k g s x r w y
       → BlockPost (structStep u j n) k g s x r w y
   unfolding structStep builtBy elementsOf
-  builds-struct c h p = same-block (λ cs. rw (lt-ltb j (u .structs) (let e = c .structs in omega arith))) p
+  builds-struct c h p = same-block (λ ar. rw (lt-ltb j (u .structs) (let e = c .structs in omega arith))) p
 
 module _ {m : ℕ} {k : Fixed} {g : Going} {s x : List ℕ} (b : Blocks m k g s x) (u : World) (j n : ℕ) where
   pub unknown-struct : Suits k u → k .structs ≤ j → BlockPost (structStep u j n) k g s x (Stopped g f.OutOfRange) s x
   unfolding structStep
-  unknown-struct c h = arm-block (b .cells) (refused (b .stack) (λ x cs d. rw (c .structs, le-ltb j (k .structs) h)))
+  unknown-struct c h = arm-block (b .cells) (refused (b .stack) (λ x ar d. rw (c .structs, le-ltb j (k .structs) h)))
 
   pub build-few : (list : Bool) → g .sp < n → BlockPost (buildStep u (builtBy list) (elementsOf list) j n) k g s x (Stopped g f.TooFewValues) s x
   unfolding buildStep
-  build-few list h = arm-block (b .cells) (refused (b .stack) (λ x cs d. rw (length-vals (g .sp) s, lt-ltb (g .sp) n h)))
+  build-few list h = arm-block (b .cells) (refused (b .stack) (λ x ar d. rw (length-vals (g .sp) s, lt-ltb (g .sp) n h)))
 
 module _ {m : ℕ} {k : Fixed} {g : Going} {s x : List ℕ} (b : Blocks m k g s x) {n : ℕ} (enough : n ≤ g .sp) where
   pub build-pre : n < 0x1_0000 → TopPre s (g .sp) n x (g .used)
@@ -285,8 +296,8 @@ module _ {m : ℕ} {k : Fixed} {g : Going} {s x : List ℕ} (b : Blocks m k g s 
     build-bad u room {t} e =
         let q : BuildPost list s (g .sp) n j x (g .used) (bu.Bad t) y = rw e at post in
         rw (q .after)
-        (stands (b .cells) (λ cs. rw (length-vals (g .sp) s, le-ltb (g .sp) n enough, room, ← q .means))
-        (refused (b .stack) {rule = faulted t} (λ x cs h. refl)))
+        (stands (b .cells) (λ ar. rw (length-vals (g .sp) s, le-ltb (g .sp) n enough, room, ← q .means))
+        (refused (b .stack) {rule = faulted t} (λ x ar h. refl)))
 
     module _ {c : ℕ} (e : d ≡ bu.Taken c) where
       new : BuildPost list s (g .sp) n j x (g .used) (bu.Taken c) y
@@ -309,7 +320,7 @@ module _ {m : ℕ} {k : Fixed} {g : Going} {s x : List ℕ} (b : Blocks m k g s 
       built u room h p =
           let z = took in
           goes-on
-          (λ cs. rw (length-vals (g .sp) s, le-ltb (g .sp) n enough, room, ← new .means, length-heap (g .used) x, vals-drop n (g .sp) s, h))
+          (λ ar. rw (length-vals (g .sp) s, le-ltb (g .sp) n enough, room, ← new .means, length-heap (g .used) x, vals-drop n (g .sp) s, h))
           (record { callers = refl; mark = refl; returns = refl })
           (record { count = omega arith; exact = z .exact (b .cells .exact) })
           stay

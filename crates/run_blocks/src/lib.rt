@@ -40,14 +40,16 @@ pub fn equal(k: Fixed, g: Going, not: bool, text: &[u8], cells: &[u64], stack: &
     let Found::Got(x) = pops::pop(stack, count) else {
         return Answer::Stopped(g, Fault::TooFewValues);
     };
-    match cells::equal(text, cells, g.used, x, y, g.units) {
+    let units = k.given - g.spent;
+    match cells::equal(text, cells, g.used, x, y, units) {
         Verdict::Out => Answer::Short(g),
-        Verdict::Done(same, units) => {
+        Verdict::Done(same, left) => {
             let v = told(not, same);
             words::write_value(stack, count - 1, Value::Boolean(v));
+            let spent = k.given - left;
             Answer::Went(Going {
                 sp: count,
-                units,
+                spent,
                 ..g
             })
         }

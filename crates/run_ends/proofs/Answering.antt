@@ -2,7 +2,7 @@
 use mathlib.Core.Path.{_≡_, refl, sym}
 use mathlib.Core.Bool.{Bool, true, false, true≢false}
 use mathlib.Core.List.{List}
-use Prim.Native.Nat.{ℕ, _+_, _-_, _≤_, _<_}
+use Prim.Native.Nat.{ℕ, _+_, _≤_, _<_}
 use native.Mathlib.Numerals.{add-one}
 use lib.Dec.{eqb}
 use borrow.Author.Tests.{eq-eqb, ne-eqb, le-leb, lt-leb}
@@ -36,19 +36,19 @@ some-value k a e = some-by (eqb k 7) (valueOf k a) e
 
 -- ---- the answers
 
-module _ (m : Vm) (u : ℕ) (g : Going) {last : Last} (e : last ≡ lastIn (g .kind) (g .payload)) {did : Tally} (t : did ≡ tallyOf u g) where
+module _ (m : Vm) (g : Going) {last : Last} (e : last ≡ lastIn (g .kind) (g .payload)) {did : Tally} (t : did ≡ tallyOf g) where
   module _ {left : Vm} (d : left ≡ vmWith m (g .sp) (g .callers + 1) (g .used) last) where
-    pub ends-unanswered : g .returns ≡ 0 → r.Continue left did ≡ endedWith m u g
+    pub ends-unanswered : g .returns ≡ 0 → r.Continue left did ≡ endedWith m g
     unfolding endedWith vmEnded answerIn resultBy
     ends-unanswered h = rw (d, e, t, add-one, eq-eqb _ _ h)
 
-    pub ends-answered : Answerable g → (g .returns ≡ 0 → ⊥) → {x : Value} → x ≡ valueOf (g .kind) (g .payload) → r.Value left x did ≡ endedWith m u g
+    pub ends-answered : Answerable g → (g .returns ≡ 0 → ⊥) → {x : Value} → x ≡ valueOf (g .kind) (g .payload) → r.Value left x did ≡ endedWith m g
     unfolding endedWith vmEnded answerIn resultBy Answerable
     ends-answered a n h =
         let some : someLast (lastIn (g .kind) (g .payload)) ≡ true = rw (ne-eqb _ _ n) at a in
         rw (d, e, t, add-one, ne-eqb _ _ n, some-value (g .kind) (g .payload) some, h)
 
-  pub faults : {left : Vm} → left ≡ vmWith m (m .run .saved) 1 (g .mark) last → (n : ℕ) → r.Fault left n did (g .callers + 1) ≡ faultedWith m u g n
+  pub faults : {left : Vm} → left ≡ vmWith m (m .run .saved) 1 (g .mark) last → (n : ℕ) → r.Fault left n did (g .callers + 1) ≡ faultedWith m g n
   unfolding faultedWith vmFaulted
   faults d n = rw (d, e, t, add-one)
 
@@ -60,13 +60,13 @@ pub pauses : (m : Vm) (u : ℕ) (g : Going) {last : Last} → last ≡ lastIn (g
   frames = g .callers + 1;
   cells = g .used;
   last = last;
-  run = record { on = true; given = u; spent = u - g .units; returns = g .returns; mark = g .mark; saved = m .run .saved };
+  run = record { on = true; given = u; spent = g .spent; returns = g .returns; mark = g .mark; saved = m .run .saved };
 }) ≡ pausedWith m u g
 unfolding pausedWith vmPaused
 pauses m u g e = rw (e, add-one)
 
 module _ (m : Vm) (u : ℕ) (g : Going) {n : ℕ} where
-  pub ends-unpaused : n ≡ 0 → {x : RunResult} → x ≡ endedWith m u g → x ≡ settledWith m u g n
+  pub ends-unpaused : n ≡ 0 → {x : RunResult} → x ≡ endedWith m g → x ≡ settledWith m u g n
   unfolding settledWith
   ends-unpaused h e = rw (eq-eqb _ _ h) e
 
@@ -95,6 +95,6 @@ module _ (m : Vm) (f : Frame) (words : List ℕ) {w n : ℕ} (e : w ≡ payloadA
 
 -- ---- the frame that a fault leaves
 
-pub root-is : (fs : List ℕ) {w n : ℕ} → w ≡ payloadAt fs 0 → n ≡ size w → root n ≡ root (size (codeWord fs 0))
+pub root-is : (fs : List ℕ) {w n : ℕ} {r : Frame} → w ≡ payloadAt fs 0 → n ≡ size w → r ≡ root n → r ≡ root (size (codeWord fs 0))
 unfolding codeWord
-root-is fs e f = rw (f, e)
+root-is fs e f g = rw (g, f, e)

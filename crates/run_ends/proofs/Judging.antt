@@ -127,20 +127,21 @@ module _ (m : Vm) (f : Frame) (slots : ℕ) (words cells copy : List ℕ) where
     not-counted h = rw (← ea, h, on)
 
     pub part-is : a ≡ true → {b : Bool} → b ≡ valuesOk (m .program .text) (m .run .mark) cells (m .run .saved) copy (m .last)
-        → {w n : ℕ} → w ≡ payloadAt words (f .function) → n ≡ size w → (b && ltb (f .position) n) ≡ partBy m f slots words cells copy
+        → {w n : ℕ} → w ≡ payloadAt words (f .function) → n ≡ size w
+        → (b && leb (f .entered) (m .run .spent) && ltb (f .position) n) ≡ partBy m f slots words cells copy
     unfolding partBy codeWord
     part-is h eb ew en = rw (← ea, h, ← eb, on, en, ew)
 
 -- ---- 17
 
--- the room of a store of n words, two to a place
-abbrev pub Room : ℕ → ℕ → Type 0
-Room n r = (s : List ℕ) → length s ≡ n → r ≡ places 2 s
+-- the room of a store of n words, so many to a place
+abbrev pub Room : (per n : ℕ) → ℕ → Type 0
+Room k n r = (s : List ℕ) → length s ≡ n → r ≡ places k s
 
-pub copy-short-is : (a c : ℕ) {ra rc : ℕ} → Room a ra → Room c rc → (l : Lent) → length (l .stack) ≡ a → length (l .copy) ≡ c → ltb rc ra ≡ copyShort l
+pub copy-short-is : (a c : ℕ) {ra rc : ℕ} → Room 2 a ra → Room 2 c rc → (l : Lent) → length (l .stack) ≡ a → length (l .copy) ≡ c → ltb rc ra ≡ copyShort l
 unfolding copyShort
 copy-short-is a c ha hc l ea ec = rw (ha (l .stack) ea, hc (l .copy) ec)
 
-pub trace-short-is : (b d : ℕ) {rb rd : ℕ} → rb ≡ min b 0xFFFF_FFFF → Room d rd → (l : Lent) → length (l .frames) ≡ b → length (l .backtrace) ≡ d → ltb rd rb ≡ traceShort l
+pub trace-short-is : (b d : ℕ) {rb rd : ℕ} → rb ≡ min b 0xFFFF_FFFF → Room 3 d rd → (l : Lent) → length (l .frames) ≡ b → length (l .backtrace) ≡ d → ltb rd rb ≡ traceShort l
 unfolding traceShort frameRoom
 trace-short-is b d hb hd l eb ed = rw (hd (l .backtrace) ed, hb, eb)

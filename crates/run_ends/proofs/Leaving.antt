@@ -13,12 +13,12 @@ use Rattle.model.specs.declared.Vm.{Vm}
 use Rattle.model.specs.Values.{places, kindAt, payloadAt, exactValue}
 use Rattle.model.specs.Heap.{exactCells}
 use Rattle.model.specs.Steps.{codeOf}
-use Rattle.model.specs.Runs.{over, begin, root}
+use Rattle.model.specs.Runs.{standing, over, root}
 use Rattle.model.specs.Stores.{Stores, worldIn}
 use Rattle.model.specs.Orders.{programOk}
 use Rattle.model.specs.Machines.{Lent, frameRoom, innermost, callersIn, machineIn, progressIn, underIn, worldOf, partOrder, noRun}
 use Rattle.value.proofs.Stores.{length-vals}
-use Rattle.laws_runs.specs.Sane.{CallersFit, Rooted, Sane}
+use Rattle.laws_runs.specs.Sane.{CallersFit, Rooted, Rising, Sane}
 use Rattle.laws_runs.specs.Parts.{SaneUnder}
 use Rattle.laws_runs.specs.Ordered.{Ordered}
 use Rattle.laws_runs.proofs.Programs.{length-functions, parts-of, has-main}
@@ -40,8 +40,8 @@ module _ (m : Vm) (s : Stores) (l : Lent) (program : programOk (m .program) s �
   abbrev copied : Lent
   copied = record { stack = l .copy; cells = l .cells; frames = root 0 ∷ []; copy = []; backtrace = [] }
 
-  kept-sane : Sane (worldOf kept s copied) (begin (machineIn kept copied) 0)
-  unfolding worldOf worldIn machineIn innermost callersIn frameRoom underIn progressIn CallersFit Rooted
+  kept-sane : Sane (worldOf kept s copied) (standing (machineIn kept copied) 0 0)
+  unfolding worldOf worldIn machineIn innermost callersIn frameRoom underIn progressIn CallersFit Rooted Rising
   kept-sane = record {
     stack = rw (length-vals (m .run .saved) (l .copy)) (exact .saved);
     frames = omega arith;
@@ -56,15 +56,16 @@ module _ (m : Vm) (s : Stores) (l : Lent) (program : programOk (m .program) s �
     };
     callers = tt;
     root = (refl, refl);
+    rising = (omega arith, tt);
   }
 
   kept-ordered : Ordered kept s copied
   kept-ordered =
       order-of kept s copied
-      (sane-ordered kept s copied 0 program (record { cells = exact .cells; stack = exact .copy; frames = omega arith }) kept-sane (idle-to kept s copied refl))
+      (sane-ordered kept s copied 0 0 program (record { cells = exact .cells; stack = exact .copy; frames = omega arith }) kept-sane (idle-to kept s copied refl))
 
   pub a-paused-run-is-in-order : m .run .on ≡ true → partOrder m s l ≡ true
-  unfolding underIn progressIn over codeOf worldOf worldIn machineIn
+  unfolding underIn progressIn over codeOf worldOf worldIn machineIn Rising
   a-paused-run-is-in-order on = under-to m s l on (record {
     spent = exact .spent;
     returns = exact .returns;
@@ -74,5 +75,6 @@ module _ (m : Vm) (s : Stores) (l : Lent) (program : programOk (m .program) s �
     cells = kept-ordered .cells;
     copy = kept-ordered .stack;
     last = kept-ordered .last;
+    entered = sane .state .rising .0;
     inside = leb-false _ _ (sane .inside);
   })

@@ -1,5 +1,5 @@
 -- The copy of a stack, what no step changes, and the machine at its start.
-use mathlib.Core.Path.{_≡_, refl, sym, subst}
+use mathlib.Core.Path.{_≡_, refl, sym}
 use mathlib.Core.List.{List}
 use Prim.Native.Nat.{ℕ, _+_, _-_, _≤_, _<_, min}
 use native.Mathlib.Numerals.{add-one}
@@ -14,8 +14,7 @@ use Rattle.model.specs.Emission.{written}
 use Rattle.model.specs.Machines.{frameRoom}
 use Rattle.value.specs.Links.{lastIn, lastKind}
 use Rattle.layout.proofs.Writing.{Writing, another, whole}
-use Rattle.run_arms.specs.declared.Going.{Going}
-use Rattle.run_ends.specs.Links.{FixedPost, Begun, cutFrame}
+use Rattle.run_ends.specs.Links.{FixedPost, cutFrame}
 use Rattle.run_ends.proofs.Judging.{Room}
 
 -- ---- the first n words of one store at the front of another
@@ -29,10 +28,10 @@ module _ (from to : List ℕ) (n : ℕ) (g : n ≤ length from) {t : List ℕ} {
 
 -- ---- what no step changes
 
-pub fixed-is : (m : Vm) (a b : ℕ) {ra rb : ℕ} → Room a ra → rb ≡ min b 0xFFFF_FFFF
-    → FixedPost m a b (record { constants = m .program .constants; structs = m .program .structs; functions = m .program .functions; slots = ra; frames = rb })
+pub fixed-is : (m : Vm) (u a b : ℕ) {ra rb : ℕ} → Room 2 a ra → rb ≡ min b 0xFFFF_FFFF
+    → FixedPost m u a b (record { constants = m .program .constants; structs = m .program .structs; functions = m .program .functions; slots = ra; frames = rb; given = u })
 unfolding frameRoom
-fixed-is m a b ha hb = record { constants = refl; structs = refl; functions = refl; slots = ha; frames = λ fs e. rw (hb, e) }
+fixed-is m u a b ha hb = record { constants = refl; structs = refl; functions = refl; slots = ha; frames = λ fs e. rw (hb, e); given = refl }
 
 -- ---- the last result, by its two words
 
@@ -46,9 +45,6 @@ module _ (m : Vm) (f : Frame) where
   unfolding cutFrame
   cut-unfetched h = let z : m .run .given - m .run .spent ≡ 0 = omega arith in rw z
 
-  pub cut-fetched : m .run .spent < m .run .given → record { function = f .function; position = f .position + 1; base = f .base } ≡ cutFrame m f
+  pub cut-fetched : m .run .spent < m .run .given → record { function = f .function; position = f .position + 1; base = f .base; entered = f .entered } ≡ cutFrame m f
   unfolding cutFrame
   cut-fetched h = rw (ne-eqb _ _ (λ (z : m .run .given - m .run .spent ≡ 0). let y : ⊥ = omega arith in y), add-one)
-
-pub begun-at : {m : Vm} {f f' : Frame} {u : ℕ} {g : Going} → f ≡ f' → Begun m f u g → Begun m f' u g
-begun-at {m} {u = u} {g = g} e b = subst (λ (x : Frame). Begun m x u g) e b

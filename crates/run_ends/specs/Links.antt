@@ -62,35 +62,42 @@ partBy m f slots words cells copy =
     if m .run .on then
     countsBy (m .run) (m .last) (m .cells) slots
     && valuesOk (m .program .text) (m .run .mark) cells (m .run .saved) copy (m .last)
+    && leb (f .entered) (m .run .spent)
     && ltb (f .position) (size (codeWord words (f .function)))
     else idle (m .run)
 
 -- ---- the loop's start
 
--- what no step changes, in stores of a words of stack and b frames
-pub record FixedPost (m : Vm) (a b : ℕ) (k : Fixed) : Type 0 where
+-- what no step changes: u units are given in all, in stores of a words of stack and b frames
+pub record FixedPost (m : Vm) (u a b : ℕ) (k : Fixed) : Type 0 where
   pub constants : k .constants ≡ m .program .constants
   pub structs : k .structs ≡ m .program .structs
   pub functions : k .functions ≡ m .program .functions
   pub slots : (s : List ℕ) → length s ≡ a → k .slots ≡ places 2 s
   pub frames : (fs : List Frame) → length fs ≡ b → k .frames ≡ frameRoom fs
+  pub given : k .given ≡ u
 
--- the running machine where its run goes on, in the frame f and with u units left
-pub record Begun (m : Vm) (f : Frame) (u : ℕ) (g : Going) : Type 0 where
+-- the running machine where its run goes on, in the frame f and with e units spent
+pub record Begun (m : Vm) (f : Frame) (e : ℕ) (g : Going) : Type 0 where
   pub sp : g .sp ≡ m .stack
   pub function : g .function ≡ f .function
   pub position : g .position ≡ f .position
   pub base : g .base ≡ f .base
   pub callers : g .callers ≡ m .frames - 1
   pub used : g .used ≡ m .cells
-  pub units : g .units ≡ u
+  pub spent : g .spent ≡ e
   pub last : lastIn (g .kind) (g .payload) ≡ m .last
   pub mark : g .mark ≡ m .run .mark
   pub returns : g .returns ≡ m .run .returns
 
 -- the frame f where an abandoned run was cut: the model's `cutAt`
 unfoldable pub cutFrame : Vm → Frame → Frame
-cutFrame m f = record { function = f .function; position = if eqb (m .run .given - m .run .spent) 0 then f .position else suc (f .position); base = f .base }
+cutFrame m f = record {
+  function = f .function;
+  position = if eqb (m .run .given - m .run .spent) 0 then f .position else suc (f .position);
+  base = f .base;
+  entered = f .entered;
+}
 
 -- ---- what a part leaves and answers
 
@@ -128,14 +135,14 @@ unfoldable pub resultBy : Last → Vm → Tally → RunResult
 resultBy Nothing m t = r.Continue m t
 resultBy (Is v) m t = r.Value m v t
 
--- what a run did that was given u units in all
-abbrev pub tallyOf : ℕ → Going → Tally
-tallyOf u g = record { spent = u - g .units; returns = g .returns }
+-- what a run did
+abbrev pub tallyOf : Going → Tally
+tallyOf g = record { spent = g .spent; returns = g .returns }
 
-unfoldable pub endedWith : Vm → ℕ → Going → RunResult
-endedWith m u g = resultBy (answerIn g) (vmEnded m g) (tallyOf u g)
+unfoldable pub endedWith : Vm → Going → RunResult
+endedWith m g = resultBy (answerIn g) (vmEnded m g) (tallyOf g)
 
--- the machine of a run that is paused: it is under way as far as it has come, and the copy of its starting stack stays
+-- the machine of a run that is paused, of u units given in all: it is under way as far as it has come, and the copy of its starting stack stays
 unfoldable pub vmPaused : Vm → ℕ → Going → Vm
 vmPaused m u g = record {
   program = m .program;
@@ -143,7 +150,7 @@ vmPaused m u g = record {
   frames = suc (g .callers);
   cells = g .used;
   last = lastIn (g .kind) (g .payload);
-  run = record { on = true; given = u; spent = u - g .units; returns = g .returns; mark = g .mark; saved = m .run .saved };
+  run = record { on = true; given = u; spent = g .spent; returns = g .returns; mark = g .mark; saved = m .run .saved };
 }
 
 unfoldable pub pausedWith : Vm → ℕ → Going → RunResult
@@ -151,11 +158,11 @@ pausedWith m u g = r.Paused (vmPaused m u g)
 
 -- a run that no fault has stopped: it has ended, or it is paused
 unfoldable pub settledWith : Vm → ℕ → Going → ℕ → RunResult
-settledWith m u g n = if eqb n 0 then endedWith m u g else pausedWith m u g
+settledWith m u g n = if eqb n 0 then endedWith m g else pausedWith m u g
 
 -- the machine that a fault leaves: the stack of the start, one frame, the mark's cells and last result
 unfoldable pub vmFaulted : Vm → Going → Vm
 vmFaulted m g = vmWith m (m .run .saved) 1 (g .mark) (lastIn (g .kind) (g .payload))
 
-unfoldable pub faultedWith : Vm → ℕ → Going → ℕ → RunResult
-faultedWith m u g n = r.Fault (vmFaulted m g) n (tallyOf u g) (suc (g .callers))
+unfoldable pub faultedWith : Vm → Going → ℕ → RunResult
+faultedWith m g n = r.Fault (vmFaulted m g) n (tallyOf g) (suc (g .callers))

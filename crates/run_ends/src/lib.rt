@@ -196,8 +196,8 @@ fn counts_ok(r: Run, last: Last, cells: usize, slots: usize) -> bool
         & (r.saved <= slots)
 }
 
-// The good order of the run that is under way, if one is, in the frame f: its counts, what abandoning it would leave, and that it stands before an
-// instruction. The stack has this many places.
+// The good order of the run that is under way, if one is, in the frame f: its counts, what abandoning it would leave, that the frame was entered at no
+// more units than are spent, and that it stands before an instruction. The stack has this many places.
 pub fn part_ok(
     m: Vm,
     f: Frame,
@@ -218,7 +218,7 @@ pub fn part_ok(
         }
         let kept = values_ok(m.program.text, run.mark, cells, run.saved, copy, last);
         let end = size_of(second(functions, f.function));
-        return kept & (f.position < end);
+        return kept & (f.entered <= run.spent) & (f.position < end);
     }
     is_idle(run)
 }
@@ -236,7 +236,7 @@ fn copy_short(stack: usize, copy: usize) -> bool
 fn trace_short(frames: usize, backtrace: usize) -> bool
     ensures { λ r. ⌜ ((l : Lent) → length (l .frames) ≡ frames → length (l .backtrace) ≡ backtrace → r ≡ traceShort l) ⌝ }
 {
-    room(backtrace, 2) < lesser(frames, MOST_PLACES)
+    room(backtrace, 3) < lesser(frames, MOST_PLACES)
 }
 
 // Beginning: a run may not be under way.
@@ -305,9 +305,9 @@ pub fn copy_front(n: usize, from: &[u64], to: &mut [u64])
     }
 }
 
-// What no step changes; stack and frames are the lengths of their stores.
-pub fn fixed(m: Vm, stack: usize, frames: usize) -> Fixed
-    ensures { λ r. ⌜ FixedPost m stack frames r ⌝ }
+// What no step changes, in a run that was given this many units in all; stack and frames are the lengths of their stores.
+pub fn fixed(m: Vm, given: u64, stack: usize, frames: usize) -> Fixed
+    ensures { λ r. ⌜ FixedPost m given stack frames r ⌝ }
 {
     let c = m.program;
     Fixed {
@@ -316,6 +316,7 @@ pub fn fixed(m: Vm, stack: usize, frames: usize) -> Fixed
         functions: c.functions,
         slots: room(stack, 2),
         frames: lesser(frames, MOST_PLACES),
+        given,
     }
 }
 
@@ -329,9 +330,9 @@ pub fn innermost_at(n: usize) -> usize
     n - 1
 }
 
-// The machine where its run goes on, in the frame f and with this many units left.
-fn going(m: Vm, f: Frame, units: u64) -> Going
-    ensures { λ r. ⌜ Begun m f units r ⌝ }
+// The machine where its run goes on, in the frame f and with this many units spent.
+fn going(m: Vm, f: Frame, spent: u64) -> Going
+    ensures { λ r. ⌜ Begun m f spent r ⌝ }
 {
     let last = m.last;
     let run = m.run;
@@ -342,7 +343,7 @@ fn going(m: Vm, f: Frame, units: u64) -> Going
         base: f.base,
         callers: innermost_at(m.frames),
         used: m.cells,
-        units,
+        spent,
         kind: last_kind(last),
         payload: last_payload(last),
         mark: run.mark,
@@ -350,15 +351,12 @@ fn going(m: Vm, f: Frame, units: u64) -> Going
     }
 }
 
-// A run that goes on with more units: those that are left carry over.
-pub fn resumed(m: Vm, f: Frame, units: u64) -> Going
-    requires { ⌜ (m .run .spent ≤ m .run .given) × (m .run .given + units < 2 ^ 64) ⌝ }
-    ensures { λ r. ⌜ Begun m f (m .run .given - m .run .spent + units) r ⌝ }
+// A run that goes on: what it has spent stays spent.
+pub fn resumed(m: Vm, f: Frame) -> Going
+    ensures { λ r. ⌜ Begun m f (m .run .spent) r ⌝ }
 {
     let run = m.run;
-    let left = run.given - run.spent;
-    let all = left + units;
-    going(m, f, all)
+    going(m, f, run.spent)
 }
 
 // The units that the run was given in all, with these.
@@ -371,7 +369,7 @@ pub fn all_given(m: Vm, units: u64) -> u64
 
 // Where a run is cut that is abandoned: before an instruction that was not fetched; but a comparison that units are left for was, and lacks units for its
 // pairs.
-fn cut_frame(m: Vm, f: Frame) -> Frame
+pub fn cut_frame(m: Vm, f: Frame) -> Frame
     requires { ⌜ f .position ≤ 131070 ⌝ }
     ensures { λ r. ⌜ r ≡ cutFrame m f ⌝ }
 {
@@ -381,19 +379,17 @@ fn cut_frame(m: Vm, f: Frame) -> Frame
     }
     let behind = f.position + 1;
     Frame {
-        function: f.function,
         position: behind,
-        base: f.base,
+        ..f
     }
 }
 
-// A run that is abandoned: no units are left, since all that it was given count as spent.
+// A run that is abandoned in the frame f: all the units that it was given count as spent.
 pub fn abandoned(m: Vm, f: Frame) -> Going
-    requires { ⌜ f .position ≤ 131070 ⌝ }
-    ensures { λ r. ⌜ Begun m (cutFrame m f) 0 r ⌝ }
+    ensures { λ r. ⌜ Begun m f (m .run .given) r ⌝ }
 {
-    let at = cut_frame(m, f);
-    going(m, at, 0)
+    let run = m.run;
+    going(m, f, run.given)
 }
 
 // ---- what a part leaves and answers
@@ -439,25 +435,24 @@ pub fn begun(m: Vm, f: Frame, functions: &[u64]) -> RunResult
     RunResult::Paused(Vm { run, ..m })
 }
 
-// What a run did that was given these units: how many it spent, and the root Returns that it completed.
-fn tally(given: u64, g: Going) -> Tally
-    requires { ⌜ g .units ≤ given ⌝ }
-    ensures { λ r. ⌜ r ≡ tallyOf given g ⌝ }
+// What a run did: how many units it spent, and the root Returns that it completed.
+fn tally(g: Going) -> Tally
+    ensures { λ r. ⌜ r ≡ tallyOf g ⌝ }
 {
     Tally {
-        spent: given - g.units,
+        spent: g.spent,
         returns: g.returns,
     }
 }
 
 // What a run answers that has ended: the value of its last root Return, or "continue".
-fn ended(m: Vm, given: u64, g: Going) -> RunResult
-    requires { ⌜ (g .units ≤ given) × (g .callers < 2 ^ 32) × Answerable g ⌝ }
-    ensures { λ r. ⌜ r ≡ endedWith m given g ⌝ }
+fn ended(m: Vm, g: Going) -> RunResult
+    requires { ⌜ (g .callers < 2 ^ 32) × Answerable g ⌝ }
+    ensures { λ r. ⌜ r ≡ endedWith m g ⌝ }
 {
     let last = last_in(g.kind, g.payload);
     let left = vm_with(m, g.sp, g.callers + 1, g.used, last);
-    let did = tally(given, g);
+    let did = tally(g);
     let returns = g.returns;
     if returns == 0 {
         return RunResult::Continue(left, did);
@@ -466,15 +461,15 @@ fn ended(m: Vm, given: u64, g: Going) -> RunResult
     RunResult::Value(left, v, did)
 }
 
-// What a run answers that is paused: it is under way, as far as it has come.
+// What a run answers that is paused, of the units it was given in all: it is under way, as far as it has come.
 fn paused(m: Vm, given: u64, g: Going) -> RunResult
-    requires { ⌜ (g .units ≤ given) × (g .callers < 2 ^ 32) ⌝ }
+    requires { ⌜ g .callers < 2 ^ 32 ⌝ }
     ensures { λ r. ⌜ r ≡ pausedWith m given g ⌝ }
 {
     let c = m.program;
     let last = last_in(g.kind, g.payload);
     let frames = g.callers + 1;
-    let spent = given - g.units;
+    let spent = g.spent;
     let run = Run {
         on: true,
         given,
@@ -502,35 +497,43 @@ pub fn unfaulted(fault: u8) -> bool
 
 // What a run answers that no fault has stopped.
 pub fn settled(m: Vm, given: u64, g: Going, fault: u8) -> RunResult
-    requires { ⌜ (g .units ≤ given) × (g .callers < 2 ^ 32) × Answerable g ⌝ }
+    requires { ⌜ (g .callers < 2 ^ 32) × Answerable g ⌝ }
     ensures { λ r. ⌜ r ≡ settledWith m given g fault ⌝ }
 {
     if fault == 0 {
-        return ended(m, given, g);
+        return ended(m, g);
     }
     paused(m, given, g)
 }
 
 // What a run answers that has faulted: the stack of the start, one frame, and the mark's cells and last result.
-pub fn faulted(m: Vm, given: u64, g: Going, fault: u8) -> RunResult
-    requires { ⌜ (g .units ≤ given) × (g .callers < 2 ^ 32) ⌝ }
-    ensures { λ r. ⌜ r ≡ faultedWith m given g fault ⌝ }
+pub fn faulted(m: Vm, g: Going, fault: u8) -> RunResult
+    requires { ⌜ g .callers < 2 ^ 32 ⌝ }
+    ensures { λ r. ⌜ r ≡ faultedWith m g fault ⌝ }
 {
     let last = last_in(g.kind, g.payload);
     let left = vm_with(m, m.run.saved, 1, g.mark, last);
-    let did = tally(given, g);
+    let did = tally(g);
     let traced = g.callers + 1;
     RunResult::Fault(left, fault, did, traced)
 }
 
-// The frame that a fault leaves: function 0 at the end of main.
+// The one frame that recovery and loading leave: main's, at this position; it was entered when no unit was spent.
+pub fn root_frame(position: usize) -> Frame
+    ensures { λ r. ⌜ r ≡ root position ⌝ }
+{
+    Frame {
+        function: 0,
+        position,
+        base: 0,
+        entered: 0,
+    }
+}
+
+// The frame that a fault leaves: main's, at the end of its code.
 pub fn root_at(functions: &[u64]) -> Frame
     ensures { λ r. ⌜ r ≡ root (size (codeWord (now (functions .entry)) 0)) ⌝ }
 {
     let end = size_of(second(functions, 0));
-    Frame {
-        function: 0,
-        position: end,
-        base: 0,
-    }
+    root_frame(end)
 }

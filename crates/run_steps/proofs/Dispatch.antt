@@ -12,13 +12,12 @@ use borrow.Enum.Known.{lives-at}
 use Rattle.model.proofs.Op.{enum, the-type}
 use Rattle.model.specs.declared.Op.{Op}
 use Rattle.model.specs.declared.Op.the-variants as op
-use Rattle.model.specs.declared.Frame.{Frame}
 use Rattle.model.specs.Programs.{wordAt}
 use Rattle.model.specs.Steps.{World, State, Outcome, equalStep, execOf}
 use Rattle.run_arms.specs.declared.Fixed.{Fixed}
 use Rattle.run_arms.specs.declared.Going.{Going}
 use Rattle.run_arms.specs.declared.Answer.{Answer}
-use Rattle.run_arms.specs.Links.{stateOf, ArmPost, BlockPost, CellsWithin, verdictBy}
+use Rattle.run_arms.specs.Links.{Around, stateOf, ArmPost, BlockPost, CellsWithin, verdictBy}
 use Rattle.run_blocks.proofs.Cellwise.{same-block, arm-block, equal-is, not-equal-is}
 
 -- two bytes are a word
@@ -44,10 +43,10 @@ equality-is w a b (inl e) h st = rw (e, h .0 e) (equal-is w st)
 equality-is w a b (inr e) h st = rw (e, h .1 e) (not-equal-is w st)
 
 module _ (w : World) (a b : ℕ) {o p : Op} {rule : State → Outcome} {k : Fixed} {g : Going} {s x : List ℕ} {r : Answer} {t : List ℕ} (e : o ≡ p)
-    (d : (cs : List Frame) → execOf w p a b (stateOf g s x cs) ≡ rule (stateOf g s x cs)) where
+    (d : (ar : Around) → execOf w p a b (stateOf k g s x ar) ≡ rule (stateOf k g s x ar)) where
   -- the instruction is p, whose arm is lent the cells
   pub by-block : {y : List ℕ} → BlockPost rule k g s x r t y → BlockPost (execOf w o a b) k g s x r t y
-  by-block q = same-block (λ cs. rw e (d cs)) q
+  by-block q = same-block (λ ar. rw e (d ar)) q
 
   -- or is not
   pub by-arm : CellsWithin g x → ArmPost rule k g s r t → BlockPost (execOf w o a b) k g s x r t x

@@ -14,7 +14,6 @@ use Rattle.model.specs.declared.Decoded.{Decoded}
 use Rattle.model.specs.declared.Decoded.the-variants as d
 use Rattle.model.specs.declared.Fault.{Fault}
 use Rattle.model.specs.declared.Fault.the-variants as f
-use Rattle.model.specs.declared.Frame.{Frame}
 use Rattle.model.specs.Basics.{ascii}
 use Rattle.model.specs.Values.{vals, valueAt}
 use Rattle.model.specs.Heap.{heapOf, placedBelow}
@@ -32,26 +31,41 @@ use Rattle.run_arms.specs.declared.Fixed.{Fixed}
 use Rattle.run_arms.specs.declared.Going.{Going}
 use Rattle.run_arms.specs.declared.Answer.{Answer}
 use Rattle.run_arms.specs.declared.Answer.the-variants.{Stopped, Short}
-use Rattle.run_arms.specs.Links.{stateOf, Within, CellsWithin, Blocks, BlockPost}
+use Rattle.run_arms.specs.Links.{Around, stateOf, Within, CellsWithin, Blocks, BlockPost}
 use Rattle.run_arms.proofs.Posts.{refused}
 use Rattle.run_blocks.proofs.Cellwise.{arm-block}
 use Rattle.run_steps.specs.Links.{Ready}
 
--- the machine at position i, with u units left
+-- the machine at position i, where the run has spent e units
 abbrev pub placedAt : ℕ → ℕ → Going → Going
-placedAt i u g = record {
+placedAt i e g = record {
   sp = g .sp;
   function = g .function;
   position = i;
   base = g .base;
   callers = g .callers;
   used = g .used;
-  units = u;
+  spent = e;
   kind = g .kind;
   payload = g .payload;
   mark = g .mark;
   returns = g .returns;
 }
+
+-- ---- units
+
+-- of n units given none are left exactly where as many are spent, or more
+none-left : {n m : ℕ} → n ≤ m → n - m ≡ 0
+none-left h = omega arith
+
+some-left : {n m : ℕ} → m < n → n - m ≡ 0 → ⊥
+some-left h e = omega arith
+
+-- one that is spent is no longer left
+one-spent : (n m : ℕ) → n - (m + 1) ≡ n - m - 1
+one-spent n m = omega arith
+
+-- ---- operands
 
 -- no opcode reads more than three operands
 readsFew : List Opcode → Bool
@@ -68,20 +82,20 @@ pub read-few : (byte : ℕ) {n : ℕ} → n ≡ operands (opcodeAt byte) → n �
 unfolding ascii operands opcodes opcodeAt readsFew
 read-few byte e = rw e (few-at opcodes refl byte _ (omega arith))
 
--- what is known at another position, with other units, is what was known
-module _ {g : Going} (i u : ℕ) where
-  still : {k : Fixed} {s : List ℕ} → Within k g s → Within k (placedAt i u g) s
+-- what is known at another position, with other units spent, is what was known
+module _ {g : Going} (i e : ℕ) where
+  still : {k : Fixed} {s : List ℕ} → Within k g s → Within k (placedAt i e g) s
   still h = record { count = h .count; room = h .room; exact = h .exact; callers = h .callers }
 
-  cells-still : {x : List ℕ} → CellsWithin g x → CellsWithin (placedAt i u g) x
+  cells-still : {x : List ℕ} → CellsWithin g x → CellsWithin (placedAt i e g) x
   cells-still h = record { count = h .count; exact = h .exact }
 
   -- the rule goes on from there as another
   goes-on : {rule other : State → Outcome} {k : Fixed} {s x : List ℕ} {r : Answer} {t y : List ℕ}
-      → ((cs : List Frame) → rule (stateOf g s x cs) ≡ other (stateOf (placedAt i u g) s x cs))
-      → BlockPost other k (placedAt i u g) s x r t y → BlockPost rule k g s x r t y
-  goes-on e p = record {
-    means = λ cs h. p .means cs h ∙ sym (e cs);
+      → ((ar : Around) → rule (stateOf k g s x ar) ≡ other (stateOf k (placedAt i e g) s x ar))
+      → BlockPost other k (placedAt i e g) s x r t y → BlockPost rule k g s x r t y
+  goes-on q p = record {
+    means = λ ar h. p .means ar h ∙ sym (q ar);
     within = p .within;
     kept = record { callers = p .kept .callers; mark = p .kept .mark; returns = p .kept .returns };
     cells = p .cells;
@@ -90,7 +104,7 @@ module _ {g : Going} (i u : ℕ) where
     unwritten = p .unwritten;
   }
 
-module _ {w : World} {cs : List Frame} {k : Fixed} {g : Going} {code constants functions text s x : List ℕ} (at : Ready w cs k g code constants functions text s x) where
+module _ {w : World} {ar : Around} {k : Fixed} {g : Going} {code constants functions text s x : List ℕ} (at : Ready w ar k g code constants functions text s x) where
   pub code-short : length code ≤ 65535
   code-short = rw (at .coded) at (code-fits (w .functions) (at .lent .sane .codes) (g .function))
 
@@ -104,20 +118,21 @@ module _ {w : World} {cs : List Frame} {k : Fixed} {g : Going} {code constants f
       (all-at (length (w .text)) (heapOf (g .used) x) (vals (g .sp) s) (at .sane .placed) (g .sp - suc j) (let z = length-vals (g .sp) s in omega arith))
 
   -- what an instruction leans on
-  pub blocks-at : (i u : ℕ) → Blocks (length text) k (placedAt i u g) s x
-  blocks-at i u = record {
-    stack = still i u (at .fits .stack);
-    cells = cells-still i u (at .fits .cells);
+  pub blocks-at : (i e : ℕ) → e < k .given → Blocks (length text) k (placedAt i (e + 1) g) s x
+  blocks-at i e h = record {
+    stack = still i (e + 1) (at .fits .stack);
+    cells = cells-still i (e + 1) (at .fits .cells);
     good = rw text-is at (at .sane .heap);
     placed = placed-at;
+    spent = omega arith;
   }
 
   pub base-fits : g .base ≤ k .slots
   base-fits = rw (at .lent .suits .stackRoom) at (at .sane .frame .base)
 
-  pub unpaid : g .units ≡ 0 → BlockPost (stepOf w) k g s x (Short g) s x
-  unpaid e = record {
-    means = λ cs h. sym (no-units w _ e);
+  pub unpaid : k .given ≤ g .spent → BlockPost (stepOf w) k g s x (Short g) s x
+  unpaid h = record {
+    means = λ ar c. sym (no-units w _ (none-left h));
     within = at .fits .stack;
     kept = record { callers = refl; mark = refl; returns = refl };
     cells = at .fits .cells;
@@ -126,30 +141,31 @@ module _ {w : World} {cs : List Frame} {k : Fixed} {g : Going} {code constants f
     unwritten = (refl, refl);
   }
 
-  module _ (some : g .units ≡ 0 → ⊥) {byte : ℕ} (read : byte ≡ getD code (g .position) 0) where
+  module _ (some : g .spent < k .given) {byte : ℕ} (read : byte ≡ getD code (g .position) 0) where
     -- what was fetched, and how many operands follow it
-    fetched-at : {what : Decoded} → what ≡ opcodeAt byte .what → {n : ℕ} → n ≡ operands (opcodeAt byte) → (cs : List Frame)
-        → stepOf w (stateOf g s x cs) ≡ decodedThen w what n (stateOf (placedAt (g .position + 1) (g .units - 1) g) s x cs)
+    fetched-at : {what : Decoded} → what ≡ opcodeAt byte .what → {n : ℕ} → n ≡ operands (opcodeAt byte) → (ar : Around)
+        → stepOf w (stateOf k g s x ar) ≡ decodedThen w what n (stateOf k (placedAt (g .position + 1) (g .spent + 1) g) s x ar)
     unfolding stepOf fetched codeOf
-    fetched-at e m cs = rw (e, m, ne-eqb (g .units) 0 some, at .coded, ← read, add-one)
+    fetched-at e m ar =
+        rw (e, m, ne-eqb (k .given - g .spent) 0 (some-left some), one-spent (k .given) (g .spent), at .coded, ← read, add-one (g .position))
 
     -- no instruction, or not all of it
     pub unread : {what : Decoded} → what ≡ opcodeAt byte .what → {n : ℕ} → n ≡ operands (opcodeAt byte) → {m : Fault}
         → ((st : State) → codeOf w st ≡ code → st .frame .position ≡ g .position + 1 → decodedThen w what n st ≡ faulted m st)
-        → BlockPost (stepOf w) k g s x (Stopped (placedAt (g .position + 1) (g .units - 1) g) m) s x
+        → BlockPost (stepOf w) k g s x (Stopped (placedAt (g .position + 1) (g .spent + 1) g) m) s x
     unfolding codeOf
     unread e r {m} h =
-        goes-on (g .position + 1) (g .units - 1) (λ cs. fetched-at e r cs ∙ h _ (at .coded) refl)
-        (arm-block (cells-still _ _ (at .fits .cells)) (refused (still _ _ (at .fits .stack)) {rule = faulted m} (λ x cs h. refl)))
+        goes-on (g .position + 1) (g .spent + 1) (λ ar. fetched-at e r ar ∙ h _ (at .coded) refl)
+        (arm-block (cells-still _ _ (at .fits .cells)) (refused (still _ _ (at .fits .stack)) {rule = faulted m} (λ x ar h. refl)))
 
     module _ {o : Op} (e : d.Carried o ≡ opcodeAt byte .what) {n : ℕ} (m : n ≡ operands (opcodeAt byte)) where
-      pub cut-short : length code < g .position + 1 + 2 * n → BlockPost (stepOf w) k g s x (Stopped (placedAt (g .position + 1) (g .units - 1) g) f.CodeEnds) s x
+      pub cut-short : length code < g .position + 1 + 2 * n → BlockPost (stepOf w) k g s x (Stopped (placedAt (g .position + 1) (g .spent + 1) g) f.CodeEnds) s x
       unfolding decodedThen operandsThen
       cut-short h = unread e m (λ st c p. rw (c, p, lt-leb (g .position + 1 + 2 * n) (length code) h))
 
       pub carried : g .position + 1 + 2 * n ≤ length code → {a b : ℕ} → a ≡ wordAt code (g .position + 1) → b ≡ wordAt code (g .position + 1 + 2) → {r : Answer} {t y : List ℕ}
-          → BlockPost (execOf w o a b) k (placedAt (g .position + 1 + 2 * n) (g .units - 1) g) s x r t y → BlockPost (stepOf w) k g s x r t y
+          → BlockPost (execOf w o a b) k (placedAt (g .position + 1 + 2 * n) (g .spent + 1) g) s x r t y → BlockPost (stepOf w) k g s x r t y
       unfolding decodedThen operandsThen codeOf
       carried h p q z =
-          goes-on (g .position + 1 + 2 * n) (g .units - 1)
-          (λ cs. fetched-at e m cs ∙ rw (at .coded, le-leb (g .position + 1 + 2 * n) (length code) h, ← p, ← q)) z
+          goes-on (g .position + 1 + 2 * n) (g .spent + 1)
+          (λ ar. fetched-at e m ar ∙ rw (at .coded, le-leb (g .position + 1 + 2 * n) (length code) h, ← p, ← q)) z

@@ -2,7 +2,7 @@
 use mathlib.Core.Path.{_≡_}
 use mathlib.Core.Bool.{true, false}
 use mathlib.Core.List.{List, [], _∷_}
-use Prim.Native.Nat.{ℕ, suc, _+_, _*_, _≤_, _<_, _^_}
+use Prim.Native.Nat.{ℕ, suc, _+_, _*_, _≤_, _<_}
 use lib.Dec.{eqb}
 use lib.ListN.{length}
 use Rattle.model.specs.declared.Last.{Last}
@@ -21,7 +21,7 @@ use Rattle.run_arms.specs.declared.Fixed.{Fixed}
 use Rattle.run_arms.specs.declared.Going.{Going}
 use Rattle.run_arms.specs.declared.Completed.{Completed}
 use Rattle.value.specs.Links.{Fine, lastIn}
-use Rattle.run_arms.specs.Links.{Within, Suits, Named, CellsWithin, stateOf, frameIn, entered}
+use Rattle.run_arms.specs.Links.{Around, Within, Suits, Named, CellsWithin, stateOf, frameIn, entered}
 use Rattle.run_steps.specs.declared.Event.{Event}
 use Rattle.run_steps.specs.declared.Event.the-variants.{Over, Call, Back, Stopped, Paused}
 
@@ -53,7 +53,7 @@ countedIn c = record {
   base = c .going .base;
   callers = c .going .callers;
   used = c .going .used;
-  units = c .going .units;
+  spent = c .going .spent;
   kind = kind (c .value);
   payload = payload (c .value);
   mark = c .going .used;
@@ -65,20 +65,21 @@ pub record CountedPost (c : Completed) (r : Going) : Type 0 where
   pub is : r ≡ countedIn c
   pub fine : Fine (c .value)
 
--- counts within their stores, in exact words; each root Return has spent a unit, so that their number fits a word
+-- counts within their stores, in exact words; no more units spent than given, and one for each root Return, so that their number fits a word
 pub record Fits (k : Fixed) (g : Going) (s x : List ℕ) : Type 0 where
   pub stack : Within k g s
   pub cells : CellsWithin g x
   pub mark : g .mark ≤ g .used
-  pub returns : g .returns + g .units < 2 ^ 64
+  pub spent : g .spent ≤ k .given
+  pub returns : g .returns ≤ g .spent
 
 -- a run under way in the function whose code this is, with these callers
-pub record Ready (w : World) (cs : List Frame) (k : Fixed) (g : Going) (code constants functions text s x : List ℕ) : Type 0 where
+pub record Ready (w : World) (a : Around) (k : Fixed) (g : Going) (code constants functions text s x : List ℕ) : Type 0 where
   pub lent : Lent w k constants functions text x
-  pub callers : length cs ≡ g .callers
+  pub callers : length (a .callers) ≡ g .callers
   pub coded : functionAt (w .functions) (g .function) .code ≡ code
   pub fits : Fits k g s x
-  pub sane : Sane w (stateOf g s x cs)
+  pub sane : Sane w (stateOf k g s x a)
 
 -- ---- what the steps inside one function come to
 
@@ -87,12 +88,13 @@ unfoldable pub backIn : World → List Frame → Progress → State → Ended
 backIn w [] m t = ended m t
 backIn w (c ∷ cs) m t = endFrom w m (withFrames c cs t)
 
-unfoldable pub afterEvent : World → List Frame → Event → List ℕ → List ℕ → Ended
-afterEvent w cs (Over n) s x = ended (progressIn n x) (stateOf n s x cs)
-afterEvent w cs (Call n i b) s x = endFrom w (progressIn n x) (withFrames (entered i b) (frameIn n ∷ cs) (stateOf n s x cs))
-afterEvent w cs (Back n) s x = backIn w cs (progressIn n x) (stateOf n s x cs)
-afterEvent w cs (Stopped n f) s x = stopped f (stateOf n s x cs) (progressIn n x)
-afterEvent w cs (Paused n) s x = paused (progressIn n x) (stateOf n s x cs)
+unfoldable pub afterEvent : World → Fixed → Around → Event → List ℕ → List ℕ → Ended
+afterEvent w k a (Over n) s x = ended (progressIn n x) (stateOf k n s x a)
+afterEvent w k a (Call n i b) s x =
+    endFrom w (progressIn n x) (withFrames (entered i b (n .spent)) (frameIn n (a .entered) ∷ a .callers) (stateOf k n s x a))
+afterEvent w k a (Back n) s x = backIn w (a .callers) (progressIn n x) (stateOf k n s x a)
+afterEvent w k a (Stopped n f) s x = stopped f (stateOf k n s x a) (progressIn n x)
+afterEvent w k a (Paused n) s x = paused (progressIn n x) (stateOf k n s x a)
 
 abbrev pub goingAt : Event → Going
 goingAt (Over n) = n
@@ -101,23 +103,25 @@ goingAt (Back n) = n
 goingAt (Stopped n f) = n
 goingAt (Paused n) = n
 
--- a sane machine goes on; a fault's backtrace stands; a call or a return has spent a unit; a paused machine stands before an instruction
+-- a sane machine goes on; a fault's backtrace stands; a call or a return has spent a unit more than the e that were; a paused machine stands before an
+-- instruction
 abbrev pub SaneBack : World → List Frame → State → Type 0
 SaneBack w [] t = ⊥
 SaneBack w (c ∷ cs) t = Sane w (withFrames c cs t)
 
-abbrev pub SaneAt : World → List Frame → ℕ → Event → List ℕ → List ℕ → Type 0
-SaneAt w cs u (Over n) s x = Sane w (stateOf n s x cs)
-SaneAt w cs u (Call n i b) s x = (n .units < u) × Sane w (withFrames (entered i b) (frameIn n ∷ cs) (stateOf n s x cs))
-SaneAt w cs u (Back n) s x = (n .units < u) × SaneBack w cs (stateOf n s x cs)
-SaneAt w cs u (Stopped n f) s x = traceable (w .functions) (frameIn n ∷ cs) ≡ true
-SaneAt w cs u (Paused n) s x = Sane w (stateOf n s x cs) × (over w (stateOf n s x cs) ≡ false)
+abbrev pub SaneAt : World → Fixed → Around → ℕ → Event → List ℕ → List ℕ → Type 0
+SaneAt w k a e (Over n) s x = Sane w (stateOf k n s x a)
+SaneAt w k a e (Call n i b) s x =
+    (e < n .spent) × Sane w (withFrames (entered i b (n .spent)) (frameIn n (a .entered) ∷ a .callers) (stateOf k n s x a))
+SaneAt w k a e (Back n) s x = (e < n .spent) × SaneBack w (a .callers) (stateOf k n s x a)
+SaneAt w k a e (Stopped n f) s x = traceable (w .functions) (frameIn n (a .entered) ∷ a .callers) ≡ true
+SaneAt w k a e (Paused n) s x = Sane w (stateOf k n s x a) × (over w (stateOf k n s x a) ≡ false)
 
-pub record ExecPost (w : World) (cs : List Frame) (k : Fixed) (g : Going) (s x : List ℕ) (r : Event) (s' x' : List ℕ) : Type 0 where
-  pub means : endFrom w (progressIn g x) (stateOf g s x cs) ≡ afterEvent w cs r s' x'
+pub record ExecPost (w : World) (a : Around) (k : Fixed) (g : Going) (s x : List ℕ) (r : Event) (s' x' : List ℕ) : Type 0 where
+  pub means : endFrom w (progressIn g x) (stateOf k g s x a) ≡ afterEvent w k a r s' x'
   pub fits : Fits k (goingAt r) s' x'
-  pub sane : SaneAt w cs (g .units) r s' x'
+  pub sane : SaneAt w k a (g .spent) r s' x'
   pub callers : goingAt r .callers ≡ g .callers
-  pub units : goingAt r .units ≤ g .units
+  pub spent : g .spent ≤ goingAt r .spent
   pub mark : g .mark ≤ goingAt r .mark
   pub before : (n : ℕ) → n ≤ g .mark → heapOf n x' ≡ heapOf n x

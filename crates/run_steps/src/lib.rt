@@ -13,13 +13,11 @@ use run_scalars::scalars;
 use value::words;
 ghost use mathlib.Core.Path.{_≡_};
 ghost use mathlib.Core.Bool.{true, false};
-ghost use mathlib.Core.List.{List};
-ghost use Prim.Native.Nat.{_+_, _*_, _≤_, _<_, _^_};
+ghost use Prim.Native.Nat.{_+_, _*_, _≤_, _<_};
 ghost use lib.ListN.{length, getD};
-ghost use Rattle.model.specs.declared.Frame.{Frame};
 ghost use Rattle.model.specs.Programs.{wordAt};
 ghost use Rattle.model.specs.Steps.{World, execOf, stepOf};
-ghost use Rattle.run_arms.specs.Links.{Blocks, BlockPost};
+ghost use Rattle.run_arms.specs.Links.{Around, Blocks, BlockPost};
 ghost use Rattle.run_steps.specs.Links.{Lent, Ready, CountedPost, ExecPost};
 
 // What the steps inside one function come to: the end of its code, a call, a return to the caller, or a fault; or the machine before an instruction
@@ -136,20 +134,20 @@ fn step(
     stack: &mut [u64],
     cells: &mut [u64],
 ) -> Answer
-    requires { ⌜ ((w : World) × (cs : List Frame) × Ready w cs k g (now code) (now constants) (now functions) (now text) (now stack) (now cells)) × (g .position < length (now code)) ⌝ }
-    ensures { λ r. ⌜ ((w : World) (cs : List Frame) → Ready w cs k g (now (code .entry)) (now (constants .entry)) (now (functions .entry)) (now (text .entry)) (now (stack .entry)) (now (cells .entry)) → BlockPost (stepOf w) k g (now (stack .entry)) (now (cells .entry)) r (now (stack .exit)) (now (cells .exit))) ⌝ }
+    requires { ⌜ ((w : World) × (a : Around) × Ready w a k g (now code) (now constants) (now functions) (now text) (now stack) (now cells)) × (g .position < length (now code)) ⌝ }
+    ensures { λ r. ⌜ ((w : World) (a : Around) → Ready w a k g (now (code .entry)) (now (constants .entry)) (now (functions .entry)) (now (text .entry)) (now (stack .entry)) (now (cells .entry)) → BlockPost (stepOf w) k g (now (stack .entry)) (now (cells .entry)) r (now (stack .exit)) (now (cells .exit))) ⌝ }
 {
-    let units = g.units;
-    if units == 0 {
+    let spent = g.spent;
+    if k.given <= spent {
         return Answer::Short(g);
     }
     let position = g.position;
     let opcode = code[position];
     let next = position + 1;
-    let left = units - 1;
+    let paid = spent + 1;
     let fetched = Going {
         position: next,
-        units: left,
+        spent: paid,
         ..g
     };
     match opcode::decode(opcode) {
@@ -181,9 +179,9 @@ fn step(
     }
 }
 
-// A completed root Return has counted: its value is the last result, and a fault goes back to here.
+// A completed root Return has counted: its value is the last result, and a fault goes back to here. It has spent a unit, as each before it had.
 fn counted(done: Completed) -> Going
-    requires { ⌜ done .going .returns + 1 < 2 ^ 64 ⌝ }
+    requires { ⌜ done .going .returns < done .going .spent ⌝ }
     ensures { λ r. ⌜ CountedPost done r ⌝ }
 {
     let v = done.value;
@@ -211,8 +209,8 @@ pub fn exec(
     stack: &mut [u64],
     cells: &mut [u64],
 ) -> Event
-    requires { ⌜ ((w : World) × (cs : List Frame) × Ready w cs k start (now code) (now constants) (now functions) (now text) (now stack) (now cells)) ⌝ }
-    ensures { λ r. ⌜ ((w : World) (cs : List Frame) → Ready w cs k start (now (code .entry)) (now (constants .entry)) (now (functions .entry)) (now (text .entry)) (now (stack .entry)) (now (cells .entry)) → ExecPost w cs k start (now (stack .entry)) (now (cells .entry)) r (now (stack .exit)) (now (cells .exit))) ⌝ }
+    requires { ⌜ ((w : World) × (a : Around) × Ready w a k start (now code) (now constants) (now functions) (now text) (now stack) (now cells)) ⌝ }
+    ensures { λ r. ⌜ ((w : World) (a : Around) → Ready w a k start (now (code .entry)) (now (constants .entry)) (now (functions .entry)) (now (text .entry)) (now (stack .entry)) (now (cells .entry)) → ExecPost w a k start (now (stack .entry)) (now (cells .entry)) r (now (stack .exit)) (now (cells .exit))) ⌝ }
 {
     let mut g = start;
     while g.position < code.len() {

@@ -13,17 +13,17 @@ extern "C" {
         vm: *mut u64, _: usize, constants: *const u64, _: usize, structs: *const u64, _: usize,
         functions: *const u64, _: usize, text: *const u8, _: usize, main: *const u8, _: usize, main_places: *const u32, _: usize,
         other: *const u8, _: usize, other_places: *const u32, _: usize, stack: *const u64, _: usize, cells: *const u64, _: usize,
-        frames: *const Frame, _: usize, copy: *mut u64, _: usize, answer: *mut u64, _: usize) -> u32;
+        frames: *mut Frame, _: usize, copy: *mut u64, _: usize, answer: *mut u64, _: usize) -> u32;
     fn chaffwheel_continue(
         units: u64, vm: *mut u64, _: usize, constants: *const u64, _: usize, structs: *const u64, _: usize,
         functions: *const u64, _: usize, text: *const u8, _: usize, main: *const u8, _: usize, main_places: *const u32, _: usize,
         other: *const u8, _: usize, other_places: *const u32, _: usize, stack: *mut u64, _: usize, cells: *mut u64, _: usize,
-        frames: *mut Frame, _: usize, copy: *const u64, _: usize, trace: *mut u32, _: usize, answer: *mut u64, _: usize) -> u32;
+        frames: *mut Frame, _: usize, copy: *const u64, _: usize, trace: *mut u64, _: usize, answer: *mut u64, _: usize) -> u32;
     fn chaffwheel_abandon(
         vm: *mut u64, _: usize, constants: *const u64, _: usize, structs: *const u64, _: usize,
         functions: *const u64, _: usize, text: *const u8, _: usize, main: *const u8, _: usize, main_places: *const u32, _: usize,
         other: *const u8, _: usize, other_places: *const u32, _: usize, stack: *mut u64, _: usize, cells: *const u64, _: usize,
-        frames: *mut Frame, _: usize, copy: *const u64, _: usize, trace: *mut u32, _: usize, answer: *mut u64, _: usize) -> u32;
+        frames: *mut Frame, _: usize, copy: *const u64, _: usize, trace: *mut u64, _: usize, answer: *mut u64, _: usize) -> u32;
 }
 
 #[repr(C)]
@@ -32,6 +32,7 @@ struct Frame {
     function: u64,
     position: u64,
     base: u64,
+    entered: u64,
 }
 
 /// A call that was not begun; nothing has changed. docs/NUMBERS.md has its number.
@@ -71,6 +72,16 @@ pub struct Outcome {
     pub answer: Answer,
     pub spent: u64,
     pub returns: u64,
+    /// How many entries the backtrace has: 0 but after a fault.
+    entries: usize,
+}
+
+/// An entry of a backtrace; `entered` is how many units the run had spent when the frame was entered.
+#[derive(Clone, Copy, Debug, PartialEq, Eq)]
+pub struct Entry {
+    pub function: u64,
+    pub place: u64,
+    pub entered: u64,
 }
 
 impl Outcome {
@@ -81,10 +92,15 @@ impl Outcome {
             3 => Answer::Fault(first),
             _ => Answer::Paused,
         };
+        let entries = match answer {
+            Answer::Fault(_) => second as usize,
+            _ => 0,
+        };
         Outcome {
             answer,
             spent,
             returns,
+            entries,
         }
     }
 }
@@ -104,7 +120,7 @@ pub struct Machine {
     cells: [u64; 4096],
     frames: [Frame; 256],
     copy: [u64; 2048],
-    trace: [u32; 512],
+    trace: [u64; 768],
 }
 
 fn done(number: u32) -> Result<(), Refused> {
@@ -131,7 +147,7 @@ impl Machine {
             cells: [0; 4096],
             frames: [Frame::default(); 256],
             copy: [0; 2048],
-            trace: [0; 512],
+            trace: [0; 768],
         });
         let mut answer = [0; 5];
         // Each store is lent whole, with its own count, and none twice.
@@ -151,7 +167,7 @@ impl Machine {
             self.vm.as_mut_ptr(), 16, self.constants.as_ptr(), 512, self.structs.as_ptr(), 512,
             self.functions.as_ptr(), 512, self.text.as_ptr(), 16384, self.main.as_ptr(), 8192, self.main_places.as_ptr(), 8192,
             self.other.as_ptr(), 8192, self.other_places.as_ptr(), 8192, self.stack.as_ptr(), 2048, self.cells.as_ptr(), 4096,
-            self.frames.as_ptr(), 256, self.copy.as_mut_ptr(), 2048, answer.as_mut_ptr(), 5) })?;
+            self.frames.as_mut_ptr(), 256, self.copy.as_mut_ptr(), 2048, answer.as_mut_ptr(), 5) })?;
         Ok(Outcome::of(answer))
     }
 
@@ -163,7 +179,7 @@ impl Machine {
             units, self.vm.as_mut_ptr(), 16, self.constants.as_ptr(), 512, self.structs.as_ptr(), 512,
             self.functions.as_ptr(), 512, self.text.as_ptr(), 16384, self.main.as_ptr(), 8192, self.main_places.as_ptr(), 8192,
             self.other.as_ptr(), 8192, self.other_places.as_ptr(), 8192, self.stack.as_mut_ptr(), 2048, self.cells.as_mut_ptr(), 4096,
-            self.frames.as_mut_ptr(), 256, self.copy.as_ptr(), 2048, self.trace.as_mut_ptr(), 512, answer.as_mut_ptr(), 5) })?;
+            self.frames.as_mut_ptr(), 256, self.copy.as_ptr(), 2048, self.trace.as_mut_ptr(), 768, answer.as_mut_ptr(), 5) })?;
         Ok(Outcome::of(answer))
     }
 
@@ -175,8 +191,19 @@ impl Machine {
             self.vm.as_mut_ptr(), 16, self.constants.as_ptr(), 512, self.structs.as_ptr(), 512,
             self.functions.as_ptr(), 512, self.text.as_ptr(), 16384, self.main.as_ptr(), 8192, self.main_places.as_ptr(), 8192,
             self.other.as_ptr(), 8192, self.other_places.as_ptr(), 8192, self.stack.as_mut_ptr(), 2048, self.cells.as_ptr(), 4096,
-            self.frames.as_mut_ptr(), 256, self.copy.as_ptr(), 2048, self.trace.as_mut_ptr(), 512, answer.as_mut_ptr(), 5) })?;
+            self.frames.as_mut_ptr(), 256, self.copy.as_ptr(), 2048, self.trace.as_mut_ptr(), 768, answer.as_mut_ptr(), 5) })?;
         Ok(Outcome::of(answer))
+    }
+
+    /// The backtrace of the fault in which a run ended, the innermost frame first.
+    pub fn backtrace(&self, outcome: &Outcome) -> Vec<Entry> {
+        let words = self.trace.chunks_exact(3).take(outcome.entries);
+        let entry = |words: &[u64]| Entry {
+            function: words[0],
+            place: words[1],
+            entered: words[2],
+        };
+        words.map(entry).collect()
     }
 
     /// A whole run: begun, continued once, and abandoned where it is then paused.

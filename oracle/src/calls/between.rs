@@ -3,6 +3,7 @@
 use super::running::PLENTY;
 use super::stories::Descent;
 use super::Story;
+use crate::command::RECORD;
 use crate::generate::some_text;
 use crate::image::{Constant, MAIN};
 use crate::op::Op;
@@ -152,12 +153,13 @@ impl Story<'_> {
     }
 
     /// Main at its end or before its last instruction, then callees, all in
-    /// good order.
+    /// good order, each with the units at which it was entered.
     fn put_frames(&mut self) {
         let height = self.machine().stack.len();
         let main = self.machine().program.functions[0].code.len();
         let position = self.rng.pick(&[main - 3, main, main]);
-        self.line(format!("frame 0 0 {position} 0"));
+        let mut entered = self.entered(0);
+        self.line(format!("frame 0 0 {position} 0 {entered}"));
         let callees = self.rng.between(1, 3);
         for callee in 1..=callees {
             // Each but the innermost has begun.
@@ -166,9 +168,26 @@ impl Story<'_> {
                 false => self.rng.pick(&[3, 6, 7, 8]),
             };
             let base = self.rng.below(height + 2);
-            self.line(format!("frame {callee} 1 {position} {base}"));
+            entered = self.entered(entered);
+            self.line(format!("frame {callee} 1 {position} {base} {entered}"));
         }
         self.line(format!("count frames {}", callees + 1));
+    }
+
+    /// Units at which a frame may have been entered whose caller was at so
+    /// many: with a run under way at most those that it has spent.
+    pub(super) fn entered(&mut self, caller: u64) -> u64 {
+        let run = self.console.run_record();
+        let room = match run.on {
+            true => run.spent.saturating_sub(caller),
+            false => 40,
+        };
+        let entered = match self.rng.below(3) {
+            0 => caller,
+            1 => caller + room,
+            _ => caller + self.rng.draw() % (room + 1),
+        };
+        entered.min(RECORD)
     }
 
     /// A machine with few cells left, a last result, callees under way and a

@@ -175,8 +175,8 @@ impl Story<'_> {
         let frames = self.machine().frames.clone();
         for (index, frame) in frames.iter().enumerate() {
             self.line(format!(
-                "frame {index} {} {} {}",
-                frame.function, frame.position, frame.base
+                "frame {index} {} {} {} {}",
+                frame.function, frame.position, frame.base, frame.entered
             ));
         }
         self.line(format!("count frames {}", frames.len()));

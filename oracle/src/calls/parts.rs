@@ -126,7 +126,7 @@ impl Story<'_> {
         self.lines(&["find 3C6D61696E3E", "find 66"]);
         // No run can be under way at the end of its code.
         let end = self.machine().program.functions[0].code.len();
-        self.line(format!("frame 0 0 {end} 0"));
+        self.line(format!("frame 0 0 {end} 0 0"));
         self.lines(&["continue 0 0", "abandon", "trace", "start"]);
         self.mend();
         self.go_on(1);

@@ -2,6 +2,7 @@
 
 use super::Story;
 use crate::generate::Rng;
+use crate::limits::Part;
 use crate::op::{Op, OPS};
 
 /// More units than any run of a story needs that comes to its end.
@@ -16,6 +17,16 @@ impl Story<'_> {
     pub(super) fn needed(&self) -> u64 {
         let machine = self.console.as_lent();
         machine.map_or(0, |mut machine| machine.run(PLENTY).spent)
+    }
+
+    /// The units that the run under way still wants, if it comes to an end.
+    pub(super) fn needed_more(&self) -> u64 {
+        let mut machine = self.machine().clone();
+        let given = machine.under_way.as_ref().map_or(0, |run| run.given);
+        match machine.continue_run(PLENTY) {
+            Ok(Part::Over(report)) => report.spent.saturating_sub(given),
+            _ => 0,
+        }
     }
 
     /// Units: few, many, or just about as many as are needed.

@@ -2,6 +2,7 @@
 
 use super::running::PLENTY;
 use super::Story;
+use crate::command::RECORD;
 use crate::generate::{scalar, short, short_damaged, some_constant, some_text};
 use crate::image::{image, Constant};
 use crate::limits::MAX_DEPTH;
@@ -349,7 +350,7 @@ impl Story<'_> {
             // In a pause, too: then the innermost position is to be below its
             // code length.
             if self.rng.chance(50) {
-                self.lines(&["frame 0 0 0 0", "count frames 1", "start"]);
+                self.lines(&["frame 0 0 0 0 0", "count frames 1", "start"]);
                 let units = self.rng.below(4) as u64;
                 self.go_on(units);
             }
@@ -379,7 +380,7 @@ impl Story<'_> {
                 // Mended: at the end of main, or at its start again.
                 let end = self.machine().program.functions[0].code.len();
                 let position = self.rng.pick(&[0, end]);
-                self.line(format!("frame 0 0 {position} 0"));
+                self.line(format!("frame 0 0 {position} 0 0"));
                 self.line("count frames 1");
                 self.run();
                 self.look();
@@ -391,7 +392,8 @@ impl Story<'_> {
     }
 
     fn damage(&mut self) {
-        match self.rng.below(5) {
+        match self.rng.below(8) {
+            5.. => self.damage_entered(),
             0 => {
                 let count = self
                     .rng
@@ -409,7 +411,7 @@ impl Story<'_> {
                     "0 0 1",
                     "4294967296 0 0",
                 ]);
-                self.line(format!("frame 0 {frame}"));
+                self.line(format!("frame 0 {frame} 0"));
                 self.line("count frames 1");
             }
             _ => {
@@ -419,17 +421,42 @@ impl Story<'_> {
                     let function = if caller == 0 { 0 } else { self.rng.below(3) };
                     let position = self.rng.pick(&[0, 1, 3, 8, 8, 8, 9, 10]);
                     let base = if caller == 0 { 0 } else { self.rng.below(3) };
-                    self.line(format!("frame {caller} {function} {position} {base}"));
+                    self.line(format!("frame {caller} {function} {position} {base} 0"));
                 }
                 let function = self.rng.pick(&[0, 1, 1, 1, 2]);
                 let position = self.rng.pick(&[0, 0, 3, 7, 8, 131_070, 131_071]);
                 let base =
                     self.rng
                         .pick(&[0usize, 1, 1_023, 1_024, 1_025, 4_294_967_295, 4_294_967_296]);
-                self.line(format!("frame {callers} {function} {position} {base}"));
+                self.line(format!("frame {callers} {function} {position} {base} 0"));
                 self.line(format!("count frames {}", callers + 1));
             }
         }
+    }
+
+    /// Frames in good order but perhaps for the units at which they were
+    /// entered: these may fall inwards, or be more than are spent.
+    fn damage_entered(&mut self) {
+        let spent = self.console.run_record().spent;
+        let callees = self.rng.below(3);
+        let mut entered = 0u64;
+        for index in 0..=callees {
+            let position = match (index, index == callees) {
+                (0, true) => self.rng.pick(&[0, 3, 8]),
+                (0, false) => self.rng.pick(&[3, 8]),
+                (_, true) => self.rng.pick(&[0, 3, 6, 7]),
+                _ => self.rng.pick(&[3, 6, 7, 8]),
+            };
+            entered = match self.rng.below(6) {
+                0 => entered.saturating_sub(1),
+                1 => spent + 1,
+                2 => self.rng.pick(&[0, 1, RECORD]),
+                _ => self.entered(entered),
+            };
+            let function = usize::from(index > 0);
+            self.line(format!("frame {index} {function} {position} 0 {entered}"));
+        }
+        self.line(format!("count frames {}", callees + 1));
     }
 
     /// Names that are there, twice, and not there.
@@ -494,7 +521,7 @@ impl Story<'_> {
     /// Lines that are not understood, among some that are.
     pub(super) fn not_understood(&mut self) {
         self.lines(&["#! Lines that are not understood", "new"]);
-        const LINES: [&str; 55] = [
+        const LINES: [&str; 56] = [
             "jump 5",
             "New",
             "new 1",
@@ -548,6 +575,7 @@ impl Story<'_> {
             "image 0",
             "frame",
             "frame 0 0",
+            "frame 0 0 0 0",
             "count frames",
             "count nobody 0",
         ];

@@ -51,6 +51,10 @@ pub enum Edge {
     BegunAfterAbandon,
     FramesPutInPause,
     PlaceBeyondInPause,
+    EnteredBeyond,
+    EnteredBeforeCaller,
+    BegunOverEntered,
+    EnteredTold,
     LookInPause,
     ContinueWithoutRun,
     AbandonWithoutRun,
@@ -67,7 +71,7 @@ pub enum Edge {
 
 use Edge::*;
 
-const EDGES: [(Edge, &str); 45] = [
+const EDGES: [(Edge, &str); 49] = [
     (CopyTooShort, "refused 17, a copy store"),
     (TraceTooShort, "refused 17, a backtrace store"),
     (BytesTooShort, "refused 17, a store for bytes"),
@@ -131,6 +135,19 @@ const EDGES: [(Edge, &str); 45] = [
         PlaceBeyondInPause,
         "refused 19, an end of code at which no run can be under way",
     ),
+    (
+        EnteredBeyond,
+        "refused 19, a frame entered at more units than are spent",
+    ),
+    (
+        EnteredBeforeCaller,
+        "refused 19, a frame entered before its caller",
+    ),
+    (
+        BegunOverEntered,
+        "a run begun over frames that an earlier one entered",
+    ),
+    (EnteredTold, "a fault's backtrace with calls at some units"),
     (LookInPause, "a listing, an image or a backtrace in a pause"),
     (ContinueWithoutRun, "refused 18, continuing"),
     (AbandonWithoutRun, "refused 18, abandoning"),
@@ -226,8 +243,13 @@ impl Watch {
                 let Ok(part) = after.begin_run() else {
                     return vec![];
                 };
+                let entered = before.frames.iter().any(|frame| frame.entered > 0);
                 self.begun = Some((before, self.frames_put));
-                let mut edges = if_so(self.abandoned, BegunAfterAbandon);
+                let mut edges = [
+                    if_so(self.abandoned, BegunAfterAbandon),
+                    if_so(entered, BegunOverEntered),
+                ]
+                .concat();
                 edges.extend(match part {
                     Part::Over(report) if after.frames.len() > 1 => {
                         [vec![OverAtOnceInCallee], self.over(&report, &after)].concat()
@@ -277,6 +299,10 @@ impl Watch {
             if_so(report.returns > 1, SeveralReturns),
             if_so(faulted && report.returns > 0, FaultBehindReturn),
             if_so(put, FramesPut),
+            if_so(
+                report.backtrace.iter().any(|entry| entry.entered > 0),
+                EnteredTold,
+            ),
         ]
         .concat();
         if let Some(ran) = &self.ran {
@@ -301,6 +327,10 @@ impl Watch {
             ("refused 18", _) => return vec![AbandonWithoutRun],
             ("refused 19", _) if in_pause && self.console.stands_beyond() => {
                 return vec![PlaceBeyondInPause]
+            }
+            ("refused 19", _) if self.console.enters_beyond() => return vec![EnteredBeyond],
+            ("refused 19", _) if self.console.enters_before_its_caller() => {
+                return vec![EnteredBeforeCaller]
             }
             ("refused 19", _) => return if_so(self.run_damaged(), RunDamaged),
             ("refused 25", command) => return vec![refused_in_pause(command)],

@@ -59,7 +59,9 @@ fn of_image(image: &[u8], machine: Machine, rng: &mut Rng) -> Scripted {
     told.line(&format!("image {}", in_hex(image)), "done\n");
     for run in 0..told.rng.between(1, RUNS) {
         if run > 0 {
-            told.look("frame 0 0 0 0");
+            // A beginning sets to 0 when the frame was entered.
+            let entered = told.rng.below(3);
+            told.look(&format!("frame 0 0 0 0 {entered}"));
             told.look("count frames 1");
         }
         told.run();

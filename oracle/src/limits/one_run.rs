@@ -26,6 +26,7 @@ impl Machine {
 
     /// The same, and how far it came.
     pub fn one_run_as_far(&mut self, units: u64) -> (Report, Reached) {
+        self.unenter();
         let stack_at_start = self.stack.clone();
         let mut cells_to_keep = self.cells_used;
         let mut answer = Answer::Continue;
@@ -57,7 +58,7 @@ impl Machine {
                 break (13, reached);
             }
             spent += 1;
-            match self.step(units - spent) {
+            match self.step(spent, units - spent) {
                 Ok(Step::Done(pairs)) => spent += pairs,
                 Ok(Step::CalledByName(function)) => {
                     by_name.insert(function);

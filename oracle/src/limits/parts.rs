@@ -3,7 +3,7 @@
 
 use std::collections::BTreeSet;
 
-use super::{Answer, Machine, Most, Refused, Report, Step};
+use super::{Answer, Entry, Machine, Most, Refused, Report, Step};
 use crate::run_record::RunRecord;
 use crate::value::Value;
 
@@ -56,7 +56,7 @@ impl Run {
         self.given - self.spent
     }
 
-    fn over(self, answer: Answer, backtrace: Vec<(usize, u32)>) -> Report {
+    fn over(self, answer: Answer, backtrace: Vec<Entry>) -> Report {
         Report {
             answer,
             spent: self.spent,
@@ -95,11 +95,12 @@ impl Machine {
         }
     }
 
-    /// Copies the stack and takes no units. A run that is at its end is over
-    /// at once.
+    /// Copies the stack, sets to 0 when each frame was entered, and takes no
+    /// units. A run that is at its end is over at once.
     pub fn begin_run(&mut self) -> Result<Part, Refused> {
         self.no_run_under_way()?;
         self.copy = self.stack.clone();
+        self.unenter();
         self.under_way = Some(Run::begun(self));
         self.continue_run(0)
     }
@@ -130,7 +131,7 @@ impl Machine {
             if run.units_left() == 0 {
                 return Ok(self.paused(run));
             }
-            match self.step(run.units_left() - 1) {
+            match self.step(run.spent + 1, run.units_left() - 1) {
                 Ok(Step::Done(pairs)) => run.spent += 1 + pairs,
                 Ok(Step::CalledByName(function)) => {
                     run.spent += 1;

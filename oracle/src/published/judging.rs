@@ -8,7 +8,7 @@ use super::run;
 use super::states::{same_last, State};
 use super::values::bytes;
 use crate::image::Program;
-use crate::limits::{Answer, Refused, Report};
+use crate::limits::{Answer, Entry, Refused, Report};
 use crate::plain::{self, quietly, Ending};
 use crate::print::{is_listed_by_000, listing};
 use crate::vm::Vm;
@@ -89,11 +89,12 @@ impl Ruled<'_> {
         }
     }
 
-    /// The Rust names functions, document 01 numbers them.
+    /// The Rust names functions, document 01 numbers them; the Rust does not
+    /// tell when they were entered.
     fn backtrace_is(&self, theirs: &[(Vec<u8>, u32)]) -> bool {
-        let named = |(function, place): &(usize, u32)| {
-            let name = &self.program.functions[*function].name;
-            (name.clone(), *place)
+        let named = |entry: &Entry| {
+            let name = &self.program.functions[entry.function].name;
+            (name.clone(), entry.place)
         };
         let ours = self.report.backtrace.iter();
         ours.map(named).eq(theirs.iter().cloned())

@@ -7,7 +7,8 @@ use crate::limits::{Frame, Machine};
 use crate::value::Value;
 use crate::vm::{CallFrame, Vm};
 
-/// What a machine is between runs, beside its program.
+/// What a machine is between runs, beside its program. The Rust does not know
+/// when a frame was entered: here all were at 0.
 #[derive(Clone, Debug)]
 pub struct State {
     pub stack: Vec<Value>,
@@ -26,6 +27,7 @@ impl State {
                     function: frame.function,
                     position: frame.position,
                     base: frame.base,
+                    entered: 0,
                 })
                 .collect(),
             last_result: vm.last_result().map(|value| taken.value(value)),
@@ -41,6 +43,7 @@ impl State {
                     function: frame.function_idx,
                     position: frame.ip,
                     base: frame.fp,
+                    entered: 0,
                 })
                 .collect(),
             last_result: vm.last_result.clone(),
@@ -48,9 +51,15 @@ impl State {
     }
 
     pub(super) fn of_machine(machine: &Machine) -> State {
+        let frames = machine.frames.iter().cloned();
         State {
             stack: machine.stack.clone(),
-            frames: machine.frames.clone(),
+            frames: frames
+                .map(|frame| Frame {
+                    entered: 0,
+                    ..frame
+                })
+                .collect(),
             last_result: machine.last_result.clone(),
         }
     }

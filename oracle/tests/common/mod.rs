@@ -62,5 +62,19 @@ pub fn fault_of(codes: &[&str]) -> (Option<u32>, Vec<(usize, u32)>) {
         Constant::FunctionReference(b"nobody".to_vec()),
     ];
     let report = machine(&program(&constants, codes)).run(1_000);
-    (fault(&report), report.backtrace)
+    (fault(&report), places(&report))
+}
+
+/// Function and place of a backtrace.
+pub fn places(report: &Report) -> Vec<(usize, u32)> {
+    let entries = report.backtrace.iter();
+    entries.map(|entry| (entry.function, entry.place)).collect()
+}
+
+/// The same, and when each frame was entered.
+pub fn entries(report: &Report) -> Vec<(usize, u32, u64)> {
+    let entries = report.backtrace.iter();
+    entries
+        .map(|entry| (entry.function, entry.place, entry.entered))
+        .collect()
 }

@@ -8,8 +8,8 @@ use Rattle.console.proofs.over_frames.Tie as tie
 two-each-requires : tie.Need-two-each-requires
 two-each-requires c κs = search needs
 
-two-each-requires-2 : tie.Need-two-each-requires-2
-two-each-requires-2 c κs = search needs
+three-each-requires : tie.Need-three-each-requires
+three-each-requires c κs = search needs
 
 slice-relend-prefix-lent-copy : tie.Need-slice-relend-prefix-lent-copy
 slice-relend-prefix-lent-copy c = search needs
@@ -27,7 +27,7 @@ slice-aggregate-lent-trace : tie.Need-slice-aggregate-lent-trace
 slice-aggregate-lent-trace c =
     let at-start = c .before .before .before .before .before .before .before in
     sym (length-take-le _ (at-start .args .trace .now)
-    (c .before .before .two-each2 .ensures .1))
+    (c .before .before .three-each .ensures .1))
 
 with-frames-requires : tie.Need-with-frames-requires
 with-frames-requires c κs = search needs
@@ -44,9 +44,9 @@ same-length-2 c = search needs
 returns : tie.Need-returns
 returns c =
     let at-with-frames = c .before .before .before .before .before .before .before .before in
-    let at-two-each2 = at-with-frames .before .before .before .before .before .before .before .before .before .before .before .before .before .before in
-    let at-two-each = at-two-each2 .before in
-    over-is _ _ _ _ (at-two-each .two-each .ensures .0) (at-two-each2 .two-each2 .ensures .0)
+    let at-three-each = at-with-frames .before .before .before .before .before .before .before .before .before .before .before .before .before .before in
+    let at-two-each = at-three-each .before in
+    over-is _ _ _ _ (at-two-each .two-each .ensures .0) (at-three-each .three-each .ensures .0)
     (at-with-frames .with-frames .ensures) (c .say-answer .ensures)
 
 pub over-frames-spec : {M : Type 1} → statement M
@@ -54,7 +54,7 @@ over-frames-spec =
     tie.close
     (tie.spec
     two-each-requires
-    two-each-requires-2
+    three-each-requires
     slice-relend-prefix-lent-copy
     slice-aggregate-lent-copy
     slice-relend-prefix-lent-trace

@@ -22,18 +22,26 @@ add-put-word-2 c = search needs
 put-word-requires-3 : tie.Need-put-word-requires-3
 put-word-requires-3 c κs = search needs
 
+add-put-word-3 : tie.Need-add-put-word-3
+add-put-word-3 c = search needs
+
+put-word-requires-4 : tie.Need-put-word-requires-4
+put-word-requires-4 c κs = search needs
+
 same-length : tie.Need-same-length
 same-length c = search needs
 
 returns : tie.Need-returns
 unfolding frameAt
 returns c =
-    let at-put-word2 = c .before .before .before .before .before .before in
+    let at-put-word3 = c .before .before .before .before .before .before in
+    let at-put-word2 = at-put-word3 .before .before .before .before in
     let at-put-word = at-put-word2 .before .before .before .before in
     let at-if1 = at-put-word .before .before in
     rw (
       lt-ltb _ _ (at-if1 .if1 .taken),
-      c .before .before .put-word3 .ensures .1,
+      c .before .before .put-word4 .ensures .1,
+      at-put-word3 .put-word3 .ensures .1,
       at-put-word2 .put-word2 .ensures .1,
       at-put-word .put-word .ensures .1,
     )
@@ -45,5 +53,5 @@ returns-2 c = rw (le-ltb _ _ (c .if1 .left))
 pub put-frame-spec : {M : Type 1} → statement M
 put-frame-spec =
     tie.close
-    (tie.spec mul-at put-word-requires add-put-word put-word-requires-2 add-put-word-2 put-word-requires-3 same-length returns
-    returns-2)
+    (tie.spec mul-at put-word-requires add-put-word put-word-requires-2 add-put-word-2 put-word-requires-3
+    add-put-word-3 put-word-requires-4 same-length returns returns-2)

@@ -84,7 +84,7 @@ abbrev kinds : List (Kind 15)
 kinds =
     own VmRow vmVal vm-tells (λ x f. refl) ∷ own CallRow callVal call-tells (λ x f. refl) ∷ shared 0 tt u8 ∷ unique 1 tt u64 ∷
     unique 2 tt u64 ∷ unique 3 tt u64 ∷ unique 4 tt u8 ∷ unique 5 tt u8 ∷ unique 6 tt u32 ∷ unique 7 tt u8 ∷ unique 8 tt u32 ∷
-    unique 9 tt u64 ∷ unique 10 tt u64 ∷ unique 11 tt R ∷ unique 12 tt u64 ∷ unique 13 tt u32 ∷ unique 14 tt u64 ∷ []
+    unique 9 tt u64 ∷ unique 10 tt u64 ∷ unique 11 tt R ∷ unique 12 tt u64 ∷ unique 13 tt u64 ∷ unique 14 tt u64 ∷ []
 
 module _ {M : Type 1} (𝓤 : URA M) (H : Heap 𝓤) (A : Atoms 𝓤) (W : Given 𝓤 H A) (mem : Memory → SProp 𝓤) (run : Routine → Fun 𝓤) where
   abbrev ToLay : Contract 𝓤
@@ -303,7 +303,7 @@ module _ {M : Type 1} (𝓤 : URA M) (H : Heap 𝓤) (A : Atoms 𝓤) (W : Given
     abbrev room12 : Room u64 (s12 .count)
     room12 = is .1 .1 .1 .1 .1 .1 .1 .1 .1 .1 .1 .1 .1 .1 .0 .0 .1
 
-    abbrev room13 : Room u32 (s13 .count)
+    abbrev room13 : Room u64 (s13 .count)
     room13 = is .1 .1 .1 .1 .1 .1 .1 .1 .1 .1 .1 .1 .1 .1 .1 .0 .0 .1
 
     abbrev room14 : Room u64 (s14 .count)
@@ -313,7 +313,7 @@ module _ {M : Type 1} (𝓤 : URA M) (H : Heap 𝓤) (A : Atoms 𝓤) (W : Given
     slices constants′ structs′ functions′ text′ main′ mainPlaces′ other′ otherPlaces′ stack′ cells′ frames′ copy′ trace′ words′ =
         shr u8 s0 image ∷ mut u64 s1 constants′ ∷ mut u64 s2 structs′ ∷ mut u64 s3 functions′ ∷ mut u8 s4 text′ ∷ mut u8 s5 main′
         ∷ mut u32 s6 mainPlaces′ ∷ mut u8 s7 other′ ∷ mut u32 s8 otherPlaces′ ∷ mut u64 s9 stack′ ∷ mut u64 s10 cells′ ∷ mut R s11
-        frames′ ∷ mut u64 s12 copy′ ∷ mut u32 s13 trace′ ∷ mut u64 s14 words′ ∷ []
+        frames′ ∷ mut u64 s12 copy′ ∷ mut u64 s13 trace′ ∷ mut u64 s14 words′ ∷ []
 
     abbrev xs : List ℕ → List ℕ → List ℕ → List ℕ → List ℕ → List ℕ → List ℕ → List ℕ → List ℕ → List ℕ → List Frame → List ℕ → List ℕ → List ℕ → List Arg
     xs constants′ structs′ functions′ text′ main′ mainPlaces′ other′ otherPlaces′ stack′ cells′ frames′ copy′ trace′ words′ =
@@ -500,17 +500,17 @@ module _ {M : Type 1} (𝓤 : URA M) (H : Heap 𝓤) (A : Atoms 𝓤) (W : Given
 
     abbrev to-begin : List Frame → List Arg
     to-begin frames′ = val VmRow m (vmVal m) ∷ peek u64 s1 constants ∷ peek u64 s2 structs ∷ peek u64 s3 functions ∷ peek u8 s4 text ∷ peek u8 s5 main ∷
-        peek u32 s6 mainPlaces ∷ peek u8 s7 other ∷ peek u32 s8 otherPlaces ∷ peek u64 s9 stack ∷ peek u64 s10 cells ∷ peek R s11 frames′ ∷ mut u64 s12 copy ∷
+        peek u32 s6 mainPlaces ∷ peek u8 s7 other ∷ peek u32 s8 otherPlaces ∷ peek u64 s9 stack ∷ peek u64 s10 cells ∷ mut R s11 frames′ ∷ mut u64 s12 copy ∷
         []
 
     call-begin : (frames′ : List Frame) → length frames′ ≡ s11 .count
         → Rule 𝓤 H A W (to-begin frames′) ToBegin ResultRow resultVal (λ r zs. ((backtrace : List ℕ) → RunPost begins m (programLent structs constants functions
         text main mainPlaces other otherPlaces) (runLent stack cells frames′ copy backtrace) r
-        (runLent stack cells frames′ (zs .1 .1 .1 .1 .1 .1 .1 .1 .1 .1 .1 .1 .0) backtrace)))
+        (runLent stack cells (zs .1 .1 .1 .1 .1 .1 .1 .1 .1 .1 .1 .0) (zs .1 .1 .1 .1 .1 .1 .1 .1 .1 .1 .1 .1 .0) backtrace)))
     call-begin frames′ len-frames =
         call-with 𝓤 H A W (to-begin frames′) ToBegin ResultRow resultVal (λ r zs. ((backtrace : List ℕ) → RunPost begins m (programLent structs constants
         functions text main mainPlaces other otherPlaces) (runLent stack cells frames′ copy backtrace) r
-        (runLent stack cells frames′ (zs .1 .1 .1 .1 .1 .1 .1 .1 .1 .1 .1 .1 .0) backtrace)))
+        (runLent stack cells (zs .1 .1 .1 .1 .1 .1 .1 .1 .1 .1 .1 .0) (zs .1 .1 .1 .1 .1 .1 .1 .1 .1 .1 .1 .1 .0) backtrace)))
         result-tells (λ ns. passing (lent (to-begin frames′) ns)) (λ ns. refl) (λ ns. unasked W (lent (to-begin frames′) ns)) (λ ns w. id⊢ 𝓤 _)
         (vm-makes 𝓤 H A W m _ is-m, tt) (
           (refl, room1),
@@ -544,7 +544,7 @@ module _ {M : Type 1} (𝓤 : URA M) (H : Heap 𝓤) (A : Atoms 𝓤) (W : Given
     abbrev to-more : ℕ → List Frame → List Arg
     to-more units frames′ = val VmRow m (vmVal m) ∷ val u64 units (vint w64 units) ∷ peek u64 s1 constants ∷ peek u64 s2 structs ∷ peek u64 s3 functions ∷
         peek u8 s4 text ∷ peek u8 s5 main ∷ peek u32 s6 mainPlaces ∷ peek u8 s7 other ∷ peek u32 s8 otherPlaces ∷ mut u64 s9 stack ∷ mut u64 s10 cells ∷
-        mut R s11 frames′ ∷ peek u64 s12 copy ∷ mut u32 s13 trace ∷ []
+        mut R s11 frames′ ∷ peek u64 s12 copy ∷ mut u64 s13 trace ∷ []
 
     call-more : (units : ℕ) → Is u64 units (vint w64 units ∷ []) → (frames′ : List Frame) → length frames′ ≡ s11 .count
         → Rule 𝓤 H A W (to-more units frames′) ToMore ResultRow resultVal (λ r zs. RunPost (continues units) m (programLent structs constants functions text
@@ -589,7 +589,7 @@ module _ {M : Type 1} (𝓤 : URA M) (H : Heap 𝓤) (A : Atoms 𝓤) (W : Given
     abbrev to-end : List Frame → List Arg
     to-end frames′ = val VmRow m (vmVal m) ∷ peek u64 s1 constants ∷ peek u64 s2 structs ∷ peek u64 s3 functions ∷ peek u8 s4 text ∷ peek u8 s5 main ∷
         peek u32 s6 mainPlaces ∷ peek u8 s7 other ∷ peek u32 s8 otherPlaces ∷ mut u64 s9 stack ∷ peek u64 s10 cells ∷ mut R s11 frames′ ∷ peek u64 s12 copy ∷
-        mut u32 s13 trace ∷ []
+        mut u64 s13 trace ∷ []
 
     call-end : (frames′ : List Frame) → length frames′ ≡ s11 .count
         → Rule 𝓤 H A W (to-end frames′) ToEnd ResultRow resultVal (λ r zs. RunPost abandons m (programLent structs constants functions text main mainPlaces
@@ -632,7 +632,7 @@ module _ {M : Type 1} (𝓤 : URA M) (H : Heap 𝓤) (A : Atoms 𝓤) (W : Given
     abbrev to-back : List Frame → List Arg
     to-back frames′ =
         val VmRow m (vmVal m) ∷ peek u64 s3 functions ∷ peek u8 s4 text ∷ peek u8 s5 main ∷ peek u32 s6 mainPlaces ∷ peek u8 s7
-        other ∷ peek u32 s8 otherPlaces ∷ peek u64 s9 stack ∷ peek R s11 frames′ ∷ mut u32 s13 trace ∷ []
+        other ∷ peek u32 s8 otherPlaces ∷ peek u64 s9 stack ∷ peek R s11 frames′ ∷ mut u64 s13 trace ∷ []
 
     call-back : (frames′ : List Frame) → length frames′ ≡ s11 .count
         → Rule 𝓤 H A W (to-back frames′) ToBack ToldRow toldVal (λ r zs.
@@ -768,26 +768,29 @@ module _ {M : Type 1} (𝓤 : URA M) (H : Heap 𝓤) (A : Atoms 𝓤) (W : Given
           sets ! (addr ! (behind ! refl refl)) (tt, tt) $ sets ! (agg ! (ofs ! refl)) (tt, (tt, (record { fits = room12 .0 }, tt))) $
           calls-on ! (false ∷ true ∷ true ∷ true ∷ true ∷ true ∷ true ∷ true ∷ true ∷ true ∷ true ∷ true ∷ true ∷ [])
           (slices constants structs functions text main mainPlaces other otherPlaces stack cells fs copy trace words)
-          (call-begin fs len) (λ zs. (slices constants structs functions text main mainPlaces other otherPlaces stack cells fs (zs .1 .1 .1 .1 .1 .1 .1 .1 .1 .1 .1 .1 .0) trace words))
+          (call-begin fs len) (λ zs. (slices constants structs functions text main mainPlaces other otherPlaces stack cells
+          (zs .1 .1 .1 .1 .1 .1 .1 .1 .1 .1 .1 .0) (zs .1 .1 .1 .1 .1 .1 .1 .1 .1 .1 .1 .1 .0) trace words))
           refl (λ zs. refl) (λ zs. refl) fm known-begin refl
           (λ x zs₁ said₁ lens₁ isx. lands-in ! (result-typed 𝓤 H A W x isx) $
           sets ! (addr ! (behind ! refl refl)) (tt, tt) $ sets ! (agg ! (ofs ! refl)) (tt, (tt, (record { fits = room11 .0 }, tt))) $
           sets ! (addr ! (behind ! refl refl)) (tt, tt) $ sets ! (agg ! (ofs ! refl)) (tt, (tt, (record { fits = room14 .0 }, tt))) $
           calls-on ! (false ∷ false ∷ false ∷ false ∷ false ∷ false ∷ false ∷ false ∷ false ∷ false ∷ false ∷ true ∷ false ∷ false ∷ true ∷ [])
-          (slices constants structs functions text main mainPlaces other otherPlaces stack cells fs (zs₁ .1 .1 .1 .1 .1 .1 .1 .1 .1 .1 .1 .1 .0) trace words)
-          (call-keep fs words len refl) (λ zs. (slices constants structs functions text main mainPlaces other otherPlaces stack cells fs
-          (zs₁ .1 .1 .1 .1 .1 .1 .1 .1 .1 .1 .1 .1 .0) trace (zs .1 .0)))
+          (slices constants structs functions text main mainPlaces other otherPlaces stack cells (zs₁ .1 .1 .1 .1 .1 .1 .1 .1 .1 .1 .1 .0) (zs₁ .1 .1 .1 .1 .1 .1 .1 .1 .1 .1 .1 .1 .0) trace words)
+          (call-keep (zs₁ .1 .1 .1 .1 .1 .1 .1 .1 .1 .1 .1 .0) words (lens₁ .0) refl) (λ zs. (slices constants structs functions text main mainPlaces other otherPlaces stack cells
+          (zs₁ .1 .1 .1 .1 .1 .1 .1 .1 .1 .1 .1 .0) (zs₁ .1 .1 .1 .1 .1 .1 .1 .1 .1 .1 .1 .1 .0) trace (zs .1 .0)))
           refl (λ zs. refl) (λ zs. refl) fm known-keep refl
           (λ u zs₂ said₂ lens₂ isu. lands-in ! (tt, tt) $ calls-on ! []
-          (slices constants structs functions text main mainPlaces other otherPlaces stack cells fs (zs₁ .1 .1 .1 .1 .1 .1 .1 .1 .1 .1 .1 .1 .0) trace (zs₂ .1 .0)) (call-ran x isx)
-          (λ zs. (slices constants structs functions text main mainPlaces other otherPlaces stack cells fs (zs₁ .1 .1 .1 .1 .1 .1 .1 .1 .1 .1 .1 .1 .0) trace
-          (zs₂ .1 .0))) refl (λ zs. refl) (λ zs. refl) fm known-ran refl
+          (slices constants structs functions text main mainPlaces other otherPlaces stack cells (zs₁ .1 .1 .1 .1 .1 .1 .1 .1 .1 .1 .1 .0)
+          (zs₁ .1 .1 .1 .1 .1 .1 .1 .1 .1 .1 .1 .1 .0) trace (zs₂ .1 .0)) (call-ran x isx)
+          (λ zs. (slices constants structs functions text main mainPlaces other otherPlaces stack cells (zs₁ .1 .1 .1 .1 .1 .1 .1 .1 .1 .1 .1 .0)
+          (zs₁ .1 .1 .1 .1 .1 .1 .1 .1 .1 .1 .1 .1 .0) trace (zs₂ .1 .0))) refl (λ zs. refl) (λ zs. refl) fm known-ran refl
           (λ r zs₉ er lens₉ isr. lands-in ! (answer-typed 𝓤 H A W r isr) $ sets ! (of-opd ! (of ! refl))
           (answer-typed 𝓤 H A W r isr) $ leaves ! refl $ by !
-          (exits r constants structs functions text main mainPlaces other otherPlaces stack cells fs (zs₁ .1 .1 .1 .1 .1 .1 .1 .1 .1 .1 .1 .1 .0) trace (zs₂ .1 .0) isr
-          refl refl refl refl refl refl refl refl refl refl len (lens₁ .0) refl (lens₂ .0)
+          (exits r constants structs functions text main mainPlaces other otherPlaces stack cells (zs₁ .1 .1 .1 .1 .1 .1 .1 .1 .1 .1 .1 .0)
+          (zs₁ .1 .1 .1 .1 .1 .1 .1 .1 .1 .1 .1 .1 .0) trace (zs₂ .1 .0) isr
+          refl refl refl refl refl refl refl refl refl refl (lens₁ .0) (lens₁ .1 .0) refl (lens₂ .0)
           (as-asked Begin e fs el _ _ _ (begin-called m image constants structs functions text main mainPlaces other otherPlaces stack cells copy trace words
-          fs (zs₁ .1 .1 .1 .1 .1 .1 .1 .1 .1 .1 .1 .1 .0) said₁ said₂ er)))))))
+          fs (zs₁ .1 .1 .1 .1 .1 .1 .1 .1 .1 .1 .1 .0) (zs₁ .1 .1 .1 .1 .1 .1 .1 .1 .1 .1 .1 .1 .0) said₁ said₂ er)))))))
       answers (Continue units) e isc fs len el =
           returns-match ! 𝓣 (tag-of ! refl refl refl refl) refl
           (sets ! (of-opd ! (payload-of ! refl refl refl refl refl refl)) (tt, record { fits = units-fit units isc .1 }) $

@@ -41,7 +41,7 @@ abbrev kinds : List (Kind 14)
 kinds =
     own VmRow vmVal vm-tells (λ x f. refl) ∷ own CallRow callVal call-tells (λ x f. refl) ∷ shared 0 tt u8 ∷ unique 1 tt u64 ∷
     unique 2 tt u64 ∷ unique 3 tt u64 ∷ unique 4 tt u8 ∷ unique 5 tt u8 ∷ unique 6 tt u32 ∷ unique 7 tt u8 ∷ unique 8 tt u32 ∷
-    unique 9 tt u64 ∷ unique 10 tt u64 ∷ unique 11 tt u64 ∷ unique 12 tt u32 ∷ unique 13 tt u64 ∷ []
+    unique 9 tt u64 ∷ unique 10 tt u64 ∷ unique 11 tt u64 ∷ unique 12 tt u64 ∷ unique 13 tt u64 ∷ []
 
 -- the frames before any is laid
 abbrev frames₀ : List Frame
@@ -51,7 +51,7 @@ abbrev array₀ : Val
 array₀ = arrayVal (replicate 256 (fval noFrame))
 
 is-none : Is R noFrame (fval noFrame ∷ [])
-is-none = LL.owes T.the-type T′.the-laws noFrame ((refl, lit< tt), ((refl, lit< tt), ((refl, lit< tt), tt)))
+is-none = LL.owes T.the-type T′.the-laws noFrame ((refl, lit< tt), ((refl, lit< tt), ((refl, lit< tt), ((refl, lit< tt), tt))))
 
 room : Room R 256
 room = (lit< tt, lit< tt)
@@ -194,7 +194,7 @@ module _ {M : Type 1} (𝓤 : URA M) (H : Heap 𝓤) (A : Atoms 𝓤) (W : Given
     abbrev room11 : Room u64 (s11 .count)
     room11 = is .1 .1 .1 .1 .1 .1 .1 .1 .1 .1 .1 .1 .1 .0 .0 .1
 
-    abbrev room12 : Room u32 (s12 .count)
+    abbrev room12 : Room u64 (s12 .count)
     room12 = is .1 .1 .1 .1 .1 .1 .1 .1 .1 .1 .1 .1 .1 .1 .0 .0 .1
 
     abbrev room13 : Room u64 (s13 .count)
@@ -208,7 +208,7 @@ module _ {M : Type 1} (𝓤 : URA M) (H : Heap 𝓤) (A : Atoms 𝓤) (W : Given
         ∷ mut u64 s9 stack ∷ mut u64 s10 cells ∷ []
 
     abbrev lasts : List Arg
-    lasts = mut u64 s11 copy ∷ mut u32 s12 trace ∷ mut u64 s13 words ∷ []
+    lasts = mut u64 s11 copy ∷ mut u64 s12 trace ∷ mut u64 s13 words ∷ []
 
     abbrev entry : List Arg
     entry = firsts ++ lasts

@@ -50,7 +50,7 @@ use Rattle.embed.proofs.chaffwheel_backtrace.Code as code
 abbrev kinds : List (Kind 11)
 kinds =
     shared 0 tt u64 ∷ shared 1 tt u64 ∷ shared 2 tt u8 ∷ shared 3 tt u8 ∷ shared 4 tt u32 ∷ shared 5 tt u8 ∷ shared 6 tt u32 ∷
-    shared 7 tt u64 ∷ shared 8 tt R ∷ unique 9 tt u32 ∷ unique 10 tt u64 ∷ []
+    shared 7 tt u64 ∷ shared 8 tt R ∷ unique 9 tt u64 ∷ unique 10 tt u64 ∷ []
 
 module _ {M : Type 1} (𝓤 : URA M) (H : Heap 𝓤) (A : Atoms 𝓤) (W : Given 𝓤 H A) (mem : Memory → SProp 𝓤) (run : Routine → Fun 𝓤) where
   abbrev Why : Contract 𝓤
@@ -162,7 +162,7 @@ module _ {M : Type 1} (𝓤 : URA M) (H : Heap 𝓤) (A : Atoms 𝓤) (W : Given
     abbrev out : List ℕ
     out = now (a .1 .1 .1 .1 .1 .1 .1 .1 .1 .0)
 
-    abbrev out-room : Room u32 (out-at .count)
+    abbrev out-room : Room u64 (out-at .count)
     out-room = is .1 .1 .1 .1 .1 .1 .1 .1 .1 .0 .0 .1
 
     abbrev answer-at : Sl
@@ -179,7 +179,7 @@ module _ {M : Type 1} (𝓤 : URA M) (H : Heap 𝓤) (A : Atoms 𝓤) (W : Given
     slices out′ answer′ =
         shr u64 vm-at vm ∷ shr u64 functions-at functions ∷ shr u8 text-at text ∷ shr u8 main-at main ∷ shr u32 main-places-at
         mainPlaces ∷ shr u8 other-at other ∷ shr u32 other-places-at otherPlaces ∷ shr u64 stack-at stack ∷ shr R frames-at frames
-        ∷ mut u32 out-at out′ ∷ mut u64 answer-at answer′ ∷ []
+        ∷ mut u64 out-at out′ ∷ mut u64 answer-at answer′ ∷ []
 
     abbrev xs : List ℕ → List ℕ → List Arg
     xs out′ answer′ = slices out′ answer′
@@ -221,7 +221,7 @@ module _ {M : Type 1} (𝓤 : URA M) (H : Heap 𝓤) (A : Atoms 𝓤) (W : Given
     to-entry m =
         val VmRow m (vmVal m) ∷ shr u64 functions-at functions ∷ shr u8 text-at text ∷ shr u8 main-at main ∷ shr u32
         main-places-at mainPlaces ∷ shr u8 other-at other ∷ shr u32 other-places-at otherPlaces ∷ shr u64 stack-at stack ∷ shr R
-        frames-at frames ∷ mut u32 out-at out ∷ []
+        frames-at frames ∷ mut u64 out-at out ∷ []
 
     call-entry : (m : Vm) → IsVm m → Rule 𝓤 H A W (to-entry m) Entry ToldRow toldVal
         (λ x zs. ((structs constants : List ℕ) → record { answer = x; out = (zs .1 .1 .1 .1 .1 .1 .1 .1 .1 .0) } ≡ backtraceIn m

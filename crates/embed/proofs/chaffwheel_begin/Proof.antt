@@ -54,7 +54,7 @@ use Rattle.embed.proofs.chaffwheel_begin.Code as code
 abbrev kinds : List (Kind 14)
 kinds =
     unique 0 tt u64 ∷ shared 1 tt u64 ∷ shared 2 tt u64 ∷ shared 3 tt u64 ∷ shared 4 tt u8 ∷ shared 5 tt u8 ∷ shared 6 tt u32 ∷ shared 7 tt u8 ∷
-    shared 8 tt u32 ∷ shared 9 tt u64 ∷ shared 10 tt u64 ∷ shared 11 tt R ∷ unique 12 tt u64 ∷ unique 13 tt u64 ∷ []
+    shared 8 tt u32 ∷ shared 9 tt u64 ∷ shared 10 tt u64 ∷ unique 11 tt R ∷ unique 12 tt u64 ∷ unique 13 tt u64 ∷ []
 
 module _ {M : Type 1} (𝓤 : URA M) (H : Heap 𝓤) (A : Atoms 𝓤) (W : Given 𝓤 H A) (mem : Memory → SProp 𝓤) (run : Routine → Fun 𝓤) where
   abbrev Why : Contract 𝓤
@@ -206,14 +206,14 @@ module _ {M : Type 1} (𝓤 : URA M) (H : Heap 𝓤) (A : Atoms 𝓤) (W : Given
     answer-room = is .1 .1 .1 .1 .1 .1 .1 .1 .1 .1 .1 .1 .1 .0 .0 .1
 
     -- what is lent, with what of it may change
-    abbrev slices : List ℕ → List ℕ → List ℕ → List Arg
-    slices vm′ copy′ answer′ =
+    abbrev slices : List ℕ → List Frame → List ℕ → List ℕ → List Arg
+    slices vm′ frames′ copy′ answer′ =
         mut u64 vm-at vm′ ∷ shr u64 constants-at constants ∷ shr u64 structs-at structs ∷ shr u64 functions-at functions ∷ shr u8 text-at text ∷
         shr u8 main-at main ∷ shr u32 main-places-at mainPlaces ∷ shr u8 other-at other ∷ shr u32 other-places-at otherPlaces ∷
-        shr u64 stack-at stack ∷ shr u64 cells-at cells ∷ shr R frames-at frames ∷ mut u64 copy-at copy′ ∷ mut u64 answer-at answer′ ∷ []
+        shr u64 stack-at stack ∷ shr u64 cells-at cells ∷ mut R frames-at frames′ ∷ mut u64 copy-at copy′ ∷ mut u64 answer-at answer′ ∷ []
 
     abbrev lends : List Arg
-    lends = slices vm copy answer
+    lends = slices vm frames copy answer
 
     abbrev xs : List Arg
     xs = lends
@@ -225,22 +225,23 @@ module _ {M : Type 1} (𝓤 : URA M) (H : Heap 𝓤) (A : Atoms 𝓤) (W : Given
     abbrev before : (trace : List ℕ) → Lent
     before trace = runLent stack cells frames copy trace
 
-    abbrev after : List ℕ → (trace : List ℕ) → Lent
-    after copy′ trace = runLent stack cells frames copy′ trace
+    abbrev after : List Frame → List ℕ → (trace : List ℕ) → Lent
+    after frames′ copy′ trace = runLent stack cells frames′ copy′ trace
 
     abbrev Post : Val → SProp 𝓤
     Post = walkOf 𝓤 H A me.ended (stays kinds) (me.clauses 𝓤 H A mem run) .post (passing xs)
 
-    exits : (r : ℕ) (vm′ : List ℕ) (copy′ : List ℕ) (answer′ : List ℕ)
-        → Is u32 r (vint w32 r ∷ []) → length vm′ ≡ vm-at .count → length copy′ ≡ copy-at .count → length answer′ ≡ answer-at .count
-        → ((trace : List ℕ) → RunThrough begins vm answer program (before trace) (record { number = r; vm = vm′; answer = answer′ }) (after copy′ trace))
-        → ent 𝓤 (⋆ 𝓤 H A (‵ (Holds (slices vm′ copy′ answer′)) ∷ [])) (Post (vint w32 r))
-    exits r vm′ copy′ answer′ isr len-vm len-copy len-answer said =
-        qed W (‵ (Holds (slices vm′ copy′ answer′)) ∷ []) ∵ suffices ! _
+    exits : (r : ℕ) (vm′ : List ℕ) (frames′ : List Frame) (copy′ : List ℕ) (answer′ : List ℕ)
+        → Is u32 r (vint w32 r ∷ []) → length vm′ ≡ vm-at .count → length frames′ ≡ frames-at .count → length copy′ ≡ copy-at .count
+        → length answer′ ≡ answer-at .count
+        → ((trace : List ℕ) → RunThrough begins vm answer program (before trace) (record { number = r; vm = vm′; answer = answer′ }) (after frames′ copy′ trace))
+        → ent 𝓤 (⋆ 𝓤 H A (‵ (Holds (slices vm′ frames′ copy′ answer′)) ∷ [])) (Post (vint w32 r))
+    exits r vm′ frames′ copy′ answer′ isr len-vm len-frames len-copy len-answer said =
+        qed W (‵ (Holds (slices vm′ frames′ copy′ answer′)) ∷ []) ∵ suffices ! _
         (ends-at 𝓤 H A me.ended (stays kinds) (me.clauses 𝓤 H A mem run) W (passing xs) (vint w32 r) r
-        (vm′, (tt, (tt, (tt, (tt, (tt, (tt, (tt, (tt, (tt, (tt, (tt, (copy′, (answer′, tt))))))))))))))
-        (len-vm, (tt, (tt, (tt, (tt, (tt, (tt, (tt, (tt, (tt, (tt, (tt, (len-copy, (len-answer, tt))))))))))))))) $ says ! said $
-        gives ! (slices vm′ copy′ answer′) tt
+        (vm′, (tt, (tt, (tt, (tt, (tt, (tt, (tt, (tt, (tt, (tt, (frames′, (copy′, (answer′, tt))))))))))))))
+        (len-vm, (tt, (tt, (tt, (tt, (tt, (tt, (tt, (tt, (tt, (tt, (len-frames, (len-copy, (len-answer, tt))))))))))))))) $ says ! said $
+        gives ! (slices vm′ frames′ copy′ answer′) tt
         (frame ! $ owned ! u32 (Is u32) (uint-makes 𝓤 H A W w32) r _ isr $ keep ! (1 ∷ 0 ∷ []) $ done !)
 
     -- the calls
@@ -265,17 +266,17 @@ module _ {M : Type 1} (𝓤 : URA M) (H : Heap 𝓤) (A : Atoms 𝓤) (W : Given
     to-entry m =
         val VmRow m (vmVal m) ∷ shr u64 constants-at constants ∷ shr u64 structs-at structs ∷ shr u64 functions-at functions ∷ shr u8 text-at text ∷
         shr u8 main-at main ∷ shr u32 main-places-at mainPlaces ∷ shr u8 other-at other ∷ shr u32 other-places-at otherPlaces ∷
-        shr u64 stack-at stack ∷ shr u64 cells-at cells ∷ shr R frames-at frames ∷ mut u64 copy-at copy ∷ []
+        shr u64 stack-at stack ∷ shr u64 cells-at cells ∷ mut R frames-at frames ∷ mut u64 copy-at copy ∷ []
 
     -- what the entry answers is the part of the run, in the stores as it left them
-    abbrev Ran : Vm → RunResult → List ℕ → Type 0
-    Ran m x copy′ = (trace : List ℕ) → RunPost begins m program (before trace) x (after copy′ trace)
+    abbrev Ran : Vm → RunResult → List Frame → List ℕ → Type 0
+    Ran m x frames′ copy′ = (trace : List ℕ) → RunPost begins m program (before trace) x (after frames′ copy′ trace)
 
     call-entry : (m : Vm) → IsVm m → Rule 𝓤 H A W (to-entry m) Entry ResultRow resultVal
-        (λ x zs. Ran m x (zs .1 .1 .1 .1 .1 .1 .1 .1 .1 .1 .1 .1 .0))
+        (λ x zs. Ran m x (zs .1 .1 .1 .1 .1 .1 .1 .1 .1 .1 .1 .0) (zs .1 .1 .1 .1 .1 .1 .1 .1 .1 .1 .1 .1 .0))
     call-entry m ism =
         call-with 𝓤 H A W (to-entry m) Entry ResultRow resultVal
-        (λ x zs. Ran m x (zs .1 .1 .1 .1 .1 .1 .1 .1 .1 .1 .1 .1 .0))
+        (λ x zs. Ran m x (zs .1 .1 .1 .1 .1 .1 .1 .1 .1 .1 .1 .0) (zs .1 .1 .1 .1 .1 .1 .1 .1 .1 .1 .1 .1 .0))
         result-tells (λ ns. passing (lent (to-entry m) ns)) (λ ns. refl) (λ ns. unasked W (lent (to-entry m) ns)) (λ ns w. id⊢ 𝓤 _)
         (vm-makes 𝓤 H A W m _ ism, tt) (
           (refl, constants-room),
@@ -317,7 +318,7 @@ module _ {M : Type 1} (𝓤 : URA M) (H : Heap 𝓤) (A : Atoms 𝓤) (W : Given
     to-judge m =
         val VmRow m (vmVal m) ∷ shr u64 constants-at constants ∷ shr u64 structs-at structs ∷ shr u64 functions-at functions ∷ shr u8 text-at text ∷
         shr u8 main-at main ∷ shr u32 main-places-at mainPlaces ∷ shr u8 other-at other ∷ shr u32 other-places-at otherPlaces ∷
-        shr u64 stack-at stack ∷ shr u64 cells-at cells ∷ shr R frames-at frames ∷ peek u64 copy-at copy ∷ []
+        shr u64 stack-at stack ∷ shr u64 cells-at cells ∷ peek R frames-at frames ∷ peek u64 copy-at copy ∷ []
 
     call-judge : (m : Vm) → IsVm m → Rule 𝓤 H A W (to-judge m) Judge Boolean vbool
         (λ g zs. (entries : List ℕ) → g ≡ runOrder m program (runLent stack cells frames copy entries))
@@ -432,29 +433,32 @@ module _ {M : Type 1} (𝓤 : URA M) (H : Heap 𝓤) (A : Atoms 𝓤) (W : Given
         calls-on ! (true ∷ []) lends call-rec (λ zs. lends) refl (λ zs. refl) (λ zs. refl) fm known-rec refl (λ m zs₁ em lens₁ ism. lands-in ! (vm-typed 𝓤 H A W m ism) $
         sets ! (bin ! (of ! refl) (of ! refl) tt) (tt, tt) $ returns-if ! 𝓣 (of ! refl)
         (λ on.
+        sets ! (addr ! (behind ! refl refl)) (tt, tt) $ sets ! (agg ! (ofs ! refl)) (tt, (tt, (record { fits = frames-room .0 }, tt))) $
         sets ! (addr ! (behind ! refl refl)) (tt, tt) $ sets ! (agg ! (ofs ! refl)) (tt, (tt, (record { fits = copy-room .0 }, tt))) $
         calls-on ! (false ∷ true ∷ true ∷ true ∷ true ∷ true ∷ true ∷ true ∷ true ∷ true ∷ true ∷ true ∷ true ∷ []) lends (call-entry m ism)
-        (λ zs. slices vm (zs .1 .1 .1 .1 .1 .1 .1 .1 .1 .1 .1 .1 .0) answer) refl (λ zs. refl)
+        (λ zs. slices vm (zs .1 .1 .1 .1 .1 .1 .1 .1 .1 .1 .1 .0) (zs .1 .1 .1 .1 .1 .1 .1 .1 .1 .1 .1 .1 .0) answer) refl (λ zs. refl)
         (λ zs. refl) fm known-entry refl (λ x zs₂ ex lens₂ isx. lands-in ! (result-typed 𝓤 H A W x isx) $
         sets ! (addr ! (behind ! refl refl)) (tt, tt) $ sets ! (agg ! (ofs ! refl)) (tt, (tt, (record { fits = vm-room .0 }, tt))) $
         sets ! (addr ! (behind ! refl refl)) (tt, tt) $ sets ! (agg ! (ofs ! refl)) (tt, (tt, (record { fits = answer-room .0 }, tt))) $
         calls-on ! (true ∷ false ∷ false ∷ false ∷ false ∷ false ∷ false ∷ false ∷ false ∷ false ∷ false ∷ false ∷ false ∷ true ∷ [])
-        (slices vm (zs₂ .1 .1 .1 .1 .1 .1 .1 .1 .1 .1 .1 .1 .0) answer) (call-tells x isx)
-        (λ zs. slices (zs .1 .0) (zs₂ .1 .1 .1 .1 .1 .1 .1 .1 .1 .1 .1 .1 .0) (zs .1 .1 .0)) refl (λ zs. refl)
+        (slices vm (zs₂ .1 .1 .1 .1 .1 .1 .1 .1 .1 .1 .1 .0) (zs₂ .1 .1 .1 .1 .1 .1 .1 .1 .1 .1 .1 .1 .0) answer) (call-tells x isx)
+        (λ zs. slices (zs .1 .0) (zs₂ .1 .1 .1 .1 .1 .1 .1 .1 .1 .1 .1 .0) (zs₂ .1 .1 .1 .1 .1 .1 .1 .1 .1 .1 .1 .1 .0) (zs .1 .1 .0)) refl (λ zs. refl)
         (λ zs. refl) fm known-tells refl (λ k zs₃ ek lens₃ isk. lands-in ! (tt, record { fits = isk .1 }) $
         sets ! (of-opd ! (of ! refl)) (tt, record { fits = isk .1 }) $ leaves ! refl $
-        by ! (exits k (zs₃ .1 .0) (zs₂ .1 .1 .1 .1 .1 .1 .1 .1 .1 .1 .1 .1 .0) (zs₃ .1 .1 .0) isk (lens₃ .0) (lens₂ .0) (lens₃ .1 .0)
+        by ! (exits k (zs₃ .1 .0) (zs₂ .1 .1 .1 .1 .1 .1 .1 .1 .1 .1 .1 .0) (zs₂ .1 .1 .1 .1 .1 .1 .1 .1 .1 .1 .1 .1 .0) (zs₃ .1 .1 .0) isk
+        (lens₃ .0) (lens₂ .0) (lens₂ .1 .0) (lens₃ .1 .0)
         (λ trace. run-through begins vm answer program (before trace) n ew (is-zero n on) m em x
-        (after (zs₂ .1 .1 .1 .1 .1 .1 .1 .1 .1 .1 .1 .1 .0) trace) (ex trace)
+        (after (zs₂ .1 .1 .1 .1 .1 .1 .1 .1 .1 .1 .1 .0) (zs₂ .1 .1 .1 .1 .1 .1 .1 .1 .1 .1 .1 .1 .0) trace) (ex trace)
         (record { number = k; vm = (zs₃ .1 .0); answer = (zs₃ .1 .1 .0) }) ek)))))
         (λ off.
+        sets ! (addr ! (behind ! refl refl)) (tt, tt) $ sets ! (agg ! (ofs ! refl)) (tt, (tt, (record { fits = frames-room .0 }, tt))) $
         sets ! (addr ! (behind ! refl refl)) (tt, tt) $ sets ! (agg ! (ofs ! refl)) (tt, (tt, (record { fits = copy-room .0 }, tt))) $
         calls-on ! (false ∷ true ∷ true ∷ true ∷ true ∷ true ∷ true ∷ true ∷ true ∷ true ∷ true ∷ true ∷ true ∷ []) lends (call-judge m ism)
         (λ zs. lends) refl (λ zs. refl) (λ zs. refl) fm known-judge refl (λ g zs₄ eg lens₄ isg. lands-in ! (tt, tt) $
         calls-on ! [] lends (call-not n isn m ism g isg) (λ zs. lends) refl (λ zs. refl) (λ zs. refl) fm known-not refl
         (λ k zs₅ ek lens₅ isk. lands-in ! (tt, record { fits = isk .1 }) $
         sets ! (of-opd ! (of ! refl)) (tt, record { fits = isk .1 }) $ leaves ! refl $
-        by ! (exits k vm copy answer isk refl refl refl
+        by ! (exits k vm frames copy answer isk refl refl refl refl
         (λ trace. run-refused begins vm answer program (before trace) n ew (not-zero n off) m em (if g then (if m .run .on then 25 else 0) else 19)
         (begin-says m program (before trace) g (eg trace)) k ek)))))))))
       where

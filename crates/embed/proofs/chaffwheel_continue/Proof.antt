@@ -55,7 +55,7 @@ abbrev kinds : List (Kind 15)
 kinds =
     own u64 (vint w64) (uint-tells w64) (λ x f. refl) ∷ unique 0 tt u64 ∷ shared 1 tt u64 ∷ shared 2 tt u64 ∷ shared 3 tt u64 ∷ shared 4 tt u8 ∷
     shared 5 tt u8 ∷ shared 6 tt u32 ∷ shared 7 tt u8 ∷ shared 8 tt u32 ∷ unique 9 tt u64 ∷ unique 10 tt u64 ∷ unique 11 tt R ∷ shared 12 tt u64 ∷
-    unique 13 tt u32 ∷ unique 14 tt u64 ∷ []
+    unique 13 tt u64 ∷ unique 14 tt u64 ∷ []
 
 module _ {M : Type 1} (𝓤 : URA M) (H : Heap 𝓤) (A : Atoms 𝓤) (W : Given 𝓤 H A) (mem : Memory → SProp 𝓤) (run : Routine → Fun 𝓤) where
   abbrev Why : Contract 𝓤
@@ -206,7 +206,7 @@ module _ {M : Type 1} (𝓤 : URA M) (H : Heap 𝓤) (A : Atoms 𝓤) (W : Given
     abbrev trace : List ℕ
     trace = now (a .1 .1 .1 .1 .1 .1 .1 .1 .1 .1 .1 .1 .1 .1 .0)
 
-    abbrev trace-room : Room u32 (trace-at .count)
+    abbrev trace-room : Room u64 (trace-at .count)
     trace-room = is .1 .1 .1 .1 .1 .1 .1 .1 .1 .1 .1 .1 .1 .1 .0 .0 .1
 
     abbrev answer-at : Sl
@@ -223,7 +223,7 @@ module _ {M : Type 1} (𝓤 : URA M) (H : Heap 𝓤) (A : Atoms 𝓤) (W : Given
     slices vm′ stack′ cells′ frames′ trace′ answer′ =
         mut u64 vm-at vm′ ∷ shr u64 constants-at constants ∷ shr u64 structs-at structs ∷ shr u64 functions-at functions ∷ shr u8 text-at text ∷
         shr u8 main-at main ∷ shr u32 main-places-at mainPlaces ∷ shr u8 other-at other ∷ shr u32 other-places-at otherPlaces ∷
-        mut u64 stack-at stack′ ∷ mut u64 cells-at cells′ ∷ mut R frames-at frames′ ∷ shr u64 copy-at copy ∷ mut u32 trace-at trace′ ∷
+        mut u64 stack-at stack′ ∷ mut u64 cells-at cells′ ∷ mut R frames-at frames′ ∷ shr u64 copy-at copy ∷ mut u64 trace-at trace′ ∷
         mut u64 answer-at answer′ ∷ []
 
     abbrev lends : List Arg
@@ -281,7 +281,7 @@ module _ {M : Type 1} (𝓤 : URA M) (H : Heap 𝓤) (A : Atoms 𝓤) (W : Given
         val VmRow m (vmVal m) ∷ val u64 units (vint w64 units) ∷ shr u64 constants-at constants ∷ shr u64 structs-at structs ∷
         shr u64 functions-at functions ∷ shr u8 text-at text ∷ shr u8 main-at main ∷ shr u32 main-places-at mainPlaces ∷ shr u8 other-at other ∷
         shr u32 other-places-at otherPlaces ∷ mut u64 stack-at stack ∷ mut u64 cells-at cells ∷ mut R frames-at frames ∷ shr u64 copy-at copy ∷
-        mut u32 trace-at trace ∷ []
+        mut u64 trace-at trace ∷ []
 
     -- what the entry answers is the part of the run, in the stores as it left them
     abbrev Ran : Vm → RunResult → List ℕ → List ℕ → List Frame → List ℕ → Type 0

@@ -58,7 +58,7 @@ module _ {M : Type 1} (𝓤 : URA M) (H : Heap 𝓤) (A : Atoms 𝓤) (W : Given
       ((tt, (tt, (record { fits = room .0 }, tt))), ((tt, record { fits = is .1 .0 .1 }), (frame-typed 𝓤 H A W f (is .1 .1 .0), tt))) (λ ls.
       sets ! (bin ! (of ! refl) (of ! refl) (record { fits = times-fits i (length ys) l room })) (tt, record { fits = times-fits i (length ys) l room }) $
       sets ! (bin ! (of ! refl) (of ! refl) tt) (tt, tt) $
-      rewrite ! 0 (λ (p : ℕ). ‵ (Locals (code.function .locals) ls (none ∷ some (sval s) ∷ some (vint w64 i) ∷ some (fval f) ∷ some (vint w64 (i * 24))
+      rewrite ! 0 (λ (p : ℕ). ‵ (Locals (code.function .locals) ls (none ∷ some (sval s) ∷ some (vint w64 i) ∷ some (fval f) ∷ some (vint w64 (i * 32))
       ∷ some (vptr (s .block) p) ∷ []))) (place-frame (s .offset) i) refl $
       move ! (1 ∷ []) $ fsplit ! $ opens ! tt R (s .block) (s .offset) (s .count) ys $
       elem-out ! R (Is R) (shows 𝓤 H A R) (λ g. fval g ∷ []) tells fullShare ys i noFrame (s .block) (s .offset) l (λ _.

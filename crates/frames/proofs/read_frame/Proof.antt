@@ -51,7 +51,7 @@ module _ {M : Type 1} (𝓤 : URA M) (H : Heap 𝓤) (A : Atoms 𝓤) (W : Given
       ((tt, (tt, (record { fits = room .0 }, tt))), ((tt, record { fits = is .1 .0 .1 }), tt)) (λ ls.
       sets ! (bin ! (of ! refl) (of ! refl) (record { fits = times-fits i (length ys) l room })) (tt, record { fits = times-fits i (length ys) l room }) $
       sets ! (bin ! (of ! refl) (of ! refl) tt) (tt, tt) $
-      rewrite ! 0 (λ (p : ℕ). ‵ (Locals (code.function .locals) ls (none ∷ some (sval s) ∷ some (vint w64 i) ∷ some (vint w64 (i * 24))
+      rewrite ! 0 (λ (p : ℕ). ‵ (Locals (code.function .locals) ls (none ∷ some (sval s) ∷ some (vint w64 i) ∷ some (vint w64 (i * 32))
       ∷ some (vptr (s .block) p) ∷ []))) (place-frame (s .offset) i) refl $
       move ! (1 ∷ []) $ fsplit ! $ fsplit ! $ fsplit ! $ move ! (1 ∷ []) $ fsplit ! $ move ! (1 ∷ 3 ∷ []) $
       looks-slice ! tt R (Is R) (shows 𝓤 H A R) (λ f. fval f ∷ []) tells (frame-copy 𝓤 H A W) ys (s .block) (s .offset)

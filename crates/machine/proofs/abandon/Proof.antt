@@ -17,7 +17,6 @@ use Rattle.model.specs.Emission.{written}
 use Rattle.model.specs.Stores.{Stores, size, codeWord}
 use native.Mathlib.Omega.{arith}
 use Rattle.run_arms.specs.declared.Going.{Going}
-use Rattle.run_arms.specs.Links.{frameIn}
 use Rattle.model.specs.Runs.{root}
 use Rattle.machine.proofs.Rows.{VmRow, vmVal, vm-tells, vm-typed, vm-makes, ResultRow, resultVal, result-tells, result-typed, result-makes, GoingRow, goingVal, going-tells, going-typed, going-makes}
 use Rattle.model.specs.Machines.{Lent, runOrder, abandons, runAnswer, RunPost, refusalOf}
@@ -41,14 +40,14 @@ use Rattle.machine.proofs.running.current as current
 use Rattle.machine.proofs.running.current.Symbol as current-def
 use Rattle.machine.proofs.running.current.Symbol.{name as #current}
 use Rattle.machine.proofs.running.current.Met as current-thm
-use Rattle.run_ends.proofs.abandoned as cut
-use Rattle.run_ends.proofs.abandoned.Symbol as cut-def
-use Rattle.run_ends.proofs.abandoned.Symbol.{name as #cut}
-use Rattle.run_ends.proofs.abandoned.Met as cut-thm
-use Rattle.machine.proofs.running.given_of as allotted
-use Rattle.machine.proofs.running.given_of.Symbol as allotted-def
-use Rattle.machine.proofs.running.given_of.Symbol.{name as #allotted}
-use Rattle.machine.proofs.running.given_of.Met as allotted-thm
+use Rattle.run_ends.proofs.cut_frame as cut
+use Rattle.run_ends.proofs.cut_frame.Symbol as cut-def
+use Rattle.run_ends.proofs.cut_frame.Symbol.{name as #cut}
+use Rattle.run_ends.proofs.cut_frame.Met as cut-thm
+use Rattle.run_ends.proofs.abandoned as gone
+use Rattle.run_ends.proofs.abandoned.Symbol as gone-def
+use Rattle.run_ends.proofs.abandoned.Symbol.{name as #gone}
+use Rattle.run_ends.proofs.abandoned.Met as gone-thm
 use Rattle.machine.proofs.running.stop as stop
 use Rattle.machine.proofs.running.stop.Symbol as stop-def
 use Rattle.machine.proofs.running.stop.Symbol.{name as #stop}
@@ -77,7 +76,7 @@ kinds =
     ∷ shared 9 tt u64
     ∷ unique 10 tt R
     ∷ shared 11 tt u64
-    ∷ unique 12 tt u32 ∷ []
+    ∷ unique 12 tt u64 ∷ []
 
 module _ {M : Type 1} (𝓤 : URA M) (H : Heap 𝓤) (A : Atoms 𝓤) (W : Given 𝓤 H A) (mem : Memory → SProp 𝓤) (run : Routine → Fun 𝓤) where
   abbrev Good : Contract 𝓤
@@ -92,8 +91,8 @@ module _ {M : Type 1} (𝓤 : URA M) (H : Heap 𝓤) (A : Atoms 𝓤) (W : Given
   abbrev Cut : Contract 𝓤
   Cut = tripleOf 𝓤 H A cut.signature (cut.spec 𝓤 H A mem run)
 
-  abbrev Allotted : Contract 𝓤
-  Allotted = tripleOf 𝓤 H A allotted.signature (allotted.spec 𝓤 H A mem run)
+  abbrev Gone : Contract 𝓤
+  Gone = tripleOf 𝓤 H A gone.signature (gone.spec 𝓤 H A mem run)
 
   abbrev Stop : Contract 𝓤
   Stop = tripleOf 𝓤 H A stop.signature (stop.spec 𝓤 H A mem run)
@@ -106,7 +105,7 @@ module _ {M : Type 1} (𝓤 : URA M) (H : Heap 𝓤) (A : Atoms 𝓤) (W : Given
       (known-why : Triple 𝓤 (𝓣 .C #why) Why)
       (known-current : Triple 𝓤 (𝓣 .C #current) Current)
       (known-cut : Triple 𝓤 (𝓣 .C #cut) Cut)
-      (known-allotted : Triple 𝓤 (𝓣 .C #allotted) Allotted)
+      (known-gone : Triple 𝓤 (𝓣 .C #gone) Gone)
       (known-stop : Triple 𝓤 (𝓣 .C #stop) Stop)
       (known-not : Triple 𝓤 (𝓣 .C #not) Not)
       (κs : Lfts 13) (qs : Shares 13) (a : Passed kinds ResultRow κs) (is : Known kinds ResultRow κs a) where
@@ -228,14 +227,14 @@ module _ {M : Type 1} (𝓤 : URA M) (H : Heap 𝓤) (A : Atoms 𝓤) (W : Given
     abbrev backtrace : List ℕ
     backtrace = now (a .1 .1 .1 .1 .1 .1 .1 .1 .1 .1 .1 .1 .1 .0)
 
-    abbrev backtrace-room : Room u32 (backtrace-at .count)
+    abbrev backtrace-room : Room u64 (backtrace-at .count)
     backtrace-room = is .1 .1 .1 .1 .1 .1 .1 .1 .1 .1 .1 .1 .1 .0 .0 .1
 
     abbrev slices : List ℕ → List Frame → List ℕ → List Arg
     slices stack′ frames′ backtrace′ =
         shr u64 constants-at constants ∷ shr u64 structs-at structs ∷ shr u64 functions-at functions ∷ shr u8 text-at text ∷ shr u8 main-at main
         ∷ shr u32 mainPlaces-at mainPlaces ∷ shr u8 other-at other ∷ shr u32 otherPlaces-at otherPlaces ∷ mut u64 stack-at stack′
-        ∷ shr u64 cells-at cells ∷ mut R frames-at frames′ ∷ shr u64 copy-at copy ∷ mut u32 backtrace-at backtrace′ ∷ []
+        ∷ shr u64 cells-at cells ∷ mut R frames-at frames′ ∷ shr u64 copy-at copy ∷ mut u64 backtrace-at backtrace′ ∷ []
 
     abbrev xs : List ℕ → List Frame → List ℕ → List Arg
     xs stack′ frames′ backtrace′ = val VmRow m (vmVal m) ∷ slices stack′ frames′ backtrace′
@@ -329,53 +328,53 @@ module _ {M : Type 1} (𝓤 : URA M) (H : Heap 𝓤) (A : Atoms 𝓤) (W : Given
         (vm-makes 𝓤 H A W m _ (is .0), tt)
         ((refl, frames-room), tt)
 
-    abbrev to-cut : Frame → List Arg
-    to-cut f =
+    abbrev framed : Frame → List Arg
+    framed f =
         val VmRow m (vmVal m) ∷ val R f (fval f) ∷ []
 
-    call-cut : (f : Frame) → Is R f (fval f ∷ []) → f .position ≤ 131070 → Rule 𝓤 H A W (to-cut f) Cut GoingRow goingVal
-        (λ g zs. Begun m (cutFrame m f) 0 g)
+    call-cut : (f : Frame) → Is R f (fval f ∷ []) → f .position ≤ 131070 → Rule 𝓤 H A W (framed f) Cut R fval
+        (λ x zs. x ≡ cutFrame m f)
     call-cut f isf small =
-        call-with 𝓤 H A W (to-cut f) Cut GoingRow goingVal
-        (λ g zs. Begun m (cutFrame m f) 0 g) going-tells
-        (λ ns. passing (lent (to-cut f) ns)) (λ ns. refl) (λ ns. asked W (lent (to-cut f) ns) small) (λ ns w. id⊢ 𝓤 _)
+        call-with 𝓤 H A W (framed f) Cut R fval
+        (λ x zs. x ≡ cutFrame m f) tells
+        (λ ns. passing (lent (framed f) ns)) (λ ns. refl) (λ ns. asked W (lent (framed f) ns) small) (λ ns w. id⊢ 𝓤 _)
         (vm-makes 𝓤 H A W m _ (is .0), (frame-makes 𝓤 H A W f _ isf, tt))
         tt
 
-    abbrev to-allotted : List Arg
-    to-allotted =
-        val VmRow m (vmVal m) ∷ []
-
-    call-allotted : Rule 𝓤 H A W to-allotted Allotted u64 (vint w64)
-        (λ u zs. u ≡ m .run .given)
-    call-allotted =
-        call-with 𝓤 H A W to-allotted Allotted u64 (vint w64)
-        (λ u zs. u ≡ m .run .given) (uint-tells w64)
-        (λ ns. passing (lent to-allotted ns)) (λ ns. refl) (λ ns. unasked W (lent to-allotted ns)) (λ ns w. id⊢ 𝓤 _)
-        (vm-makes 𝓤 H A W m _ (is .0), tt)
+    call-gone : (f : Frame) → Is R f (fval f ∷ []) → Rule 𝓤 H A W (framed f) Gone GoingRow goingVal
+        (λ g zs. Begun m f (m .run .given) g)
+    call-gone f isf =
+        call-with 𝓤 H A W (framed f) Gone GoingRow goingVal
+        (λ g zs. Begun m f (m .run .given) g) going-tells
+        (λ ns. passing (lent (framed f) ns)) (λ ns. refl) (λ ns. unasked W (lent (framed f) ns)) (λ ns w. id⊢ 𝓤 _)
+        (vm-makes 𝓤 H A W m _ (is .0), (frame-makes 𝓤 H A W f _ isf, tt))
         tt
 
-    abbrev to-stop : ℕ → Going → List Arg
-    to-stop u g =
-        val VmRow m (vmVal m) ∷ val u64 u (vint w64 u) ∷ val GoingRow g (goingVal g) ∷ val u8 13 (vint w8 13) ∷ shr u64 functions-at functions
+    abbrev to-stop : Going → Frame → List Arg
+    to-stop g f =
+        val VmRow m (vmVal m) ∷ val GoingRow g (goingVal g) ∷ val R f (fval f) ∷ val u8 13 (vint w8 13) ∷ shr u64 functions-at functions
         ∷ shr u32 mainPlaces-at mainPlaces ∷ shr u32 otherPlaces-at otherPlaces ∷ mut u64 stack-at stack ∷ mut R frames-at frames
-        ∷ shr u64 copy-at copy ∷ mut u32 backtrace-at backtrace ∷ []
+        ∷ shr u64 copy-at copy ∷ mut u64 backtrace-at backtrace ∷ []
 
-    call-stop : (u : ℕ) → (g : Going) → Is u64 u (vint w64 u ∷ []) → Is GoingRow g (goingVal g ∷ []) → (g .units ≤ u) ×
-        (g .callers < 2 ^ 32) × TraceFits functions mainPlaces otherPlaces (frameIn g) (g .callers) frames (length backtrace) ×
-        (2 * m .run .saved ≤ length copy) × (2 * m .run .saved ≤ length stack) × (0 < length frames) → Rule 𝓤 H A W (to-stop u g) Stop ResultRow resultVal
-        (λ r zs. (r ≡ faultedWith m u g 13) × (zs .1 .1 .1 .1 .1 .1 .1 .1 .1 .1 .0 ≡ written backtrace 0 (traceWords functions mainPlaces otherPlaces
-        (frameIn g ∷ callersOf (g .callers) frames))) ×
-        (zs .1 .1 .1 .1 .1 .1 .1 .0 ≡ written stack 0 (take (2 * m .run .saved) copy)) × (zs .1 .1 .1 .1 .1 .1 .1 .1 .0 ≡ set frames 0 (root (size
-        (codeWord functions 0)))))
-    call-stop u g isu isg can =
-        call-with 𝓤 H A W (to-stop u g) Stop ResultRow resultVal
-        (λ r zs. (r ≡ faultedWith m u g 13) × (zs .1 .1 .1 .1 .1 .1 .1 .1 .1 .1 .0 ≡ written backtrace 0 (traceWords functions mainPlaces otherPlaces
-        (frameIn g ∷ callersOf (g .callers) frames))) ×
-        (zs .1 .1 .1 .1 .1 .1 .1 .0 ≡ written stack 0 (take (2 * m .run .saved) copy)) × (zs .1 .1 .1 .1 .1 .1 .1 .1 .0 ≡ set frames 0 (root (size
-        (codeWord functions 0))))) result-tells
-        (λ ns. passing (lent (to-stop u g) ns)) (λ ns. refl) (λ ns. asked W (lent (to-stop u g) ns) can) (λ ns w. id⊢ 𝓤 _)
-        (vm-makes 𝓤 H A W m _ (is .0), (uint-makes 𝓤 H A W w64 u _ isu, (going-makes 𝓤 H A W g _ isg, (uint-makes 𝓤 H A W w8 13 _ (refl, omega arith), tt)))) (
+    abbrev Stoppable : Going → Frame → Type 0
+    Stoppable g f =
+        (g .callers < 2 ^ 32) × TraceFits functions mainPlaces otherPlaces f (g .callers) frames (length backtrace) ×
+        (2 * m .run .saved ≤ length copy) × (2 * m .run .saved ≤ length stack) × (0 < length frames)
+
+    abbrev Stopped : Going → Frame → RunResult → List ℕ → List Frame → List ℕ → Type 0
+    Stopped g f r stack′ frames′ backtrace′ =
+        (r ≡ faultedWith m g 13)
+        × (backtrace′ ≡ written backtrace 0 (traceWords functions mainPlaces otherPlaces (f ∷ callersOf (g .callers) frames)))
+        × (stack′ ≡ written stack 0 (take (2 * m .run .saved) copy)) × (frames′ ≡ set frames 0 (root (size (codeWord functions 0))))
+
+    call-stop : (g : Going) → (f : Frame) → Is GoingRow g (goingVal g ∷ []) → Is R f (fval f ∷ []) → Stoppable g f
+        → Rule 𝓤 H A W (to-stop g f) Stop ResultRow resultVal
+        (λ r zs. Stopped g f r (zs .1 .1 .1 .1 .1 .1 .1 .0) (zs .1 .1 .1 .1 .1 .1 .1 .1 .0) (zs .1 .1 .1 .1 .1 .1 .1 .1 .1 .1 .0))
+    call-stop g f isg isf can =
+        call-with 𝓤 H A W (to-stop g f) Stop ResultRow resultVal
+        (λ r zs. Stopped g f r (zs .1 .1 .1 .1 .1 .1 .1 .0) (zs .1 .1 .1 .1 .1 .1 .1 .1 .0) (zs .1 .1 .1 .1 .1 .1 .1 .1 .1 .1 .0)) result-tells
+        (λ ns. passing (lent (to-stop g f) ns)) (λ ns. refl) (λ ns. asked W (lent (to-stop g f) ns) can) (λ ns w. id⊢ 𝓤 _)
+        (vm-makes 𝓤 H A W m _ (is .0), (going-makes 𝓤 H A W g _ isg, (frame-makes 𝓤 H A W f _ isf, (uint-makes 𝓤 H A W w8 13 _ (refl, omega arith), tt)))) (
           (refl, functions-room),
           (
             (refl, mainPlaces-room),
@@ -509,23 +508,23 @@ module _ {M : Type 1} (𝓤 : URA M) (H : Heap 𝓤) (A : Atoms 𝓤) (W : Given
         (frame-typed 𝓤 H A W f isf) $
         calls-on ! [] (slices stack frames backtrace) (call-cut f isf (small b n eb en on f ef)) (λ zs. (slices stack frames backtrace)) refl
         (λ zs. refl) (λ zs. refl) fm known-cut refl
-        (λ g zs₃ eg lens₃ isg. lands-in ! (going-typed 𝓤 H A W g isg) $
-        calls-on ! [] (slices stack frames backtrace) call-allotted (λ zs. (slices stack frames backtrace)) refl (λ zs. refl) (λ zs. refl)
-        fm known-allotted refl
-        (λ u zs₄ eu lens₄ isu. lands-in ! (tt, record { fits = isu .1 }) $
+        (λ x zs₃ ex lens₃ isx. lands-in ! (frame-typed 𝓤 H A W x isx) $
+        calls-on ! [] (slices stack frames backtrace) (call-gone x isx) (λ zs. (slices stack frames backtrace)) refl (λ zs. refl) (λ zs. refl)
+        fm known-gone refl
+        (λ g zs₄ eg lens₄ isg. lands-in ! (going-typed 𝓤 H A W g isg) $
         sets ! (addr ! (behind ! refl refl)) (tt, tt) $ sets ! (agg ! (ofs ! refl)) (tt, (tt, (record { fits = stack-room .0 }, tt))) $
         sets ! (addr ! (behind ! refl refl)) (tt, tt) $ sets ! (agg ! (ofs ! refl)) (tt, (tt, (record { fits = frames-room .0 }, tt))) $
         sets ! (addr ! (behind ! refl refl)) (tt, tt) $ sets ! (agg ! (ofs ! refl)) (tt, (tt, (record { fits = backtrace-room .0 }, tt))) $
         calls-on ! (false ∷ false ∷ true ∷ false ∷ false ∷ true ∷ false ∷ true ∷ true ∷ false ∷ true ∷ true ∷ true ∷ [])
-        (slices stack frames backtrace) (call-stop u g isu isg (stoppable u g (stopping b n eb en on f g mb ob ef eg) eg eu))
+        (slices stack frames backtrace) (call-stop g x isg isx (stoppable g x (stopping (granted b n eb en on) x f g mb ob ex ef eg)))
         (λ zs. slices (zs .1 .1 .1 .1 .1 .1 .1 .0) (zs .1 .1 .1 .1 .1 .1 .1 .1 .0) (zs .1 .1 .1 .1 .1 .1 .1 .1 .1 .1 .0)) refl (λ zs. refl)
         (λ zs. refl) fm known-stop refl
         (λ r zs₅ er lens₅ isr. lands-in ! (result-typed 𝓤 H A W r isr) $
         sets ! (of-opd ! (of ! refl)) (result-typed 𝓤 H A W r isr) $ leaves ! refl $
         by ! (exits r (zs₅ .1 .1 .1 .1 .1 .1 .1 .0) (zs₅ .1 .1 .1 .1 .1 .1 .1 .1 .0) (zs₅ .1 .1 .1 .1 .1 .1 .1 .1 .1 .1 .0) isr (lens₅ .0)
         (lens₅ .1 .0) (lens₅ .1 .1 .0)
-        (stopped r u g (zs₅ .1 .1 .1 .1 .1 .1 .1 .0) (zs₅ .1 .1 .1 .1 .1 .1 .1 .1 .0) (zs₅ .1 .1 .1 .1 .1 .1 .1 .1 .1 .1 .0)
-        (stopping b n eb en on f g mb ob ef eg) eu (er .0) (er .1) (er .2) (er .3))))))))
+        (stopped r g x (zs₅ .1 .1 .1 .1 .1 .1 .1 .0) (zs₅ .1 .1 .1 .1 .1 .1 .1 .1 .0) (zs₅ .1 .1 .1 .1 .1 .1 .1 .1 .1 .1 .0)
+        (stopping (granted b n eb en on) x f g mb ob ex ef eg) er)))))))
         (λ off. calls-on ! [] (slices stack frames backtrace) (call-not n (refl, isn .1)) (λ zs. (slices stack frames backtrace)) refl (λ zs. refl)
         (λ zs. refl) fm known-not refl
         (λ r zs₂ er lens₂ isr. lands-in ! (result-typed 𝓤 H A W r isr) $
@@ -559,35 +558,27 @@ module _ {M : Type 1} (𝓤 : URA M) (H : Heap 𝓤) (A : Atoms 𝓤) (W : Given
             → T (eqb n 0) → (f : Frame) → f ≡ getD frames (m .frames - 1) noFrame → f .position ≤ 131070
         small b n eb en on f ef = subst (λ (x : Frame). x .position ≤ 131070) (sym ef) (unfold runLent in position-small m stores lent₀ (granted b n eb en on))
 
-        stopping : (b : Bool) (n : ℕ) → ((bs : List ℕ) → b ≡ runOrder m stores (runLent stack cells frames copy bs))
-            → ((s : Stores) (l : Lent) → b ≡ runOrder m s l → length (l .frames) ≡ frames-at .count → length (l .backtrace) ≡ backtrace-at .count
-            → n ≡ refusalOf (runAnswer abandons m s l))
-            → T (eqb n 0) → (f : Frame) (g : Going) → ((j : ℕ) → j < length main → getD main j 0 < 256) → ((j : ℕ) → j < length other → getD other j 0 < 256)
-            → f ≡ getD frames (m .frames - 1) noFrame → Begun m (cutFrame m f) 0 g → Stops abandons m stores lent₀ (m .run .given) g 13 stack cells frames
-        stopping b n eb en on f g mb ob ef eg =
-            unfold runLent programLent in ab.abandons m stores lent₀ (granted b n eb en on) (record { main = mb; other = ob }) g
-            (subst (λ (x : Frame). Begun m (cutFrame m x) 0 g) ef eg)
+        stopping : Granted abandons m stores lent₀ → (x f : Frame) (g : Going) → ((j : ℕ) → j < length main → getD main j 0 < 256)
+            → ((j : ℕ) → j < length other → getD other j 0 < 256) → x ≡ cutFrame m f → f ≡ getD frames (m .frames - 1) noFrame
+            → Begun m x (m .run .given) g → Stops abandons m stores lent₀ g x 13 stack cells frames
+        stopping can x f g mb ob ex ef eg =
+            rw (ex, ef) (unfold runLent programLent in ab.abandons m stores lent₀ can (record { main = mb; other = ob }) g
+            (subst (λ (y : Frame). Begun m (cutFrame m y) (m .run .given) g) ef (subst (λ (y : Frame). Begun m y (m .run .given) g) ex eg)))
 
-        stoppable : (u : ℕ) (g : Going) → Stops abandons m stores lent₀ (m .run .given) g 13 stack cells frames → {f : Frame} → Begun m f 0 g
-            → u ≡ m .run .given
-            → (g .units ≤ u) × (g .callers < 2 ^ 32) × TraceFits functions mainPlaces otherPlaces (frameIn g) (g .callers) frames (length backtrace) ×
-            (2 * m .run .saved ≤ length copy) × (2 * m .run .saved ≤ length stack) × (0 < length frames)
-        stoppable u g h eg eu = unfold runLent programLent in (
-          omega (arith, eg .units),
-          callers-small abandons m stores lent₀ (m .run .given) g 13 stack cells frames h,
-          trace-ready abandons m stores lent₀ (m .run .given) g 13 stack cells frames h,
+        stoppable : (g : Going) (x : Frame) → Stops abandons m stores lent₀ g x 13 stack cells frames → Stoppable g x
+        stoppable g x h = unfold runLent programLent in (
+          callers-small abandons m stores lent₀ g x 13 stack cells frames h,
+          trace-ready abandons m stores lent₀ g x 13 stack cells frames h,
           h .saved .copy,
-          stack-there abandons m stores lent₀ (m .run .given) g 13 stack cells frames h,
-          frame-there abandons m stores lent₀ (m .run .given) g 13 stack cells frames h,
+          stack-there abandons m stores lent₀ g x 13 stack cells frames h,
+          frame-there abandons m stores lent₀ g x 13 stack cells frames h,
         )
 
-        stopped : (r : RunResult) (u : ℕ) (g : Going) (stack′ : List ℕ) (frames′ : List Frame) (backtrace′ : List ℕ)
-            → Stops abandons m stores lent₀ (m .run .given) g 13 stack cells frames → u ≡ m .run .given → r ≡ faultedWith m u g 13
-            → backtrace′ ≡ written backtrace 0 (traceWords functions mainPlaces otherPlaces (frameIn g ∷ callersOf (g .callers) frames))
-            → stack′ ≡ written stack 0 (take (2 * m .run .saved) copy) → frames′ ≡ set frames 0 (root (size (codeWord functions 0)))
+        stopped : (r : RunResult) (g : Going) (x : Frame) (stack′ : List ℕ) (frames′ : List Frame) (backtrace′ : List ℕ)
+            → Stops abandons m stores lent₀ g x 13 stack cells frames → Stopped g x r stack′ frames′ backtrace′
             → RunPost abandons m stores lent₀ r (runLent stack′ cells frames′ copy backtrace′)
-        stopped r u g stack′ frames′ backtrace′ h eu er et es ef =
-            rw (er, eu, et, es, ef) (unfold runLent programLent in run-stopped abandons m stores lent₀ (m .run .given) g 13 stack cells frames h)
+        stopped r g x stack′ frames′ backtrace′ h er =
+            rw (er .0, er .1, er .2, er .3) (unfold runLent programLent in run-stopped abandons m stores lent₀ g x 13 stack cells frames h)
 
 pub abandon-spec : {M : Type 1} → stated.statement M
 unfolding code.routine tablesOf
@@ -600,8 +591,7 @@ abandon-spec 𝓤 H 𝓜 𝓖 𝓡 =
     (cited 𝓤 H (Why 𝓤 H (𝓖 .A) W (𝓜 .mem) (𝓡 .run)) 𝓜 𝓡 code.env #why why-def.routine code.calls-run-ends·abandon-refusal (why-thm.met 𝓤 H 𝓜 𝓖 𝓡))
     (cited 𝓤 H (Current 𝓤 H (𝓖 .A) W (𝓜 .mem) (𝓡 .run)) 𝓜 𝓡 code.env #current current-def.routine code.calls-machine·running·current
     (current-thm.met 𝓤 H 𝓜 𝓖 𝓡))
-    (cited 𝓤 H (Cut 𝓤 H (𝓖 .A) W (𝓜 .mem) (𝓡 .run)) 𝓜 𝓡 code.env #cut cut-def.routine code.calls-run-ends·abandoned (cut-thm.met 𝓤 H 𝓜 𝓖 𝓡))
-    (cited 𝓤 H (Allotted 𝓤 H (𝓖 .A) W (𝓜 .mem) (𝓡 .run)) 𝓜 𝓡 code.env #allotted allotted-def.routine code.calls-machine·running·given-of
-    (allotted-thm.met 𝓤 H 𝓜 𝓖 𝓡))
+    (cited 𝓤 H (Cut 𝓤 H (𝓖 .A) W (𝓜 .mem) (𝓡 .run)) 𝓜 𝓡 code.env #cut cut-def.routine code.calls-run-ends·cut-frame (cut-thm.met 𝓤 H 𝓜 𝓖 𝓡))
+    (cited 𝓤 H (Gone 𝓤 H (𝓖 .A) W (𝓜 .mem) (𝓡 .run)) 𝓜 𝓡 code.env #gone gone-def.routine code.calls-run-ends·abandoned (gone-thm.met 𝓤 H 𝓜 𝓖 𝓡))
     (cited 𝓤 H (Stop 𝓤 H (𝓖 .A) W (𝓜 .mem) (𝓡 .run)) 𝓜 𝓡 code.env #stop stop-def.routine code.calls-machine·running·stop (stop-thm.met 𝓤 H 𝓜 𝓖 𝓡))
     (cited 𝓤 H (Not 𝓤 H (𝓖 .A) W (𝓜 .mem) (𝓡 .run)) 𝓜 𝓡 code.env #not not-def.routine code.calls-machine·running·not-run (not-thm.met 𝓤 H 𝓜 𝓖 𝓡)) κs qs a is))

@@ -40,7 +40,7 @@ use Rattle.machine.proofs.backtrace.Code as code
 abbrev kinds : List (Kind 9)
 kinds =
     own VmRow vmVal vm-tells (λ x f. refl) ∷ shared 0 tt u64 ∷ shared 1 tt u8 ∷ shared 2 tt u8 ∷ shared 3 tt u32 ∷ shared 4 tt u8
-    ∷ shared 5 tt u32 ∷ shared 6 tt u64 ∷ shared 7 tt R ∷ unique 8 tt u32 ∷ []
+    ∷ shared 5 tt u32 ∷ shared 6 tt u64 ∷ shared 7 tt R ∷ unique 8 tt u64 ∷ []
 
 module _ {M : Type 1} (𝓤 : URA M) (H : Heap 𝓤) (A : Atoms 𝓤) (W : Given 𝓤 H A) (mem : Memory → SProp 𝓤) (run : Routine → Fun 𝓤) where
   abbrev Judge : Contract 𝓤
@@ -139,13 +139,13 @@ module _ {M : Type 1} (𝓤 : URA M) (H : Heap 𝓤) (A : Atoms 𝓤) (W : Given
     abbrev out : List ℕ
     out = now (a .1 .1 .1 .1 .1 .1 .1 .1 .1 .0)
 
-    abbrev out-room : Room u32 (out-at .count)
+    abbrev out-room : Room u64 (out-at .count)
     out-room = is .1 .1 .1 .1 .1 .1 .1 .1 .1 .0 .0 .1
 
     abbrev slices : List ℕ → List Arg
     slices out′ =
         shr u64 functions-at functions ∷ shr u8 text-at text ∷ shr u8 main-at main ∷ shr u32 main-places-at mainPlaces ∷ shr u8
-        other-at other ∷ shr u32 other-places-at otherPlaces ∷ shr u64 stack-at stack ∷ shr R frames-at frames ∷ mut u32 out-at
+        other-at other ∷ shr u32 other-places-at otherPlaces ∷ shr u64 stack-at stack ∷ shr R frames-at frames ∷ mut u64 out-at
         out′ ∷ []
 
     abbrev xs : List ℕ → List Arg
@@ -214,7 +214,7 @@ module _ {M : Type 1} (𝓤 : URA M) (H : Heap 𝓤) (A : Atoms 𝓤) (W : Given
     abbrev to-put : List Arg
     to-put =
         val usize (m .frames) (vint w64 (m .frames)) ∷ shr u64 functions-at functions ∷ shr u32 main-places-at mainPlaces ∷ shr
-        u32 other-places-at otherPlaces ∷ shr R frames-at frames ∷ mut u32 out-at out ∷ []
+        u32 other-places-at otherPlaces ∷ shr R frames-at frames ∷ mut u64 out-at out ∷ []
 
     call-put : Traceable functions mainPlaces otherPlaces (m .frames) frames (length out)
         → Rule 𝓤 H A W to-put Put ToldRow toldVal (λ r zs. record { answer = r; out = zs .1 .1 .1 .1 .1 .0 } ≡ traceInto functions mainPlaces otherPlaces

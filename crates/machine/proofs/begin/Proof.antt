@@ -1,4 +1,5 @@
--- `begin` meets its contract: a walk of its MIR, by hand. It is judged (19, 25, 17), the stack is copied, and the current frame read.
+-- `begin` meets its contract: a walk of its MIR, by hand. It is judged (19, 25, 17), the stack is copied, the frames are left unentered, and the current
+-- one is read.
 -- Assumes nothing.
 use Rattle.laws_walks.proofs.Walk.{_≡_, refl, Bool, true, false, List, [], _∷_, ℕ, _-_, _*_, _<_, _≤_, length, getD, URA, w64, Val, vbool, vunit, vint, SProp, ent, id⊢, Memory, Routine, Heap, Tables, WpFn, Atoms, Lfts, Shares, Fun, givenOf, tables, tablesOf, FmC, fmOf}
 use Rattle.laws_walks.proofs.Walk.{Given, ‵, ⋆, _$_, _∵_, !, qed, by, move, keep, suffices, frame, done, agg, addr, of-opd, bin, Is, Boolean, Nothing, bool-tells, uint-makes, u8, u32, u64, usize, now, Room, owned, onEntry, tripleOf, Contract, Triple, cited, says, walkOf, ends-at}
@@ -15,14 +16,14 @@ use Rattle.model.specs.declared.RunResult.{RunResult}
 use Rattle.model.specs.declared.RunResult.the-variants as v
 use Rattle.model.specs.Emission.{written}
 use Rattle.model.specs.Stores.{Stores}
-use Rattle.machine.proofs.Rows.{VmRow, vmVal, vm-tells, vm-typed, vm-makes, stack-fits, ResultRow, resultVal, result-tells, result-typed, result-makes}
+use Rattle.machine.proofs.Rows.{VmRow, vmVal, vm-tells, vm-typed, vm-makes, stack-fits, frames-fit, ResultRow, resultVal, result-tells, result-typed, result-makes}
 use Rattle.model.specs.Machines.{Lent, runOrder, begins, runAnswer, RunPost, refusalOf}
-use Rattle.frames.specs.Links.{noFrame}
+use Rattle.frames.specs.Links.{noFrame, allUnentered}
 use Rattle.run_ends.specs.Links.{programLent, begunWith}
 use Rattle.machine.specs.Links.{runLent, Granted}
 use Rattle.machine.proofs.Tests.{is-zero, not-zero}
 use Rattle.machine.proofs.Granted.{refused-with, granted-by}
-use Rattle.machine.proofs.Beginnings.{copy-ready, current-ready, run-begun}
+use Rattle.machine.proofs.Beginnings.{copy-ready, frames-ready, current-ready, run-begun}
 use Rattle.machine.proofs.running.order as good
 use Rattle.machine.proofs.running.order.Symbol as good-def
 use Rattle.machine.proofs.running.order.Symbol.{name as #good}
@@ -35,6 +36,10 @@ use Rattle.run_ends.proofs.copy_front as fill
 use Rattle.run_ends.proofs.copy_front.Symbol as fill-def
 use Rattle.run_ends.proofs.copy_front.Symbol.{name as #fill}
 use Rattle.run_ends.proofs.copy_front.Met as fill-thm
+use Rattle.frames.proofs.unenter as zero
+use Rattle.frames.proofs.unenter.Symbol as zero-def
+use Rattle.frames.proofs.unenter.Symbol.{name as #zero}
+use Rattle.frames.proofs.unenter.Met as zero-thm
 use Rattle.machine.proofs.running.current as current
 use Rattle.machine.proofs.running.current.Symbol as current-def
 use Rattle.machine.proofs.running.current.Symbol.{name as #current}
@@ -65,7 +70,7 @@ kinds =
     ∷ shared 7 tt u32
     ∷ shared 8 tt u64
     ∷ shared 9 tt u64
-    ∷ shared 10 tt R
+    ∷ unique 10 tt R
     ∷ unique 11 tt u64 ∷ []
 
 module _ {M : Type 1} (𝓤 : URA M) (H : Heap 𝓤) (A : Atoms 𝓤) (W : Given 𝓤 H A) (mem : Memory → SProp 𝓤) (run : Routine → Fun 𝓤) where
@@ -77,6 +82,9 @@ module _ {M : Type 1} (𝓤 : URA M) (H : Heap 𝓤) (A : Atoms 𝓤) (W : Given
 
   abbrev Fill : Contract 𝓤
   Fill = tripleOf 𝓤 H A fill.signature (fill.spec 𝓤 H A mem run)
+
+  abbrev Zero : Contract 𝓤
+  Zero = tripleOf 𝓤 H A zero.signature (zero.spec 𝓤 H A mem run)
 
   abbrev Current : Contract 𝓤
   Current = tripleOf 𝓤 H A current.signature (current.spec 𝓤 H A mem run)
@@ -91,6 +99,7 @@ module _ {M : Type 1} (𝓤 : URA M) (H : Heap 𝓤) (A : Atoms 𝓤) (W : Given
       (known-good : Triple 𝓤 (𝓣 .C #good) Good)
       (known-why : Triple 𝓤 (𝓣 .C #why) Why)
       (known-fill : Triple 𝓤 (𝓣 .C #fill) Fill)
+      (known-zero : Triple 𝓤 (𝓣 .C #zero) Zero)
       (known-current : Triple 𝓤 (𝓣 .C #current) Current)
       (known-begun : Triple 𝓤 (𝓣 .C #begun) Begun)
       (known-not : Triple 𝓤 (𝓣 .C #not) Not)
@@ -207,27 +216,28 @@ module _ {M : Type 1} (𝓤 : URA M) (H : Heap 𝓤) (A : Atoms 𝓤) (W : Given
     abbrev copy-room : Room u64 (copy-at .count)
     copy-room = is .1 .1 .1 .1 .1 .1 .1 .1 .1 .1 .1 .1 .0 .0 .1
 
-    abbrev slices : List ℕ → List Arg
-    slices copy′ =
+    abbrev slices : List Frame → List ℕ → List Arg
+    slices frames′ copy′ =
         shr u64 constants-at constants ∷ shr u64 structs-at structs ∷ shr u64 functions-at functions ∷ shr u8 text-at text ∷ shr u8 main-at main
         ∷ shr u32 mainPlaces-at mainPlaces ∷ shr u8 other-at other ∷ shr u32 otherPlaces-at otherPlaces ∷ shr u64 stack-at stack
-        ∷ shr u64 cells-at cells ∷ shr R frames-at frames ∷ mut u64 copy-at copy′ ∷ []
+        ∷ shr u64 cells-at cells ∷ mut R frames-at frames′ ∷ mut u64 copy-at copy′ ∷ []
 
-    abbrev xs : List ℕ → List Arg
-    xs copy′ = val VmRow m (vmVal m) ∷ slices copy′
+    abbrev xs : List Frame → List ℕ → List Arg
+    xs frames′ copy′ = val VmRow m (vmVal m) ∷ slices frames′ copy′
 
     abbrev Post : Val → SProp 𝓤
-    Post = walkOf 𝓤 H A me.ended (stays kinds) (me.clauses 𝓤 H A mem run) .post (passing (xs copy))
+    Post = walkOf 𝓤 H A me.ended (stays kinds) (me.clauses 𝓤 H A mem run) .post (passing (xs frames copy))
 
-    exits : (r : RunResult) (copy′ : List ℕ) → Is ResultRow r (resultVal r ∷ []) → length copy′ ≡ copy-at .count
+    exits : (r : RunResult) (frames′ : List Frame) (copy′ : List ℕ) → Is ResultRow r (resultVal r ∷ []) → length frames′ ≡ frames-at .count
+        → length copy′ ≡ copy-at .count
         → ((backtrace : List ℕ) → RunPost begins m (programLent structs constants functions text main mainPlaces other otherPlaces)
-        (runLent stack cells frames copy backtrace) r (runLent stack cells frames copy′ backtrace))
-        → ent 𝓤 (⋆ 𝓤 H A (‵ (Holds (slices copy′)) ∷ [])) (Post (resultVal r))
-    exits r copy′ isr len-copy said =
-        qed W (‵ (Holds (slices copy′)) ∷ []) ∵ suffices ! _
-        (ends-at 𝓤 H A me.ended (stays kinds) (me.clauses 𝓤 H A mem run) W (passing (xs copy)) (resultVal r) r
-        (tt, (tt, (tt, (tt, (tt, (tt, (tt, (tt, (tt, (tt, (tt, (tt, (copy′, tt)))))))))))))
-        (tt, (tt, (tt, (tt, (tt, (tt, (tt, (tt, (tt, (tt, (tt, (tt, (len-copy, tt)))))))))))))) $ says ! said $ gives ! (xs copy′)
+        (runLent stack cells frames copy backtrace) r (runLent stack cells frames′ copy′ backtrace))
+        → ent 𝓤 (⋆ 𝓤 H A (‵ (Holds (slices frames′ copy′)) ∷ [])) (Post (resultVal r))
+    exits r frames′ copy′ isr len-frames len-copy said =
+        qed W (‵ (Holds (slices frames′ copy′)) ∷ []) ∵ suffices ! _
+        (ends-at 𝓤 H A me.ended (stays kinds) (me.clauses 𝓤 H A mem run) W (passing (xs frames copy)) (resultVal r) r
+        (tt, (tt, (tt, (tt, (tt, (tt, (tt, (tt, (tt, (tt, (tt, (frames′, (copy′, tt)))))))))))))
+        (tt, (tt, (tt, (tt, (tt, (tt, (tt, (tt, (tt, (tt, (tt, (len-frames, (len-copy, tt)))))))))))))) $ says ! said $ gives ! (xs frames′ copy′)
         (vm-makes 𝓤 H A W m _ (is .0), tt)
         (frame ! $ owned ! ResultRow (Is ResultRow) (result-makes 𝓤 H A W) r _ isr $ keep ! (1 ∷ 0 ∷ []) $ done !)
 
@@ -236,7 +246,7 @@ module _ {M : Type 1} (𝓤 : URA M) (H : Heap 𝓤) (A : Atoms 𝓤) (W : Given
     to-good =
         val VmRow m (vmVal m) ∷ shr u64 constants-at constants ∷ shr u64 structs-at structs ∷ shr u64 functions-at functions ∷ shr u8 text-at text
         ∷ shr u8 main-at main ∷ shr u32 mainPlaces-at mainPlaces ∷ shr u8 other-at other ∷ shr u32 otherPlaces-at otherPlaces ∷ shr u64 stack-at stack
-        ∷ shr u64 cells-at cells ∷ shr R frames-at frames ∷ peek u64 copy-at copy ∷ []
+        ∷ shr u64 cells-at cells ∷ peek R frames-at frames ∷ peek u64 copy-at copy ∷ []
 
     call-good : Rule 𝓤 H A W to-good Good Boolean vbool
         (λ b zs. ((backtrace : List ℕ) → b ≡ runOrder m (programLent structs constants functions text main mainPlaces other otherPlaces)
@@ -303,18 +313,28 @@ module _ {M : Type 1} (𝓤 : URA M) (H : Heap 𝓤) (A : Atoms 𝓤) (W : Given
         (uint-makes 𝓤 H A W w64 (m .stack) _ (refl, stack-fits m (is .0)), tt)
         ((refl, stack-room), ((refl, copy-room), tt))
 
-    abbrev to-current : List Arg
-    to-current =
-        val VmRow m (vmVal m) ∷ shr R frames-at frames ∷ []
+    abbrev to-zero : List Arg
+    to-zero = mut R frames-at frames ∷ val usize (m .frames) (vint w64 (m .frames)) ∷ []
 
-    call-current : m .frames - 1 < length frames → Rule 𝓤 H A W to-current Current R fval
-        (λ f zs. f ≡ getD frames (m .frames - 1) noFrame)
-    call-current within =
-        call-with 𝓤 H A W to-current Current R fval
-        (λ f zs. f ≡ getD frames (m .frames - 1) noFrame) tells
-        (λ ns. passing (lent to-current ns)) (λ ns. refl) (λ ns. asked W (lent to-current ns) within) (λ ns w. id⊢ 𝓤 _)
-        (vm-makes 𝓤 H A W m _ (is .0), tt)
+    call-zero : m .frames ≤ length frames → Rule 𝓤 H A W to-zero Zero Nothing (λ _. vunit) (λ r zs. zs .0 ≡ allUnentered (m .frames) frames)
+    call-zero can =
+        call-with 𝓤 H A W to-zero Zero Nothing (λ _. vunit) (λ r zs. zs .0 ≡ allUnentered (m .frames) frames) (λ r vs was. was)
+        (λ ns. passing (lent to-zero ns)) (λ ns. refl) (λ ns. asked W (lent to-zero ns) can) (λ ns w. id⊢ 𝓤 _)
+        (uint-makes 𝓤 H A W w64 (m .frames) _ (refl, frames-fit m (is .0)), tt)
         ((refl, frames-room), tt)
+
+    abbrev to-current : List Frame → List Arg
+    to-current fs =
+        val VmRow m (vmVal m) ∷ peek R frames-at fs ∷ []
+
+    call-current : (fs : List Frame) → length fs ≡ frames-at .count → m .frames - 1 < length fs → Rule 𝓤 H A W (to-current fs) Current R fval
+        (λ f zs. f ≡ getD fs (m .frames - 1) noFrame)
+    call-current fs len within =
+        call-with 𝓤 H A W (to-current fs) Current R fval
+        (λ f zs. f ≡ getD fs (m .frames - 1) noFrame) tells
+        (λ ns. passing (lent (to-current fs) ns)) (λ ns. refl) (λ ns. asked W (lent (to-current fs) ns) within) (λ ns w. id⊢ 𝓤 _)
+        (vm-makes 𝓤 H A W m _ (is .0), tt)
+        ((len, frames-room), tt)
 
     abbrev to-begun : Frame → List Arg
     to-begun f =
@@ -342,10 +362,10 @@ module _ {M : Type 1} (𝓤 : URA M) (H : Heap 𝓤) (A : Atoms 𝓤) (W : Given
         (uint-makes 𝓤 H A W w8 n _ isn, tt)
         tt
 
-    walk : ent 𝓤 (onEntry 𝓤 H A me.signature (lfts (xs copy)) (shares (xs copy)) (denots (xs copy)) (valss (xs copy)))
-        (WpFn 𝓤 H (𝓣 .C) (𝓣 .Λ) code.function (values (xs copy)) Post)
+    walk : ent 𝓤 (onEntry 𝓤 H A me.signature (lfts (xs frames copy)) (shares (xs frames copy)) (denots (xs frames copy)) (valss (xs frames copy)))
+        (WpFn 𝓤 H (𝓣 .C) (𝓣 .Λ) code.function (values (xs frames copy)) Post)
     walk =
-        qed W (‵ (Toks (xs copy)) ∷ ‵ (Owns (xs copy)) ∷ []) ∵ takes ! (xs copy) (enters ! (𝓣 .C) (𝓣 .Λ) code.function (values (xs copy)) Post (
+        qed W (‵ (Toks (xs frames copy)) ∷ ‵ (Owns (xs frames copy)) ∷ []) ∵ takes ! (xs frames copy) (enters ! (𝓣 .C) (𝓣 .Λ) code.function (values (xs frames copy)) Post (
           vm-typed 𝓤 H A W m (is .0),
           (
             (tt, (tt, (record { fits = constants-room .0 }, tt))),
@@ -406,36 +426,44 @@ module _ {M : Type 1} (𝓤 : URA M) (H : Heap 𝓤) (A : Atoms 𝓤) (W : Given
             ),
           ),
         ) (λ ls.
-        move ! (1 ∷ []) $ picks ! (false ∷ false ∷ false ∷ false ∷ true ∷ []) (slices copy)
-        (bytes-known ! tt main-at main [] (λ mb. unpicks ! (false ∷ false ∷ false ∷ false ∷ true ∷ []) (slices copy)
-        (picks ! (false ∷ false ∷ false ∷ false ∷ false ∷ false ∷ true ∷ []) (slices copy)
-        (bytes-known ! tt other-at other [] (λ ob. unpicks ! (false ∷ false ∷ false ∷ false ∷ false ∷ false ∷ true ∷ []) (slices copy)
+        move ! (1 ∷ []) $ picks ! (false ∷ false ∷ false ∷ false ∷ true ∷ []) (slices frames copy)
+        (bytes-known ! tt main-at main [] (λ mb. unpicks ! (false ∷ false ∷ false ∷ false ∷ true ∷ []) (slices frames copy)
+        (picks ! (false ∷ false ∷ false ∷ false ∷ false ∷ false ∷ true ∷ []) (slices frames copy)
+        (bytes-known ! tt other-at other [] (λ ob. unpicks ! (false ∷ false ∷ false ∷ false ∷ false ∷ false ∷ true ∷ []) (slices frames copy)
         (move ! (1 ∷ []) $
+        sets ! (addr ! (behind ! refl refl)) (tt, tt) $ sets ! (agg ! (ofs ! refl)) (tt, (tt, (record { fits = frames-room .0 }, tt))) $
         sets ! (addr ! (behind ! refl refl)) (tt, tt) $ sets ! (agg ! (ofs ! refl)) (tt, (tt, (record { fits = copy-room .0 }, tt))) $
-        calls-on ! (true ∷ true ∷ true ∷ true ∷ true ∷ true ∷ true ∷ true ∷ true ∷ true ∷ true ∷ true ∷ []) (slices copy) call-good (λ zs.
-        (slices copy)) refl (λ zs. refl) (λ zs. refl) fm known-good refl
+        calls-on ! (true ∷ true ∷ true ∷ true ∷ true ∷ true ∷ true ∷ true ∷ true ∷ true ∷ true ∷ true ∷ []) (slices frames copy) call-good (λ zs.
+        (slices frames copy)) refl (λ zs. refl) (λ zs. refl) fm known-good refl
         (λ b zs eb lens isb. lands-in ! (tt, tt) $
         sets ! (of-opd ! (of ! refl)) (tt, record { fits = stack-room .0 }) $
         sets ! (of-opd ! (of ! refl)) (tt, record { fits = copy-room .0 }) $
-        calls-on ! [] (slices copy) (call-why b isb) (λ zs. (slices copy)) refl (λ zs. refl) (λ zs. refl) fm known-why refl
+        calls-on ! [] (slices frames copy) (call-why b isb) (λ zs. (slices frames copy)) refl (λ zs. refl) (λ zs. refl) fm known-why refl
         (λ n zs₁ en lens₁ isn. lands-in ! (tt, record { fits = isn .1 }) $
         sets ! (bin ! (of ! refl) (of ! refl) tt) (tt, tt) $ returns-if ! 𝓣 (of ! refl)
         (λ on. sets ! (of-opd ! (of ! refl)) (tt, record { fits = stack-fits m (is .0) }) $
         sets ! (addr ! (behind ! refl refl)) (tt, tt) $ sets ! (agg ! (ofs ! refl)) (tt, (tt, (record { fits = copy-room .0 }, tt))) $
-        calls-on ! (false ∷ false ∷ false ∷ false ∷ false ∷ false ∷ false ∷ false ∷ true ∷ false ∷ false ∷ true ∷ []) (slices copy) (call-fill
-        (unfold runLent in copy-ready m stores (lent₀ []) (granted b n eb en on [])))
-        (λ zs. slices (zs .1 .1 .0)) refl (λ zs. refl) (λ zs. refl) fm known-fill refl (λ u zs₂ ec lens₂ isu. lands-in ! (tt, tt) $
-        calls-on ! (false ∷ false ∷ false ∷ false ∷ false ∷ false ∷ false ∷ false ∷ false ∷ false ∷ true ∷ []) (slices (zs₂ .1 .1 .0)) (call-current
-        (unfold runLent in current-ready m stores (lent₀ []) (granted b n eb en on [])))
-        (λ zs. slices (zs₂ .1 .1 .0)) refl (λ zs. refl) (λ zs. refl) fm known-current refl (λ f zs₃ ef lens₃ isf. lands-in ! (frame-typed 𝓤 H A W f isf) $
-        calls-on ! (false ∷ false ∷ true ∷ []) (slices (zs₂ .1 .1 .0)) (call-begun f isf)
-        (λ zs. slices (zs₂ .1 .1 .0)) refl (λ zs. refl) (λ zs. refl) fm known-begun refl (λ r zs₄ er lens₄ isr. lands-in ! (result-typed 𝓤 H A W r isr) $
+        calls-on ! (false ∷ false ∷ false ∷ false ∷ false ∷ false ∷ false ∷ false ∷ true ∷ false ∷ false ∷ true ∷ []) (slices frames copy)
+        (call-fill (unfold runLent in copy-ready m stores (lent₀ []) (granted b n eb en on [])))
+        (λ zs. slices frames (zs .1 .1 .0)) refl (λ zs. refl) (λ zs. refl) fm known-fill refl
+        (λ u zs₂ ec lens₂ isu. lands-in ! (tt, tt) $ sets ! (of-opd ! (of ! refl)) (tt, record { fits = frames-fit m (is .0) }) $
+        sets ! (addr ! (behind ! refl refl)) (tt, tt) $ sets ! (agg ! (ofs ! refl)) (tt, (tt, (record { fits = frames-room .0 }, tt))) $
+        calls-on ! (false ∷ false ∷ false ∷ false ∷ false ∷ false ∷ false ∷ false ∷ false ∷ false ∷ true ∷ []) (slices frames (zs₂ .1 .1 .0))
+        (call-zero (unfold runLent in frames-ready m stores (lent₀ []) (granted b n eb en on [])))
+        (λ zs. slices (zs .0) (zs₂ .1 .1 .0)) refl (λ zs. refl) (λ zs. refl) fm known-zero refl
+        (λ u′ zs₃ ez lens₃ isu′. lands-in ! (tt, tt) $ sets ! (addr ! (behind ! refl refl)) (tt, tt) $ sets ! (agg ! (ofs ! refl)) (tt, (tt, (record { fits = frames-room .0 }, tt))) $
+        calls-on ! (false ∷ false ∷ false ∷ false ∷ false ∷ false ∷ false ∷ false ∷ false ∷ false ∷ true ∷ []) (slices (zs₃ .0) (zs₂ .1 .1 .0))
+        (call-current (zs₃ .0) (lens₃ .0) (rw ez (unfold runLent in current-ready m stores (lent₀ []) (granted b n eb en on []))))
+        (λ zs. slices (zs₃ .0) (zs₂ .1 .1 .0)) refl (λ zs. refl) (λ zs. refl) fm known-current refl (λ f zs₄ ef lens₄ isf. lands-in ! (frame-typed 𝓤 H A W f isf) $
+        calls-on ! (false ∷ false ∷ true ∷ []) (slices (zs₃ .0) (zs₂ .1 .1 .0)) (call-begun f isf)
+        (λ zs. slices (zs₃ .0) (zs₂ .1 .1 .0)) refl (λ zs. refl) (λ zs. refl) fm known-begun refl (λ r zs₅ er lens₅ isr. lands-in ! (result-typed 𝓤 H A W r isr) $
         sets ! (of-opd ! (of ! refl)) (result-typed 𝓤 H A W r isr) $ leaves ! refl $
-        by ! (exits r (zs₂ .1 .1 .0) isr (lens₂ .0) (λ backtrace. begins-all r f (zs₂ .1 .1 .0) backtrace mb ob (granted b n eb en on backtrace) ec ef er))))))
-        (λ off. calls-on ! [] (slices copy) (call-not n (refl, isn .1)) (λ zs. (slices copy)) refl (λ zs. refl) (λ zs. refl) fm known-not refl
+        by ! (exits r (zs₃ .0) (zs₂ .1 .1 .0) isr (lens₃ .0) (lens₂ .0)
+        (λ backtrace. begins-all r f (zs₃ .0) (zs₂ .1 .1 .0) backtrace mb ob (granted b n eb en on backtrace) ec ez ef er)))))))
+        (λ off. calls-on ! [] (slices frames copy) (call-not n (refl, isn .1)) (λ zs. (slices frames copy)) refl (λ zs. refl) (λ zs. refl) fm known-not refl
         (λ r zs₂ er lens₂ isr. lands-in ! (result-typed 𝓤 H A W r isr) $
         sets ! (of-opd ! (of ! refl)) (result-typed 𝓤 H A W r isr) $ leaves ! refl $
-        by ! (exits r copy isr refl (λ backtrace. rw er (refused-with m stores (lent₀ backtrace) begins (refusal b n eb en backtrace)
+        by ! (exits r frames copy isr refl refl (λ backtrace. rw er (refused-with m stores (lent₀ backtrace) begins (refusal b n eb en backtrace)
         (not-zero n off))))))))))))))))
       where
         fm : FmC 𝓤 H (W .laws) (𝓣 .C)
@@ -459,13 +487,13 @@ module _ {M : Type 1} (𝓤 : URA M) (H : Heap 𝓤) (A : Atoms 𝓤) (W : Given
             → T (eqb n 0) → (backtrace : List ℕ) → Granted begins m stores (lent₀ backtrace)
         granted b n eb en on backtrace = granted-by m stores (lent₀ backtrace) begins (refusal b n eb en backtrace) (is-zero n on)
 
-        begins-all : (r : RunResult) (f : Frame) (copy′ backtrace : List ℕ) → ((j : ℕ) → j < length main → getD main j 0 < 256) → ((j : ℕ)
-            → j < length other → getD other j 0 < 256)
-            → Granted begins m stores (lent₀ backtrace) → copy′ ≡ written copy 0 (take (2 * m .stack) stack) → f ≡ getD frames (m .frames - 1) noFrame
-            → r ≡ begunWith m f functions
-            → RunPost begins m stores (lent₀ backtrace) r (runLent stack cells frames copy′ backtrace)
-        begins-all r f copy′ backtrace mb ob can ec ef er =
-            rw (ec, er, ef) (unfold programLent runLent in run-begun m stores (lent₀ backtrace) can (record { main = mb; other = ob }))
+        begins-all : (r : RunResult) (f : Frame) (frames′ : List Frame) (copy′ backtrace : List ℕ) → ((j : ℕ) → j < length main → getD main j 0 < 256)
+            → ((j : ℕ) → j < length other → getD other j 0 < 256)
+            → Granted begins m stores (lent₀ backtrace) → copy′ ≡ written copy 0 (take (2 * m .stack) stack) → frames′ ≡ allUnentered (m .frames) frames
+            → f ≡ getD frames′ (m .frames - 1) noFrame → r ≡ begunWith m f functions
+            → RunPost begins m stores (lent₀ backtrace) r (runLent stack cells frames′ copy′ backtrace)
+        begins-all r f frames′ copy′ backtrace mb ob can ec ez ef er =
+            rw (er, ef, ez, ec) (unfold programLent runLent in run-begun m stores (lent₀ backtrace) can (record { main = mb; other = ob }))
 
 pub begin-spec : {M : Type 1} → stated.statement M
 unfolding code.routine tablesOf
@@ -477,6 +505,7 @@ begin-spec 𝓤 H 𝓜 𝓖 𝓡 =
     (cited 𝓤 H (Good 𝓤 H (𝓖 .A) W (𝓜 .mem) (𝓡 .run)) 𝓜 𝓡 code.env #good good-def.routine code.calls-machine·running·order (good-thm.met 𝓤 H 𝓜 𝓖 𝓡))
     (cited 𝓤 H (Why 𝓤 H (𝓖 .A) W (𝓜 .mem) (𝓡 .run)) 𝓜 𝓡 code.env #why why-def.routine code.calls-run-ends·begin-refusal (why-thm.met 𝓤 H 𝓜 𝓖 𝓡))
     (cited 𝓤 H (Fill 𝓤 H (𝓖 .A) W (𝓜 .mem) (𝓡 .run)) 𝓜 𝓡 code.env #fill fill-def.routine code.calls-run-ends·copy-front (fill-thm.met 𝓤 H 𝓜 𝓖 𝓡))
+    (cited 𝓤 H (Zero 𝓤 H (𝓖 .A) W (𝓜 .mem) (𝓡 .run)) 𝓜 𝓡 code.env #zero zero-def.routine code.calls-frames·unenter (zero-thm.met 𝓤 H 𝓜 𝓖 𝓡))
     (cited 𝓤 H (Current 𝓤 H (𝓖 .A) W (𝓜 .mem) (𝓡 .run)) 𝓜 𝓡 code.env #current current-def.routine code.calls-machine·running·current
     (current-thm.met 𝓤 H 𝓜 𝓖 𝓡))
     (cited 𝓤 H (Begun 𝓤 H (𝓖 .A) W (𝓜 .mem) (𝓡 .run)) 𝓜 𝓡 code.env #begun begun-def.routine code.calls-run-ends·begun (begun-thm.met 𝓤 H 𝓜 𝓖 𝓡))

@@ -55,7 +55,7 @@ kinds =
     ∷ unique 9 tt u64
     ∷ unique 10 tt R
     ∷ shared 11 tt u64
-    ∷ unique 12 tt u32 ∷ []
+    ∷ unique 12 tt u64 ∷ []
 
 module _ {M : Type 1} (𝓤 : URA M) (H : Heap 𝓤) (A : Atoms 𝓤) (W : Given 𝓤 H A) (mem : Memory → SProp 𝓤) (run : Routine → Fun 𝓤) where
   abbrev Good : Contract 𝓤
@@ -197,14 +197,14 @@ module _ {M : Type 1} (𝓤 : URA M) (H : Heap 𝓤) (A : Atoms 𝓤) (W : Given
     abbrev backtrace : List ℕ
     backtrace = now (a .1 .1 .1 .1 .1 .1 .1 .1 .1 .1 .1 .1 .1 .1 .0)
 
-    abbrev backtrace-room : Room u32 (backtrace-at .count)
+    abbrev backtrace-room : Room u64 (backtrace-at .count)
     backtrace-room = is .1 .1 .1 .1 .1 .1 .1 .1 .1 .1 .1 .1 .1 .1 .0 .0 .1
 
     abbrev slices : List ℕ → List ℕ → List Frame → List ℕ → List Arg
     slices stack′ cells′ frames′ backtrace′ =
         shr u64 constants-at constants ∷ shr u64 structs-at structs ∷ shr u64 functions-at functions ∷ shr u8 text-at text ∷ shr u8 main-at main
         ∷ shr u32 mainPlaces-at mainPlaces ∷ shr u8 other-at other ∷ shr u32 otherPlaces-at otherPlaces ∷ mut u64 stack-at stack′
-        ∷ mut u64 cells-at cells′ ∷ mut R frames-at frames′ ∷ shr u64 copy-at copy ∷ mut u32 backtrace-at backtrace′ ∷ []
+        ∷ mut u64 cells-at cells′ ∷ mut R frames-at frames′ ∷ shr u64 copy-at copy ∷ mut u64 backtrace-at backtrace′ ∷ []
 
     abbrev xs : List ℕ → List ℕ → List Frame → List ℕ → List Arg
     xs stack′ cells′ frames′ backtrace′ = val VmRow m (vmVal m) ∷ val u64 units (vint w64 units) ∷ slices stack′ cells′ frames′ backtrace′
@@ -334,7 +334,7 @@ module _ {M : Type 1} (𝓤 : URA M) (H : Heap 𝓤) (A : Atoms 𝓤) (W : Given
         val VmRow m (vmVal m) ∷ val u64 units (vint w64 units) ∷ shr u64 constants-at constants ∷ shr u64 structs-at structs
         ∷ shr u64 functions-at functions ∷ shr u8 text-at text ∷ shr u8 main-at main ∷ shr u32 mainPlaces-at mainPlaces ∷ shr u8 other-at other
         ∷ shr u32 otherPlaces-at otherPlaces ∷ mut u64 stack-at stack ∷ mut u64 cells-at cells ∷ mut R frames-at frames ∷ shr u64 copy-at copy
-        ∷ mut u32 backtrace-at backtrace ∷ []
+        ∷ mut u64 backtrace-at backtrace ∷ []
 
     call-go : Granted (continues units) m (programLent structs constants functions text main mainPlaces other otherPlaces)
         (runLent stack cells frames copy backtrace) → Rule 𝓤 H A W to-go Go ResultRow resultVal

@@ -2,7 +2,7 @@
 use borrow.Author.Needs.{needs}
 use native.Mathlib.Omega.{arith}
 use Rattle.value.proofs.Operands.{got-some}
-use Rattle.run_blocks.proofs.Cellwise.{equal-none, equal-one, equal-pre, equal-out, equal-done}
+use Rattle.run_blocks.proofs.Cellwise.{equal-none, equal-one, equal-pre, left-of, equal-out, equal-done}
 use Rattle.run_blocks.proofs.equal.Statement.{statement}
 use Rattle.run_blocks.proofs.equal.Tie as tie
 
@@ -39,6 +39,9 @@ same-length-2 c = search
 returns-2 : tie.Need-returns-2
 returns-2 c = search equal-one
 
+sub-units : tie.Need-sub-units
+sub-units c = search needs
+
 equal-requires : tie.Need-equal-requires
 equal-requires c κs = search equal-pre
 
@@ -56,15 +59,16 @@ sub-write-value c = search (got-some, needs)
 
 write-value-requires : tie.Need-write-value-requires
 write-value-requires c κs =
-    let at-start = c .before .before .before .before .before .before .before .before .before .before .before .before .before .before .before .before .before .before .before in
-    omega (
-      arith,
-      let at-x = c .before .before .before .before .before .before .before in
-          let at-pop2 = at-x .before .before in
-          got-some _ _ (at-pop2 .pop2 .ensures) (at-x .x .given .1),
-      at-start .pre .stack .count,
-      at-start .pre .stack .room,
-    )
+    let at-x = c .before .before .before .before .before .before .before .before .before in
+    let at-pop2 = at-x .before .before in
+    let at-start = at-pop2 .before .before .before .before .before .before .before .before .before .before in
+    omega (arith, got-some _ _ (at-pop2 .pop2 .ensures) (at-x .x .given .1), at-start .pre .stack .count, at-start .pre .stack .room)
+
+sub-spent : tie.Need-sub-spent
+sub-spent c =
+    let at-same = c .before .before .before .before .before .before .before in
+    let at-equal = at-same .before .before in
+    omega (arith, left-of _ _ (at-equal .equal .ensures) (at-same .same .given .1))
 
 same-length-3 : tie.Need-same-length-3
 same-length-3 c = search
@@ -76,7 +80,18 @@ same-length-4 : tie.Need-same-length-4
 same-length-4 c = search
 
 returns-4 : tie.Need-returns-4
-returns-4 c = search equal-done
+returns-4 c =
+    let at-write-value = c .before .before .before in
+    let at-told = at-write-value .before .before in
+    let at-same = at-told .before .before in
+    let at-equal = at-same .before .before in
+    let at-x = at-equal .before .before .before .before in
+    let at-pop2 = at-x .before .before in
+    let at-y = at-pop2 .before .before .before in
+    let at-pop = at-y .before .before in
+    let at-start = at-pop .before .before .before .before .before in
+    λ u h. equal-done _ (at-start .pre) (at-pop .pop .ensures) (at-y .y .given .1) (at-pop2 .pop2 .ensures) (at-x .x .given .1)
+    (at-equal .equal .ensures) _ u h (at-same .same .given .1) (at-told .told .ensures) (at-write-value .write-value .ensures)
 
 pub equal-spec : {M : Type 1} → statement M
 equal-spec =
@@ -93,12 +108,14 @@ equal-spec =
     enum-told-2
     same-length-2
     returns-2
+    sub-units
     equal-requires
     enum-told-3
     enum-known-same
     told-requires
     sub-write-value
     write-value-requires
+    sub-spent
     same-length-3
     returns-3
     same-length-4

@@ -10,11 +10,8 @@ last-in-requires c κs = search needs
 add-frames : tie.Need-add-frames
 add-frames c = search needs
 
-sub-spent : tie.Need-sub-spent
-sub-spent c = search needs
-
 returns : tie.Need-returns
 returns c = search pauses
 
 pub paused-spec : {M : Type 1} → statement M
-paused-spec = tie.close (tie.spec last-in-requires add-frames sub-spent returns)
+paused-spec = tie.close (tie.spec last-in-requires add-frames returns)

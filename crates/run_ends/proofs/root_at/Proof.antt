@@ -10,8 +10,11 @@ second-requires c κs = search
 size-of-requires : tie.Need-size-of-requires
 size-of-requires c κs = search
 
+root-frame-requires : tie.Need-root-frame-requires
+root-frame-requires c κs = search
+
 returns : tie.Need-returns
 returns c = search root-is
 
 pub root-at-spec : {M : Type 1} → statement M
-root-at-spec = tie.close (tie.spec second-requires size-of-requires returns)
+root-at-spec = tie.close (tie.spec second-requires size-of-requires root-frame-requires returns)

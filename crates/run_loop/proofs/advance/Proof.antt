@@ -36,7 +36,7 @@ returns c =
     let at-part = at-exec .before .before .before in
     let at-if1 = at-part .before in
     let at-second = at-if1 .before .before in
-    λ w cs at. at-exec .exec .ensures w cs
+    λ w ar at. at-exec .exec .ensures w ar
     (coded-as (in-main _ _ _ _ (at-second .second .ensures) (at-if1 .if1 .taken) (at-part .part .ensures)) at)
 
 part-requires-2 : tie.Need-part-requires-2
@@ -65,7 +65,7 @@ returns-2 c =
     let at-part2 = at-exec2 .before .before .before in
     let at-if1 = at-part2 .before in
     let at-second = at-if1 .before .before in
-    λ w cs at. at-exec2 .exec2 .ensures w cs
+    λ w ar at. at-exec2 .exec2 .ensures w ar
     (coded-as (in-other _ _ _ _ (at-second .second .ensures) (at-if1 .if1 .left) (at-part2 .part2 .ensures)) at)
 
 pub advance-spec : {M : Type 1} → statement M

@@ -17,7 +17,7 @@ use Rattle.model.proofs.Fault as TN
 use Rattle.model.proofs.Fault.Laws as TN′
 use Rattle.run_arms.specs.declared.Fixed.{Fixed}
 use Rattle.run_arms.specs.declared.Going.{Going}
-use Rattle.run_arms.specs.Links.{frameIn, entered}
+use Rattle.run_arms.specs.Links.{Around, frameIn, entered}
 use Rattle.run_arms.proofs.Fixed as TF
 use Rattle.run_arms.proofs.Fixed.Laws as TF′
 use Rattle.run_arms.proofs.Going as TG
@@ -34,7 +34,7 @@ use Rattle.frames.proofs.push_frame.Symbol as write-def
 use Rattle.frames.proofs.push_frame.Symbol.{name as #write}
 use Rattle.frames.proofs.push_frame.Met as write-thm
 use Rattle.run_loop.specs.declared.Course.{Course}
-use Rattle.run_loop.specs.Links.{codeIn, goesOn, isOver, isStopped, isPaused, inFrame, Under}
+use Rattle.run_loop.specs.Links.{codeIn, goesOn, goesIn, isOver, isStopped, isPaused, Under}
 use Rattle.run_loop.proofs.Turning.{Ways, Said, weight, over-less, stopped-less, paused-less, a-run-goes-on, gone-none, goes, ends-so, asks, roomy, over-on, stopped-on, paused-on, call-on, back-on, within, some-back, call-less, back-less}
 use Rattle.run_loop.proofs.Course as TC
 use Rattle.run_loop.proofs.Course.Laws as TC′
@@ -58,10 +58,10 @@ use Rattle.run_loop.proofs.frame_of as frame-of
 use Rattle.run_loop.proofs.frame_of.Symbol as frame-of-def
 use Rattle.run_loop.proofs.frame_of.Symbol.{name as #frame-of}
 use Rattle.run_loop.proofs.frame_of.Met as frame-of-thm
-use Rattle.run_loop.proofs.entered as enter
-use Rattle.run_loop.proofs.entered.Symbol as enter-def
-use Rattle.run_loop.proofs.entered.Symbol.{name as #enter}
-use Rattle.run_loop.proofs.entered.Met as enter-thm
+use Rattle.run_loop.proofs.called as enter
+use Rattle.run_loop.proofs.called.Symbol as enter-def
+use Rattle.run_loop.proofs.called.Symbol.{name as #enter}
+use Rattle.run_loop.proofs.called.Met as enter-thm
 use Rattle.run_loop.proofs.drop_frame as drop-frame
 use Rattle.run_loop.proofs.drop_frame.Symbol as drop-frame-def
 use Rattle.run_loop.proofs.drop_frame.Symbol.{name as #drop-frame}
@@ -112,6 +112,9 @@ IsEvent e = Is TE.the-row e (eval e ∷ [])
 going-is : (c : Course) → IsCourse c → IsGoing (c .going)
 going-is c is = LL.owed TC.the-type TC′.the-laws c _ is .0
 
+entered-fits : (c : Course) → IsCourse c → c .entered < 2 ^ 64
+entered-fits c is = LL.owed TC.the-type TC′.the-laws c _ is .1 .0 .1
+
 callers-fit : (g : Going) → IsGoing g → g .callers < 2 ^ 64
 callers-fit g is = LL.owed TG.the-type TG′.the-laws g _ is .1 .1 .1 .1 .0 .1
 
@@ -137,7 +140,8 @@ paused-is g is = EL.owed TE.the-type TE′.the-laws (Paused g) _ is .0
 
 abbrev kinds : List (Kind 8)
 kinds =
-    own TF.the-row kval (TF′.lowers .val-is) (λ x f. refl) ∷ own TG.the-row gval (TG′.lowers .val-is) (λ x f. refl) ∷ number ∷
+    own TF.the-row kval (TF′.lowers .val-is) (λ x f. refl) ∷ own TG.the-row gval (TG′.lowers .val-is) (λ x f. refl)
+    ∷ own u64 (vint w64) (uint-tells w64) (λ x f. refl) ∷ number ∷
     shared 0 tt u64 ∷ shared 1 tt u64 ∷ shared 2 tt u8 ∷ shared 3 tt u8 ∷ shared 4 tt u8 ∷ unique 5 tt u64 ∷ unique 6 tt u64 ∷
     unique 7 tt R ∷ []
 
@@ -190,37 +194,59 @@ module _ {M : Type 1} (𝓤 : URA M) (H : Heap 𝓤) (A : Atoms 𝓤) (W : Given
     abbrev it : List Arg
     it = val TG.the-row g (gval g) ∷ []
 
-    call-begun : Rule 𝓤 H A W it Begun TC.the-row cval (λ r zs. r ≡ goesOn g)
-    call-begun =
-        call-with 𝓤 H A W it Begun TC.the-row cval (λ r zs. r ≡ goesOn g) (TC′.lowers .val-is) (λ ns. passing (lent it ns))
-        (λ ns. refl) (λ ns. unasked W (lent it ns)) (λ ns w. id⊢ 𝓤 _) (LL.makes TG.the-type TG′.the-plain 𝓤 H A g _ is, tt) tt
-
-    call-over : Rule 𝓤 H A W it Overs TC.the-row cval (λ r zs. r ≡ isOver g)
-    call-over =
-        call-with 𝓤 H A W it Overs TC.the-row cval (λ r zs. r ≡ isOver g) (TC′.lowers .val-is) (λ ns. passing (lent it ns))
-        (λ ns. refl) (λ ns. unasked W (lent it ns)) (λ ns w. id⊢ 𝓤 _) (LL.makes TG.the-type TG′.the-plain 𝓤 H A g _ is, tt) tt
-
-    call-pause : Rule 𝓤 H A W it Pause TC.the-row cval (λ r zs. r ≡ isPaused g)
-    call-pause =
-        call-with 𝓤 H A W it Pause TC.the-row cval (λ r zs. r ≡ isPaused g) (TC′.lowers .val-is) (λ ns. passing (lent it ns))
-        (λ ns. refl) (λ ns. unasked W (lent it ns)) (λ ns w. id⊢ 𝓤 _) (LL.makes TG.the-type TG′.the-plain 𝓤 H A g _ is, tt) tt
-
-    call-frame-of : Rule 𝓤 H A W it FrameOf R fval (λ r zs. r ≡ frameIn g)
-    call-frame-of = call-with 𝓤 H A W it FrameOf R fval (λ r zs. r ≡ frameIn g) tells (λ ns. passing (lent it ns)) (λ ns. refl)
-        (λ ns. unasked W (lent it ns)) (λ ns w. id⊢ 𝓤 _) (LL.makes TG.the-type TG′.the-plain 𝓤 H A g _ is, tt) tt
-
     call-drop-frame : 0 < g .callers → Rule 𝓤 H A W it DropFrame usize (vint w64) (λ r zs. g .callers ≡ r + 1)
     call-drop-frame ask =
         call-with 𝓤 H A W it DropFrame usize (vint w64) (λ r zs. g .callers ≡ r + 1) (uint-tells w64) (λ ns. passing (lent it ns))
         (λ ns. refl) (λ ns. asked W (lent it ns) ask) (λ ns w. id⊢ 𝓤 _) (LL.makes TG.the-type TG′.the-plain 𝓤 H A g _ is, tt) tt
 
+    -- with when its frame was entered
+    module _ (e : ℕ) (fits-e : e < 2 ^ 64) where
+      abbrev both : List Arg
+      both = val TG.the-row g (gval g) ∷ val u64 e (vint w64 e) ∷ []
+
+      call-begun : Rule 𝓤 H A W both Begun TC.the-row cval (λ r zs. r ≡ goesOn g e)
+      call-begun =
+          call-with 𝓤 H A W both Begun TC.the-row cval (λ r zs. r ≡ goesOn g e) (TC′.lowers .val-is) (λ ns. passing (lent both ns))
+          (λ ns. refl) (λ ns. unasked W (lent both ns)) (λ ns w. id⊢ 𝓤 _)
+          (LL.makes TG.the-type TG′.the-plain 𝓤 H A g _ is, (uint-makes 𝓤 H A W w64 e _ (refl, fits-e), tt)) tt
+
+      call-over : Rule 𝓤 H A W both Overs TC.the-row cval (λ r zs. r ≡ isOver g e)
+      call-over =
+          call-with 𝓤 H A W both Overs TC.the-row cval (λ r zs. r ≡ isOver g e) (TC′.lowers .val-is) (λ ns. passing (lent both ns))
+          (λ ns. refl) (λ ns. unasked W (lent both ns)) (λ ns w. id⊢ 𝓤 _)
+          (LL.makes TG.the-type TG′.the-plain 𝓤 H A g _ is, (uint-makes 𝓤 H A W w64 e _ (refl, fits-e), tt)) tt
+
+      call-pause : Rule 𝓤 H A W both Pause TC.the-row cval (λ r zs. r ≡ isPaused g e)
+      call-pause =
+          call-with 𝓤 H A W both Pause TC.the-row cval (λ r zs. r ≡ isPaused g e) (TC′.lowers .val-is) (λ ns. passing (lent both ns))
+          (λ ns. refl) (λ ns. unasked W (lent both ns)) (λ ns w. id⊢ 𝓤 _)
+          (LL.makes TG.the-type TG′.the-plain 𝓤 H A g _ is, (uint-makes 𝓤 H A W w64 e _ (refl, fits-e), tt)) tt
+
+      call-frame-of : Rule 𝓤 H A W both FrameOf R fval (λ r zs. r ≡ frameIn g e)
+      call-frame-of =
+          call-with 𝓤 H A W both FrameOf R fval (λ r zs. r ≡ frameIn g e) tells (λ ns. passing (lent both ns))
+          (λ ns. refl) (λ ns. unasked W (lent both ns)) (λ ns w. id⊢ 𝓤 _)
+          (LL.makes TG.the-type TG′.the-plain 𝓤 H A g _ is, (uint-makes 𝓤 H A W w64 e _ (refl, fits-e), tt)) tt
+
+      module _ (f : Fault) (isf : IsFault f) where
+        abbrev to-stop : List Arg
+        to-stop = val TG.the-row g (gval g) ∷ val u64 e (vint w64 e) ∷ val TN.the-row f (nval f) ∷ []
+
+        call-stop : Rule 𝓤 H A W to-stop Stop TC.the-row cval (λ r zs. r ≡ isStopped g e f)
+        call-stop =
+            call-with 𝓤 H A W to-stop Stop TC.the-row cval (λ r zs. r ≡ isStopped g e f) (TC′.lowers .val-is)
+            (λ ns. passing (lent to-stop ns)) (λ ns. refl) (λ ns. unasked W (lent to-stop ns)) (λ ns w. id⊢ 𝓤 _) (
+              LL.makes TG.the-type TG′.the-plain 𝓤 H A g _ is,
+              (uint-makes 𝓤 H A W w64 e _ (refl, fits-e), (EL.makes TN.the-type TN′.the-plain 𝓤 H A f _ isf, tt)),
+            ) tt
+
     module _ (i b : ℕ) (fits-i : i < 2 ^ 64) (fits-b : b < 2 ^ 64) where
       abbrev to-enter : List Arg
       to-enter = val TG.the-row g (gval g) ∷ val usize i (vint w64 i) ∷ val usize b (vint w64 b) ∷ []
 
-      call-enter : g .callers + 1 < 2 ^ 64 → Rule 𝓤 H A W to-enter Enter TC.the-row cval (λ r zs. r ≡ goesOn (inFrame g (g .callers + 1) (entered i b)))
+      call-enter : g .callers + 1 < 2 ^ 64 → Rule 𝓤 H A W to-enter Enter TC.the-row cval (λ r zs. r ≡ goesIn g (g .callers + 1) (entered i b (g .spent)))
       call-enter ask =
-          call-with 𝓤 H A W to-enter Enter TC.the-row cval (λ r zs. r ≡ goesOn (inFrame g (g .callers + 1) (entered i b)))
+          call-with 𝓤 H A W to-enter Enter TC.the-row cval (λ r zs. r ≡ goesIn g (g .callers + 1) (entered i b (g .spent)))
           (TC′.lowers .val-is) (λ ns. passing (lent to-enter ns)) (λ ns. refl) (λ ns. asked W (lent to-enter ns) ask)
           (λ ns w. id⊢ 𝓤 _) (
             LL.makes TG.the-type TG′.the-plain 𝓤 H A g _ is,
@@ -231,23 +257,13 @@ module _ {M : Type 1} (𝓤 : URA M) (H : Heap 𝓤) (A : Atoms 𝓤) (W : Given
       abbrev to-resume : List Arg
       to-resume = val TG.the-row g (gval g) ∷ val usize i (vint w64 i) ∷ val R f (fval f) ∷ []
 
-      call-resume : Rule 𝓤 H A W to-resume Resume TC.the-row cval (λ r zs. r ≡ goesOn (inFrame g i f))
+      call-resume : Rule 𝓤 H A W to-resume Resume TC.the-row cval (λ r zs. r ≡ goesIn g i f)
       call-resume =
-          call-with 𝓤 H A W to-resume Resume TC.the-row cval (λ r zs. r ≡ goesOn (inFrame g i f)) (TC′.lowers .val-is)
+          call-with 𝓤 H A W to-resume Resume TC.the-row cval (λ r zs. r ≡ goesIn g i f) (TC′.lowers .val-is)
           (λ ns. passing (lent to-resume ns)) (λ ns. refl) (λ ns. unasked W (lent to-resume ns)) (λ ns w. id⊢ 𝓤 _) (
             LL.makes TG.the-type TG′.the-plain 𝓤 H A g _ is,
             (uint-makes 𝓤 H A W w64 i _ (refl, fits-i), (frame-makes 𝓤 H A W f _ isf, tt)),
           ) tt
-
-    module _ (f : Fault) (isf : IsFault f) where
-      abbrev to-stop : List Arg
-      to-stop = val TG.the-row g (gval g) ∷ val TN.the-row f (nval f) ∷ []
-
-      call-stop : Rule 𝓤 H A W to-stop Stop TC.the-row cval (λ r zs. r ≡ isStopped g f)
-      call-stop =
-          call-with 𝓤 H A W to-stop Stop TC.the-row cval (λ r zs. r ≡ isStopped g f) (TC′.lowers .val-is)
-          (λ ns. passing (lent to-stop ns)) (λ ns. refl) (λ ns. unasked W (lent to-stop ns)) (λ ns w. id⊢ 𝓤 _)
-          (LL.makes TG.the-type TG′.the-plain 𝓤 H A g _ is, (EL.makes TN.the-type TN′.the-plain 𝓤 H A f _ isf, tt)) tt
 
   module _ (𝓣 : Tables 𝓤 H) (k-read : Triple 𝓤 (𝓣 .C #read) (Read 𝓤 H A W mem run)) (k-write : Triple 𝓤 (𝓣 .C #write) (Write 𝓤 H A W mem run))
       (k-begun : Triple 𝓤 (𝓣 .C #begun) Begun) (k-advance : Triple 𝓤 (𝓣 .C #advance) Advance) (k-over : Triple 𝓤 (𝓣 .C #over) Overs)
@@ -262,56 +278,59 @@ module _ {M : Type 1} (𝓤 : URA M) (H : Heap 𝓤) (A : Atoms 𝓤) (W : Given
     abbrev start : Going
     start = a .1 .0
 
+    abbrev entered₀ : ℕ
+    entered₀ = a .1 .1 .0
+
     abbrev n : ℕ
-    n = a .1 .1 .0
+    n = a .1 .1 .1 .0
 
     abbrev s0 : Sl
-    s0 = sl (κs .0) (qs .0) (a .1 .1 .1 .0)
+    s0 = sl (κs .0) (qs .0) (a .1 .1 .1 .1 .0)
 
     abbrev s1 : Sl
-    s1 = sl (κs .1 .0) (qs .1 .0) (a .1 .1 .1 .1 .0)
+    s1 = sl (κs .1 .0) (qs .1 .0) (a .1 .1 .1 .1 .1 .0)
 
     abbrev s2 : Sl
-    s2 = sl (κs .1 .1 .0) (qs .1 .1 .0) (a .1 .1 .1 .1 .1 .0)
+    s2 = sl (κs .1 .1 .0) (qs .1 .1 .0) (a .1 .1 .1 .1 .1 .1 .0)
 
     abbrev s3 : Sl
-    s3 = sl (κs .1 .1 .1 .0) (qs .1 .1 .1 .0) (a .1 .1 .1 .1 .1 .1 .0)
+    s3 = sl (κs .1 .1 .1 .0) (qs .1 .1 .1 .0) (a .1 .1 .1 .1 .1 .1 .1 .0)
 
     abbrev s4 : Sl
-    s4 = sl (κs .1 .1 .1 .1 .0) (qs .1 .1 .1 .1 .0) (a .1 .1 .1 .1 .1 .1 .1 .0)
+    s4 = sl (κs .1 .1 .1 .1 .0) (qs .1 .1 .1 .1 .0) (a .1 .1 .1 .1 .1 .1 .1 .1 .0)
 
     abbrev s5 : Sl
-    s5 = sl (κs .1 .1 .1 .1 .1 .0) (qs .1 .1 .1 .1 .1 .0) (a .1 .1 .1 .1 .1 .1 .1 .1 .0)
+    s5 = sl (κs .1 .1 .1 .1 .1 .0) (qs .1 .1 .1 .1 .1 .0) (a .1 .1 .1 .1 .1 .1 .1 .1 .1 .0)
 
     abbrev s6 : Sl
-    s6 = sl (κs .1 .1 .1 .1 .1 .1 .0) (qs .1 .1 .1 .1 .1 .1 .0) (a .1 .1 .1 .1 .1 .1 .1 .1 .1 .0)
+    s6 = sl (κs .1 .1 .1 .1 .1 .1 .0) (qs .1 .1 .1 .1 .1 .1 .0) (a .1 .1 .1 .1 .1 .1 .1 .1 .1 .1 .0)
 
     abbrev s7 : Sl
-    s7 = sl (κs .1 .1 .1 .1 .1 .1 .1 .0) (qs .1 .1 .1 .1 .1 .1 .1 .0) (a .1 .1 .1 .1 .1 .1 .1 .1 .1 .1 .0)
+    s7 = sl (κs .1 .1 .1 .1 .1 .1 .1 .0) (qs .1 .1 .1 .1 .1 .1 .1 .0) (a .1 .1 .1 .1 .1 .1 .1 .1 .1 .1 .1 .0)
 
     abbrev constants : List ℕ
-    constants = now (a .1 .1 .1 .0)
+    constants = now (a .1 .1 .1 .1 .0)
 
     abbrev functions : List ℕ
-    functions = now (a .1 .1 .1 .1 .0)
+    functions = now (a .1 .1 .1 .1 .1 .0)
 
     abbrev text : List ℕ
-    text = now (a .1 .1 .1 .1 .1 .0)
+    text = now (a .1 .1 .1 .1 .1 .1 .0)
 
     abbrev main : List ℕ
-    main = now (a .1 .1 .1 .1 .1 .1 .0)
+    main = now (a .1 .1 .1 .1 .1 .1 .1 .0)
 
     abbrev other : List ℕ
-    other = now (a .1 .1 .1 .1 .1 .1 .1 .0)
+    other = now (a .1 .1 .1 .1 .1 .1 .1 .1 .0)
 
     abbrev stack₀ : List ℕ
-    stack₀ = now (a .1 .1 .1 .1 .1 .1 .1 .1 .0)
+    stack₀ = now (a .1 .1 .1 .1 .1 .1 .1 .1 .1 .0)
 
     abbrev cells₀ : List ℕ
-    cells₀ = now (a .1 .1 .1 .1 .1 .1 .1 .1 .1 .0)
+    cells₀ = now (a .1 .1 .1 .1 .1 .1 .1 .1 .1 .1 .0)
 
     abbrev frames₀ : List Frame
-    frames₀ = now (a .1 .1 .1 .1 .1 .1 .1 .1 .1 .1 .0)
+    frames₀ = now (a .1 .1 .1 .1 .1 .1 .1 .1 .1 .1 .1 .0)
 
     abbrev is-k : Is TF.the-row k (kval k ∷ [])
     is-k = is .0
@@ -319,32 +338,35 @@ module _ {M : Type 1} (𝓤 : URA M) (H : Heap 𝓤) (A : Atoms 𝓤) (W : Given
     abbrev is-start : IsGoing start
     is-start = is .1 .0
 
+    abbrev is-entered : Is u64 entered₀ (vint w64 entered₀ ∷ [])
+    is-entered = is .1 .1 .0
+
     abbrev is-n : Is usize n (vint w64 n ∷ [])
-    is-n = is .1 .1 .0
+    is-n = is .1 .1 .1 .0
 
     abbrev room0 : Room u64 (s0 .count)
-    room0 = is .1 .1 .1 .0 .0 .1
+    room0 = is .1 .1 .1 .1 .0 .0 .1
 
     abbrev room1 : Room u64 (s1 .count)
-    room1 = is .1 .1 .1 .1 .0 .0 .1
+    room1 = is .1 .1 .1 .1 .1 .0 .0 .1
 
     abbrev room2 : Room u8 (s2 .count)
-    room2 = is .1 .1 .1 .1 .1 .0 .0 .1
+    room2 = is .1 .1 .1 .1 .1 .1 .0 .0 .1
 
     abbrev room3 : Room u8 (s3 .count)
-    room3 = is .1 .1 .1 .1 .1 .1 .0 .0 .1
+    room3 = is .1 .1 .1 .1 .1 .1 .1 .0 .0 .1
 
     abbrev room4 : Room u8 (s4 .count)
-    room4 = is .1 .1 .1 .1 .1 .1 .1 .0 .0 .1
+    room4 = is .1 .1 .1 .1 .1 .1 .1 .1 .0 .0 .1
 
     abbrev room5 : Room u64 (s5 .count)
-    room5 = is .1 .1 .1 .1 .1 .1 .1 .1 .0 .0 .1
+    room5 = is .1 .1 .1 .1 .1 .1 .1 .1 .1 .0 .0 .1
 
     abbrev room6 : Room u64 (s6 .count)
-    room6 = is .1 .1 .1 .1 .1 .1 .1 .1 .1 .0 .0 .1
+    room6 = is .1 .1 .1 .1 .1 .1 .1 .1 .1 .1 .0 .0 .1
 
     abbrev room7 : Room R (s7 .count)
-    room7 = is .1 .1 .1 .1 .1 .1 .1 .1 .1 .1 .0 .0 .1
+    room7 = is .1 .1 .1 .1 .1 .1 .1 .1 .1 .1 .1 .0 .0 .1
 
     -- the stores, and the frames
     abbrev stores : List ℕ → List ℕ → List Arg
@@ -357,8 +379,8 @@ module _ {M : Type 1} (𝓤 : URA M) (H : Heap 𝓤) (A : Atoms 𝓤) (W : Given
 
     abbrev xs : List ℕ → List ℕ → List Frame → List Arg
     xs st cs fs =
-        val TF.the-row k (kval k) ∷ val TG.the-row start (gval start) ∷ val usize n (vint w64 n) ∷ shr u64 s0 constants ∷ shr u64
-        s1 functions ∷ shr u8 s2 text ∷ shr u8 s3 main ∷ shr u8 s4 other ∷ mut u64 s5 st ∷ mut u64 s6 cs ∷ mut R s7 fs ∷ []
+        val TF.the-row k (kval k) ∷ val TG.the-row start (gval start) ∷ val u64 entered₀ (vint w64 entered₀) ∷ val usize n (vint w64 n)
+        ∷ shr u64 s0 constants ∷ shr u64 s1 functions ∷ shr u8 s2 text ∷ shr u8 s3 main ∷ shr u8 s4 other ∷ mut u64 s5 st ∷ mut u64 s6 cs ∷ mut R s7 fs ∷ []
 
     abbrev x0 : List Arg
     x0 = xs stack₀ cells₀ frames₀
@@ -367,18 +389,18 @@ module _ {M : Type 1} (𝓤 : URA M) (H : Heap 𝓤) (A : Atoms 𝓤) (W : Given
     Post = walkOf 𝓤 H A me.ended (stays kinds) (me.clauses 𝓤 H A mem run) .post (passing x0)
 
     abbrev Came : Bool → Course → List ℕ → List ℕ → List Frame → Type 0
-    Came b c st cs fs = Ways k n constants functions text main other b start stack₀ cells₀ frames₀ c st cs fs
+    Came b c st cs fs = Ways k n constants functions text main other b start entered₀ stack₀ cells₀ frames₀ c st cs fs
 
     exits : (c : Course) (st cs : List ℕ) (fs : List Frame) → IsCourse c → length st ≡ s5 .count → length cs ≡ s6 .count → length fs ≡ s7 .count
         → Came false c st cs fs → ent 𝓤 (⋆ 𝓤 H A (‵ (Holds (stores st cs)) ∷ ‵ (Holds (frames fs)) ∷ [])) (Post (cval c))
     exits c st cs fs isc e5 e6 e7 said =
         qed W (‵ (Holds (stores st cs)) ∷ ‵ (Holds (frames fs)) ∷ []) ∵ suffices ! _
         (ends-at 𝓤 H A me.ended (stays kinds) (me.clauses 𝓤 H A mem run) W (passing x0) (cval c) c
-        (tt, (tt, (tt, (tt, (tt, (tt, (tt, (tt, (st, (cs, (fs, tt)))))))))))
-        (tt, (tt, (tt, (tt, (tt, (tt, (tt, (tt, (e5, (e6, (e7, tt)))))))))))) $ says ! said $ joins ! (stores st cs) (frames fs)
+        (tt, (tt, (tt, (tt, (tt, (tt, (tt, (tt, (tt, (st, (cs, (fs, tt))))))))))))
+        (tt, (tt, (tt, (tt, (tt, (tt, (tt, (tt, (tt, (e5, (e6, (e7, tt))))))))))))) $ says ! said $ joins ! (stores st cs) (frames fs)
         (gives ! (xs st cs fs) (
           LL.makes TF.the-type TF′.the-plain 𝓤 H A k _ is-k,
-          (LL.makes TG.the-type TG′.the-plain 𝓤 H A start _ is-start, (uint-makes 𝓤 H A W w64 n _ is-n, tt)),
+          (LL.makes TG.the-type TG′.the-plain 𝓤 H A start _ is-start, (uint-makes 𝓤 H A W w64 entered₀ _ is-entered, (uint-makes 𝓤 H A W w64 n _ is-n, tt))),
         )
         (frame ! $ owned ! TC.the-row (Is TC.the-row) (LL.makes TC.the-type TC′.the-plain 𝓤 H A) c _ isc $ keep ! (1 ∷ 0 ∷ []) $
         done !))
@@ -393,7 +415,7 @@ module _ {M : Type 1} (𝓤 : URA M) (H : Heap 𝓤) (A : Atoms 𝓤) (W : Given
     Told g st cs e st′ cs′ = Said k n constants functions text main other g st cs e st′ cs′
 
     call-advance : (g : Going) (st cs : List ℕ) → IsGoing g → length st ≡ s5 .count → length cs ≡ s6 .count
-        → ((w : World) × (ds : List Frame) × Ready w ds k g (codeIn functions main other (g .function)) constants functions (take n text) st cs) × (n ≤ length text)
+        → ((w : World) × (ar : Around) × Ready w ar k g (codeIn functions main other (g .function)) constants functions (take n text) st cs) × (n ≤ length text)
         → Rule 𝓤 H A W (to-advance g st cs) Advance TE.the-row eval (λ e ts. Told g st cs e (ts .1 .1 .1 .1 .1 .1 .1 .1 .0) (ts .1 .1 .1 .1 .1 .1 .1 .1 .1 .0))
     call-advance g st cs isg e5 e6 ask =
         call-with 𝓤 H A W (to-advance g st cs) Advance TE.the-row eval
@@ -410,17 +432,17 @@ module _ {M : Type 1} (𝓤 : URA M) (H : Heap 𝓤) (A : Atoms 𝓤) (W : Given
         (c : Course) × (st : List ℕ) × (cs : List ℕ) × (fs : List Frame) ×
         (IsCourse c × (length st ≡ s5 .count) × (length cs ≡ s6 .count) × (length fs ≡ s7 .count) × Came (c .on) c st cs fs)
 
-    module _ {w : World} (under : Under w k start n constants functions text main other stack₀ cells₀ frames₀) (ls : Blocks (code.function .locals)) where
+    module _ {w : World} (under : Under w k start entered₀ n constants functions text main other stack₀ cells₀ frames₀) (ls : Blocks (code.function .locals)) where
       abbrev held : Course → List (Option Val)
       held c =
-          none ∷ some (kval k) ∷ some (gval start) ∷ some (vint w64 n) ∷ some (sval s0) ∷ some (sval s1) ∷ some (sval s2) ∷ some
+          none ∷ some (kval k) ∷ some (gval start) ∷ some (vint w64 entered₀) ∷ some (vint w64 n) ∷ some (sval s0) ∷ some (sval s1) ∷ some (sval s2) ∷ some
           (sval s3) ∷ some (sval s4) ∷ some (sval s5) ∷ some (sval s6) ∷ some (sval s7) ∷ some (cval c) ∷ []
 
       abbrev loop : Loop A 𝓣
       loop =
           record {
             State = State;
-            measure = λ x. weight (x .0);
+            measure = λ x. weight k (x .0);
             inv =
                 λ x. ‵ (Locals (code.function .locals) ls (held (x .0))) ∷ ‵ (Holds (stores (x .1) (x .2))) ∷ ‵
                 (Holds (frames (x .3))) ∷ [];
@@ -437,8 +459,9 @@ module _ {M : Type 1} (𝓤 : URA M) (H : Heap 𝓤) (A : Atoms 𝓤) (W : Given
           call-advance (c .going) st cs (going-is c isc) e5 e6 (asks k n constants functions text main other c (way on) under) .calls ! fm k-advance refl (λ e. elim e [
             | Over g ↦ λ ts said lens ise. lands-in ! (event-typed (Over g) ise) $ matches ! (tag-of ! refl refl refl refl) refl $
                 sets ! (of-opd ! (payload-of ! refl refl refl refl refl refl)) (going-typed g (over-is g ise)) $
-                nothing ! $ move ! (1 ∷ []) $ call-over g (over-is g ise) .calls ! fm k-over refl (λ r us er lens′ isr. lands-in ! (course-typed r isr) $ move ! (1 ∷ []) $ drop ! $
-                sets-last ! (of-opd ! (of ! refl)) (course-typed r isr) $ trims ! 13 $
+                nothing ! $ move ! (1 ∷ []) $ call-over g (over-is g ise) (c .entered) (entered-fits c isc) .calls ! fm k-over refl
+                (λ r us er lens′ isr. lands-in ! (course-typed r isr) $ move ! (1 ∷ []) $ drop ! $
+                sets-last ! (of-opd ! (of ! refl)) (course-typed r isr) $ trims ! 14 $
                 again ! loop (c, st, cs, fs, (isc, e5, e6, e7, came)) (
                   r,
                   ts .1 .1 .1 .1 .1 .1 .1 .1 .0,
@@ -446,12 +469,12 @@ module _ {M : Type 1} (𝓤 : URA M) (H : Heap 𝓤) (A : Atoms 𝓤) (W : Given
                   fs,
                   (isr, lens .0, lens .1 .0, e7, over-on k n constants functions text main other c (way on) (lens .1 .0 ∙ sym e6) said er),
                 )
-                (over-less c er on))
+                (over-less k c er on))
             | Call g i b ↦ λ ts said lens ise. lands-in ! (event-typed (Call g i b) ise) $ matches ! (tag-of ! refl refl refl refl) refl $
                 sets ! (of-opd ! (payload-of ! refl refl refl refl refl refl)) (going-typed g (call-is g i b ise .0)) $
                 sets ! (of-opd ! (payload-of ! refl refl refl refl refl refl)) (tt, record { fits = call-is g i b ise .1 }) $
                 sets ! (of-opd ! (payload-of ! refl refl refl refl refl refl)) (tt, record { fits = call-is g i b ise .2 }) $
-                nothing ! $ move ! (1 ∷ []) $ call-frame-of g (call-is g i b ise .0) .calls ! fm k-frame-of refl
+                nothing ! $ move ! (1 ∷ []) $ call-frame-of g (call-is g i b ise .0) (c .entered) (entered-fits c isc) .calls ! fm k-frame-of refl
                 (λ f us ef lens′ isf. lands-in ! (frame-typed 𝓤 H A W f isf) $ move ! (1 ∷ []) $ drop ! $
                 sets ! (addr ! (behind ! refl refl)) (tt, tt) $ sets ! (agg ! (ofs ! refl)) (tt, (tt, (record { fits = room7 .0 }, tt))) $
                 move ! (0 ∷ 2 ∷ []) $ call-write 𝓤 H A W mem run s7 fs e7 room7 (g .callers) (callers-fit g (call-is g i b ise .0))
@@ -467,7 +490,7 @@ module _ {M : Type 1} (𝓤 : URA M) (H : Heap 𝓤) (A : Atoms 𝓤) (W : Given
                   frames-fit k is-k,
                 )) .calls ! fm k-enter refl (λ r vs er lens‴ isr. lands-in ! (course-typed r isr) $ move ! (1 ∷ []) $ drop ! $
                 move ! (0 ∷ 2 ∷ []) $
-                sets-last ! (of-opd ! (of ! refl)) (course-typed r isr) $ trims ! 13 $
+                sets-last ! (of-opd ! (of ! refl)) (course-typed r isr) $ trims ! 14 $
                 again ! loop (c, st, cs, fs, (isc, e5, e6, e7, came)) (
                   r,
                   ts .1 .1 .1 .1 .1 .1 .1 .1 .0,
@@ -492,7 +515,7 @@ module _ {M : Type 1} (𝓤 : URA M) (H : Heap 𝓤) (A : Atoms 𝓤) (W : Given
                 (λ f ws ef lens″ isf. lands-in ! (frame-typed 𝓤 H A W f isf) $
                 nothing ! $ move ! (1 ∷ []) $ call-resume g (back-is g ise) j (isj .1) f isf .calls ! fm k-resume refl
                 (λ r vs er lens‴ isr. lands-in ! (course-typed r isr) $ move ! (1 ∷ []) $ drop ! $ move ! (0 ∷ 2 ∷ []) $
-                sets-last ! (of-opd ! (of ! refl)) (course-typed r isr) $ trims ! 13 $
+                sets-last ! (of-opd ! (of ! refl)) (course-typed r isr) $ trims ! 14 $
                 again ! loop (c, st, cs, fs, (isc, e5, e6, e7, came)) (
                   r,
                   ts .1 .1 .1 .1 .1 .1 .1 .1 .0,
@@ -504,9 +527,9 @@ module _ {M : Type 1} (𝓤 : URA M) (H : Heap 𝓤) (A : Atoms 𝓤) (W : Given
             | Stopped g f ↦ λ ts said lens ise. lands-in ! (event-typed (Stopped g f) ise) $ matches ! (tag-of ! refl refl refl refl) refl $
                 sets ! (of-opd ! (payload-of ! refl refl refl refl refl refl)) (going-typed g (stopped-is g f ise .0)) $
                 sets ! (of-opd ! (payload-of ! refl refl refl refl refl refl)) (fault-typed f (stopped-is g f ise .1)) $
-                nothing ! $ move ! (1 ∷ []) $ call-stop g (stopped-is g f ise .0) f (stopped-is g f ise .1) .calls ! fm k-stop refl
+                nothing ! $ move ! (1 ∷ []) $ call-stop g (stopped-is g f ise .0) (c .entered) (entered-fits c isc) f (stopped-is g f ise .1) .calls ! fm k-stop refl
                 (λ r us er lens′ isr. lands-in ! (course-typed r isr) $ move ! (1 ∷ []) $ drop ! $
-                sets-last ! (of-opd ! (of ! refl)) (course-typed r isr) $ trims ! 13 $
+                sets-last ! (of-opd ! (of ! refl)) (course-typed r isr) $ trims ! 14 $
                 again ! loop (c, st, cs, fs, (isc, e5, e6, e7, came)) (
                   r,
                   ts .1 .1 .1 .1 .1 .1 .1 .1 .0,
@@ -514,11 +537,12 @@ module _ {M : Type 1} (𝓤 : URA M) (H : Heap 𝓤) (A : Atoms 𝓤) (W : Given
                   fs,
                   (isr, lens .0, lens .1 .0, e7, stopped-on k n constants functions text main other c (way on) (lens .1 .0 ∙ sym e6) said er),
                 )
-                (stopped-less c f er on))
+                (stopped-less k c f er on))
             | Paused g ↦ λ ts said lens ise. lands-in ! (event-typed (Paused g) ise) $ matches ! (tag-of ! refl refl refl refl) refl $
                 sets ! (of-opd ! (payload-of ! refl refl refl refl refl refl)) (going-typed g (paused-is g ise)) $
-                nothing ! $ move ! (1 ∷ []) $ call-pause g (paused-is g ise) .calls ! fm k-pause refl (λ r us er lens′ isr. lands-in ! (course-typed r isr) $ move ! (1 ∷ []) $ drop ! $
-                sets-last ! (of-opd ! (of ! refl)) (course-typed r isr) $ trims ! 13 $
+                nothing ! $ move ! (1 ∷ []) $ call-pause g (paused-is g ise) (c .entered) (entered-fits c isc) .calls ! fm k-pause refl
+                (λ r us er lens′ isr. lands-in ! (course-typed r isr) $ move ! (1 ∷ []) $ drop ! $
+                sets-last ! (of-opd ! (of ! refl)) (course-typed r isr) $ trims ! 14 $
                 again ! loop (c, st, cs, fs, (isc, e5, e6, e7, came)) (
                   r,
                   ts .1 .1 .1 .1 .1 .1 .1 .1 .0,
@@ -526,7 +550,7 @@ module _ {M : Type 1} (𝓤 : URA M) (H : Heap 𝓤) (A : Atoms 𝓤) (W : Given
                   fs,
                   (isr, lens .0, lens .1 .0, e7, paused-on k n constants functions text main other c (way on) (lens .1 .0 ∙ sym e6) said er),
                 )
-                (paused-less c er on))
+                (paused-less k c er on))
           ]))
           (λ off. sets ! (of-opd ! (of ! refl)) (course-typed c isc) $ leaves ! refl $ by ! (exits c st cs fs isc e5 e6 e7 (ends-so k n constants functions text main other c came off)))
         where
@@ -536,7 +560,7 @@ module _ {M : Type 1} (𝓤 : URA M) (H : Heap 𝓤) (A : Atoms 𝓤) (W : Given
           way : T (c .on) → Came true c st cs fs
           way on = goes k n constants functions text main other c came on
 
-    walk : (w : World) × Under w k start n constants functions text main other stack₀ cells₀ frames₀
+    walk : (w : World) × Under w k start entered₀ n constants functions text main other stack₀ cells₀ frames₀
         → ent 𝓤 (onEntry 𝓤 H A me.signature (lfts x0) (shares x0) (denots x0) (valss x0)) (WpFn 𝓤 H (𝓣 .C) (𝓣 .Λ) code.function (values x0) Post)
     walk can =
         qed W (‵ (Toks x0) ∷ ‵ (Owns x0) ∷ []) ∵ takes ! x0
@@ -546,20 +570,23 @@ module _ {M : Type 1} (𝓤 : URA M) (H : Heap 𝓤) (A : Atoms 𝓤) (W : Given
           (
             going-typed start is-start,
             (
-              (tt, record { fits = is-n .1 }),
+              (tt, record { fits = is-entered .1 }),
               (
-                (tt, (tt, (record { fits = room0 .0 }, tt))),
+                (tt, record { fits = is-n .1 }),
                 (
-                  (tt, (tt, (record { fits = room1 .0 }, tt))),
+                  (tt, (tt, (record { fits = room0 .0 }, tt))),
                   (
-                    (tt, (tt, (record { fits = room2 .0 }, tt))),
+                    (tt, (tt, (record { fits = room1 .0 }, tt))),
                     (
-                      (tt, (tt, (record { fits = room3 .0 }, tt))),
+                      (tt, (tt, (record { fits = room2 .0 }, tt))),
                       (
-                        (tt, (tt, (record { fits = room4 .0 }, tt))),
+                        (tt, (tt, (record { fits = room3 .0 }, tt))),
                         (
-                          (tt, (tt, (record { fits = room5 .0 }, tt))),
-                          ((tt, (tt, (record { fits = room6 .0 }, tt))), ((tt, (tt, (record { fits = room7 .0 }, tt))), tt)),
+                          (tt, (tt, (record { fits = room4 .0 }, tt))),
+                          (
+                            (tt, (tt, (record { fits = room5 .0 }, tt))),
+                            ((tt, (tt, (record { fits = room6 .0 }, tt))), ((tt, (tt, (record { fits = room7 .0 }, tt))), tt)),
+                          ),
                         ),
                       ),
                     ),
@@ -569,7 +596,7 @@ module _ {M : Type 1} (𝓤 : URA M) (H : Heap 𝓤) (A : Atoms 𝓤) (W : Given
             ),
           ),
         )
-        (λ ls. nothing ! $ move ! (1 ∷ []) $ call-begun start is-start .calls ! (fmOf 𝓤 H (W .laws) 𝓣) k-begun refl
+        (λ ls. nothing ! $ move ! (1 ∷ []) $ call-begun start is-start entered₀ (is-entered .1) .calls ! (fmOf 𝓤 H (W .laws) 𝓣) k-begun refl
         (λ c us ec lens isc. lands-in ! (course-typed c isc) $ move ! (1 ∷ []) $ drop ! $ rounds ! (loop (can .1) ls)
         (turn (can .1) ls) (
           c,
@@ -592,9 +619,9 @@ turns-spec 𝓤 H 𝓜 𝓖 𝓡 =
     let W : Given 𝓤 H (𝓖 .A) = givenOf 𝓤 H 𝓜 𝓖 in
     closed kinds TC.the-row 𝓤 H 𝓜 𝓖 𝓡 code.env #me code.function (code.unfolded 𝓤 H 𝓜 𝓡) (me.clauses 𝓤 H (𝓖 .A) (𝓜 .mem) (𝓡 .run))
     (λ κs qs a g is. needs 𝓤
-    ((w : World) × Under w (a .0) (a .1 .0) (a .1 .1 .0) (now (a .1 .1 .1 .0)) (now (a .1 .1 .1 .1 .0))
-    (now (a .1 .1 .1 .1 .1 .0)) (now (a .1 .1 .1 .1 .1 .1 .0)) (now (a .1 .1 .1 .1 .1 .1 .1 .0))
-    (now (a .1 .1 .1 .1 .1 .1 .1 .1 .0)) (now (a .1 .1 .1 .1 .1 .1 .1 .1 .1 .0)) (now (a .1 .1 .1 .1 .1 .1 .1 .1 .1 .1 .0))) _
+    ((w : World) × Under w (a .0) (a .1 .0) (a .1 .1 .0) (a .1 .1 .1 .0) (now (a .1 .1 .1 .1 .0)) (now (a .1 .1 .1 .1 .1 .0))
+    (now (a .1 .1 .1 .1 .1 .1 .0)) (now (a .1 .1 .1 .1 .1 .1 .1 .0)) (now (a .1 .1 .1 .1 .1 .1 .1 .1 .0))
+    (now (a .1 .1 .1 .1 .1 .1 .1 .1 .1 .0)) (now (a .1 .1 .1 .1 .1 .1 .1 .1 .1 .1 .0)) (now (a .1 .1 .1 .1 .1 .1 .1 .1 .1 .1 .1 .0))) _
     (walk 𝓤 H (𝓖 .A) W (𝓜 .mem) (𝓡 .run) (tablesOf 𝓤 H 𝓜 (tables 𝓤 H 𝓜 𝓡 code.env))
     (cited 𝓤 H (Read 𝓤 H (𝓖 .A) W (𝓜 .mem) (𝓡 .run)) 𝓜 𝓡 code.env #read read-def.routine code.calls-frames·read-frame
     (read-thm.met 𝓤 H 𝓜 𝓖 𝓡))
@@ -610,7 +637,7 @@ turns-spec 𝓤 H 𝓜 𝓖 𝓡 =
     (pause-thm.met 𝓤 H 𝓜 𝓖 𝓡))
     (cited 𝓤 H (FrameOf 𝓤 H (𝓖 .A) W (𝓜 .mem) (𝓡 .run)) 𝓜 𝓡 code.env #frame-of frame-of-def.routine code.calls-run-loop·frame-of
     (frame-of-thm.met 𝓤 H 𝓜 𝓖 𝓡))
-    (cited 𝓤 H (Enter 𝓤 H (𝓖 .A) W (𝓜 .mem) (𝓡 .run)) 𝓜 𝓡 code.env #enter enter-def.routine code.calls-run-loop·entered
+    (cited 𝓤 H (Enter 𝓤 H (𝓖 .A) W (𝓜 .mem) (𝓡 .run)) 𝓜 𝓡 code.env #enter enter-def.routine code.calls-run-loop·called
     (enter-thm.met 𝓤 H 𝓜 𝓖 𝓡))
     (cited 𝓤 H (DropFrame 𝓤 H (𝓖 .A) W (𝓜 .mem) (𝓡 .run)) 𝓜 𝓡 code.env #drop-frame drop-frame-def.routine
     code.calls-run-loop·drop-frame (drop-frame-thm.met 𝓤 H 𝓜 𝓖 𝓡))

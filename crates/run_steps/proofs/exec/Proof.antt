@@ -1,26 +1,26 @@
 -- `run_steps::exec` meets its contract. The loop's invariant: the run goes on from here as it did from the start. Each step spends a unit.
 use mathlib.Core.Path.{_≡_, refl, _∙_}
-use mathlib.Core.List.{List}
+use Prim.Native.Nat.{_-_}
 use borrow.Author.Needs.{needs}
 use lib.ListN.{length}
-use Rattle.model.specs.declared.Frame.{Frame}
 use Rattle.model.specs.Steps.{World}
+use Rattle.run_arms.specs.Links.{Around}
 use Rattle.run_steps.specs.Links.{Ready}
-use Rattle.run_steps.proofs.Following.{Came, came-none, came-on, ends-on, ends-over, told, went-on, went-less, returned-on, returned-less, returned-fits, calls-out, stops, pauses, back-out}
+use Rattle.run_steps.proofs.Following.{Came, came-none, came-on, ends-on, ends-over, told, went-on, went-less, returned-on, returned-less, returned-few, calls-out, stops, pauses, back-out}
 use Rattle.run_steps.proofs.exec.Statement.{statement}
 use Rattle.run_steps.proofs.exec.Tie as tie
 
 abbrev Inv-loop : tie.InvT-loop
 Inv-loop k code constants functions text stack₀ cells₀ g₀ stack cells g =
     ((length stack ≡ length stack₀) × (length cells ≡ length cells₀)) ×
-    ((w : World) (cs : List Frame) → Ready w cs k g₀ code constants functions text stack₀ cells₀ → Came w cs k code constants
+    ((w : World) (ar : Around) → Ready w ar k g₀ code constants functions text stack₀ cells₀ → Came w ar k code constants
     functions text g₀ stack₀ cells₀ g stack cells)
 
 abbrev μ-loop : tie.MeasureT-loop
-μ-loop k code constants functions text stack₀ cells₀ g₀ stack cells g = g .units
+μ-loop k code constants functions text stack₀ cells₀ g₀ stack cells g = k .given - g .spent
 
 loop-holds : tie.Need-loop-holds Inv-loop μ-loop
-loop-holds c = ((refl, refl), λ w cs at. came-none at)
+loop-holds c = ((refl, refl), λ w ar at. came-none at)
 
 step-requires : tie.Need-step-requires Inv-loop μ-loop
 step-requires c κs =
@@ -49,9 +49,9 @@ loop-again c =
     let at-if1 = at-step .before .before .before in
     let at-loop = at-if1 .before .before in (
       (at-stack .stack .given ∙ at-loop .loop .inv .0 .0, at-cells .cells .given ∙ at-loop .loop .inv .0 .1),
-      λ w cs at. let z = at-loop .loop .inv .1 w cs at in
+      λ w ar at. let z = at-loop .loop .inv .1 w ar at in
           came-on z
-          (went-on (z .ready) (at-if1 .if1 .taken) (told (c .before .next .given .1) (at-step .step .ensures w cs (z .ready)))
+          (went-on (z .ready) (at-if1 .if1 .taken) (told (c .before .next .given .1) (at-step .step .ensures w ar (z .ready)))
           (at-cells .cells .given)),
     )
 
@@ -65,7 +65,7 @@ counted-requires c κs =
     let at-loop = at-if1 .before .before in
     let at-start = at-loop .before .before .before .before .before .before .before in
     let z = at-loop .loop .inv .1 _ _ (at-start .pre .2) in
-    returned-fits (z .ready) (at-if1 .if1 .taken) (told (c .before .done .given .1) (at-step .step .ensures _ _ (z .ready)))
+    returned-few (z .ready) (at-if1 .if1 .taken) (told (c .before .done .given .1) (at-step .step .ensures _ _ (z .ready)))
 
 loop-less-2 : tie.Need-loop-less-2 Inv-loop μ-loop
 loop-less-2 c =
@@ -85,10 +85,10 @@ loop-again-2 c =
     let at-if1 = at-step .before .before .before in
     let at-loop = at-if1 .before .before in (
       (at-stack .stack .given ∙ at-loop .loop .inv .0 .0, at-cells .cells .given ∙ at-loop .loop .inv .0 .1),
-      λ w cs at. let z = at-loop .loop .inv .1 w cs at in
+      λ w ar at. let z = at-loop .loop .inv .1 w ar at in
           came-on z
           (returned-on (z .ready) (at-if1 .if1 .taken)
-          (told (c .before .before .done .given .1) (at-step .step .ensures w cs (z .ready))) (c .counted .ensures)
+          (told (c .before .before .done .given .1) (at-step .step .ensures w ar (z .ready))) (c .counted .ensures)
           (at-cells .cells .given)),
     )
 
@@ -106,9 +106,9 @@ returns c =
     let at-step = c .before .before .before .before .before .before .before in
     let at-if1 = at-step .before .before .before in
     let at-loop = at-if1 .before .before in
-    λ w cs at. let z = at-loop .loop .inv .1 w cs at in
+    λ w ar at. let z = at-loop .loop .inv .1 w ar at in
     ends-on z
-    (calls-out (z .ready) (at-if1 .if1 .taken) (told (c .before .next2 .given .1) (at-step .step .ensures w cs (z .ready))))
+    (calls-out (z .ready) (at-if1 .if1 .taken) (told (c .before .next2 .given .1) (at-step .step .ensures w ar (z .ready))))
 
 enum-known-next-3 : tie.Need-enum-known-next-3 Inv-loop μ-loop
 enum-known-next-3 c = search
@@ -124,9 +124,9 @@ returns-2 c =
     let at-step = c .before .before .before .before .before .before .before in
     let at-if1 = at-step .before .before .before in
     let at-loop = at-if1 .before .before in
-    λ w cs at. let z = at-loop .loop .inv .1 w cs at in
+    λ w ar at. let z = at-loop .loop .inv .1 w ar at in
     ends-on z
-    (back-out cs (z .ready) (at-if1 .if1 .taken) (told (c .before .next3 .given .1) (at-step .step .ensures w cs (z .ready))))
+    (back-out (ar .entered) (ar .callers) (z .ready) (at-if1 .if1 .taken) (told (c .before .next3 .given .1) (at-step .step .ensures w ar (z .ready))))
 
 enum-known-next-4 : tie.Need-enum-known-next-4 Inv-loop μ-loop
 enum-known-next-4 c = search
@@ -142,8 +142,8 @@ returns-3 c =
     let at-step = c .before .before .before .before .before .before .before in
     let at-if1 = at-step .before .before .before in
     let at-loop = at-if1 .before .before in
-    λ w cs at. let z = at-loop .loop .inv .1 w cs at in
-    ends-on z (stops (z .ready) (at-if1 .if1 .taken) (told (c .before .next4 .given .1) (at-step .step .ensures w cs (z .ready))))
+    λ w ar at. let z = at-loop .loop .inv .1 w ar at in
+    ends-on z (stops (z .ready) (at-if1 .if1 .taken) (told (c .before .next4 .given .1) (at-step .step .ensures w ar (z .ready))))
 
 enum-known-unpaid : tie.Need-enum-known-unpaid Inv-loop μ-loop
 enum-known-unpaid c = search
@@ -159,8 +159,8 @@ returns-4 c =
     let at-step = c .before .before .before .before .before .before .before in
     let at-if1 = at-step .before .before .before in
     let at-loop = at-if1 .before .before in
-    λ w cs at. let z = at-loop .loop .inv .1 w cs at in
-    ends-on z (pauses (z .ready) (at-if1 .if1 .taken) (told (c .before .unpaid .given .1) (at-step .step .ensures w cs (z .ready))))
+    λ w ar at. let z = at-loop .loop .inv .1 w ar at in
+    ends-on z (pauses (z .ready) (at-if1 .if1 .taken) (told (c .before .unpaid .given .1) (at-step .step .ensures w ar (z .ready))))
 
 same-length-9 : tie.Need-same-length-9 Inv-loop μ-loop
 same-length-9 c = search
@@ -169,7 +169,7 @@ same-length-10 : tie.Need-same-length-10 Inv-loop μ-loop
 same-length-10 c = search
 
 returns-5 : tie.Need-returns-5 Inv-loop μ-loop
-returns-5 c = λ w cs at. let z = c .before .before .loop .inv .1 w cs at in ends-on z (ends-over (z .ready) (c .if1 .left))
+returns-5 c = λ w ar at. let z = c .before .before .loop .inv .1 w ar at in ends-on z (ends-over (z .ready) (c .if1 .left))
 
 pub exec-spec : {M : Type 1} → statement M
 exec-spec =

@@ -134,7 +134,7 @@ unfolding execOf
 returns c =
     let at-enum-told = c .before .before .before .before in
     let at-start = at-enum-told .before .before .before .before .before .before .before in
-    λ w l. by-arm w _ _ (at-enum-told .enum-told .given .1) (λ cs. refl) (at-start .pre .1 .0 .cells)
+    λ w l. by-arm w _ _ (at-enum-told .enum-told .given .1) (λ ar. refl) (at-start .pre .1 .0 .cells)
     (c .before .before .load-constant .ensures w (l .suits) (l .values))
 
 same-length-2 : tie.Need-same-length-2
@@ -145,7 +145,7 @@ unfolding execOf
 returns-2 c =
     let at-enum-told2 = c .before .before .before .before in
     let at-start = at-enum-told2 .before .before .before .before .before .before .before in
-    λ w l. by-arm w _ _ (at-enum-told2 .enum-told2 .given .1) (λ cs. refl) (at-start .pre .1 .0 .cells)
+    λ w l. by-arm w _ _ (at-enum-told2 .enum-told2 .given .1) (λ ar. refl) (at-start .pre .1 .0 .cells)
     (c .before .before .get-slot .ensures w (l .suits))
 
 same-length-3 : tie.Need-same-length-3
@@ -156,7 +156,7 @@ unfolding execOf
 returns-3 c =
     let at-enum-told3 = c .before .before .before .before in
     let at-start = at-enum-told3 .before .before .before .before .before .before .before in
-    λ w l. by-arm w _ _ (at-enum-told3 .enum-told3 .given .1) (λ cs. refl) (at-start .pre .1 .0 .cells)
+    λ w l. by-arm w _ _ (at-enum-told3 .enum-told3 .given .1) (λ ar. refl) (at-start .pre .1 .0 .cells)
     (c .before .before .get-slot2 .ensures w (l .suits))
 
 same-length-4 : tie.Need-same-length-4
@@ -167,7 +167,7 @@ unfolding execOf
 returns-4 c =
     let at-enum-told4 = c .before .before .before .before in
     let at-start = at-enum-told4 .before .before .before .before .before .before .before in
-    λ w l. by-arm w _ _ (at-enum-told4 .enum-told4 .given .1) (λ cs. refl) (at-start .pre .1 .0 .cells)
+    λ w l. by-arm w _ _ (at-enum-told4 .enum-told4 .given .1) (λ ar. refl) (at-start .pre .1 .0 .cells)
     (c .before .before .get-last-result .ensures w (l .suits))
 
 same-length-5 : tie.Need-same-length-5
@@ -204,7 +204,7 @@ returns-8 c =
     let at-match = at-is-not-equal .before in
     let at-start = at-match .before .before .before .before .before .before in
     λ w l. same-block
-    (λ cs. equality-is w (at-start .args .a) (at-start .args .b) (equalities (at-start .args .o) (at-match .match .keys8))
+    (λ ar. equality-is w (at-start .args .a) (at-start .args .b) (equalities (at-start .args .o) (at-match .match .keys8))
     (at-is-not-equal .is-not-equal .ensures) _) (c .before .before .equal .ensures w (l .named .text))
 
 same-length-10 : tie.Need-same-length-10
@@ -249,7 +249,7 @@ returns-14 : tie.Need-returns-14
 unfolding execOf
 returns-14 c =
     let at-start = c .before .before .before .before .before .before .before .before .before in
-    λ w l. by-arm w _ _ (c .before .before .enum-told11 .given .1) (λ cs. refl)
+    λ w l. by-arm w _ _ (c .before .before .enum-told11 .given .1) (λ ar. refl)
     (at-start .pre .1 .0 .cells) (c .call .ensures w (l .suits))
 
 same-length-16 : tie.Need-same-length-16
@@ -259,7 +259,7 @@ returns-15 : tie.Need-returns-15
 unfolding execOf
 returns-15 c =
     let at-start = c .before .before .before .before .before .before .before .before .before in
-    λ w l. by-arm w _ _ (c .before .before .enum-told12 .given .1) (λ cs. refl)
+    λ w l. by-arm w _ _ (c .before .before .enum-told12 .given .1) (λ ar. refl)
     (at-start .pre .1 .0 .cells)
     (c .call-callable .ensures w (l .rest) (l .suits) (l .named))
 
@@ -274,7 +274,7 @@ unfolding execOf
 returns-16 c =
     let at-build-struct = c .before .before .before .before in
     let at-enum-told13 = at-build-struct .before .before .before in
-    λ w l. by-block w _ _ (at-enum-told13 .enum-told13 .given .1) (λ cs. refl)
+    λ w l. by-block w _ _ (at-enum-told13 .enum-told13 .given .1) (λ ar. refl)
     (at-build-struct .build-struct .ensures w (l .suits) (l .cellRoom))
 
 same-length-19 : tie.Need-same-length-19
@@ -298,7 +298,7 @@ unfolding execOf
 returns-18 c =
     let at-build-list = c .before .before .before .before in
     let at-enum-told15 = at-build-list .before .before .before in
-    λ w l. by-block w _ _ (at-enum-told15 .enum-told15 .given .1) (λ cs. refl)
+    λ w l. by-block w _ _ (at-enum-told15 .enum-told15 .given .1) (λ ar. refl)
     (at-build-list .build-list .ensures w (l .suits) (l .cellRoom))
 
 same-length-23 : tie.Need-same-length-23

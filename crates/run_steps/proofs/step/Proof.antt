@@ -8,7 +8,7 @@ use Rattle.run_steps.proofs.step.Statement.{statement}
 use Rattle.run_steps.proofs.step.Tie as tie
 
 returns : tie.Need-returns
-returns c = λ w cs at. unpaid at (c .if1 .taken)
+returns c = λ w ar at. unpaid at (c .if1 .taken)
 
 shared-slice-read-opcode : tie.Need-shared-slice-read-opcode
 shared-slice-read-opcode c = search
@@ -16,8 +16,8 @@ shared-slice-read-opcode c = search
 add-next : tie.Need-add-next
 add-next c = search needs
 
-sub-left : tie.Need-sub-left
-sub-left c = search needs
+add-paid : tie.Need-add-paid
+add-paid c = search needs
 
 decode-requires : tie.Need-decode-requires
 decode-requires c κs = search
@@ -39,21 +39,15 @@ mul-behind c = omega (arith, read-few _ (c .operands .ensures))
 
 add-behind : tie.Need-add-behind
 add-behind c =
-    let at-start = c .before .before .before .before .before .before .before .before .before .before .before .before .before in
-    omega (
-      arith,
-      read-few _ (c .operands .ensures),
-      code-short
-          (at-start .pre .0 .2),
-      at-start .pre .1,
-    )
+    let at-start = c .before .before .before .before .before .before .before .before .before .before .before .before .before .before in
+    omega (arith, read-few _ (c .operands .ensures), code-short (at-start .pre .0 .2), at-start .pre .1)
 
 returns-2 : tie.Need-returns-2
 returns-2 c =
     let at-o = c .before .before .before in
     let at-decode = at-o .before .before in
     let at-if1 = at-decode .before .before in
-    λ w cs at. cut-short at (at-if1 .if1 .left) refl (sym (at-o .o .given .1) ∙ at-decode .decode .ensures)
+    λ w ar at. cut-short at (at-if1 .if1 .left) refl (sym (at-o .o .given .1) ∙ at-decode .decode .ensures)
     (c .before .operands .ensures) (c .if2 .taken)
 
 operands-at-requires : tie.Need-operands-at-requires
@@ -61,23 +55,13 @@ operands-at-requires c κs = search needs
 
 execute-requires : tie.Need-execute-requires
 execute-requires c κs =
-    let at-start-2 = c .before .before .before .before .before .before .before .before .before .before .before .before .before .before .before .before .before in (
-      let at-start = c .before .before .before .before .before .before .before .before .before .before .before .before .before .before .before .before .before in
-          (at-start .pre .0 .0, (at-start .pre .0 .2) .lent),
+    let at-if1 = c .before .before .before .before .before .before .before .before .before .before in
+    let at-start = at-if1 .before .before .before .before .before .before .before .before in
+    let at = at-start .pre .0 .2 in (
+      (at-start .pre .0 .0, at .lent),
       (
-        blocks-at
-            (at-start-2 .pre .0 .2) _ _,
-        (
-          omega (
-            arith,
-            code-short
-                (at-start-2 .pre .0 .2),
-          ),
-          base-fits
-              (at-start-2 .pre .0 .2),
-          c .before .before .operands-at .ensures .1 .0,
-          c .before .before .operands-at .ensures .1 .1,
-        ),
+        blocks-at at _ _ (at-if1 .if1 .left),
+        (omega (arith, code-short at), base-fits at, c .before .before .operands-at .ensures .1 .0, c .before .before .operands-at .ensures .1 .1),
       ),
     )
 
@@ -85,14 +69,14 @@ returns-3 : tie.Need-returns-3
 unfolding decodedThen
 returns-3 c =
     let at-if1 = c .before .before .before .before in
-    λ w cs at. unread at (at-if1 .if1 .left) refl
+    λ w ar at. unread at (at-if1 .if1 .left) refl
     (sym (c .enum-told .given .1) ∙ c .before .before .decode .ensures) refl (λ st h p. refl)
 
 returns-4 : tie.Need-returns-4
 unfolding decodedThen
 returns-4 c =
     let at-if1 = c .before .before .before .before in
-    λ w cs at. unread at (at-if1 .if1 .left) refl
+    λ w ar at. unread at (at-if1 .if1 .left) refl
     (sym (c .enum-told2 .given .1) ∙ c .before .before .decode .ensures) refl (λ st h p. refl)
 
 same-length : tie.Need-same-length
@@ -110,7 +94,7 @@ returns-5 c =
     let at-o = at-operands .before .before in
     let at-decode = at-o .before .before in
     let at-if1 = at-decode .before .before in
-    λ w cs at. carried at (at-if1 .if1 .left) refl (sym (at-o .o .given .1) ∙ at-decode .decode .ensures)
+    λ w ar at. carried at (at-if1 .if1 .left) refl (sym (at-o .o .given .1) ∙ at-decode .decode .ensures)
     (at-operands .operands .ensures) (at-if2 .if2 .left) (at-operands-at .operands-at .ensures .0 .0)
     (at-operands-at .operands-at .ensures .0 .1) (at-execute .execute .ensures w (at .lent))
 
@@ -121,7 +105,7 @@ step-spec =
     returns
     shared-slice-read-opcode
     add-next
-    sub-left
+    add-paid
     decode-requires
     enum-told
     enum-told-2

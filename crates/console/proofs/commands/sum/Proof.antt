@@ -39,11 +39,11 @@ mixed-words-requires-5 c κs = search needs
 mixed-words-requires-6 : tie.Need-mixed-words-requires-6
 mixed-words-requires-6 c κs = search needs
 
-mixed-places-requires-3 : tie.Need-mixed-places-requires-3
-mixed-places-requires-3 c κs = search needs
-
 mixed-words-requires-7 : tie.Need-mixed-words-requires-7
 mixed-words-requires-7 c κs = search needs
+
+mixed-words-requires-8 : tie.Need-mixed-words-requires-8
+mixed-words-requires-8 c κs = search needs
 
 returns : tie.Need-returns
 unfolding sumOf
@@ -60,8 +60,8 @@ returns c =
     let at-mixed-words = at-mixed-words2 .before in
     let at-mixed-counts = at-mixed-words .before in
     rw (
-      c .mixed-words7 .ensures,
-      c .before .mixed-places3 .ensures,
+      c .mixed-words8 .ensures,
+      c .before .mixed-words7 .ensures,
       c .before .before .mixed-words6 .ensures,
       at-mixed-words5 .mixed-words5 .ensures,
       at-mixed-words4 .mixed-words4 .ensures,
@@ -81,4 +81,4 @@ sum-spec =
     tie.close
     (tie.spec mixed-counts-requires mixed-words-requires mixed-words-requires-2 mixed-words-requires-3 mixed-bytes-requires
     mixed-bytes-requires-2 mixed-places-requires mixed-bytes-requires-3 mixed-places-requires-2 mixed-words-requires-4
-    mixed-words-requires-5 mixed-words-requires-6 mixed-places-requires-3 mixed-words-requires-7 returns)
+    mixed-words-requires-5 mixed-words-requires-6 mixed-words-requires-7 mixed-words-requires-8 returns)

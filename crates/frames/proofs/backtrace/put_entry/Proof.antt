@@ -15,14 +15,14 @@ mul-j c = search needs
 place-of-requires : tie.Need-place-of-requires
 place-of-requires c κs = search
 
-cast-number : tie.Need-cast-number
-cast-number c = search
-
 mul-out : tie.Need-mul-out
 mul-out c = search needs
 
 slice-write-out : tie.Need-slice-write-out
 slice-write-out c = search needs
+
+cast-out : tie.Need-cast-out
+cast-out c = search needs
 
 add-out : tie.Need-add-out
 add-out c = search needs
@@ -33,8 +33,17 @@ mul-out-2 c = search needs
 slice-write-out-2 : tie.Need-slice-write-out-2
 slice-write-out-2 c = simp length-set (omega arith)
 
-sub-t16 : tie.Need-sub-t16
-sub-t16 c = search
+add-out-2 : tie.Need-add-out-2
+add-out-2 c = search needs
+
+mul-out-3 : tie.Need-mul-out-3
+mul-out-3 c = search needs
+
+slice-write-out-3 : tie.Need-slice-write-out-3
+slice-write-out-3 c = simp length-set (omega arith)
+
+sub-next : tie.Need-sub-next
+sub-next c = search
 
 same-length : tie.Need-same-length
 same-length c = search needs
@@ -55,13 +64,16 @@ put-entry-spec =
     sub-j
     mul-j
     place-of-requires
-    cast-number
     mul-out
     slice-write-out
+    cast-out
     add-out
     mul-out-2
     slice-write-out-2
-    sub-t16
+    add-out-2
+    mul-out-3
+    slice-write-out-3
+    sub-next
     same-length
     returns
     same-length-2

@@ -29,7 +29,7 @@ use Rattle.frames.proofs.backtrace.trace.Code.Mir as cm
 abbrev kinds : List (Kind 5)
 kinds =
     shared 0 tt u64 ∷ shared 1 tt u32 ∷ shared 2 tt u32 ∷ own R fval tells (λ x f. refl) ∷ number ∷ shared 3 tt R ∷ unique 4 tt
-    u32 ∷ []
+    u64 ∷ []
 
 abbrev leftVal : Left → Val
 leftVal = TL′.lowered
@@ -104,14 +104,14 @@ module _ {M : Type 1} (𝓤 : URA M) (H : Heap 𝓤) (A : Atoms 𝓤) (W : Given
     abbrev room3 : Room R (s3 .count)
     room3 = is .1 .1 .1 .1 .1 .0 .0 .1
 
-    abbrev room4 : Room u32 (s4 .count)
+    abbrev room4 : Room u64 (s4 .count)
     room4 = is .1 .1 .1 .1 .1 .1 .0 .0 .1
 
     -- all of them, and in groups: what is read, the frames, and what is written
     abbrev xs : List ℕ → List Arg
     xs zs =
         shr u64 s0 words ∷ shr u32 s1 main ∷ shr u32 s2 other ∷ val R inner (fval inner) ∷ val usize callers (vint w64 callers) ∷
-        shr R s3 ys ∷ mut u32 s4 zs ∷ []
+        shr R s3 ys ∷ mut u64 s4 zs ∷ []
 
     abbrev stores : List Arg
     stores = shr u64 s0 words ∷ shr u32 s1 main ∷ shr u32 s2 other ∷ []
@@ -120,10 +120,10 @@ module _ {M : Type 1} (𝓤 : URA M) (H : Heap 𝓤) (A : Atoms 𝓤) (W : Given
     frames = shr R s3 ys ∷ []
 
     abbrev trail : List ℕ → List Arg
-    trail zs = mut u32 s4 zs ∷ []
+    trail zs = mut u64 s4 zs ∷ []
 
     abbrev entries : List ℕ → List Arg
-    entries zs = shr u64 s0 words ∷ shr u32 s1 main ∷ shr u32 s2 other ∷ mut u32 s4 zs ∷ []
+    entries zs = shr u64 s0 words ∷ shr u32 s1 main ∷ shr u32 s2 other ∷ mut u64 s4 zs ∷ []
 
     abbrev goal : List ℕ
     goal = written out 0 (traceWords words main other (inner ∷ callersOf callers ys))
@@ -138,7 +138,7 @@ module _ {M : Type 1} (𝓤 : URA M) (H : Heap 𝓤) (A : Atoms 𝓤) (W : Given
         (tt, (tt, (tt, (tt, (tt, (tt, (zs, tt))))))) (tt, (tt, (tt, (tt, (tt, (tt, (len, tt)))))))) $ says ! said $ splits !
         stores (trail zs)
         (move ! (2 ∷ 1 ∷ []) $ joins ! frames (trail zs)
-        (move ! (1 ∷ []) $ joins ! stores (shr R s3 ys ∷ mut u32 s4 zs ∷ [])
+        (move ! (1 ∷ []) $ joins ! stores (shr R s3 ys ∷ mut u64 s4 zs ∷ [])
         (gives ! (xs zs) (frame-makes 𝓤 H A W inner _ is-inner, (uint-makes 𝓤 H A W w64 callers _ callers-fit, tt))
         (frame ! $ feqI ! (List Val) (vunit ∷ []) (vunit ∷ []) refl $ keep ! (1 ∷ 0 ∷ []) $ done !))))
 
@@ -146,9 +146,9 @@ module _ {M : Type 1} (𝓤 : URA M) (H : Heap 𝓤) (A : Atoms 𝓤) (W : Given
     abbrev passed : ℕ → Frame → List ℕ → List Arg
     passed i f zs =
         shr u64 s0 words ∷ shr u32 s1 main ∷ shr u32 s2 other ∷ val usize callers (vint w64 callers) ∷ val usize i (vint w64 i) ∷
-        val R f (fval f) ∷ mut u32 s4 zs ∷ []
+        val R f (fval f) ∷ mut u64 s4 zs ∷ []
 
-    call-put : (i : ℕ) (f : Frame) (zs : List ℕ) → length zs ≡ s4 .count → i < 2 ^ 64 → Is R f (fval f ∷ []) → Readable words main other f × (i ≤ callers) × (2 * callers + 2 ≤ length zs)
+    call-put : (i : ℕ) (f : Frame) (zs : List ℕ) → length zs ≡ s4 .count → i < 2 ^ 64 → Is R f (fval f ∷ []) → Readable words main other f × (i ≤ callers) × (3 * callers + 3 ≤ length zs)
         → Rule 𝓤 H A W (passed i f zs) PutEntry TL.the-row leftVal (λ s ws. Put words main other callers i f zs (ws .1 .1 .1 .1 .1 .1 .0) s)
     call-put i f zs len fits isf ask =
         call-with 𝓤 H A W (passed i f zs) PutEntry TL.the-row leftVal
@@ -212,7 +212,7 @@ module _ {M : Type 1} (𝓤 : URA M) (H : Heap 𝓤) (A : Atoms 𝓤) (W : Given
         (WpFn 𝓤 H (𝓣 .C) (𝓣 .Λ) code.function (values (xs out)) Post)
     walk can =
         qed W (‵ (Toks (xs out)) ∷ ‵ (Owns (xs out)) ∷ []) ∵ takes ! (xs out)
-        (splits ! stores (shr R s3 ys ∷ mut u32 s4 out ∷ [])
+        (splits ! stores (shr R s3 ys ∷ mut u64 s4 out ∷ [])
         (move ! (1 ∷ []) $ splits ! frames (trail out)
         (move ! (2 ∷ 1 ∷ []) $ joins ! stores (trail out)
         (enters ! (𝓣 .C) (𝓣 .Λ) code.function (values (xs out)) Post (

@@ -12,8 +12,8 @@ place-ok-requires c κs = search
 add-if2 : tie.Need-add-if2
 add-if2 c = search needs
 
-add-t11 : tie.Need-add-t11
-add-t11 c = search needs
+add-t12 : tie.Need-add-t12
+add-t12 c = search needs
 
 returns : tie.Need-returns
 returns c = on _ _ _ (sym (c .before .before .place-ok .ensures) ∙ c .before .if1 .taken) (omega arith)
@@ -25,4 +25,4 @@ returns-3 : tie.Need-returns-3
 returns-3 c = bad _ _ _ (sym (c .before .place-ok .ensures) ∙ c .if1 .left)
 
 pub look-spec : {M : Type 1} → statement M
-look-spec = tie.close (tie.spec place-ok-requires add-if2 add-t11 returns returns-2 returns-3)
+look-spec = tie.close (tie.spec place-ok-requires add-if2 add-t12 returns returns-2 returns-3)

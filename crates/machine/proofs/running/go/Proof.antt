@@ -11,7 +11,7 @@ use denote.Plain.{uint-tells}
 use lib.Dec.{eqb}
 use lib.ListN.{take}
 use Rattle.laws_walks.proofs.Picks.{picks, unpicks}
-use Rattle.frames.proofs.Frames.{R, fval, tells, frame-typed, frame-makes}
+use Rattle.frames.proofs.Frames.{R, fval, tells, entered-fits, frame-typed, frame-makes}
 use Rattle.model.specs.declared.RunResult.{RunResult}
 use Rattle.model.specs.Emission.{written}
 use Rattle.model.specs.Stores.{Stores, size, codeWord}
@@ -22,9 +22,8 @@ use Rattle.frames.proofs.Orders.{is-true, is-false}
 use Rattle.run_arms.specs.declared.Fixed.{Fixed}
 use Rattle.run_loop.specs.declared.Course.{Course}
 use Rattle.model.specs.Steps.{World}
-use Rattle.machine.proofs.Rows.{VmRow, vmVal, vm-tells, vm-typed, vm-makes, ResultRow, resultVal, result-tells, result-typed, result-makes, GoingRow, goingVal, going-tells, going-typed, going-makes, FixedRow, fixedVal, fixed-tells, fixed-typed, fixed-makes, CourseRow, courseVal, course-tells, course-typed, course-going, course-fault}
+use Rattle.machine.proofs.Rows.{VmRow, vmVal, vm-tells, vm-typed, vm-makes, ResultRow, resultVal, result-tells, result-typed, result-makes, GoingRow, goingVal, going-tells, going-typed, going-makes, FixedRow, fixedVal, fixed-tells, fixed-typed, fixed-makes, CourseRow, courseVal, course-tells, course-typed, course-going, course-fault, course-entered}
 use Rattle.model.specs.Machines.{Lent, worldOf, continues, RunPost}
-use Rattle.laws_runs.proofs.Ordered.{under-of}
 use Rattle.frames.specs.Links.{noFrame, callersOf, traceWords, TraceFits}
 use Rattle.run_loop.specs.Links.{Under, TurnsPost}
 use Rattle.run_ends.specs.Links.{programLent, FixedPost, Begun, Answerable, settledWith, faultedWith}
@@ -58,6 +57,10 @@ use Rattle.run_loop.proofs.turns as turns
 use Rattle.run_loop.proofs.turns.Symbol as turns-def
 use Rattle.run_loop.proofs.turns.Symbol.{name as #turns}
 use Rattle.run_loop.proofs.turns.Met as turns-thm
+use Rattle.run_loop.proofs.frame_of as framed
+use Rattle.run_loop.proofs.frame_of.Symbol as framed-def
+use Rattle.run_loop.proofs.frame_of.Symbol.{name as #framed}
+use Rattle.run_loop.proofs.frame_of.Met as framed-thm
 use Rattle.run_ends.proofs.unfaulted as fine
 use Rattle.run_ends.proofs.unfaulted.Symbol as fine-def
 use Rattle.run_ends.proofs.unfaulted.Symbol.{name as #fine}
@@ -91,7 +94,7 @@ kinds =
     ∷ unique 9 tt u64
     ∷ unique 10 tt R
     ∷ shared 11 tt u64
-    ∷ unique 12 tt u32 ∷ []
+    ∷ unique 12 tt u64 ∷ []
 
 module _ {M : Type 1} (𝓤 : URA M) (H : Heap 𝓤) (A : Atoms 𝓤) (W : Given 𝓤 H A) (mem : Memory → SProp 𝓤) (run : Routine → Fun 𝓤) where
   abbrev Bounds : Contract 𝓤
@@ -112,6 +115,9 @@ module _ {M : Type 1} (𝓤 : URA M) (H : Heap 𝓤) (A : Atoms 𝓤) (W : Given
   abbrev Turns : Contract 𝓤
   Turns = tripleOf 𝓤 H A turns.signature (turns.spec 𝓤 H A mem run)
 
+  abbrev Framed : Contract 𝓤
+  Framed = tripleOf 𝓤 H A framed.signature (framed.spec 𝓤 H A mem run)
+
   abbrev Fine : Contract 𝓤
   Fine = tripleOf 𝓤 H A fine.signature (fine.spec 𝓤 H A mem run)
 
@@ -128,6 +134,7 @@ module _ {M : Type 1} (𝓤 : URA M) (H : Heap 𝓤) (A : Atoms 𝓤) (W : Given
       (known-allotted : Triple 𝓤 (𝓣 .C #allotted) Allotted)
       (known-taken : Triple 𝓤 (𝓣 .C #taken) Taken)
       (known-turns : Triple 𝓤 (𝓣 .C #turns) Turns)
+      (known-framed : Triple 𝓤 (𝓣 .C #framed) Framed)
       (known-fine : Triple 𝓤 (𝓣 .C #fine) Fine)
       (known-finish : Triple 𝓤 (𝓣 .C #finish) Finish)
       (known-stop : Triple 𝓤 (𝓣 .C #stop) Stop)
@@ -253,14 +260,14 @@ module _ {M : Type 1} (𝓤 : URA M) (H : Heap 𝓤) (A : Atoms 𝓤) (W : Given
     abbrev backtrace : List ℕ
     backtrace = now (a .1 .1 .1 .1 .1 .1 .1 .1 .1 .1 .1 .1 .1 .1 .0)
 
-    abbrev backtrace-room : Room u32 (backtrace-at .count)
+    abbrev backtrace-room : Room u64 (backtrace-at .count)
     backtrace-room = is .1 .1 .1 .1 .1 .1 .1 .1 .1 .1 .1 .1 .1 .1 .0 .0 .1
 
     abbrev slices : List ℕ → List ℕ → List Frame → List ℕ → List Arg
     slices stack′ cells′ frames′ backtrace′ =
         shr u64 constants-at constants ∷ shr u64 structs-at structs ∷ shr u64 functions-at functions ∷ shr u8 text-at text ∷ shr u8 main-at main
         ∷ shr u32 mainPlaces-at mainPlaces ∷ shr u8 other-at other ∷ shr u32 otherPlaces-at otherPlaces ∷ mut u64 stack-at stack′
-        ∷ mut u64 cells-at cells′ ∷ mut R frames-at frames′ ∷ shr u64 copy-at copy ∷ mut u32 backtrace-at backtrace′ ∷ []
+        ∷ mut u64 cells-at cells′ ∷ mut R frames-at frames′ ∷ shr u64 copy-at copy ∷ mut u64 backtrace-at backtrace′ ∷ []
 
     abbrev xs : List ℕ → List ℕ → List Frame → List ℕ → List Arg
     xs stack′ cells′ frames′ backtrace′ = val VmRow m (vmVal m) ∷ val u64 units (vint w64 units) ∷ slices stack′ cells′ frames′ backtrace′
@@ -323,23 +330,23 @@ module _ {M : Type 1} (𝓤 : URA M) (H : Heap 𝓤) (A : Atoms 𝓤) (W : Given
         (frame ! $ owned ! ResultRow (Is ResultRow) (result-makes 𝓤 H A W) r _ isr $ keep ! (1 ∷ 0 ∷ []) $ done !)
 
     -- the calls
-    abbrev to-bounds : List Arg
-    to-bounds =
-        val VmRow m (vmVal m) ∷ val usize (stack-at .count) (vint w64 (stack-at .count)) ∷ val usize (frames-at .count) (vint w64 (frames-at .count)) ∷ []
+    abbrev to-bounds : ℕ → List Arg
+    to-bounds u =
+        val VmRow m (vmVal m) ∷ val u64 u (vint w64 u) ∷ val usize (stack-at .count) (vint w64 (stack-at .count))
+        ∷ val usize (frames-at .count) (vint w64 (frames-at .count)) ∷ []
 
-    call-bounds : Rule 𝓤 H A W to-bounds Bounds FixedRow fixedVal
-        (λ k zs. FixedPost m (stack-at .count) (frames-at .count) k)
-    call-bounds =
-        call-with 𝓤 H A W to-bounds Bounds FixedRow fixedVal
-        (λ k zs. FixedPost m (stack-at .count) (frames-at .count) k) fixed-tells
-        (λ ns. passing (lent to-bounds ns)) (λ ns. refl) (λ ns. unasked W (lent to-bounds ns)) (λ ns w. id⊢ 𝓤 _) (
+    call-bounds : (u : ℕ) → Is u64 u (vint w64 u ∷ []) → Rule 𝓤 H A W (to-bounds u) Bounds FixedRow fixedVal
+        (λ k zs. FixedPost m u (stack-at .count) (frames-at .count) k)
+    call-bounds u isu =
+        call-with 𝓤 H A W (to-bounds u) Bounds FixedRow fixedVal
+        (λ k zs. FixedPost m u (stack-at .count) (frames-at .count) k) fixed-tells
+        (λ ns. passing (lent (to-bounds u) ns)) (λ ns. refl) (λ ns. unasked W (lent (to-bounds u) ns)) (λ ns w. id⊢ 𝓤 _) (
           vm-makes 𝓤 H A W m _ (is .0),
           (
-            uint-makes 𝓤 H A W w64 (stack-at .count) _ (refl, stack-room .0),
+            uint-makes 𝓤 H A W w64 u _ isu,
             (
-              uint-makes 𝓤 H A W w64 (frames-at .count) _
-                  (refl, frames-room .0),
-              tt,
+              uint-makes 𝓤 H A W w64 (stack-at .count) _ (refl, stack-room .0),
+              (uint-makes 𝓤 H A W w64 (frames-at .count) _ (refl, frames-room .0), tt),
             ),
           ),
         )
@@ -360,16 +367,15 @@ module _ {M : Type 1} (𝓤 : URA M) (H : Heap 𝓤) (A : Atoms 𝓤) (W : Given
 
     abbrev to-resumed : Frame → List Arg
     to-resumed f =
-        val VmRow m (vmVal m) ∷ val R f (fval f) ∷ val u64 units (vint w64 units) ∷ []
+        val VmRow m (vmVal m) ∷ val R f (fval f) ∷ []
 
-    call-resumed : (f : Frame) → Is R f (fval f ∷ []) → (m .run .spent ≤ m .run .given) × (m .run .given + units < 2 ^ 64) → Rule 𝓤 H A W
-        (to-resumed f) Resumed GoingRow goingVal
-        (λ g zs. Begun m f (m .run .given - m .run .spent + units) g)
-    call-resumed f isf can =
+    call-resumed : (f : Frame) → Is R f (fval f ∷ []) → Rule 𝓤 H A W (to-resumed f) Resumed GoingRow goingVal
+        (λ g zs. Begun m f (m .run .spent) g)
+    call-resumed f isf =
         call-with 𝓤 H A W (to-resumed f) Resumed GoingRow goingVal
-        (λ g zs. Begun m f (m .run .given - m .run .spent + units) g) going-tells
-        (λ ns. passing (lent (to-resumed f) ns)) (λ ns. refl) (λ ns. asked W (lent (to-resumed f) ns) can) (λ ns w. id⊢ 𝓤 _)
-        (vm-makes 𝓤 H A W m _ (is .0), (frame-makes 𝓤 H A W f _ isf, (uint-makes 𝓤 H A W w64 units _ (is .1 .0), tt)))
+        (λ g zs. Begun m f (m .run .spent) g) going-tells
+        (λ ns. passing (lent (to-resumed f) ns)) (λ ns. refl) (λ ns. unasked W (lent (to-resumed f) ns)) (λ ns w. id⊢ 𝓤 _)
+        (vm-makes 𝓤 H A W m _ (is .0), (frame-makes 𝓤 H A W f _ isf, tt))
         tt
 
     abbrev to-allotted : List Arg
@@ -398,23 +404,29 @@ module _ {M : Type 1} (𝓤 : URA M) (H : Heap 𝓤) (A : Atoms 𝓤) (W : Given
         (vm-makes 𝓤 H A W m _ (is .0), tt)
         tt
 
-    abbrev to-turns : Fixed → Going → ℕ → List Arg
-    to-turns k g n =
-        val FixedRow k (fixedVal k) ∷ val GoingRow g (goingVal g) ∷ val usize n (vint w64 n) ∷ shr u64 constants-at constants
+    abbrev to-turns : Fixed → Going → ℕ → ℕ → List Arg
+    to-turns k g e n =
+        val FixedRow k (fixedVal k) ∷ val GoingRow g (goingVal g) ∷ val u64 e (vint w64 e) ∷ val usize n (vint w64 n) ∷ shr u64 constants-at constants
         ∷ shr u64 functions-at functions ∷ shr u8 text-at text ∷ shr u8 main-at main ∷ shr u8 other-at other ∷ mut u64 stack-at stack
         ∷ mut u64 cells-at cells ∷ mut R frames-at frames ∷ []
 
-    call-turns : (k : Fixed) → (g : Going) → (n : ℕ) → Is FixedRow k (fixedVal k ∷ []) → Is GoingRow g (goingVal g ∷ []) → n < 2 ^ 64 →
-        ((w : World) × Under w k g n constants functions text main other stack cells frames) → Rule 𝓤 H A W (to-turns k g n) Turns CourseRow courseVal
-        (λ c zs. ((w : World) → Under w k g n constants functions text main other stack cells frames
-        → TurnsPost w k g stack cells frames c (zs .1 .1 .1 .1 .1 .1 .1 .1 .0) (zs .1 .1 .1 .1 .1 .1 .1 .1 .1 .0) (zs .1 .1 .1 .1 .1 .1 .1 .1 .1 .1 .0)))
-    call-turns k g n isk isg fits can =
-        call-with 𝓤 H A W (to-turns k g n) Turns CourseRow courseVal
-        (λ c zs. ((w : World) → Under w k g n constants functions text main other stack cells frames
-        → TurnsPost w k g stack cells frames c (zs .1 .1 .1 .1 .1 .1 .1 .1 .0) (zs .1 .1 .1 .1 .1 .1 .1 .1 .1 .0)
-        (zs .1 .1 .1 .1 .1 .1 .1 .1 .1 .1 .0))) course-tells
-        (λ ns. passing (lent (to-turns k g n) ns)) (λ ns. refl) (λ ns. asked W (lent (to-turns k g n) ns) can) (λ ns w. id⊢ 𝓤 _)
-        (fixed-makes 𝓤 H A W k _ isk, (going-makes 𝓤 H A W g _ isg, (uint-makes 𝓤 H A W w64 n _ (refl, fits), tt))) (
+    -- what the loop is told of its start, which was entered at e units, and what it says
+    abbrev Starts : World → Fixed → Going → ℕ → ℕ → Type 0
+    Starts w k g e n = Under w k g e n constants functions text main other stack cells frames
+
+    abbrev Ran : Fixed → Going → ℕ → ℕ → Course → List ℕ → List ℕ → List Frame → Type 0
+    Ran k g e n c st cs fs = (w : World) → Starts w k g e n → TurnsPost w k g e stack cells frames c st cs fs
+
+    call-turns : (k : Fixed) → (g : Going) → (e n : ℕ) → Is FixedRow k (fixedVal k ∷ []) → Is GoingRow g (goingVal g ∷ []) → e < 2 ^ 64 → n < 2 ^ 64 →
+        ((w : World) × Starts w k g e n) → Rule 𝓤 H A W (to-turns k g e n) Turns CourseRow courseVal
+        (λ c zs. Ran k g e n c (zs .1 .1 .1 .1 .1 .1 .1 .1 .1 .0) (zs .1 .1 .1 .1 .1 .1 .1 .1 .1 .1 .0) (zs .1 .1 .1 .1 .1 .1 .1 .1 .1 .1 .1 .0))
+    call-turns k g e n isk isg fits-e fits can =
+        call-with 𝓤 H A W (to-turns k g e n) Turns CourseRow courseVal
+        (λ c zs. Ran k g e n c (zs .1 .1 .1 .1 .1 .1 .1 .1 .1 .0) (zs .1 .1 .1 .1 .1 .1 .1 .1 .1 .1 .0) (zs .1 .1 .1 .1 .1 .1 .1 .1 .1 .1 .1 .0)) course-tells
+        (λ ns. passing (lent (to-turns k g e n) ns)) (λ ns. refl) (λ ns. asked W (lent (to-turns k g e n) ns) can) (λ ns w. id⊢ 𝓤 _) (
+          fixed-makes 𝓤 H A W k _ isk,
+          (going-makes 𝓤 H A W g _ isg, (uint-makes 𝓤 H A W w64 e _ (refl, fits-e), (uint-makes 𝓤 H A W w64 n _ (refl, fits), tt))),
+        ) (
           (refl, constants-room),
           (
             (refl, functions-room),
@@ -434,6 +446,16 @@ module _ {M : Type 1} (𝓤 : URA M) (H : Heap 𝓤) (A : Atoms 𝓤) (W : Given
           ),
         )
 
+    abbrev to-framed : Going → ℕ → List Arg
+    to-framed g e = val GoingRow g (goingVal g) ∷ val u64 e (vint w64 e) ∷ []
+
+    call-framed : (g : Going) (e : ℕ) → Is GoingRow g (goingVal g ∷ []) → e < 2 ^ 64 → Rule 𝓤 H A W (to-framed g e) Framed R fval (λ f zs. f ≡ frameIn g e)
+    call-framed g e isg fits =
+        call-with 𝓤 H A W (to-framed g e) Framed R fval (λ f zs. f ≡ frameIn g e) tells
+        (λ ns. passing (lent (to-framed g e) ns)) (λ ns. refl) (λ ns. unasked W (lent (to-framed g e) ns)) (λ ns w. id⊢ 𝓤 _)
+        (going-makes 𝓤 H A W g _ isg, (uint-makes 𝓤 H A W w64 e _ (refl, fits), tt))
+        tt
+
     abbrev to-fine : ℕ → List Arg
     to-fine e =
         val u8 e (vint w8 e) ∷ []
@@ -447,43 +469,57 @@ module _ {M : Type 1} (𝓤 : URA M) (H : Heap 𝓤) (A : Atoms 𝓤) (W : Given
         (uint-makes 𝓤 H A W w8 e _ (refl, fits), tt)
         tt
 
-    abbrev to-finish : ℕ → Going → ℕ → List Frame → List Arg
-    to-finish u g e fs =
-        val VmRow m (vmVal m) ∷ val u64 u (vint w64 u) ∷ val GoingRow g (goingVal g) ∷ val u8 e (vint w8 e) ∷ mut R frames-at fs ∷ []
+    abbrev to-finish : ℕ → Going → Frame → ℕ → List Frame → List Arg
+    to-finish u g f e fs =
+        val VmRow m (vmVal m) ∷ val u64 u (vint w64 u) ∷ val GoingRow g (goingVal g) ∷ val R f (fval f) ∷ val u8 e (vint w8 e) ∷ mut R frames-at fs ∷ []
 
-    call-finish : (u : ℕ) → (g : Going) → (e : ℕ) → (fs : List Frame) → Is u64 u (vint w64 u ∷ []) → Is GoingRow g (goingVal g ∷ []) → e < 2 ^ 8
-        → length fs ≡ frames-at .count → (g .units ≤ u) × (g .callers < 2 ^ 32) × (g .callers < length fs) × Answerable g → Rule 𝓤 H A W
-        (to-finish u g e fs) Finish ResultRow resultVal
-        (λ r zs. (r ≡ settledWith m u g e) × (zs .1 .1 .1 .1 .0 ≡ set fs (g .callers) (frameIn g)))
-    call-finish u g e fs isu isg fits len can =
-        call-with 𝓤 H A W (to-finish u g e fs) Finish ResultRow resultVal
-        (λ r zs. (r ≡ settledWith m u g e) × (zs .1 .1 .1 .1 .0 ≡ set fs (g .callers) (frameIn g))) result-tells
-        (λ ns. passing (lent (to-finish u g e fs) ns)) (λ ns. refl) (λ ns. asked W (lent (to-finish u g e fs) ns) can) (λ ns w. id⊢ 𝓤 _)
-        (vm-makes 𝓤 H A W m _ (is .0), (uint-makes 𝓤 H A W w64 u _ isu, (going-makes 𝓤 H A W g _ isg, (uint-makes 𝓤 H A W w8 e _ (refl, fits), tt))))
+    abbrev Finishable : Going → List Frame → Type 0
+    Finishable g fs = (g .callers < 2 ^ 32) × (g .callers < length fs) × Answerable g
+
+    abbrev Finished : ℕ → Going → Frame → ℕ → List Frame → RunResult → List Frame → Type 0
+    Finished u g f e fs r fs′ = (r ≡ settledWith m u g e) × (fs′ ≡ set fs (g .callers) f)
+
+    call-finish : (u : ℕ) → (g : Going) → (f : Frame) → (e : ℕ) → (fs : List Frame) → Is u64 u (vint w64 u ∷ []) → Is GoingRow g (goingVal g ∷ [])
+        → Is R f (fval f ∷ []) → e < 2 ^ 8 → length fs ≡ frames-at .count → Finishable g fs → Rule 𝓤 H A W
+        (to-finish u g f e fs) Finish ResultRow resultVal (λ r zs. Finished u g f e fs r (zs .1 .1 .1 .1 .1 .0))
+    call-finish u g f e fs isu isg isf fits len can =
+        call-with 𝓤 H A W (to-finish u g f e fs) Finish ResultRow resultVal (λ r zs. Finished u g f e fs r (zs .1 .1 .1 .1 .1 .0)) result-tells
+        (λ ns. passing (lent (to-finish u g f e fs) ns)) (λ ns. refl) (λ ns. asked W (lent (to-finish u g f e fs) ns) can) (λ ns w. id⊢ 𝓤 _) (
+          vm-makes 𝓤 H A W m _ (is .0),
+          (
+            uint-makes 𝓤 H A W w64 u _ isu,
+            (going-makes 𝓤 H A W g _ isg, (frame-makes 𝓤 H A W f _ isf, (uint-makes 𝓤 H A W w8 e _ (refl, fits), tt))),
+          ),
+        )
         ((len, frames-room), tt)
 
-    abbrev to-stop : ℕ → Going → ℕ → List ℕ → List Frame → List Arg
-    to-stop u g e st fs =
-        val VmRow m (vmVal m) ∷ val u64 u (vint w64 u) ∷ val GoingRow g (goingVal g) ∷ val u8 e (vint w8 e) ∷ shr u64 functions-at functions
+    abbrev to-stop : Going → Frame → ℕ → List ℕ → List Frame → List Arg
+    to-stop g f e st fs =
+        val VmRow m (vmVal m) ∷ val GoingRow g (goingVal g) ∷ val R f (fval f) ∷ val u8 e (vint w8 e) ∷ shr u64 functions-at functions
         ∷ shr u32 mainPlaces-at mainPlaces ∷ shr u32 otherPlaces-at otherPlaces ∷ mut u64 stack-at st ∷ mut R frames-at fs ∷ shr u64 copy-at copy
-        ∷ mut u32 backtrace-at backtrace ∷ []
+        ∷ mut u64 backtrace-at backtrace ∷ []
 
-    call-stop : (u : ℕ) → (g : Going) → (e : ℕ) → (st : List ℕ) → (fs : List Frame) → Is u64 u (vint w64 u ∷ []) → Is GoingRow g (goingVal g ∷ [])
-        → e < 2 ^ 8 → length st ≡ stack-at .count → length fs ≡ frames-at .count → (g .units ≤ u) ×
-        (g .callers < 2 ^ 32) × TraceFits functions mainPlaces otherPlaces (frameIn g) (g .callers) fs (length backtrace) ×
-        (2 * m .run .saved ≤ length copy) × (2 * m .run .saved ≤ length st) × (0 < length fs) → Rule 𝓤 H A W (to-stop u g e st fs) Stop ResultRow resultVal
-        (λ r zs. (r ≡ faultedWith m u g e) × (zs .1 .1 .1 .1 .1 .1 .1 .1 .1 .1 .0 ≡ written backtrace 0 (traceWords functions mainPlaces otherPlaces
-        (frameIn g ∷ callersOf (g .callers) fs))) ×
-        (zs .1 .1 .1 .1 .1 .1 .1 .0 ≡ written st 0 (take (2 * m .run .saved) copy)) × (zs .1 .1 .1 .1 .1 .1 .1 .1 .0 ≡ set fs 0 (root (size
-        (codeWord functions 0)))))
-    call-stop u g e st fs isu isg fits len-st len-fs can =
-        call-with 𝓤 H A W (to-stop u g e st fs) Stop ResultRow resultVal
-        (λ r zs. (r ≡ faultedWith m u g e) × (zs .1 .1 .1 .1 .1 .1 .1 .1 .1 .1 .0 ≡ written backtrace 0 (traceWords functions mainPlaces otherPlaces
-        (frameIn g ∷ callersOf (g .callers) fs))) ×
-        (zs .1 .1 .1 .1 .1 .1 .1 .0 ≡ written st 0 (take (2 * m .run .saved) copy)) × (zs .1 .1 .1 .1 .1 .1 .1 .1 .0 ≡ set fs 0 (root (size
-        (codeWord functions 0))))) result-tells
-        (λ ns. passing (lent (to-stop u g e st fs) ns)) (λ ns. refl) (λ ns. asked W (lent (to-stop u g e st fs) ns) can) (λ ns w. id⊢ 𝓤 _)
-        (vm-makes 𝓤 H A W m _ (is .0), (uint-makes 𝓤 H A W w64 u _ isu, (going-makes 𝓤 H A W g _ isg, (uint-makes 𝓤 H A W w8 e _ (refl, fits), tt)))) (
+    abbrev Stoppable : Going → Frame → List ℕ → List Frame → Type 0
+    Stoppable g f st fs =
+        (g .callers < 2 ^ 32) × TraceFits functions mainPlaces otherPlaces f (g .callers) fs (length backtrace) × (2 * m .run .saved ≤ length copy)
+        × (2 * m .run .saved ≤ length st) × (0 < length fs)
+
+    abbrev Stopped : Going → Frame → ℕ → List ℕ → List Frame → RunResult → List ℕ → List Frame → List ℕ → Type 0
+    Stopped g f e st fs r st′ fs′ out′ =
+        (r ≡ faultedWith m g e) × (out′ ≡ written backtrace 0 (traceWords functions mainPlaces otherPlaces (f ∷ callersOf (g .callers) fs)))
+        × (st′ ≡ written st 0 (take (2 * m .run .saved) copy)) × (fs′ ≡ set fs 0 (root (size (codeWord functions 0))))
+
+    call-stop : (g : Going) → (f : Frame) → (e : ℕ) → (st : List ℕ) → (fs : List Frame) → Is GoingRow g (goingVal g ∷ [])
+        → Is R f (fval f ∷ []) → e < 2 ^ 8 → length st ≡ stack-at .count → length fs ≡ frames-at .count → Stoppable g f st fs
+        → Rule 𝓤 H A W (to-stop g f e st fs) Stop ResultRow resultVal
+        (λ r zs. Stopped g f e st fs r (zs .1 .1 .1 .1 .1 .1 .1 .0) (zs .1 .1 .1 .1 .1 .1 .1 .1 .0) (zs .1 .1 .1 .1 .1 .1 .1 .1 .1 .1 .0))
+    call-stop g f e st fs isg isf fits len-st len-fs can =
+        call-with 𝓤 H A W (to-stop g f e st fs) Stop ResultRow resultVal
+        (λ r zs. Stopped g f e st fs r (zs .1 .1 .1 .1 .1 .1 .1 .0) (zs .1 .1 .1 .1 .1 .1 .1 .1 .0) (zs .1 .1 .1 .1 .1 .1 .1 .1 .1 .1 .0)) result-tells
+        (λ ns. passing (lent (to-stop g f e st fs) ns)) (λ ns. refl) (λ ns. asked W (lent (to-stop g f e st fs) ns) can) (λ ns w. id⊢ 𝓤 _) (
+          vm-makes 𝓤 H A W m _ (is .0),
+          (going-makes 𝓤 H A W g _ isg, (frame-makes 𝓤 H A W f _ isf, (uint-makes 𝓤 H A W w8 e _ (refl, fits), tt))),
+        ) (
           (refl, functions-room),
           (
             (refl, mainPlaces-room),
@@ -591,76 +627,74 @@ module _ {M : Type 1} (𝓤 : URA M) (H : Heap 𝓤) (A : Atoms 𝓤) (W : Given
         (picks ! (false ∷ false ∷ false ∷ false ∷ false ∷ false ∷ true ∷ []) (slices stack cells frames backtrace)
         (bytes-known ! tt other-at other [] (λ ob. unpicks ! (false ∷ false ∷ false ∷ false ∷ false ∷ false ∷ true ∷ []) (slices stack cells frames backtrace)
         (move ! (1 ∷ []) $
+        calls-on ! [] (slices stack cells frames backtrace) (call-allotted (can .fits .1 .1)) (λ zs. (slices stack cells frames backtrace)) refl
+        (λ zs. refl) (λ zs. refl) fm known-allotted refl
+        (λ u zs eu lens isu. lands-in ! (tt, record { fits = isu .1 }) $
         sets ! (of-opd ! (of ! refl)) (tt, record { fits = stack-room .0 }) $
         sets ! (of-opd ! (of ! refl)) (tt, record { fits = frames-room .0 }) $
-        calls-on ! [] (slices stack cells frames backtrace) call-bounds (λ zs. (slices stack cells frames backtrace)) refl (λ zs. refl) (λ zs. refl)
+        calls-on ! [] (slices stack cells frames backtrace) (call-bounds u isu) (λ zs. (slices stack cells frames backtrace)) refl (λ zs. refl) (λ zs. refl)
         fm known-bounds refl
-        (λ k zs ek lens isk. lands-in ! (fixed-typed 𝓤 H A W k isk) $
+        (λ k zs₁ ek lens₁ isk. lands-in ! (fixed-typed 𝓤 H A W k isk) $
         sets ! (addr ! (behind ! refl refl)) (tt, tt) $ sets ! (agg ! (ofs ! refl)) (tt, (tt, (record { fits = frames-room .0 }, tt))) $
         calls-on ! (false ∷ false ∷ false ∷ false ∷ false ∷ false ∷ false ∷ false ∷ false ∷ false ∷ true ∷ []) (slices stack cells frames backtrace)
         (call-current (unfold runLent in lengths-of m stores lent₀ (can .order) .current))
-        (λ zs. (slices stack cells frames backtrace)) refl (λ zs. refl) (λ zs. refl) fm known-current refl (λ f zs₁ ef lens₁ isf. lands-in !
+        (λ zs. (slices stack cells frames backtrace)) refl (λ zs. refl) (λ zs. refl) fm known-current refl (λ f zs₂ ef lens₂ isf. lands-in !
         (frame-typed 𝓤 H A W f isf) $
-        calls-on ! [] (slices stack cells frames backtrace) (call-resumed f isf (
-          under-of m stores lent₀ (can .order)
-              (can .fits .0) .spent,
-          can .fits .1 .1,
-        )) (λ zs. (slices stack cells frames backtrace)) refl (λ zs. refl) (λ zs. refl) fm known-resumed refl
-        (λ g zs₂ eg lens₂ isg. lands-in ! (going-typed 𝓤 H A W g isg) $
-        calls-on ! [] (slices stack cells frames backtrace) (call-allotted (can .fits .1 .1)) (λ zs. (slices stack cells frames backtrace)) refl
-        (λ zs. refl) (λ zs. refl) fm known-allotted refl
-        (λ u zs₃ eu lens₃ isu. lands-in ! (tt, record { fits = isu .1 }) $
+        calls-on ! [] (slices stack cells frames backtrace) (call-resumed f isf) (λ zs. (slices stack cells frames backtrace)) refl (λ zs. refl) (λ zs. refl)
+        fm known-resumed refl
+        (λ g zs₃ eg lens₃ isg. lands-in ! (going-typed 𝓤 H A W g isg) $
         calls-on ! [] (slices stack cells frames backtrace) call-taken (λ zs. (slices stack cells frames backtrace)) refl (λ zs. refl) (λ zs. refl)
         fm known-taken refl
-        (λ n zs₄ en lens₄ isn. lands-in ! (tt, record { fits = isn .1 }) $
+        (λ n zs₄ en lens₄ isn.
+        let begins = begins-at k f g u mb ob ek eu ef eg in
+        lands-in ! (tt, record { fits = isn .1 }) $
         sets ! (addr ! (behind ! refl refl)) (tt, tt) $ sets ! (agg ! (ofs ! refl)) (tt, (tt, (record { fits = stack-room .0 }, tt))) $
         sets ! (addr ! (behind ! refl refl)) (tt, tt) $ sets ! (agg ! (ofs ! refl)) (tt, (tt, (record { fits = cells-room .0 }, tt))) $
         sets ! (addr ! (behind ! refl refl)) (tt, tt) $ sets ! (agg ! (ofs ! refl)) (tt, (tt, (record { fits = frames-room .0 }, tt))) $
-        calls-on ! (true ∷ false ∷ true ∷ true ∷ true ∷ false ∷ true ∷ false ∷ true ∷ true ∷ true ∷ [])
-        (slices stack cells frames backtrace) (call-turns k g n isk isg (isn .1) (worldOf m stores lent₀, under-at k f g n mb ob ek ef eg en))
-        (λ zs. slices (zs .1 .1 .1 .1 .1 .1 .1 .1 .0) (zs .1 .1 .1 .1 .1 .1 .1 .1 .1 .0) (zs .1 .1 .1 .1 .1 .1 .1 .1 .1 .1 .0) backtrace) refl
+        calls-on ! (true ∷ false ∷ true ∷ true ∷ true ∷ false ∷ true ∷ false ∷ true ∷ true ∷ true ∷ []) (slices stack cells frames backtrace)
+        (call-turns k g (f .entered) n isk isg (entered-fits f isf) (isn .1) (worldOf m stores lent₀, starts k f g n begins ef en))
+        (λ zs. slices (zs .1 .1 .1 .1 .1 .1 .1 .1 .1 .0) (zs .1 .1 .1 .1 .1 .1 .1 .1 .1 .1 .0) (zs .1 .1 .1 .1 .1 .1 .1 .1 .1 .1 .1 .0) backtrace) refl
         (λ zs. refl) (λ zs. refl) fm known-turns refl
-        (λ c zs₅ ec lens₅ isc. lands-in ! (course-typed 𝓤 H A W c isc) $
-        sets ! (of-opd ! (of ! refl)) (going-typed 𝓤 H A W (c .going) (course-going c isc)) $ sets ! (of-opd ! (of ! refl))
-        (tt, record { fits = course-fault c isc }) $
-        calls-on ! [] (slices (zs₅ .1 .1 .1 .1 .1 .1 .1 .1 .0) (zs₅ .1 .1 .1 .1 .1 .1 .1 .1 .1 .0) (zs₅ .1 .1 .1 .1 .1 .1 .1 .1 .1 .1 .0) backtrace)
-        (call-fine (c .fault) (course-fault c isc)) (λ zs. (slices (zs₅ .1 .1 .1 .1 .1 .1 .1 .1 .0) (zs₅ .1 .1 .1 .1 .1 .1 .1 .1 .1 .0)
-        (zs₅ .1 .1 .1 .1 .1 .1 .1 .1 .1 .1 .0) backtrace)) refl (λ zs. refl) (λ zs. refl) fm known-fine refl
-        (λ y zs₆ ey lens₆ isy. lands-in ! (tt, tt) $
+        (λ c zs₅ ec lens₅ isc.
+        -- the stores as the loop has left them
+        let st = zs₅ .1 .1 .1 .1 .1 .1 .1 .1 .1 .0 in
+        let cs = zs₅ .1 .1 .1 .1 .1 .1 .1 .1 .1 .1 .0 in
+        let fs = zs₅ .1 .1 .1 .1 .1 .1 .1 .1 .1 .1 .1 .0 in
+        let came = came-at k f g n c st cs fs begins ef en ec (lens₅ .0) (lens₅ .1 .0) (lens₅ .1 .1 .0) in
+        lands-in ! (course-typed 𝓤 H A W c isc) $
+        sets ! (of-opd ! (of ! refl)) (going-typed 𝓤 H A W (c .going) (course-going c isc)) $
+        calls-on ! [] (slices st cs fs backtrace) (call-framed (c .going) (c .entered) (course-going c isc) (course-entered c isc)) (λ zs. slices st cs fs backtrace)
+        refl (λ zs. refl) (λ zs. refl) fm known-framed refl
+        (λ h zs₆ eh lens₆ ish. lands-in ! (frame-typed 𝓤 H A W h ish) $
+        sets ! (of-opd ! (of ! refl)) (tt, record { fits = course-fault c isc }) $
+        calls-on ! [] (slices st cs fs backtrace) (call-fine (c .fault) (course-fault c isc)) (λ zs. slices st cs fs backtrace) refl (λ zs. refl) (λ zs. refl)
+        fm known-fine refl
+        (λ y zs₇ ey lens₇ isy. lands-in ! (tt, tt) $
         sets ! (of-opd ! (of ! refl)) (tt, tt) $ returns-if ! 𝓣 (of ! refl)
         (λ on.
         sets ! (addr ! (behind ! refl refl)) (tt, tt) $ sets ! (agg ! (ofs ! refl)) (tt, (tt, (record { fits = frames-room .0 }, tt))) $
-        calls-on ! (false ∷ false ∷ false ∷ false ∷ false ∷ false ∷ false ∷ false ∷ false ∷ false ∷ true ∷ [])
-        (slices (zs₅ .1 .1 .1 .1 .1 .1 .1 .1 .0) (zs₅ .1 .1 .1 .1 .1 .1 .1 .1 .1 .0) (zs₅ .1 .1 .1 .1 .1 .1 .1 .1 .1 .1 .0) backtrace) (call-finish u
-        (c .going) (c .fault) (zs₅ .1 .1 .1 .1 .1 .1 .1 .1 .1 .1 .0) isu (course-going c isc) (course-fault c isc) (lens₅ .1 .1 .0)
-        (finishes u (came-at k f g n c (zs₅ .1 .1 .1 .1 .1 .1 .1 .1 .0) (zs₅ .1 .1 .1 .1 .1 .1 .1 .1 .1 .0)
-        (zs₅ .1 .1 .1 .1 .1 .1 .1 .1 .1 .1 .0) mb ob ek ef eg en ec (lens₅ .0) (lens₅ .1 .0) (lens₅ .1 .1 .0)) eu)) (λ zs. slices
-        (zs₅ .1 .1 .1 .1 .1 .1 .1 .1 .0) (zs₅ .1 .1 .1 .1 .1 .1 .1 .1 .1 .0) (zs .1 .1 .1 .1 .0) backtrace) refl (λ zs. refl) (λ zs. refl) fm known-finish refl
-        (λ r zs₇ er lens₇ isr. lands-in ! (result-typed 𝓤 H A W r isr) $
+        calls-on ! (false ∷ false ∷ false ∷ false ∷ false ∷ false ∷ false ∷ false ∷ false ∷ false ∷ true ∷ []) (slices st cs fs backtrace)
+        (call-finish u (c .going) h (c .fault) fs isu (course-going c isc) ish (course-fault c isc) (lens₅ .1 .1 .0) (finishes came))
+        (λ zs. slices st cs (zs .1 .1 .1 .1 .1 .0) backtrace) refl (λ zs. refl) (λ zs. refl) fm known-finish refl
+        (λ r zs₈ er lens₈ isr. lands-in ! (result-typed 𝓤 H A W r isr) $
         sets ! (of-opd ! (of ! refl)) (result-typed 𝓤 H A W r isr) $ leaves ! refl $
-        by ! (exits r (zs₅ .1 .1 .1 .1 .1 .1 .1 .1 .0) (zs₅ .1 .1 .1 .1 .1 .1 .1 .1 .1 .0) (zs₇ .1 .1 .1 .1 .0) backtrace isr (lens₅ .0) (lens₅ .1 .0)
-        (lens₇ .0) refl
-        (settles r u (zs₇ .1 .1 .1 .1 .0) (came-at k f g n c (zs₅ .1 .1 .1 .1 .1 .1 .1 .1 .0) (zs₅ .1 .1 .1 .1 .1 .1 .1 .1 .1 .0)
-        (zs₅ .1 .1 .1 .1 .1 .1 .1 .1 .1 .1 .0) mb ob ek ef eg en ec (lens₅ .0) (lens₅ .1 .0) (lens₅ .1 .1 .0)) eu (sym ey ∙ is-true y on) (er .0) (er .1)))))
+        by ! (exits r st cs (zs₈ .1 .1 .1 .1 .1 .0) backtrace isr (lens₅ .0) (lens₅ .1 .0) (lens₈ .0) refl
+        (settles r u h (zs₈ .1 .1 .1 .1 .1 .0) came eu eh (sym ey ∙ is-true y on) er))))
         (λ off.
         sets ! (addr ! (behind ! refl refl)) (tt, tt) $ sets ! (agg ! (ofs ! refl)) (tt, (tt, (record { fits = stack-room .0 }, tt))) $
         sets ! (addr ! (behind ! refl refl)) (tt, tt) $ sets ! (agg ! (ofs ! refl)) (tt, (tt, (record { fits = frames-room .0 }, tt))) $
         sets ! (addr ! (behind ! refl refl)) (tt, tt) $ sets ! (agg ! (ofs ! refl)) (tt, (tt, (record { fits = backtrace-room .0 }, tt))) $
-        calls-on ! (false ∷ false ∷ true ∷ false ∷ false ∷ true ∷ false ∷ true ∷ true ∷ false ∷ true ∷ true ∷ true ∷ [])
-        (slices (zs₅ .1 .1 .1 .1 .1 .1 .1 .1 .0) (zs₅ .1 .1 .1 .1 .1 .1 .1 .1 .1 .0) (zs₅ .1 .1 .1 .1 .1 .1 .1 .1 .1 .1 .0) backtrace)
-        (call-stop u (c .going) (c .fault) (zs₅ .1 .1 .1 .1 .1 .1 .1 .1 .0) (zs₅ .1 .1 .1 .1 .1 .1 .1 .1 .1 .1 .0) isu (course-going c isc)
-        (course-fault c isc) (lens₅ .0) (lens₅ .1 .1 .0)
-        (stoppable u (came-at k f g n c (zs₅ .1 .1 .1 .1 .1 .1 .1 .1 .0) (zs₅ .1 .1 .1 .1 .1 .1 .1 .1 .1 .0)
-        (zs₅ .1 .1 .1 .1 .1 .1 .1 .1 .1 .1 .0) mb ob ek ef eg en ec (lens₅ .0) (lens₅ .1 .0) (lens₅ .1 .1 .0)) eu (sym ey ∙ is-false y off)))
-        (λ zs. slices (zs .1 .1 .1 .1 .1 .1 .1 .0) (zs₅ .1 .1 .1 .1 .1 .1 .1 .1 .1 .0) (zs .1 .1 .1 .1 .1 .1 .1 .1 .0)
-        (zs .1 .1 .1 .1 .1 .1 .1 .1 .1 .1 .0)) refl (λ zs. refl) (λ zs. refl) fm known-stop refl
-        (λ r zs₇ er lens₇ isr. lands-in ! (result-typed 𝓤 H A W r isr) $
+        calls-on ! (false ∷ false ∷ true ∷ false ∷ false ∷ true ∷ false ∷ true ∷ true ∷ false ∷ true ∷ true ∷ true ∷ []) (slices st cs fs backtrace)
+        (call-stop (c .going) h (c .fault) st fs (course-going c isc) ish (course-fault c isc) (lens₅ .0) (lens₅ .1 .1 .0)
+        (stoppable h came eh (sym ey ∙ is-false y off)))
+        (λ zs. slices (zs .1 .1 .1 .1 .1 .1 .1 .0) cs (zs .1 .1 .1 .1 .1 .1 .1 .1 .0) (zs .1 .1 .1 .1 .1 .1 .1 .1 .1 .1 .0)) refl (λ zs. refl) (λ zs. refl)
+        fm known-stop refl
+        (λ r zs₈ er lens₈ isr. lands-in ! (result-typed 𝓤 H A W r isr) $
         sets ! (of-opd ! (of ! refl)) (result-typed 𝓤 H A W r isr) $ leaves ! refl $
-        by ! (exits r (zs₇ .1 .1 .1 .1 .1 .1 .1 .0) (zs₅ .1 .1 .1 .1 .1 .1 .1 .1 .1 .0) (zs₇ .1 .1 .1 .1 .1 .1 .1 .1 .0)
-        (zs₇ .1 .1 .1 .1 .1 .1 .1 .1 .1 .1 .0) isr (lens₇ .0) (lens₅ .1 .0) (lens₇ .1 .0) (lens₇ .1 .1 .0)
-        (stopped r u (zs₇ .1 .1 .1 .1 .1 .1 .1 .0) (zs₇ .1 .1 .1 .1 .1 .1 .1 .1 .0) (zs₇ .1 .1 .1 .1 .1 .1 .1 .1 .1 .1 .0) (came-at k f g n c
-        (zs₅ .1 .1 .1 .1 .1 .1 .1 .1 .0) (zs₅ .1 .1 .1 .1 .1 .1 .1 .1 .1 .0) (zs₅ .1 .1 .1 .1 .1 .1 .1 .1 .1 .1 .0) mb ob ek ef eg en ec (lens₅ .0)
-        (lens₅ .1 .0) (lens₅ .1 .1 .0)) eu (sym ey ∙ is-false y off) (er .0) (er .1) (er .2) (er .3))))))))))))))))))))
+        by ! (exits r (zs₈ .1 .1 .1 .1 .1 .1 .1 .0) cs (zs₈ .1 .1 .1 .1 .1 .1 .1 .1 .0) (zs₈ .1 .1 .1 .1 .1 .1 .1 .1 .1 .1 .0) isr
+        (lens₈ .0) (lens₅ .1 .0) (lens₈ .1 .0) (lens₈ .1 .1 .0)
+        (stopped r h (zs₈ .1 .1 .1 .1 .1 .1 .1 .0) (zs₈ .1 .1 .1 .1 .1 .1 .1 .1 .0) (zs₈ .1 .1 .1 .1 .1 .1 .1 .1 .1 .1 .0) came eh (sym ey ∙ is-false y off)
+        er))))))))))))))))))))
       where
         fm : FmC 𝓤 H (W .laws) (𝓣 .C)
         fm = fmOf 𝓤 H (W .laws) 𝓣
@@ -672,11 +706,11 @@ module _ {M : Type 1} (𝓤 : URA M) (H : Heap 𝓤) (A : Atoms 𝓤) (W : Given
         lent₀ = (runLent stack cells frames copy backtrace)
 
         -- the loop may begin
-        begins-at : (k : Fixed) (f : Frame) (g : Going) → ((j : ℕ) → j < length main → getD main j 0 < 256) → ((j : ℕ) → j < length other
+        begins-at : (k : Fixed) (f : Frame) (g : Going) (u : ℕ) → ((j : ℕ) → j < length main → getD main j 0 < 256) → ((j : ℕ) → j < length other
             → getD other j 0 < 256)
-            → FixedPost m (stack-at .count) (frames-at .count) k → f ≡ getD frames (m .frames - 1) noFrame → Begun m f
-            (m .run .given - m .run .spent + units) g → Begins m stores lent₀ units k g
-        begins-at k f g mb ob ek ef eg = unfold programLent runLent in record {
+            → FixedPost m u (stack-at .count) (frames-at .count) k → u ≡ m .run .given + units → f ≡ getD frames (m .frames - 1) noFrame
+            → Begun m f (m .run .spent) g → Begins m stores lent₀ units k g
+        begins-at k f g u mb ob ek eu ef eg = unfold programLent runLent in record {
           granted = can;
           bytes = record { main = mb; other = ob };
           fixed = record {
@@ -685,79 +719,64 @@ module _ {M : Type 1} (𝓤 : URA M) (H : Heap 𝓤) (A : Atoms 𝓤) (W : Given
             functions = ek .functions;
             slots = ek .slots stack refl;
             frames = ek .frames frames refl;
+            given = ek .given ∙ eu;
           };
-          begun = subst (λ (x : Frame). Begun m x (m .run .given - m .run .spent + units) g) ef eg;
+          begun = subst (λ (x : Frame). Begun m x (m .run .spent) g) ef eg;
         }
 
-        under-at : (k : Fixed) (f : Frame) (g : Going) (n : ℕ) → ((j : ℕ) → j < length main → getD main j 0 < 256) → ((j : ℕ) → j < length other
-            → getD other j 0 < 256)
-            → FixedPost m (stack-at .count) (frames-at .count) k → f ≡ getD frames (m .frames - 1) noFrame → Begun m f
-            (m .run .given - m .run .spent + units) g → n ≡ m .program .text → Under
-            (worldOf m stores lent₀) k g n constants functions text main other stack cells frames
-        under-at k f g n mb ob ek ef eg en =
-            rw en (unfold programLent runLent in run-under m stores lent₀ units k g (begins-at k f g mb ob ek ef eg))
+        starts : (k : Fixed) (f : Frame) (g : Going) (n : ℕ) → Begins m stores lent₀ units k g → f ≡ getD frames (m .frames - 1) noFrame → n ≡ m .program .text
+            → Starts (worldOf m stores lent₀) k g (f .entered) n
+        starts k f g n begins ef en = rw (ef, en) (unfold programLent runLent in run-under m stores lent₀ units k g begins)
 
         -- it has ended
-        came-at : (k : Fixed) (f : Frame) (g : Going) (n : ℕ) (c : Course) (st cs : List ℕ) (fs : List Frame) → ((j : ℕ) → j < length main
-            → getD main j 0 < 256) → ((j : ℕ) → j < length other → getD other j 0 < 256)
-            → FixedPost m (stack-at .count) (frames-at .count) k → f ≡ getD frames (m .frames - 1) noFrame → Begun m f
-            (m .run .given - m .run .spent + units) g → n ≡ m .program .text
-            → ((w : World) → Under w k g n constants functions text main other stack cells frames → TurnsPost w k g stack cells frames c st cs fs)
+        came-at : (k : Fixed) (f : Frame) (g : Going) (n : ℕ) (c : Course) (st cs : List ℕ) (fs : List Frame) → Begins m stores lent₀ units k g
+            → f ≡ getD frames (m .frames - 1) noFrame → n ≡ m .program .text → Ran k g (f .entered) n c st cs fs
             → length st ≡ stack-at .count → length cs ≡ cells-at .count → length fs ≡ frames-at .count → Came m stores lent₀ units k g c st cs fs
-        came-at k f g n c st cs fs mb ob ek ef eg en ec ls lc lf = unfold runLent in record {
-          begins = begins-at k f g mb ob ek ef eg;
-          turns = ec (worldOf m stores lent₀) (under-at k f g n mb ob ek ef eg en);
+        came-at k f g n c st cs fs begins ef en ec ls lc lf = unfold runLent in record {
+          begins = begins;
+          turns = subst (λ (x : Frame). TurnsPost (worldOf m stores lent₀) k g (x .entered) stack cells frames c st cs fs) ef
+              (ec (worldOf m stores lent₀) (starts k f g n begins ef en));
           stackRoom = ls;
           cellRoom = lc;
           framesRoom = lf;
         }
 
         -- no fault has stopped the run
-        finishes : {k : Fixed} {g : Going} {c : Course} {st cs : List ℕ} {fs : List Frame} (u : ℕ) → Came m stores lent₀ units k g c st cs fs
-            → u ≡ m .run .given + units
-            → (c .going .units ≤ u) × (c .going .callers < 2 ^ 32) × (c .going .callers < length fs) × Answerable (c .going)
-        finishes {k} {g} {c} {st} {cs} {fs} u h eu =
-            rw eu (
-              se.units-left m stores lent₀ units k g c st cs fs h,
-              se.callers-small m stores lent₀ units k g c st cs fs h,
-              se.callers-there m stores lent₀ units k g c st cs fs h,
-              se.answerable m stores lent₀ units k g c st cs fs h,
-            )
+        finishes : {k : Fixed} {g : Going} {c : Course} {st cs : List ℕ} {fs : List Frame} → Came m stores lent₀ units k g c st cs fs → Finishable (c .going) fs
+        finishes {k} {g} {c} {st} {cs} {fs} came = (
+          se.callers-small m stores lent₀ units k g c st cs fs came,
+          se.callers-there m stores lent₀ units k g c st cs fs came,
+          se.answerable m stores lent₀ units k g c st cs fs came,
+        )
 
-        settles : {k : Fixed} {g : Going} {c : Course} {st cs : List ℕ} {fs : List Frame} (r : RunResult) (u : ℕ) (frames′ : List Frame)
-            → Came m stores lent₀ units k g c st cs fs → u ≡ m .run .given + units
-            → (eqb (c .fault) 0 || eqb (c .fault) 13) ≡ true → r ≡ settledWith m u (c .going) (c .fault) → frames′ ≡ set fs (c .going .callers)
-            (frameIn (c .going))
+        settles : {k : Fixed} {g : Going} {c : Course} {st cs : List ℕ} {fs : List Frame} (r : RunResult) (u : ℕ) (f : Frame) (frames′ : List Frame)
+            → Came m stores lent₀ units k g c st cs fs → u ≡ m .run .given + units → f ≡ frameIn (c .going) (c .entered)
+            → (eqb (c .fault) 0 || eqb (c .fault) 13) ≡ true → Finished u (c .going) f (c .fault) fs r frames′
             → RunPost (continues units) m stores lent₀ r (runLent st cs frames′ copy backtrace)
-        settles {k} {g} {c} {st} {cs} {fs} r u frames′ h eu fine er ef = rw (er, eu, ef)
-            (unfold runLent in se.run-settled m stores lent₀ units k g c st cs fs h fine)
+        settles {k} {g} {c} {st} {cs} {fs} r u f frames′ came eu ef fine er =
+            rw (er .0, eu, er .1, ef) (unfold runLent in se.run-settled m stores lent₀ units k g c st cs fs came fine)
 
         -- one has
-        stoppable : {k : Fixed} {g : Going} {c : Course} {st cs : List ℕ} {fs : List Frame} (u : ℕ) → Came m stores lent₀ units k g c st cs fs
-            → u ≡ m .run .given + units → (eqb (c .fault) 0 || eqb (c .fault) 13) ≡ false
-            → (c .going .units ≤ u) × (c .going .callers < 2 ^ 32) × TraceFits functions mainPlaces otherPlaces (frameIn (c .going))
-            (c .going .callers) fs (length backtrace) × (2 * m .run .saved ≤ length copy) × (2 * m .run .saved ≤ length st) × (0 < length fs)
-        stoppable {k} {g} {c} {st} {cs} {fs} u h eu bad =
-            let x = se.stops m stores lent₀ units k g c st cs fs h bad in
-            rw eu (unfold runLent programLent in (
-              se.units-left m stores lent₀ units k g c st cs fs h,
-              se.callers-small m stores lent₀ units k g c st cs fs h,
-              trace-ready (continues units) m stores lent₀ (m .run .given + units) (c .going) (c .fault) st cs fs x,
+        stoppable : {k : Fixed} {g : Going} {c : Course} {st cs : List ℕ} {fs : List Frame} (f : Frame) → Came m stores lent₀ units k g c st cs fs
+            → f ≡ frameIn (c .going) (c .entered) → (eqb (c .fault) 0 || eqb (c .fault) 13) ≡ false → Stoppable (c .going) f st fs
+        stoppable {k} {g} {c} {st} {cs} {fs} f came ef bad =
+            let x = se.stops m stores lent₀ units k g c st cs fs came bad in
+            rw ef (unfold runLent programLent in (
+              se.callers-small m stores lent₀ units k g c st cs fs came,
+              trace-ready (continues units) m stores lent₀ (c .going) _ (c .fault) st cs fs x,
               x .saved .copy,
-              stack-there (continues units) m stores lent₀ (m .run .given + units) (c .going) (c .fault) st cs fs x,
-              frame-there (continues units) m stores lent₀ (m .run .given + units) (c .going) (c .fault) st cs fs x,
+              stack-there (continues units) m stores lent₀ (c .going) _ (c .fault) st cs fs x,
+              frame-there (continues units) m stores lent₀ (c .going) _ (c .fault) st cs fs x,
             ))
 
-        stopped : {k : Fixed} {g : Going} {c : Course} {st cs : List ℕ} {fs : List Frame} (r : RunResult) (u : ℕ) (stack′ : List ℕ)
-            (frames′ : List Frame) (backtrace′ : List ℕ) → Came m stores lent₀ units k g c st cs fs → u ≡ m .run .given + units
-            → (eqb (c .fault) 0 || eqb (c .fault) 13) ≡ false → r ≡ faultedWith m u (c .going) (c .fault)
-            → backtrace′ ≡ written backtrace 0 (traceWords functions mainPlaces otherPlaces (frameIn (c .going) ∷ callersOf (c .going .callers) fs))
-            → stack′ ≡ written st 0 (take (2 * m .run .saved) copy) → frames′ ≡ set fs 0 (root (size (codeWord functions 0)))
+        stopped : {k : Fixed} {g : Going} {c : Course} {st cs : List ℕ} {fs : List Frame} (r : RunResult) (f : Frame) (stack′ : List ℕ) (frames′ : List Frame)
+            (backtrace′ : List ℕ) → Came m stores lent₀ units k g c st cs fs → f ≡ frameIn (c .going) (c .entered)
+            → (eqb (c .fault) 0 || eqb (c .fault) 13) ≡ false → Stopped (c .going) f (c .fault) st fs r stack′ frames′ backtrace′
             → RunPost (continues units) m stores lent₀ r (runLent stack′ cs frames′ copy backtrace′)
-        stopped {k} {g} {c} {st} {cs} {fs} r u stack′ frames′ backtrace′ h eu bad er et es ef =
-            rw (er, eu, et, es, ef)
-            (unfold runLent programLent in run-stopped (continues units) m stores lent₀ (m .run .given + units) (c .going) (c .fault) st cs fs
-            (se.stops m stores lent₀ units k g c st cs fs h bad))
+        stopped {k} {g} {c} {st} {cs} {fs} r f stack′ frames′ backtrace′ came ef bad er =
+            rw (er .0, er .1, er .2, er .3, ef)
+            (unfold runLent programLent in run-stopped (continues units) m stores lent₀ (c .going) _ (c .fault) st cs fs
+            (se.stops m stores lent₀ units k g c st cs fs came bad))
 
 pub go-spec : {M : Type 1} → stated.statement M
 unfolding code.routine tablesOf
@@ -778,6 +797,7 @@ go-spec 𝓤 H 𝓜 𝓖 𝓡 =
     (cited 𝓤 H (Allotted 𝓤 H (𝓖 .A) W (𝓜 .mem) (𝓡 .run)) 𝓜 𝓡 code.env #allotted allotted-def.routine code.calls-run-ends·all-given (allotted-thm.met 𝓤 H 𝓜 𝓖 𝓡))
     (cited 𝓤 H (Taken 𝓤 H (𝓖 .A) W (𝓜 .mem) (𝓡 .run)) 𝓜 𝓡 code.env #taken taken-def.routine code.calls-machine·running·text-of (taken-thm.met 𝓤 H 𝓜 𝓖 𝓡))
     (cited 𝓤 H (Turns 𝓤 H (𝓖 .A) W (𝓜 .mem) (𝓡 .run)) 𝓜 𝓡 code.env #turns turns-def.routine code.calls-run-loop·turns (turns-thm.met 𝓤 H 𝓜 𝓖 𝓡))
+    (cited 𝓤 H (Framed 𝓤 H (𝓖 .A) W (𝓜 .mem) (𝓡 .run)) 𝓜 𝓡 code.env #framed framed-def.routine code.calls-run-loop·frame-of (framed-thm.met 𝓤 H 𝓜 𝓖 𝓡))
     (cited 𝓤 H (Fine 𝓤 H (𝓖 .A) W (𝓜 .mem) (𝓡 .run)) 𝓜 𝓡 code.env #fine fine-def.routine code.calls-run-ends·unfaulted (fine-thm.met 𝓤 H 𝓜 𝓖 𝓡))
     (cited 𝓤 H (Finish 𝓤 H (𝓖 .A) W (𝓜 .mem) (𝓡 .run)) 𝓜 𝓡 code.env #finish finish-def.routine code.calls-machine·running·finish (finish-thm.met 𝓤 H 𝓜 𝓖 𝓡))
     (cited 𝓤 H (Stop 𝓤 H (𝓖 .A) W (𝓜 .mem) (𝓡 .run)) 𝓜 𝓡 code.env #stop stop-def.routine code.calls-machine·running·stop (stop-thm.met 𝓤 H 𝓜 𝓖 𝓡)) κs qs a is))

@@ -15,13 +15,8 @@ use lib.ListN.{take}
 use Rattle.model.specs.Emission.{written}
 use Rattle.model.specs.Runs.{root}
 use Rattle.model.specs.Stores.{size, codeWord}
-use Rattle.run_arms.specs.Links.{frameIn}
 use Rattle.frames.specs.Links.{callersOf, traceWords, TraceFits}
 use Rattle.run_ends.specs.Links.{faultedWith}
-use Rattle.run_loop.proofs.frame_of as current
-use Rattle.run_loop.proofs.frame_of.Symbol as current-def
-use Rattle.run_loop.proofs.frame_of.Symbol.{name as #current}
-use Rattle.run_loop.proofs.frame_of.Met as current-thm
 use Rattle.frames.proofs.backtrace.trace as trace
 use Rattle.frames.proofs.backtrace.trace.Symbol as trace-def
 use Rattle.frames.proofs.backtrace.trace.Symbol.{name as #trace}
@@ -45,14 +40,11 @@ use Rattle.machine.proofs.running.stop.Code as code
 
 abbrev kinds : List (Kind 7)
 kinds =
-    own VmRow vmVal vm-tells (λ x f. refl) ∷ own u64 (vint w64) (uint-tells w64) (λ x f. refl) ∷ own GoingRow goingVal going-tells
+    own VmRow vmVal vm-tells (λ x f. refl) ∷ own GoingRow goingVal going-tells (λ x f. refl) ∷ own R fval tells
     (λ x f. refl) ∷ own u8 (vint w8) (uint-tells w8) (λ x f. refl) ∷ shared 0 tt u64 ∷ shared 1 tt u32 ∷ shared 2 tt u32 ∷ unique
-    3 tt u64 ∷ unique 4 tt R ∷ shared 5 tt u64 ∷ unique 6 tt u32 ∷ []
+    3 tt u64 ∷ unique 4 tt R ∷ shared 5 tt u64 ∷ unique 6 tt u64 ∷ []
 
 module _ {M : Type 1} (𝓤 : URA M) (H : Heap 𝓤) (A : Atoms 𝓤) (W : Given 𝓤 H A) (mem : Memory → SProp 𝓤) (run : Routine → Fun 𝓤) where
-  abbrev Current : Contract 𝓤
-  Current = tripleOf 𝓤 H A current.signature (current.spec 𝓤 H A mem run)
-
   abbrev Trace : Contract 𝓤
   Trace = tripleOf 𝓤 H A trace.signature (trace.spec 𝓤 H A mem run)
 
@@ -65,18 +57,18 @@ module _ {M : Type 1} (𝓤 : URA M) (H : Heap 𝓤) (A : Atoms 𝓤) (W : Given
   abbrev Answer : Contract 𝓤
   Answer = tripleOf 𝓤 H A answer.signature (answer.spec 𝓤 H A mem run)
 
-  module _ (𝓣 : Tables 𝓤 H) (known-current : Triple 𝓤 (𝓣 .C #current) Current) (known-trace : Triple 𝓤 (𝓣 .C #trace) Trace)
+  module _ (𝓣 : Tables 𝓤 H) (known-trace : Triple 𝓤 (𝓣 .C #trace) Trace)
       (known-saved : Triple 𝓤 (𝓣 .C #saved) Saved) (known-back : Triple 𝓤 (𝓣 .C #back) Back) (known-answer : Triple 𝓤 (𝓣 .C #answer) Answer)
       (κs : Lfts 7) (qs : Shares 7) (a : Passed kinds ResultRow κs) (is : Known kinds ResultRow κs a) where
     -- the parameters
     abbrev m : Vm
     m = a .0
 
-    abbrev given : ℕ
-    given = a .1 .0
-
     abbrev g : Going
-    g = a .1 .1 .0
+    g = a .1 .0
+
+    abbrev f : Frame
+    f = a .1 .1 .0
 
     abbrev fault : ℕ
     fault = a .1 .1 .1 .0
@@ -123,6 +115,12 @@ module _ {M : Type 1} (𝓤 : URA M) (H : Heap 𝓤) (A : Atoms 𝓤) (W : Given
     abbrev backtrace : List ℕ
     backtrace = now (a .1 .1 .1 .1 .1 .1 .1 .1 .1 .1 .0)
 
+    abbrev is-g : Is GoingRow g (goingVal g ∷ [])
+    is-g = is .1 .0
+
+    abbrev is-f : Is R f (fval f ∷ [])
+    is-f = is .1 .1 .0
+
     abbrev room0 : Room u64 (s0 .count)
     room0 = is .1 .1 .1 .1 .0 .0 .1
 
@@ -141,17 +139,17 @@ module _ {M : Type 1} (𝓤 : URA M) (H : Heap 𝓤) (A : Atoms 𝓤) (W : Given
     abbrev room5 : Room u64 (s5 .count)
     room5 = is .1 .1 .1 .1 .1 .1 .1 .1 .1 .0 .0 .1
 
-    abbrev room6 : Room u32 (s6 .count)
+    abbrev room6 : Room u64 (s6 .count)
     room6 = is .1 .1 .1 .1 .1 .1 .1 .1 .1 .1 .0 .0 .1
 
     abbrev slices : List ℕ → List Frame → List ℕ → List Arg
     slices stack′ frames′ backtrace′ =
         shr u64 s0 functions ∷ shr u32 s1 mainPlaces ∷ shr u32 s2 otherPlaces ∷ mut u64 s3 stack′ ∷ mut R s4 frames′ ∷ shr u64 s5
-        copy ∷ mut u32 s6 backtrace′ ∷ []
+        copy ∷ mut u64 s6 backtrace′ ∷ []
 
     abbrev xs : List ℕ → List Frame → List ℕ → List Arg
     xs stack′ frames′ backtrace′ =
-        val VmRow m (vmVal m) ∷ val u64 given (vint w64 given) ∷ val GoingRow g (goingVal g) ∷ val u8 fault (vint w8 fault) ∷
+        val VmRow m (vmVal m) ∷ val GoingRow g (goingVal g) ∷ val R f (fval f) ∷ val u8 fault (vint w8 fault) ∷
         slices stack′ frames′ backtrace′
 
     abbrev Post : Val → SProp 𝓤
@@ -159,8 +157,8 @@ module _ {M : Type 1} (𝓤 : URA M) (H : Heap 𝓤) (A : Atoms 𝓤) (W : Given
 
     exits : (r : RunResult) (stack′ : List ℕ) (frames′ : List Frame) (backtrace′ : List ℕ) → Is ResultRow r (resultVal r ∷ []) → length stack′ ≡ s3 .count
         → length frames′ ≡ s4 .count → length backtrace′ ≡ s6 .count
-        → ((r ≡ faultedWith m given g fault) × (backtrace′ ≡ written backtrace 0
-        (traceWords functions mainPlaces otherPlaces (frameIn g ∷ callersOf (g .callers) frames))) × (stack′ ≡ written stack 0 (take
+        → ((r ≡ faultedWith m g fault) × (backtrace′ ≡ written backtrace 0
+        (traceWords functions mainPlaces otherPlaces (f ∷ callersOf (g .callers) frames))) × (stack′ ≡ written stack 0 (take
         (2 * m .run .saved) copy)) ×
         (frames′ ≡ set frames 0 (root (size (codeWord functions 0)))))
         → ent 𝓤 (⋆ 𝓤 H A (‵ (Holds (slices stack′ frames′ backtrace′)) ∷ [])) (Post (resultVal r))
@@ -171,35 +169,24 @@ module _ {M : Type 1} (𝓤 : URA M) (H : Heap 𝓤) (A : Atoms 𝓤) (W : Given
         (tt, (tt, (tt, (tt, (tt, (tt, (tt, (len-stack, (len-frames, (tt, (len-backtrace, tt)))))))))))) $ says ! said $ gives !
         (xs stack′ frames′ backtrace′) (
           vm-makes 𝓤 H A W m _ (is .0),
-          (
-            uint-makes 𝓤 H A W w64 given _ (is .1 .0),
-            (going-makes 𝓤 H A W g _ (is .1 .1 .0), (uint-makes 𝓤 H A W w8 fault _ (is .1 .1 .1 .0), tt)),
-          ),
+          (going-makes 𝓤 H A W g _ is-g, (frame-makes 𝓤 H A W f _ is-f, (uint-makes 𝓤 H A W w8 fault _ (is .1 .1 .1 .0), tt))),
         ) (frame ! $ owned ! ResultRow (Is ResultRow) (result-makes 𝓤 H A W) r _ isr $ keep ! (1 ∷ 0 ∷ []) $ done !)
 
     -- the calls
-    abbrev to-current : List Arg
-    to-current = val GoingRow g (goingVal g) ∷ []
-
-    call-current : Rule 𝓤 H A W to-current Current R fval (λ f zs. f ≡ frameIn g)
-    call-current =
-        call-with 𝓤 H A W to-current Current R fval (λ f zs. f ≡ frameIn g) tells (λ ns. passing (lent to-current ns))
-        (λ ns. refl) (λ ns. unasked W (lent to-current ns)) (λ ns w. id⊢ 𝓤 _) (going-makes 𝓤 H A W g _ (is .1 .1 .0), tt) tt
-
-    abbrev to-trace : Frame → List Arg
-    to-trace f =
+    abbrev to-trace : List Arg
+    to-trace =
         shr u64 s0 functions ∷ shr u32 s1 mainPlaces ∷ shr u32 s2 otherPlaces ∷ val R f (fval f) ∷ val usize (g .callers)
-        (vint w64 (g .callers)) ∷ peek R s4 frames ∷ mut u32 s6 backtrace ∷ []
+        (vint w64 (g .callers)) ∷ peek R s4 frames ∷ mut u64 s6 backtrace ∷ []
 
-    call-trace : (f : Frame) → Is R f (fval f ∷ []) → TraceFits functions mainPlaces otherPlaces f (g .callers) frames (length backtrace)
-        → Rule 𝓤 H A W (to-trace f) Trace Nothing (λ _. vunit) (λ r zs. zs .1 .1 .1 .1 .1 .1 .0 ≡ written backtrace 0
+    call-trace : TraceFits functions mainPlaces otherPlaces f (g .callers) frames (length backtrace)
+        → Rule 𝓤 H A W to-trace Trace Nothing (λ _. vunit) (λ r zs. zs .1 .1 .1 .1 .1 .1 .0 ≡ written backtrace 0
         (traceWords functions mainPlaces otherPlaces (f ∷ callersOf (g .callers) frames)))
-    call-trace f isf can =
-        call-with 𝓤 H A W (to-trace f) Trace Nothing (λ _. vunit)
+    call-trace can =
+        call-with 𝓤 H A W to-trace Trace Nothing (λ _. vunit)
         (λ r zs. zs .1 .1 .1 .1 .1 .1 .0 ≡ written backtrace 0
         (traceWords functions mainPlaces otherPlaces (f ∷ callersOf (g .callers) frames))) (λ r vs was. was)
-        (λ ns. passing (lent (to-trace f) ns)) (λ ns. refl) (λ ns. asked W (lent (to-trace f) ns) can) (λ ns w. id⊢ 𝓤 _)
-        (frame-makes 𝓤 H A W f _ isf, (uint-makes 𝓤 H A W w64 (g .callers) _ (refl, callers-fit g (is .1 .1 .0)), tt))
+        (λ ns. passing (lent to-trace ns)) (λ ns. refl) (λ ns. asked W (lent to-trace ns) can) (λ ns w. id⊢ 𝓤 _)
+        (frame-makes 𝓤 H A W f _ is-f, (uint-makes 𝓤 H A W w64 (g .callers) _ (refl, callers-fit g is-g), tt))
         ((refl, room0), ((refl, room1), ((refl, room2), ((refl, room4), ((refl, room6), tt)))))
 
     abbrev to-saved : List Arg
@@ -228,21 +215,15 @@ module _ {M : Type 1} (𝓤 : URA M) (H : Heap 𝓤) (A : Atoms 𝓤) (W : Given
         ((refl, room0), ((refl, room3), ((refl, room4), ((refl, room5), tt))))
 
     abbrev to-answer : List Arg
-    to-answer =
-        val VmRow m (vmVal m) ∷ val u64 given (vint w64 given) ∷ val GoingRow g (goingVal g) ∷ val u8 fault (vint w8 fault) ∷ []
+    to-answer = val VmRow m (vmVal m) ∷ val GoingRow g (goingVal g) ∷ val u8 fault (vint w8 fault) ∷ []
 
-    call-answer : (g .units ≤ given) × (g .callers < 2 ^ 32) → Rule 𝓤 H A W to-answer Answer ResultRow resultVal (λ r zs. r ≡ faultedWith m given g fault)
+    call-answer : g .callers < 2 ^ 32 → Rule 𝓤 H A W to-answer Answer ResultRow resultVal (λ r zs. r ≡ faultedWith m g fault)
     call-answer can =
-        call-with 𝓤 H A W to-answer Answer ResultRow resultVal (λ r zs. r ≡ faultedWith m given g fault) result-tells
-        (λ ns. passing (lent to-answer ns)) (λ ns. refl) (λ ns. asked W (lent to-answer ns) can) (λ ns w. id⊢ 𝓤 _) (
-          vm-makes 𝓤 H A W m _ (is .0),
-          (
-            uint-makes 𝓤 H A W w64 given _ (is .1 .0),
-            (going-makes 𝓤 H A W g _ (is .1 .1 .0), (uint-makes 𝓤 H A W w8 fault _ (is .1 .1 .1 .0), tt)),
-          ),
-        ) tt
+        call-with 𝓤 H A W to-answer Answer ResultRow resultVal (λ r zs. r ≡ faultedWith m g fault) result-tells
+        (λ ns. passing (lent to-answer ns)) (λ ns. refl) (λ ns. asked W (lent to-answer ns) can) (λ ns w. id⊢ 𝓤 _)
+        (vm-makes 𝓤 H A W m _ (is .0), (going-makes 𝓤 H A W g _ is-g, (uint-makes 𝓤 H A W w8 fault _ (is .1 .1 .1 .0), tt))) tt
 
-    walk : ((g .units ≤ given) × (g .callers < 2 ^ 32) × TraceFits functions mainPlaces otherPlaces (frameIn g) (g .callers) frames (length backtrace) ×
+    walk : ((g .callers < 2 ^ 32) × TraceFits functions mainPlaces otherPlaces f (g .callers) frames (length backtrace) ×
         (2 * m .run .saved ≤ length copy) × (2 * m .run .saved ≤ length stack) × (0 < length frames))
         → ent 𝓤 (onEntry 𝓤 H A me.signature (lfts (xs stack frames backtrace)) (shares (xs stack frames backtrace)) (denots (xs stack frames backtrace))
         (valss (xs stack frames backtrace))) (WpFn 𝓤 H (𝓣 .C) (𝓣 .Λ) code.function (values (xs stack frames backtrace)) Post)
@@ -251,9 +232,9 @@ module _ {M : Type 1} (𝓤 : URA M) (H : Heap 𝓤) (A : Atoms 𝓤) (W : Given
         takes ! (xs stack frames backtrace) (enters ! (𝓣 .C) (𝓣 .Λ) code.function (values (xs stack frames backtrace)) Post (
           vm-typed 𝓤 H A W m (is .0),
           (
-            (tt, record { fits = (is .1 .0) .1 }),
+            going-typed 𝓤 H A W g is-g,
             (
-              going-typed 𝓤 H A W g (is .1 .1 .0),
+              frame-typed 𝓤 H A W f is-f,
               (
                 (tt, record { fits = (is .1 .1 .1 .0) .1 }),
                 (
@@ -279,14 +260,11 @@ module _ {M : Type 1} (𝓤 : URA M) (H : Heap 𝓤) (A : Atoms 𝓤) (W : Given
             ),
           ),
         ) (λ ls.
-        calls-on ! [] (slices stack frames backtrace) (call-current) (λ zs. slices stack frames backtrace) refl (λ zs. refl) (λ zs. refl) fm known-current refl
-        (λ f zs ef lens isf. lands-in ! (frame-typed 𝓤 H A W f isf) $
-        sets ! (of-opd ! (of ! refl)) (tt, record { fits = callers-fit g (is .1 .1 .0) }) $ sets ! (addr ! (behind ! refl refl)) (tt, tt) $
+        sets ! (of-opd ! (of ! refl)) (tt, record { fits = callers-fit g is-g }) $ sets ! (addr ! (behind ! refl refl)) (tt, tt) $
         sets ! (agg ! (ofs ! refl)) (tt, (tt, (record { fits = room4 .0 }, tt))) $ sets ! (addr ! (behind ! refl refl)) (tt, tt) $
         sets ! (agg ! (ofs ! refl)) (tt, (tt, (record { fits = room6 .0 }, tt))) $
         calls-on ! (true ∷ true ∷ true ∷ false ∷ true ∷ false ∷ true ∷ []) (slices stack frames backtrace)
-        (call-trace f isf (subst (λ (x : Frame). TraceFits functions mainPlaces otherPlaces x (g .callers) frames (length backtrace)) (sym ef) (can .2)))
-        (λ zs. slices stack frames (zs .1 .1 .1 .1 .1 .1 .0)) refl (λ zs. refl) (λ zs. refl) fm known-trace refl
+        (call-trace (can .1)) (λ zs. slices stack frames (zs .1 .1 .1 .1 .1 .1 .0)) refl (λ zs. refl) (λ zs. refl) fm known-trace refl
         (λ u zs₁ et lens₁ isu. lands-in ! (tt, tt) $
         calls-on ! [] (slices stack frames (zs₁ .1 .1 .1 .1 .1 .1 .0)) call-saved (λ zs. slices stack frames (zs₁ .1 .1 .1 .1 .1 .1 .0)) refl
         (λ zs. refl) (λ zs. refl)
@@ -297,23 +275,23 @@ module _ {M : Type 1} (𝓤 : URA M) (H : Heap 𝓤) (A : Atoms 𝓤) (W : Given
         calls-on ! (true ∷ false ∷ false ∷ true ∷ true ∷ true ∷ []) (slices stack frames (zs₁ .1 .1 .1 .1 .1 .1 .0)) (call-back n (isn .1) (fits-back n en))
         (λ zs. slices (zs .1 .1 .0) (zs .1 .1 .1 .0) (zs₁ .1 .1 .1 .1 .1 .1 .0)) refl (λ zs. refl) (λ zs. refl) fm known-back refl
         (λ v zs₂ eb lens₂ isv. lands-in ! (tt, tt) $
-        calls-on ! [] (slices (zs₂ .1 .1 .0) (zs₂ .1 .1 .1 .0) (zs₁ .1 .1 .1 .1 .1 .1 .0)) (call-answer (can .0, can .1))
+        calls-on ! [] (slices (zs₂ .1 .1 .0) (zs₂ .1 .1 .1 .0) (zs₁ .1 .1 .1 .1 .1 .1 .0)) (call-answer (can .0))
         (λ zs. slices (zs₂ .1 .1 .0) (zs₂ .1 .1 .1 .0) (zs₁ .1 .1 .1 .1 .1 .1 .0)) refl (λ zs. refl) (λ zs. refl) fm known-answer refl
         (λ r zs₃ er lens₃ isr. lands-in ! (result-typed 𝓤 H A W r isr) $
         sets ! (of-opd ! (of ! refl)) (result-typed 𝓤 H A W r isr) $ leaves ! refl $
         by ! (exits r (zs₂ .1 .1 .0) (zs₂ .1 .1 .1 .0) (zs₁ .1 .1 .1 .1 .1 .1 .0) isr (lens₂ .0) (lens₂ .1 .0) (lens₁ .0) (
           er,
-          et ∙ ap (λ (x : Frame). written backtrace 0 (traceWords functions mainPlaces otherPlaces (x ∷ callersOf (g .callers) frames))) ef,
+          et,
           eb .0 ∙ ap (λ (j : ℕ). written stack 0 (take (2 * j) copy)) en,
           eb .1,
-        )))))))))
+        ))))))))
       where
         fm : FmC 𝓤 H (W .laws) (𝓣 .C)
         fm = fmOf 𝓤 H (W .laws) 𝓣
 
         fits-back : (n : ℕ) → n ≡ m .run .saved → (2 * n ≤ length copy) × (2 * n ≤ length stack) × (0 < length frames)
         fits-back n en =
-            (subst (λ (j : ℕ). 2 * j ≤ length copy) (sym en) (can .3), subst (λ (j : ℕ). 2 * j ≤ length stack) (sym en) (can .4), can .5)
+            (subst (λ (j : ℕ). 2 * j ≤ length copy) (sym en) (can .2), subst (λ (j : ℕ). 2 * j ≤ length stack) (sym en) (can .3), can .4)
 
 pub stop-spec : {M : Type 1} → stated.statement M
 unfolding code.routine tablesOf
@@ -321,14 +299,12 @@ stop-spec 𝓤 H 𝓜 𝓖 𝓡 =
     let W : Given 𝓤 H (𝓖 .A) = givenOf 𝓤 H 𝓜 𝓖 in
     closed kinds ResultRow 𝓤 H 𝓜 𝓖 𝓡 code.env #me code.function (code.unfolded 𝓤 H 𝓜 𝓡) (me.clauses 𝓤 H (𝓖 .A) (𝓜 .mem) (𝓡 .run))
     (λ κs qs a g is. needs 𝓤
-    ((a .1 .1 .0 .units ≤ a .1 .0) × (a .1 .1 .0 .callers < 2 ^ 32) × TraceFits (now (a .1 .1 .1 .1 .0))
-    (now (a .1 .1 .1 .1 .1 .0)) (now (a .1 .1 .1 .1 .1 .1 .0)) (frameIn (a .1 .1 .0)) (a .1 .1 .0 .callers)
+    ((a .1 .0 .callers < 2 ^ 32) × TraceFits (now (a .1 .1 .1 .1 .0))
+    (now (a .1 .1 .1 .1 .1 .0)) (now (a .1 .1 .1 .1 .1 .1 .0)) (a .1 .1 .0) (a .1 .0 .callers)
     (now (a .1 .1 .1 .1 .1 .1 .1 .1 .0)) (length (now (a .1 .1 .1 .1 .1 .1 .1 .1 .1 .1 .0))) ×
     (2 * a .0 .run .saved ≤ length (now (a .1 .1 .1 .1 .1 .1 .1 .1 .1 .0))) ×
     (2 * a .0 .run .saved ≤ length (now (a .1 .1 .1 .1 .1 .1 .1 .0))) × (0 < length (now (a .1 .1 .1 .1 .1 .1 .1 .1 .0)))) _
     (walk 𝓤 H (𝓖 .A) W (𝓜 .mem) (𝓡 .run) (tablesOf 𝓤 H 𝓜 (tables 𝓤 H 𝓜 𝓡 code.env))
-    (cited 𝓤 H (Current 𝓤 H (𝓖 .A) W (𝓜 .mem) (𝓡 .run)) 𝓜 𝓡 code.env #current current-def.routine code.calls-run-loop·frame-of
-    (current-thm.met 𝓤 H 𝓜 𝓖 𝓡))
     (cited 𝓤 H (Trace 𝓤 H (𝓖 .A) W (𝓜 .mem) (𝓡 .run)) 𝓜 𝓡 code.env #trace trace-def.routine code.calls-frames·backtrace·trace
     (trace-thm.met 𝓤 H 𝓜 𝓖 𝓡))
     (cited 𝓤 H (Saved 𝓤 H (𝓖 .A) W (𝓜 .mem) (𝓡 .run)) 𝓜 𝓡 code.env #saved saved-def.routine code.calls-machine·running·saved-of

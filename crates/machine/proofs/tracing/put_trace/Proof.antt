@@ -45,7 +45,7 @@ use Rattle.machine.proofs.tracing.put_trace.Statement as stated
 use Rattle.machine.proofs.tracing.put_trace.Code as code
 
 abbrev kinds : List (Kind 5)
-kinds = number ∷ shared 0 tt u64 ∷ shared 1 tt u32 ∷ shared 2 tt u32 ∷ shared 3 tt R ∷ unique 4 tt u32 ∷ []
+kinds = number ∷ shared 0 tt u64 ∷ shared 1 tt u32 ∷ shared 2 tt u32 ∷ shared 3 tt R ∷ unique 4 tt u64 ∷ []
 
 module _ {M : Type 1} (𝓤 : URA M) (H : Heap 𝓤) (A : Atoms 𝓤) (W : Given 𝓤 H A) (mem : Memory → SProp 𝓤) (run : Routine → Fun 𝓤) where
   abbrev At : Contract 𝓤
@@ -112,11 +112,11 @@ module _ {M : Type 1} (𝓤 : URA M) (H : Heap 𝓤) (A : Atoms 𝓤) (W : Given
     abbrev room3 : Room R (s3 .count)
     room3 = is .1 .1 .1 .1 .0 .0 .1
 
-    abbrev room4 : Room u32 (s4 .count)
+    abbrev room4 : Room u64 (s4 .count)
     room4 = is .1 .1 .1 .1 .1 .0 .0 .1
 
     abbrev slices : List ℕ → List Arg
-    slices zs = shr u64 s0 words ∷ shr u32 s1 main ∷ shr u32 s2 other ∷ shr R s3 ys ∷ mut u32 s4 zs ∷ []
+    slices zs = shr u64 s0 words ∷ shr u32 s1 main ∷ shr u32 s2 other ∷ shr R s3 ys ∷ mut u64 s4 zs ∷ []
 
     abbrev xs : List ℕ → List Arg
     xs zs = val usize n (vint w64 n) ∷ slices zs
@@ -154,7 +154,7 @@ module _ {M : Type 1} (𝓤 : URA M) (H : Heap 𝓤) (A : Atoms 𝓤) (W : Given
     abbrev to-write : ℕ → Frame → List Arg
     to-write k f =
         shr u64 s0 words ∷ shr u32 s1 main ∷ shr u32 s2 other ∷ val R f (fval f) ∷ val usize k (vint w64 k) ∷ shr R s3 ys ∷ mut
-        u32 s4 out ∷ []
+        u64 s4 out ∷ []
 
     call-write : (k : ℕ) (f : Frame) → k < 2 ^ 64 → Is R f (fval f ∷ []) → TraceFits words main other f k ys (length out)
         → Rule 𝓤 H A W (to-write k f) Write Nothing (λ _. vunit) (λ r zs. zs .1 .1 .1 .1 .1 .1 .0 ≡ written out 0 (traceWords words main other (f ∷ callersOf k ys)))

@@ -101,15 +101,15 @@ module _ {M : Type 1} (𝓤 : URA M) (H : Heap 𝓤) (A : Atoms 𝓤) (W : Given
     to-begin = val VmRow (m p) (vmVal (m p)) ∷ shr u64 (constants-at p) (constants p) ∷ shr u64 (structs-at p) (structs p) ∷
         shr u64 (functions-at p) (functions p) ∷ shr u8 (text-at p) (text p) ∷ shr u8 (main-at p) (main p) ∷ shr u32 (main-places-at p) (mainPlaces p) ∷
         shr u8 (other-at p) (other p) ∷ shr u32 (other-places-at p) (otherPlaces p) ∷ peek u64 (stack-at p) (stack p) ∷ peek u64 (cells-at p) (cells p) ∷
-        peek R (frames-at p) (frames p) ∷ mut u64 (copy-at p) (copy p) ∷ []
+        mut R (frames-at p) (frames p) ∷ mut u64 (copy-at p) (copy p) ∷ []
 
     call-begin : Rule 𝓤 H A W to-begin Begin ResultRow resultVal
         (λ r zs. ((b : List ℕ) → RunPost begins (m p) (stores p) (runLent (stack p) (cells p) (frames p) (copy p) b) r
-        (runLent (stack p) (cells p) (frames p) (zs .1 .1 .1 .1 .1 .1 .1 .1 .1 .1 .1 .1 .0) b)))
+        (runLent (stack p) (cells p) (zs .1 .1 .1 .1 .1 .1 .1 .1 .1 .1 .1 .0) (zs .1 .1 .1 .1 .1 .1 .1 .1 .1 .1 .1 .1 .0) b)))
     call-begin =
         call-with 𝓤 H A W to-begin Begin ResultRow resultVal
         (λ r zs. ((b : List ℕ) → RunPost begins (m p) (stores p) (runLent (stack p) (cells p) (frames p) (copy p) b) r
-        (runLent (stack p) (cells p) (frames p) (zs .1 .1 .1 .1 .1 .1 .1 .1 .1 .1 .1 .1 .0) b))) result-tells (λ ns. passing (lent to-begin ns)) (λ ns. refl)
+        (runLent (stack p) (cells p) (zs .1 .1 .1 .1 .1 .1 .1 .1 .1 .1 .1 .0) (zs .1 .1 .1 .1 .1 .1 .1 .1 .1 .1 .1 .1 .0) b))) result-tells (λ ns. passing (lent to-begin ns)) (λ ns. refl)
         (λ ns. unasked W (lent to-begin ns)) (λ ns w. id⊢ 𝓤 _) (vm-makes 𝓤 H A W (m p) _ (p .is .0), tt) (
           (refl, constants-room p),
           (
@@ -148,20 +148,22 @@ module _ {M : Type 1} (𝓤 : URA M) (H : Heap 𝓤) (A : Atoms 𝓤) (W : Given
           ),
         )
 
-    module _ (k : Vm) (isk : IsVm k) (copy₁ : List ℕ) (len-copy : length copy₁ ≡ copy-at p .count) where
+    -- frames₀ is how the beginning left the frames
+    module _ (k : Vm) (isk : IsVm k) (frames₀ : List Frame) (len-frames₀ : length frames₀ ≡ frames-at p .count) (copy₁ : List ℕ)
+        (len-copy : length copy₁ ≡ copy-at p .count) where
       abbrev to-more : List Arg
       to-more = val VmRow k (vmVal k) ∷ val u64 (units p) (vint w64 (units p)) ∷ shr u64 (constants-at p) (constants p) ∷ shr u64 (structs-at p) (structs p) ∷
           shr u64 (functions-at p) (functions p) ∷ shr u8 (text-at p) (text p) ∷ shr u8 (main-at p) (main p) ∷ shr u32 (main-places-at p) (mainPlaces p) ∷
           shr u8 (other-at p) (other p) ∷ shr u32 (other-places-at p) (otherPlaces p) ∷ mut u64 (stack-at p) (stack p) ∷ mut u64 (cells-at p) (cells p) ∷
-          mut R (frames-at p) (frames p) ∷ peek u64 (copy-at p) copy₁ ∷ mut u32 (backtrace-at p) (backtrace p) ∷ []
+          mut R (frames-at p) frames₀ ∷ peek u64 (copy-at p) copy₁ ∷ mut u64 (backtrace-at p) (backtrace p) ∷ []
 
       call-more : Rule 𝓤 H A W to-more More ResultRow resultVal
-          (λ r zs. RunPost (continues (units p)) k (stores p) (runLent (stack p) (cells p) (frames p) copy₁ (backtrace p)) r
+          (λ r zs. RunPost (continues (units p)) k (stores p) (runLent (stack p) (cells p) frames₀ copy₁ (backtrace p)) r
           (runLent (zs .1 .1 .1 .1 .1 .1 .1 .1 .1 .1 .0) (zs .1 .1 .1 .1 .1 .1 .1 .1 .1 .1 .1 .0) (zs .1 .1 .1 .1 .1 .1 .1 .1 .1 .1 .1 .1 .0) copy₁
           (zs .1 .1 .1 .1 .1 .1 .1 .1 .1 .1 .1 .1 .1 .1 .0)))
       call-more =
           call-with 𝓤 H A W to-more More ResultRow resultVal
-          (λ r zs. RunPost (continues (units p)) k (stores p) (runLent (stack p) (cells p) (frames p) copy₁ (backtrace p)) r
+          (λ r zs. RunPost (continues (units p)) k (stores p) (runLent (stack p) (cells p) frames₀ copy₁ (backtrace p)) r
           (runLent (zs .1 .1 .1 .1 .1 .1 .1 .1 .1 .1 .0) (zs .1 .1 .1 .1 .1 .1 .1 .1 .1 .1 .1 .0) (zs .1 .1 .1 .1 .1 .1 .1 .1 .1 .1 .1 .1 .0) copy₁
           (zs .1 .1 .1 .1 .1 .1 .1 .1 .1 .1 .1 .1 .1 .1 .0))) result-tells (λ ns. passing (lent to-more ns)) (λ ns. refl)
           (λ ns. unasked W (lent to-more ns)) (λ ns w. id⊢ 𝓤 _) (vm-makes 𝓤 H A W k _ isk, (uint-makes 𝓤 H A W w64 (units p) _ (p .is .1 .0), tt)) (
@@ -184,7 +186,7 @@ module _ {M : Type 1} (𝓤 : URA M) (H : Heap 𝓤) (A : Atoms 𝓤) (W : Given
                             (refl, stack-room p),
                             (
                               (refl, cells-room p),
-                              ((refl, frames-room p), ((len-copy, copy-room p), ((refl, backtrace-room p), tt))),
+                              ((len-frames₀, frames-room p), ((len-copy, copy-room p), ((refl, backtrace-room p), tt))),
                             ),
                           ),
                         ),
@@ -202,7 +204,7 @@ module _ {M : Type 1} (𝓤 : URA M) (H : Heap 𝓤) (A : Atoms 𝓤) (W : Given
         to-end = val VmRow k (vmVal k) ∷ shr u64 (constants-at p) (constants p) ∷ shr u64 (structs-at p) (structs p) ∷ shr u64 (functions-at p) (functions p) ∷
             shr u8 (text-at p) (text p) ∷ shr u8 (main-at p) (main p) ∷ shr u32 (main-places-at p) (mainPlaces p) ∷ shr u8 (other-at p) (other p) ∷
             shr u32 (other-places-at p) (otherPlaces p) ∷ mut u64 (stack-at p) stack₁ ∷ peek u64 (cells-at p) cells₁ ∷ mut R (frames-at p) frames₁ ∷
-            peek u64 (copy-at p) copy₁ ∷ mut u32 (backtrace-at p) backtrace₁ ∷ []
+            peek u64 (copy-at p) copy₁ ∷ mut u64 (backtrace-at p) backtrace₁ ∷ []
 
         call-end : Rule 𝓤 H A W to-end End ResultRow resultVal
             (λ r zs. RunPost abandons k (stores p) (runLent stack₁ cells₁ frames₁ copy₁ backtrace₁) r
@@ -293,24 +295,25 @@ module _ {M : Type 1} (𝓤 : URA M) (H : Heap 𝓤) (A : Atoms 𝓤) (W : Given
         sets ! (addr ! (behind ! refl refl)) (tt, tt) $ sets ! (agg ! (ofs ! refl)) (tt, (tt, (record { fits = frames-room p .0 }, tt))) $
         sets ! (addr ! (behind ! refl refl)) (tt, tt) $ sets ! (agg ! (ofs ! refl)) (tt, (tt, (record { fits = copy-room p .0 }, tt))) $
         calls-on ! (true ∷ true ∷ true ∷ true ∷ true ∷ true ∷ true ∷ true ∷ true ∷ true ∷ true ∷ true ∷ []) (slices₀ p) call-begin
-        (λ zs. slices p (stack p) (cells p) (frames p) (zs .1 .1 .1 .1 .1 .1 .1 .1 .1 .1 .1 .1 .0) (backtrace p)) refl (λ zs. refl) (λ zs. refl) fm known-begin refl
+        (λ zs. slices p (stack p) (cells p) (zs .1 .1 .1 .1 .1 .1 .1 .1 .1 .1 .1 .0) (zs .1 .1 .1 .1 .1 .1 .1 .1 .1 .1 .1 .1 .0) (backtrace p)) refl (λ zs. refl) (λ zs. refl) fm known-begin refl
         (λ x zs₁ said₁ lens₁ isx. lands-in ! (result-typed 𝓤 H A W x isx) $
-        calls-on ! [] (slices p (stack p) (cells p) (frames p) (zs₁ .1 .1 .1 .1 .1 .1 .1 .1 .1 .1 .1 .1 .0) (backtrace p)) (call-paused x isx)
-        (λ zs. slices p (stack p) (cells p) (frames p) (zs₁ .1 .1 .1 .1 .1 .1 .1 .1 .1 .1 .1 .1 .0) (backtrace p)) refl (λ zs. refl) (λ zs. refl) fm
+        calls-on ! [] (slices p (stack p) (cells p) (zs₁ .1 .1 .1 .1 .1 .1 .1 .1 .1 .1 .1 .0) (zs₁ .1 .1 .1 .1 .1 .1 .1 .1 .1 .1 .1 .1 .0) (backtrace p)) (call-paused x isx)
+        (λ zs. slices p (stack p) (cells p) (zs₁ .1 .1 .1 .1 .1 .1 .1 .1 .1 .1 .1 .0) (zs₁ .1 .1 .1 .1 .1 .1 .1 .1 .1 .1 .1 .1 .0) (backtrace p)) refl (λ zs. refl) (λ zs. refl) fm
         known-paused refl (λ b zs eb lens isb. lands-in ! (tt, tt) $
         sets ! (of-opd ! (of ! refl)) (tt, tt) $ returns-if ! 𝓣 (of ! refl)
         -- it is continued
         (λ on.
-        calls-on ! [] (slices p (stack p) (cells p) (frames p) (zs₁ .1 .1 .1 .1 .1 .1 .1 .1 .1 .1 .1 .1 .0) (backtrace p)) (call-inside (m p) (p .is .0) x isx)
-        (λ zs. slices p (stack p) (cells p) (frames p) (zs₁ .1 .1 .1 .1 .1 .1 .1 .1 .1 .1 .1 .1 .0) (backtrace p)) refl (λ zs. refl) (λ zs. refl) fm
+        calls-on ! [] (slices p (stack p) (cells p) (zs₁ .1 .1 .1 .1 .1 .1 .1 .1 .1 .1 .1 .0) (zs₁ .1 .1 .1 .1 .1 .1 .1 .1 .1 .1 .1 .1 .0) (backtrace p)) (call-inside (m p) (p .is .0) x isx)
+        (λ zs. slices p (stack p) (cells p) (zs₁ .1 .1 .1 .1 .1 .1 .1 .1 .1 .1 .1 .0) (zs₁ .1 .1 .1 .1 .1 .1 .1 .1 .1 .1 .1 .1 .0) (backtrace p)) refl (λ zs. refl) (λ zs. refl) fm
         known-inside refl (λ k zs ek lens isk. lands-in ! (vm-typed 𝓤 H A W k isk) $
         sets ! (addr ! (behind ! refl refl)) (tt, tt) $ sets ! (agg ! (ofs ! refl)) (tt, (tt, (record { fits = stack-room p .0 }, tt))) $
         sets ! (addr ! (behind ! refl refl)) (tt, tt) $ sets ! (agg ! (ofs ! refl)) (tt, (tt, (record { fits = cells-room p .0 }, tt))) $
         sets ! (addr ! (behind ! refl refl)) (tt, tt) $ sets ! (agg ! (ofs ! refl)) (tt, (tt, (record { fits = frames-room p .0 }, tt))) $
         sets ! (addr ! (behind ! refl refl)) (tt, tt) $ sets ! (agg ! (ofs ! refl)) (tt, (tt, (record { fits = copy-room p .0 }, tt))) $
         sets ! (addr ! (behind ! refl refl)) (tt, tt) $ sets ! (agg ! (ofs ! refl)) (tt, (tt, (record { fits = backtrace-room p .0 }, tt))) $
-        calls-on ! (true ∷ true ∷ true ∷ true ∷ true ∷ true ∷ true ∷ true ∷ true ∷ true ∷ true ∷ true ∷ true ∷ []) (slices p (stack p) (cells p) (frames p)
-        (zs₁ .1 .1 .1 .1 .1 .1 .1 .1 .1 .1 .1 .1 .0) (backtrace p)) (call-more k isk (zs₁ .1 .1 .1 .1 .1 .1 .1 .1 .1 .1 .1 .1 .0) (lens₁ .0))
+        calls-on ! (true ∷ true ∷ true ∷ true ∷ true ∷ true ∷ true ∷ true ∷ true ∷ true ∷ true ∷ true ∷ true ∷ []) (slices p (stack p) (cells p)
+        (zs₁ .1 .1 .1 .1 .1 .1 .1 .1 .1 .1 .1 .0) (zs₁ .1 .1 .1 .1 .1 .1 .1 .1 .1 .1 .1 .1 .0) (backtrace p)) (call-more k isk
+        (zs₁ .1 .1 .1 .1 .1 .1 .1 .1 .1 .1 .1 .0) (lens₁ .0) (zs₁ .1 .1 .1 .1 .1 .1 .1 .1 .1 .1 .1 .1 .0) (lens₁ .1 .0))
         (λ zs. slices p (zs .1 .1 .1 .1 .1 .1 .1 .1 .1 .1 .0) (zs .1 .1 .1 .1 .1 .1 .1 .1 .1 .1 .1 .0) (zs .1 .1 .1 .1 .1 .1 .1 .1 .1 .1 .1 .1 .0)
         (zs₁ .1 .1 .1 .1 .1 .1 .1 .1 .1 .1 .1 .1 .0) (zs .1 .1 .1 .1 .1 .1 .1 .1 .1 .1 .1 .1 .1 .1 .0)) refl (λ zs. refl) (λ zs. refl) fm known-more refl
         (λ y zs₂ said₂ lens₂ isy. lands-in ! (result-typed 𝓤 H A W y isy) $
@@ -335,7 +338,8 @@ module _ {M : Type 1} (𝓤 : URA M) (H : Heap 𝓤) (A : Atoms 𝓤) (W : Given
         calls-on ! (true ∷ true ∷ true ∷ true ∷ true ∷ true ∷ true ∷ true ∷ true ∷ true ∷ true ∷ true ∷ true ∷ []) (slices p
         (zs₂ .1 .1 .1 .1 .1 .1 .1 .1 .1 .1 .0) (zs₂ .1 .1 .1 .1 .1 .1 .1 .1 .1 .1 .1 .0) (zs₂ .1 .1 .1 .1 .1 .1 .1 .1 .1 .1 .1 .1 .0)
         (zs₁ .1 .1 .1 .1 .1 .1 .1 .1 .1 .1 .1 .1 .0) (zs₂ .1 .1 .1 .1 .1 .1 .1 .1 .1 .1 .1 .1 .1 .1 .0))
-        (call-end q isq (zs₁ .1 .1 .1 .1 .1 .1 .1 .1 .1 .1 .1 .1 .0) (lens₁ .0) (zs₂ .1 .1 .1 .1 .1 .1 .1 .1 .1 .1 .0) (zs₂ .1 .1 .1 .1 .1 .1 .1 .1 .1 .1 .1 .0)
+        (call-end q isq (zs₁ .1 .1 .1 .1 .1 .1 .1 .1 .1 .1 .1 .0) (lens₁ .0) (zs₁ .1 .1 .1 .1 .1 .1 .1 .1 .1 .1 .1 .1 .0) (lens₁ .1 .0)
+        (zs₂ .1 .1 .1 .1 .1 .1 .1 .1 .1 .1 .0) (zs₂ .1 .1 .1 .1 .1 .1 .1 .1 .1 .1 .1 .0)
         (zs₂ .1 .1 .1 .1 .1 .1 .1 .1 .1 .1 .1 .1 .0) (zs₂ .1 .1 .1 .1 .1 .1 .1 .1 .1 .1 .1 .1 .1 .1 .0) (lens₂ .0) (lens₂ .1 .0) (lens₂ .1 .1 .0)
         (lens₂ .1 .1 .1 .0))
         (λ zs. slices p (zs .1 .1 .1 .1 .1 .1 .1 .1 .1 .0) (zs₂ .1 .1 .1 .1 .1 .1 .1 .1 .1 .1 .1 .0) (zs .1 .1 .1 .1 .1 .1 .1 .1 .1 .1 .1 .0)
@@ -343,17 +347,17 @@ module _ {M : Type 1} (𝓤 : URA M) (H : Heap 𝓤) (A : Atoms 𝓤) (W : Given
         (λ z zs₃ said₃ lens₃ isz. lands-in ! (result-typed 𝓤 H A W z isz) $
         sets ! (of-opd ! (of ! refl)) (result-typed 𝓤 H A W z isz) $ leaves ! refl $
         by ! (exits z (zs₃ .1 .1 .1 .1 .1 .1 .1 .1 .1 .0) (zs₂ .1 .1 .1 .1 .1 .1 .1 .1 .1 .1 .1 .0) (zs₃ .1 .1 .1 .1 .1 .1 .1 .1 .1 .1 .1 .0)
-        (zs₁ .1 .1 .1 .1 .1 .1 .1 .1 .1 .1 .1 .1 .0) (zs₃ .1 .1 .1 .1 .1 .1 .1 .1 .1 .1 .1 .1 .1 .0) isz (lens₃ .0) (lens₂ .1 .0) (lens₃ .1 .0) (lens₁ .0)
+        (zs₁ .1 .1 .1 .1 .1 .1 .1 .1 .1 .1 .1 .1 .0) (zs₃ .1 .1 .1 .1 .1 .1 .1 .1 .1 .1 .1 .1 .1 .0) isz (lens₃ .0) (lens₂ .1 .0) (lens₃ .1 .0) (lens₁ .1 .0)
         (lens₃ .1 .1 .0)
         (over-when-abandoned (said₁ (backtrace p)) eb on ek said₂ ec again eq said₃)))))
         (λ off. sets ! (of-opd ! (of ! refl)) (result-typed 𝓤 H A W y isy) $ leaves ! refl $
         by ! (exits y (zs₂ .1 .1 .1 .1 .1 .1 .1 .1 .1 .1 .0) (zs₂ .1 .1 .1 .1 .1 .1 .1 .1 .1 .1 .1 .0) (zs₂ .1 .1 .1 .1 .1 .1 .1 .1 .1 .1 .1 .1 .0)
-        (zs₁ .1 .1 .1 .1 .1 .1 .1 .1 .1 .1 .1 .1 .0) (zs₂ .1 .1 .1 .1 .1 .1 .1 .1 .1 .1 .1 .1 .1 .1 .0) isy (lens₂ .0) (lens₂ .1 .0) (lens₂ .1 .1 .0) (lens₁ .0)
+        (zs₁ .1 .1 .1 .1 .1 .1 .1 .1 .1 .1 .1 .1 .0) (zs₂ .1 .1 .1 .1 .1 .1 .1 .1 .1 .1 .1 .1 .1 .1 .0) isy (lens₂ .0) (lens₂ .1 .0) (lens₂ .1 .1 .0) (lens₁ .1 .0)
         (lens₂ .1 .1 .1 .0)
         (over-when-continued (said₁ (backtrace p)) eb on ek said₂ ec off)))))))
         (λ off. sets ! (of-opd ! (of ! refl)) (result-typed 𝓤 H A W x isx) $ leaves ! refl $
-        by ! (exits x (stack p) (cells p) (frames p) (zs₁ .1 .1 .1 .1 .1 .1 .1 .1 .1 .1 .1 .1 .0) (backtrace p) isx refl refl refl (lens₁ .0) refl (over-at-once
-        (said₁ (backtrace p)) eb off)))))))
+        by ! (exits x (stack p) (cells p) (zs₁ .1 .1 .1 .1 .1 .1 .1 .1 .1 .1 .1 .0) (zs₁ .1 .1 .1 .1 .1 .1 .1 .1 .1 .1 .1 .1 .0) (backtrace p) isx
+        refl refl (lens₁ .0) (lens₁ .1 .0) refl (over-at-once (said₁ (backtrace p)) eb off)))))))
       where
         fm : FmC 𝓤 H (W .laws) (𝓣 .C)
         fm = fmOf 𝓤 H (W .laws) 𝓣

@@ -44,7 +44,7 @@ abbrev kinds : List (Kind 12)
 kinds =
     own VmRow vmVal vm-tells (λ x f. refl) ∷ own u64 (vint w64) (uint-tells w64) (λ x f. refl) ∷ shared 0 tt u64 ∷ shared 1 tt u64
     ∷ shared 2 tt u64 ∷ shared 3 tt u8 ∷ shared 4 tt u8 ∷ shared 5 tt u32 ∷ shared 6 tt u8 ∷ shared 7 tt u32 ∷ unique 8 tt u64
-    ∷ unique 9 tt u64 ∷ unique 10 tt u64 ∷ unique 11 tt u32 ∷ []
+    ∷ unique 9 tt u64 ∷ unique 10 tt u64 ∷ unique 11 tt u64 ∷ []
 
 -- the frames as they are made
 abbrev frames₀ : List Frame
@@ -54,7 +54,7 @@ abbrev array₀ : Val
 array₀ = arrayVal (replicate 256 (fval (root 0)))
 
 is-root : Is R (root 0) (fval (root 0) ∷ [])
-is-root = LL.owes T.the-type T′.the-laws (root 0) ((refl, lit< tt), ((refl, lit< tt), ((refl, lit< tt), tt)))
+is-root = LL.owes T.the-type T′.the-laws (root 0) ((refl, lit< tt), ((refl, lit< tt), ((refl, lit< tt), ((refl, lit< tt), tt))))
 
 room : Room R 256
 room = (lit< tt, lit< tt)
@@ -179,7 +179,7 @@ module _ {M : Type 1} (𝓤 : URA M) (H : Heap 𝓤) (A : Atoms 𝓤) (W : Given
     abbrev backtrace : List ℕ
     backtrace = now (a .1 .1 .1 .1 .1 .1 .1 .1 .1 .1 .1 .1 .1 .0)
 
-    abbrev backtrace-room : Room u32 (backtrace-at .count)
+    abbrev backtrace-room : Room u64 (backtrace-at .count)
     backtrace-room = is .1 .1 .1 .1 .1 .1 .1 .1 .1 .1 .1 .1 .1 .0 .0 .1
 
     -- the slices before and behind the frames
@@ -190,7 +190,7 @@ module _ {M : Type 1} (𝓤 : URA M) (H : Heap 𝓤) (A : Atoms 𝓤) (W : Given
         u64 stack-at stack′ ∷ mut u64 cells-at cells′ ∷ []
 
     abbrev lasts : List ℕ → List ℕ → List Arg
-    lasts copy′ backtrace′ = mut u64 copy-at copy′ ∷ mut u32 backtrace-at backtrace′ ∷ []
+    lasts copy′ backtrace′ = mut u64 copy-at copy′ ∷ mut u64 backtrace-at backtrace′ ∷ []
 
     abbrev slices : List ℕ → List ℕ → List ℕ → List ℕ → List Arg
     slices stack′ cells′ copy′ backtrace′ = firsts stack′ cells′ ++ lasts copy′ backtrace′

@@ -15,26 +15,32 @@ abbrev μ-loop : tie.MeasureT-loop
 loop-holds : tie.Need-loop-holds Inv-loop μ-loop
 loop-holds c = none-traced _ _ _ _
 
+mul-j : tie.Need-mul-j Inv-loop μ-loop
+mul-j c = search needs
+
 mul-put-entry : tie.Need-mul-put-entry Inv-loop μ-loop
 mul-put-entry c = search needs
-
-mul-put-entry-2 : tie.Need-mul-put-entry-2 Inv-loop μ-loop
-mul-put-entry-2 c = search needs
 
 shared-slice-read-put-entry : tie.Need-shared-slice-read-put-entry Inv-loop μ-loop
 shared-slice-read-put-entry c = search needs
 
-mul-put-entry-3 : tie.Need-mul-put-entry-3 Inv-loop μ-loop
-mul-put-entry-3 c = search needs
-
 add-put-entry : tie.Need-add-put-entry Inv-loop μ-loop
 add-put-entry c = search needs
 
-mul-put-entry-4 : tie.Need-mul-put-entry-4 Inv-loop μ-loop
-mul-put-entry-4 c = search needs
+mul-put-entry-2 : tie.Need-mul-put-entry-2 Inv-loop μ-loop
+mul-put-entry-2 c = search needs
 
 shared-slice-read-put-entry-2 : tie.Need-shared-slice-read-put-entry-2 Inv-loop μ-loop
 shared-slice-read-put-entry-2 c = search needs
+
+add-put-entry-2 : tie.Need-add-put-entry-2 Inv-loop μ-loop
+add-put-entry-2 c = search needs
+
+mul-put-entry-3 : tie.Need-mul-put-entry-3 Inv-loop μ-loop
+mul-put-entry-3 c = search needs
+
+shared-slice-read-put-entry-3 : tie.Need-shared-slice-read-put-entry-3 Inv-loop μ-loop
+shared-slice-read-put-entry-3 c = search needs
 
 put-entry-requires : tie.Need-put-entry-requires Inv-loop μ-loop
 put-entry-requires c κs = search needs
@@ -61,13 +67,15 @@ put-entries-spec =
     Inv-loop
     μ-loop
     loop-holds
+    mul-j
     mul-put-entry
-    mul-put-entry-2
     shared-slice-read-put-entry
-    mul-put-entry-3
     add-put-entry
-    mul-put-entry-4
+    mul-put-entry-2
     shared-slice-read-put-entry-2
+    add-put-entry-2
+    mul-put-entry-3
+    shared-slice-read-put-entry-3
     put-entry-requires
     add-i
     loop-less

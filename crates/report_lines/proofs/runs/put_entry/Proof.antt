@@ -1,4 +1,4 @@
--- `put_entry`: the function, and a line with the place.
+-- `put_entry`: the function, the place, and a line with the units.
 use borrow.Author.Needs.{needs}
 use Rattle.model.specs.Basics.{ascii}
 use Rattle.report_lines.proofs.Lines.{entry-is}
@@ -11,6 +11,12 @@ slice-aggregate-put-count c = search
 put-count-requires : tie.Need-put-count-requires
 put-count-requires c κs = search needs
 
+slice-aggregate-put-count-2 : tie.Need-slice-aggregate-put-count-2
+slice-aggregate-put-count-2 c = search
+
+put-count-requires-2 : tie.Need-put-count-requires-2
+put-count-requires-2 c κs = search needs
+
 slice-aggregate-put-line : tie.Need-slice-aggregate-put-line
 slice-aggregate-put-line c = search
 
@@ -18,7 +24,7 @@ put-line-requires : tie.Need-put-line-requires
 put-line-requires c κs = search needs
 
 same-length : tie.Need-same-length
-same-length c = search
+same-length c = search needs
 
 returns : tie.Need-returns
 unfolding ascii
@@ -30,6 +36,8 @@ put-entry-spec =
     (tie.spec
     slice-aggregate-put-count
     put-count-requires
+    slice-aggregate-put-count-2
+    put-count-requires-2
     slice-aggregate-put-line
     put-line-requires
     same-length

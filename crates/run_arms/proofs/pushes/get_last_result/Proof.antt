@@ -6,7 +6,7 @@ use Rattle.run_arms.proofs.pushes.get_last_result.Statement.{statement}
 use Rattle.run_arms.proofs.pushes.get_last_result.Tie as tie
 
 returns : tie.Need-returns
-returns c = λ u d. missing (c .before .before .pre) d (gets-last u) (λ x cs. no-last _ _ (c .if1 .taken))
+returns c = λ u d. missing (c .before .before .pre) d (gets-last u) (λ x ar. no-last _ _ (c .if1 .taken))
 
 value-of-requires : tie.Need-value-of-requires
 value-of-requires c κs = search
@@ -22,7 +22,7 @@ returns-2 c =
     let at-value-of = c .before .before .before .before in
     let at-if1 = at-value-of .before in
     let at-start = at-if1 .before .before in
-    λ u d. found (at-start .pre) d (gets-last u) (λ x cs. last _ _ (at-if1 .if1 .left) (at-value-of .value-of .ensures))
+    λ u d. found (at-start .pre) d (gets-last u) (λ x ar. last _ _ (at-if1 .if1 .left) (at-value-of .value-of .ensures))
     (c .before .before .push .ensures u d)
 
 pub get-last-result-spec : {M : Type 1} → statement M

@@ -6,7 +6,7 @@ use Rattle.run_arms.proofs.pushes.get_slot.Statement.{statement}
 use Rattle.run_arms.proofs.pushes.get_slot.Tie as tie
 
 returns : tie.Need-returns
-returns c = λ u d. missing (c .before .before .before .pre) d (gets-slot u _) (λ x cs. no-slot _ _ _ (c .if1 .taken))
+returns c = λ u d. missing (c .before .before .before .pre) d (gets-slot u _) (λ x ar. no-slot _ _ _ (c .if1 .taken))
 
 read-value-requires : tie.Need-read-value-requires
 read-value-requires c κs = search needs
@@ -22,7 +22,7 @@ returns-2 c =
     let at-read-value = c .before .before .before .before in
     let at-if1 = at-read-value .before .before in
     let at-start = at-if1 .before .before .before in
-    λ u d. found (at-start .pre) d (gets-slot u _) (λ x cs. slot _ _ _ (at-if1 .if1 .left) (at-read-value .read-value .ensures))
+    λ u d. found (at-start .pre) d (gets-slot u _) (λ x ar. slot _ _ _ (at-if1 .if1 .left) (at-read-value .read-value .ensures))
     (c .before .before .push .ensures u d)
 
 pub get-slot-spec : {M : Type 1} → statement M

@@ -8,7 +8,7 @@ use Rattle.run_arms.proofs.pushes.load_constant.Tie as tie
 returns : tie.Need-returns
 returns c =
     let at-start = c .before .before .before .before in
-    λ u d e. missing (at-start .pre .0) d (loads u _) (λ x cs. no-constant _ _ _ e (c .if1 .taken))
+    λ u d e. missing (at-start .pre .0) d (loads u _) (λ x ar. no-constant _ _ _ e (c .if1 .taken))
 
 read-value-requires : tie.Need-read-value-requires
 read-value-requires c κs = search needs
@@ -25,7 +25,7 @@ returns-2 c =
     let at-if1 = at-read-value .before in
     let at-start = at-if1 .before .before .before .before in
     λ u d e. found (at-start .pre .0) d (loads u _)
-    (λ x cs. constant _ _ _ e (at-if1 .if1 .left) (at-read-value .read-value .ensures)) (c .before .before .push .ensures u d)
+    (λ x ar. constant _ _ _ e (at-if1 .if1 .left) (at-read-value .read-value .ensures)) (c .before .before .push .ensures u d)
 
 pub load-constant-spec : {M : Type 1} → statement M
 load-constant-spec =
