@@ -1,3 +1,4 @@
+-- `console::commands::ask_strict` meets its contract.
 use borrow.Author.Needs.{needs}
 use Rattle.console.specs.Asks.{askStrict}
 use Rattle.console.proofs.commands.ask_strict.Statement.{statement}
@@ -11,7 +12,7 @@ lent-whole-requires c κs = search needs
 
 returns : tie.Need-returns
 unfolding askStrict
-returns c = rw (← c .before .before .read-args .ensures, c .before .if1 .taken, c .lent-whole .ensures)
+returns c = rw (← c .before .before .before .read-args .ensures, c .before .before .if1 .taken, c .lent-whole .ensures)
 
 returns-2 : tie.Need-returns-2
 unfolding askStrict
