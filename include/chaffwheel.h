@@ -10,10 +10,10 @@
  * Each function returns CHAFFWHEEL_OK, or the number of its refusal (the names are below). A refusal changes no store; only 20 writes its offset
  * to answer[0], and 40 the rule and the function to answer[0] and answer[1].
  *
- * Their order, at all but chaffwheel_new, chaffwheel_load and chaffwheel_check: 19 where vm has fewer than 16 words, its last result is not exactly the words of a
- * value or of none, its word CHAFFWHEEL_RUN_ON is neither 0 nor 1, or a value that is handed in is not exactly the words of a value; then the function's
- * own 19; then 18 or 25, at the functions that tell them; then 17 where answer has fewer words than the function tells; then the other refusals that
- * stand at the function, in order. At chaffwheel_disassemble 1 or 3 come before that 17 too. The library judges what it is lent, in time linear in what is
+ * Their order, at all but chaffwheel_new, chaffwheel_load and chaffwheel_check: 19 where vm has fewer than 17 words, its last result is not exactly the words of a
+ * value or of none, its word CHAFFWHEEL_RUN_ON or CHAFFWHEEL_STRICT is neither 0 nor 1, or a value that is handed in is not exactly the words of a value; then
+ * the function's own 19; then 18 or 25, at the functions that tell them; then 17 where answer has fewer words than the function tells; then the other
+ * refusals that stand at the function, in order. At chaffwheel_disassemble 1 or 3 come before that 17 too. The library judges what it is lent, in time linear in what is
  * taken, the bytes of struct names counted once for each name (docs/EMBEDDING.md, "What it costs"); a reader judges what it reads and nothing else.
  */
 #ifndef CHAFFWHEEL_H
@@ -29,7 +29,7 @@ extern "C" {
 
 /* The version: the last of the three moves with each change, the first where a host has to be changed. */
 #define CHAFFWHEEL_VERSION_MAJOR 0
-#define CHAFFWHEEL_VERSION_MINOR 5
+#define CHAFFWHEEL_VERSION_MINOR 6
 #define CHAFFWHEEL_VERSION_PATCH 0
 #define CHAFFWHEEL_VERSION (CHAFFWHEEL_VERSION_MAJOR * 10000 + CHAFFWHEEL_VERSION_MINOR * 100 + CHAFFWHEEL_VERSION_PATCH)
 
@@ -45,7 +45,8 @@ typedef struct chaffwheel_frame {
     uint64_t entered;
 } chaffwheel_frame;
 
-/* A machine's record, in words: how much of each store is taken, the last result, and the run that is under way. The host keeps it between calls.
+/* A machine's record, in words: how much of each store is taken, the last result, the run that is under way, and whether the machine is strict. The host
+ * keeps it between calls.
  * BEFORE ITS FIRST USE IT IS ALL ZEROS: chaffwheel_new, chaffwheel_load and chaffwheel_check look whether a run is under way in it (25). Where none is,
  * the words of the run are all 0. */
 enum {
@@ -65,7 +66,8 @@ enum {
     CHAFFWHEEL_RUN_RETURNS = 13, /* the root Returns that it has completed */
     CHAFFWHEEL_RUN_MARK = 14,    /* the cells that were taken at the last of them, or at its start */
     CHAFFWHEEL_RUN_SAVED = 15,   /* the values that stand in the copy of its starting stack */
-    CHAFFWHEEL_VM = 16           /* words of a record */
+    CHAFFWHEEL_STRICT = 16,      /* 1: arithmetic that leaves the finite numbers is fault 26; else 0, as a machine is made */
+    CHAFFWHEEL_VM = 17           /* words of a record */
 };
 
 /* The kind of a value, and what its payload is. */
@@ -88,7 +90,7 @@ enum {
     CHAFFWHEEL_KIND = 3,
     CHAFFWHEEL_PAYLOAD = 4,
     /* with CHAFFWHEEL_FAULT: the same words */
-    CHAFFWHEEL_FAULT_NUMBER = 3, /* 1 to 14 */
+    CHAFFWHEEL_FAULT_NUMBER = 3, /* 1 to 14, or 26 */
     CHAFFWHEEL_TRACE_LENGTH = 4, /* the entries of its backtrace */
     CHAFFWHEEL_ANSWER = 5        /* words of an answer: enough for every function */
 };
@@ -110,7 +112,7 @@ enum { CHAFFWHEEL_SHOWN_KIND = 0, CHAFFWHEEL_SHOWN_PAYLOAD = 1 };
 enum { CHAFFWHEEL_HEADER_COUNT = 0, CHAFFWHEEL_HEADER_STRUCT = 1, CHAFFWHEEL_HEADER_DEPTH = 2 };
 enum { CHAFFWHEEL_TOLD = 0 };
 
-/* The numbers that come back: of a fault (1 to 14), and of a refusal. docs/NUMBERS.md says what to do about each. */
+/* The numbers that come back: of a fault (1 to 14, and 26), and of a refusal. docs/NUMBERS.md says what to do about each. */
 enum {
     CHAFFWHEEL_OK = 0,
     CHAFFWHEEL_UNKNOWN_OPCODE = 1,
@@ -136,6 +138,7 @@ enum {
     CHAFFWHEEL_LIMIT = 22,
     CHAFFWHEEL_PATCH_OUTSIDE = 23,
     CHAFFWHEEL_UNDER_WAY = 25,
+    CHAFFWHEEL_NOT_FINITE = 26,
     CHAFFWHEEL_NOT_PASSED = 40
 };
 
@@ -167,6 +170,7 @@ static inline const char *chaffwheel_text_of_number(uint64_t number)
     case CHAFFWHEEL_LIMIT: return "a limit would be exceeded";
     case CHAFFWHEEL_PATCH_OUTSIDE: return "a patch lies outside the code of the current function";
     case CHAFFWHEEL_UNDER_WAY: return "a run is under way, and until it is over the program stays and no other is begun";
+    case CHAFFWHEEL_NOT_FINITE: return "on a strict machine finite numbers gave a result that is not finite";
     case CHAFFWHEEL_NOT_PASSED: return "the rule does not pass the check";
     default: return "a number that does not come back";
     }
@@ -217,7 +221,7 @@ enum {
 /* ---- making a machine, and running it */
 
 /* Makes a machine over a new program: function 0, <main>, with no code. Writes vm, functions, text, and frames[0].
- * Refused 25: vm has 16 words or more and a run is under way in it. 17: vm has fewer than 16 words, or answer none. 21: the text store has fewer than 6
+ * Refused 25: vm has 17 words or more and a run is under way in it. 17: vm has fewer than 17 words, or answer none. 21: the text store has fewer than 6
  * bytes, the function store no place, or the frame store none. */
 uint32_t chaffwheel_new(
     CHAFFWHEEL_SLICE(uint64_t, vm), CHAFFWHEEL_SLICE(uint64_t, functions), CHAFFWHEEL_SLICE(uint8_t, text),
@@ -225,8 +229,8 @@ uint32_t chaffwheel_new(
 
 /* Makes a machine over the program of an image: an empty stack, no last result, one frame, at the start of main. Writes vm, the program's stores and
  * frames[0].
- * Refused 25, before all else: vm has 16 words or more and a run is under way in it. 20: the image breaks a rule; answer[0], where there is one, is the
- * offset of the first item that does. 17: vm has fewer than 16 words, or answer none. 22: a limit. 21: a store is too small for the program, or the
+ * Refused 25, before all else: vm has 17 words or more and a run is under way in it. 20: the image breaks a rule; answer[0], where there is one, is the
+ * offset of the first item that does. 17: vm has fewer than 17 words, or answer none. 22: a limit. 21: a store is too small for the program, or the
  * frame store has no place. */
 uint32_t chaffwheel_load(
     CHAFFWHEEL_SLICE(const uint8_t, image), CHAFFWHEEL_SLICE(uint64_t, vm),
@@ -239,8 +243,8 @@ uint32_t chaffwheel_load(
  * docs/RULES.md ("The check"). Writes vm, the program's stores and frames[0], and to heights[f] the greatest height of each function f: so many
  * values a frame of it has on the stack at most. On that machine, whatever the units, faults 1 to 4 and 14 never come, and 6 only from GetUpvalue or
  * a field.
- * Refused 25, before all else: vm has 16 words or more and a run is under way in it. 20: the bytes are no image; answer[0], where there is one, is the
- * offset of the first item that breaks a rule of the format. 17: vm has fewer than 16 words, answer fewer than 2, or heights fewer than there are
+ * Refused 25, before all else: vm has 17 words or more and a run is under way in it. 20: the bytes are no image; answer[0], where there is one, is the
+ * offset of the first item that breaks a rule of the format. 17: vm has fewer than 17 words, answer fewer than 2, or heights fewer than there are
  * functions. 22: a limit. 21: a store is too small for the program, or the frame store has no place. 40: a rule of the check is broken;
  * answer[CHAFFWHEEL_RULE] is the first, 1 to 6, answer[CHAFFWHEEL_FUNCTION] the lowest function that breaks it (of rule 4 the one that is called). A
  * refused image leaves the machine that is there as it is. */
@@ -251,6 +255,18 @@ uint32_t chaffwheel_check(
     CHAFFWHEEL_SLICE(uint8_t, text), CHAFFWHEEL_SLICE(uint8_t, main_code), CHAFFWHEEL_SLICE(uint32_t, main_places),
     CHAFFWHEEL_SLICE(uint8_t, other_code), CHAFFWHEEL_SLICE(uint32_t, other_places),
     CHAFFWHEEL_SLICE(chaffwheel_frame, frames), CHAFFWHEEL_SLICE(uint32_t, heights), CHAFFWHEEL_SLICE(uint64_t, answer));
+
+/* Makes the machine strict, or not strict. On a strict machine Add, Subtract, Multiply and Divide fault 26 where both operands are finite and the result
+ * is not; on one that is not strict they go on with infinity or NaN, as binary64 has it. A machine is not strict as it is made, loaded or checked; runs,
+ * faults and abandoning leave the setting as it is. Writes the word CHAFFWHEEL_STRICT of vm, and nothing else; it tells nothing, and so has no answer.
+ * Refused 19: the program, the machine or the run is not in good order. 25: a run is under way, whatever the setting is. */
+uint32_t chaffwheel_set_strict(
+    bool strict, CHAFFWHEEL_SLICE(uint64_t, vm),
+    CHAFFWHEEL_SLICE(const uint64_t, constants), CHAFFWHEEL_SLICE(const uint64_t, structs), CHAFFWHEEL_SLICE(const uint64_t, functions),
+    CHAFFWHEEL_SLICE(const uint8_t, text), CHAFFWHEEL_SLICE(const uint8_t, main_code), CHAFFWHEEL_SLICE(const uint32_t, main_places),
+    CHAFFWHEEL_SLICE(const uint8_t, other_code), CHAFFWHEEL_SLICE(const uint32_t, other_places),
+    CHAFFWHEEL_SLICE(const uint64_t, stack), CHAFFWHEEL_SLICE(const uint64_t, cells), CHAFFWHEEL_SLICE(const chaffwheel_frame, frames),
+    CHAFFWHEEL_SLICE(const uint64_t, copy));
 
 /* Begins a run of the machine of vm, where it stands. It reads the program's stores, stack, cells and frames, writes the starting stack to the front of
  * copy, 0 to `entered` of each frame that is taken, the machine as it then is to vm, and the answer, and takes no units. A run that stands at or past the

@@ -102,6 +102,11 @@ static inline uint32_t cw_check(struct chaffwheel_stores *m, CHAFFWHEEL_SLICE(co
     return chaffwheel_check(image, image_len, CW_VM, CW_PROGRAM, CW_LEND(frames), CW_LEND(heights), CW_ANSWER);
 }
 
+static inline uint32_t cw_set_strict(struct chaffwheel_stores *m, bool strict)
+{
+    return chaffwheel_set_strict(strict, CW_VM, CW_PROGRAM, CW_LEND(stack), CW_LEND(cells), CW_LEND(frames), CW_LEND(copy));
+}
+
 static inline uint32_t cw_begin(struct chaffwheel_stores *m)
 {
     return chaffwheel_begin(CW_VM, CW_PROGRAM, CW_LEND(stack), CW_LEND(cells), CW_LEND(frames), CW_LEND(copy), CW_ANSWER);
@@ -139,7 +144,8 @@ static inline uint32_t cw_whole_run(struct chaffwheel_stores *m, uint64_t units)
  * writes, and no calls: the next run judges what it is lent, whatever was written. While a run is under way nothing that is lent may be altered: both
  * are then false, and write nothing. */
 
-/* Puts the machine back to the start of main, with an empty stack. The last result stays: it is what the rule counted so far. The cells are free
+/* Puts the machine back to the start of main, with an empty stack. The last result stays: it is what the rule counted so far; and so does the setting
+ * (cw_set_strict). The cells are free
  * again unless the last result is a list or struct, which lies in them. */
 static inline bool cw_rewind(struct chaffwheel_stores *m)
 {

@@ -128,7 +128,7 @@ static void emit(void)
     size_t n = below(3);
     uint32_t place = (uint32_t)below(9);
     switch (below(12)) {
-    case 0: CALL(" 19 25 22 21 ", "add_scalar", cw_add_scalar(&m, below(4) ? 0x3FF0000000000000u : any())); break;
+    case 0: CALL(" 19 25 22 21 ", "add_scalar", cw_add_scalar(&m, below(4) ? (below(2) ? 0x3FF0000000000000u : 0x7FE0000000000000u) : any())); break;
     case 1: CALL(" 19 25 22 21 ", "add_boolean", cw_add_boolean(&m, any() & 1)); break;
     case 2: CALL(" 19 25 22 21 ", "add_string", cw_add_string(&m, name, n)); break;
     case 3: CALL(" 19 25 22 21 ", "add_reference", cw_add_reference(&m, name, n)); break;
@@ -189,11 +189,11 @@ static void within(uint64_t given, const char *entry)
 static void over(const char *entry, uint64_t stack, const uint64_t *words)
 {
     size_t i;
-    for (i = CHAFFWHEEL_RUN_ON; i < CHAFFWHEEL_VM; i++)
+    for (i = CHAFFWHEEL_RUN_ON; i <= CHAFFWHEEL_RUN_SAVED; i++)
         if (m.vm[i] != 0) stop("a run that is over is still in the record", entry, told);
     if (m.answer[CHAFFWHEEL_OUTCOME] == CHAFFWHEEL_FAULT) {
         uint64_t fault = m.answer[CHAFFWHEEL_FAULT_NUMBER];
-        if (fault < 1 || fault > 14) stop("no number of a fault", entry, (uint32_t)fault);
+        if ((fault < 1 || fault > 14) && !(fault == 26 && m.vm[CHAFFWHEEL_STRICT] == 1)) stop("no number of a fault", entry, (uint32_t)fault);
         if (m.vm[CHAFFWHEEL_STACK] != stack || memcmp(words, m.stack, 2 * stack * sizeof *words)) stop("the stack is not that of the start", entry, told);
         if (m.vm[CHAFFWHEEL_FRAMES] != 1) stop("not one frame", entry, told);
         if (m.frames[0].entered != 0) stop("the frame of recovery was entered", entry, told);
@@ -206,7 +206,8 @@ static void over(const char *entry, uint64_t stack, const uint64_t *words)
 /* What a host does in a pause: it looks, or tries what is refused. */
 static void pause_for(uint64_t given)
 {
-    switch (below(7)) {
+    switch (below(8)) {
+    case 7: REFUSED(25, "set_strict in a pause", cw_set_strict(&m, any() & 1)); break;
     case 0: read_all(); break;
     case 1: REFUSED(25, "begin in a pause", cw_begin(&m)); break;
     case 2: REFUSED(25, "new in a pause", cw_new(&m)); break;
@@ -228,6 +229,7 @@ static void run(void)
 {
     uint64_t given = 0, stack = m.vm[CHAFFWHEEL_STACK], words[2 * PLACES];
     memcpy(words, m.stack, m.stack_len * sizeof *words);
+    if (below(4) == 0) CALL(" 19 25 ", "set_strict", cw_set_strict(&m, any() & 1));
     CALL(" 19 25 17 ", "begin", cw_begin(&m));
     if (told != 0) return;
     within(given, "begin");
@@ -290,7 +292,7 @@ int main(int argc, char **argv)
     for (i = 1; i < 64; i++)
         if (seen[i]) printf(", %lu: %lu", i, seen[i]);
     printf("; faults");
-    for (i = 65; i < 79; i++)
+    for (i = 65; i < 64 + 27; i++)
         if (seen[i]) printf(" %lu: %lu", i - 64, seen[i]);
     printf("\n");
     return 0;

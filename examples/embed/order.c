@@ -206,11 +206,14 @@ static void in_a_run(struct chaffwheel_stores *m, uint64_t list)
     MUST(22, cw_continue(m, UINT64_MAX - run[CHAFFWHEEL_RUN_GIVEN] + 1));
     MUST(22, cw_continue(m, UINT64_MAX));
     MUST(25, cw_begin(m));
+    MUST(25, cw_set_strict(m, true));
+    MUST(25, cw_set_strict(m, false)); /* what it is already */
     loading_in_a_run(m);
     DAMAGED(run[CHAFFWHEEL_RUN_ON], 2, all_short(m, 19, 19, 19, 19), others_short(m, 19, 19, 19));
     DAMAGED(run[CHAFFWHEEL_RUN_ON], 0, all_short(m, 17, 17, 19, 19), others_short(m, 17, 17, 17));
     DAMAGED(run[CHAFFWHEEL_RUN_GIVEN], run[CHAFFWHEEL_RUN_SPENT] - 1, all_short(m, 25, 17, 19, 19), others_short(m, 25, 25, 25));
     DAMAGED(run[CHAFFWHEEL_RUN_SPENT], run[CHAFFWHEEL_RUN_GIVEN] + 1, runs_short(m, 19, 19));
+    DAMAGED(run[CHAFFWHEEL_RUN_SPENT], run[CHAFFWHEEL_RUN_GIVEN] + 1, MUST(19, cw_set_strict(m, true)));
     DAMAGED(run[CHAFFWHEEL_RUN_RETURNS], run[CHAFFWHEEL_RUN_SPENT] + 1, runs_short(m, 19, 19));
     DAMAGED(run[CHAFFWHEEL_RUN_MARK], run[CHAFFWHEEL_CELLS] + 1, runs_short(m, 19, 19));
     DAMAGED(run[CHAFFWHEEL_RUN_MARK], 0, runs_short(m, 19, 19)); /* the last result is a list, which lies in the mark's cells */
@@ -250,8 +253,15 @@ int main(void)
     /* no machine's record */
     DAMAGED(m->vm[CHAFFWHEEL_LAST_KIND], 6, all_short(m, 19, 19, 19, 19), others_short(m, 19, 19, 19));
     /* without a run its words are all 0 */
-    for (size_t i = CHAFFWHEEL_RUN_GIVEN; i < CHAFFWHEEL_VM; i++)
+    for (size_t i = CHAFFWHEEL_RUN_GIVEN; i <= CHAFFWHEEL_RUN_SAVED; i++) {
         DAMAGED(m->vm[i], 1, all_short(m, 17, 17, 19, 19), others_short(m, 17, 17, 17));
+        DAMAGED(m->vm[i], 1, MUST(19, cw_set_strict(m, true)));
+    }
+    /* the setting is 0 or 1 */
+    DAMAGED(m->vm[CHAFFWHEEL_STRICT], 2, all_short(m, 19, 19, 19, 19), others_short(m, 19, 19, 19));
+    DAMAGED(m->vm[CHAFFWHEEL_STRICT], 2, MUST(19, cw_set_strict(m, false)));
+    DAMAGED(m->vm[CHAFFWHEEL_STRICT], 1, all_short(m, 17, 17, 17, 18), others_short(m, 17, 17, 17));
+    MUST(19, chaffwheel_set_strict(true, m->vm, CHAFFWHEEL_VM - 1, PROGRAM, LEND(stack), LEND(cells), LEND(frames), LEND(copy)));
     /* counts past their stores, and words that are no value's */
     DAMAGED(m->vm[CHAFFWHEEL_FUNCTIONS], 257, all_short(m, 19, 19, 19, 19), others_short(m, 17, 17, 17));
     DAMAGED(m->vm[CHAFFWHEEL_FUNCTIONS], 0, all_short(m, 19, 19, 19, 19), others_short(m, 19, 19, 19));

@@ -9,12 +9,13 @@ proved to keep its written rules; this page is not proved.
 """
 import ctypes
 import struct
-from ctypes import c_size_t, c_uint8, c_uint32, c_uint64
+from ctypes import c_bool, c_size_t, c_uint8, c_uint32, c_uint64
 
 NUMBERS = {5: "a value has the wrong kind", 7: "there is no last result", 8: "a division by zero", 13: "the units are spent",
            18: "no run is under way that could be continued or abandoned",
            20: "the image breaks a rule of its format", 21: "a store has too little room for the program",
-           25: "a run is under way, and until it is over the program stays and no other is begun"}
+           25: "a run is under way, and until it is over the program stays and no other is begun",
+           26: "on a strict machine finite numbers gave a result that is not finite"}
 
 
 class Refused(Exception):
@@ -49,7 +50,7 @@ class Machine:
 
     def __init__(self, library, image):
         self.library = ctypes.CDLL(library)
-        self.vm, self.answer = (c_uint64 * 16)(), (c_uint64 * 5)()  # zeros: no run is under way
+        self.vm, self.answer = (c_uint64 * 17)(), (c_uint64 * 5)()  # zeros: no run is under way
         self.program = [(c_uint64 * 512)(), (c_uint64 * 512)(), (c_uint64 * 512)(), (c_uint8 * 16384)(),
                         (c_uint8 * 8192)(), (c_uint32 * 8192)(), (c_uint8 * 8192)(), (c_uint32 * 8192)()]
         self.stack, self.cells, self.frames = (c_uint64 * 2048)(), (c_uint64 * 4096)(), (c_uint64 * 1024)()
@@ -65,10 +66,14 @@ class Machine:
         words = []
         for argument in arguments:
             store, count = argument if isinstance(argument, tuple) else (argument, None)
-            words += [store] if isinstance(store, c_uint64) else [store, c_size_t(len(store) if count is None else count)]
+            words += [store] if isinstance(store, (c_uint64, c_bool)) else [store, c_size_t(len(store) if count is None else count)]
         number = getattr(self.library, "chaffwheel_" + name)(*words)
         if number:
             raise Refused(number)
+
+    def set_strict(self, strict):
+        """On a strict machine finite numbers that give infinity or NaN are fault 26. A machine is not strict as it is loaded."""
+        self.call("set_strict", c_bool(strict), self.vm, *self.program, self.stack, self.cells, self.framed(), self.copy)
 
     def begin(self):
         """Begins a run; it takes no units."""

@@ -10,6 +10,7 @@ mod looking;
 mod parts;
 mod running;
 mod stories;
+mod strictness;
 pub mod tally;
 
 use crate::console::Console;
@@ -22,8 +23,8 @@ const PATIENCE: usize = 20;
 /// A long story is told at the beginning of a script that has room for it.
 const LONG: usize = 40_000;
 /// One story of each sort but emitted programs comes first, then any.
-const SORTS: usize = 32;
-const ANY: usize = 42;
+const SORTS: usize = 33;
+const ANY: usize = 43;
 
 /// A script of at most `most` bytes.
 pub fn script(seed: u64, most: usize) -> String {
@@ -130,6 +131,7 @@ impl Story<'_> {
             29 => self.begun_in_a_callee(),
             30 => self.run_damaged(),
             31 => self.calls_inside_calls(),
+            32 => self.strict(),
             _ => self.emitted(),
         }
         // The next story begins with a machine of its own.

@@ -10,6 +10,8 @@ use crate::script::{bytes, decimal, hex, numbers, word, words_from};
 pub enum Command {
     New,
     Image(Vec<u8>),
+    /// Whether the machine is to be strict.
+    Strict(bool),
     /// The room of the copy store.
     Start(usize),
     /// The units, and the room of the backtrace store.
@@ -68,6 +70,7 @@ fn understood(line: &[u8]) -> Option<Command> {
         [b'#', ..] => Some(Command::Nothing),
         b"new" => alone(Command::New),
         b"image" => bytes(rest).map(Command::Image),
+        b"strict" => numbers(line, 1, [1]).map(|[strict]| Command::Strict(strict == 1)),
         b"start" => room(line, 1).map(Command::Start),
         b"continue" => continuing(line),
         b"abandon" => room(line, 1).map(Command::Abandon),
@@ -189,6 +192,8 @@ mod tests {
             (" new ", Command::New),
             ("image 01 0", Command::NotUnderstood),
             ("image 01 00", Command::Image(vec![1, 0])),
+            ("strict 0", Command::Strict(false)),
+            ("strict 1", Command::Strict(true)),
             ("start", Command::Start(WHOLE)),
             ("start 1024", Command::Start(1_024)),
             ("continue 7", Command::Continue(7, WHOLE)),
@@ -255,6 +260,9 @@ mod tests {
         for line in [
             "New",
             "new 1",
+            "strict",
+            "strict 2",
+            "strict 1 1",
             "run 1",
             "start x",
             "start 1 2",

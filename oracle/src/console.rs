@@ -130,6 +130,7 @@ impl Console {
         match command {
             Command::New => self.made(|| Machine::new(Stores::RUNNER)),
             Command::Image(image) => self.made(|| Machine::load(&image, Stores::RUNNER)),
+            Command::Strict(strict) => self.set_strict(strict),
             Command::Start(room) => self.start(room),
             Command::Continue(units, room) => self.go_on(units, room),
             Command::Abandon(room) => self.abandon(room),
@@ -274,6 +275,13 @@ impl Console {
         let mut machine = self.framed(self.spent())?;
         self.run.take(&mut machine)??;
         Ok(machine)
+    }
+
+    /// 19, 25. Nothing else of the machine is changed.
+    fn set_strict(&mut self, strict: bool) -> Said {
+        self.lent()?.set_strict(strict)?;
+        self.made_machine()?.strict = strict;
+        say("done\n")
     }
 
     /// 19, 25, 17: the copy store has as many places as the stack store. The

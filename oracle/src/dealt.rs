@@ -59,6 +59,10 @@ pub fn runs(seed: u64, count: u64) -> Count {
                     counted.add("runs that find values on the stack, and a last result");
                     put_values(&mut machine, &mut rng);
                 }
+                if rng.chance(50) {
+                    counted.add("runs on a strict machine");
+                    machine.strict = true;
+                }
                 if rng.chance(10) && put_frames(&mut machine, &mut rng) {
                     counted.add("runs that find frames of an earlier run, entered at some units");
                 }
@@ -262,8 +266,12 @@ impl<'a> Run<'a> {
         given: u64,
         counted: &mut Count,
     ) -> Result<(), String> {
-        let (number, refused) = match self.rng.below(4) {
+        let (number, refused) = match self.rng.below(5) {
             0 => (25, machine.begin_run().err()),
+            4 => {
+                let strict = self.rng.chance(50);
+                (25, machine.set_strict(strict).err())
+            }
             1 => (25, machine.emit(255, &[], 0).err()),
             2 => (25, machine.patch_u16_value_at(u16::MAX, 0).err()),
             _ if given > 0 => {

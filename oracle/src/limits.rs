@@ -183,6 +183,9 @@ pub struct Machine {
     pub frames: Vec<Frame>,
     pub cells_used: usize,
     pub last_result: Option<Value>,
+    /// Whether arithmetic that leaves the finite numbers is a fault (document 02,
+    /// Wish 9); not so as it is loaded or made.
+    pub strict: bool,
     /// The stack as it was when a run was last begun.
     pub copy: Vec<Value>,
     /// The run under way, if there is one.
@@ -239,9 +242,17 @@ impl Machine {
             frames: vec![Frame::root(0)],
             cells_used: 0,
             last_result: None,
+            strict: false,
             copy: vec![],
             under_way: None,
         })
+    }
+
+    /// 25 with a run under way, also if the machine has that setting already.
+    pub fn set_strict(&mut self, strict: bool) -> Result<(), Refused> {
+        self.no_run_under_way()?;
+        self.strict = strict;
+        Ok(())
     }
 
     /// The image of the program; nothing of the run's state goes into it.
@@ -443,8 +454,8 @@ impl Machine {
     /// comparing.
     /// The checks come in document 01's order: 1, 2, 3, number operands, pops
     /// from the top (4 before 5 at each), 7, field number, 14, argument
-    /// count, zero divisor, comparison units, 12, 11, frames, stack. A
-    /// comparison that cannot be paid for, fault 13, has popped nothing: of a
+    /// count, zero divisor, 26 of a strict machine, comparison units, 12, 11,
+    /// frames, stack. A comparison that cannot be paid for, fault 13, has popped nothing: of a
     /// step at fault it alone leaves the stack as it was.
     fn step(&mut self, spent: u64, units: u64) -> Result<Step, u32> {
         let frame = self.frame().clone();
@@ -514,6 +525,10 @@ impl Machine {
                     _ if right == 0.0 => return Err(8),
                     _ => left / right,
                 };
+                let left_the_finite = left.is_finite() && right.is_finite() && !result.is_finite();
+                if self.strict && left_the_finite {
+                    return Err(26);
+                }
                 self.push(Value::Scalar(result))?;
             }
             Op::LessThan | Op::GreaterThan | Op::LessOrEqual | Op::GreatorOrEqual => {

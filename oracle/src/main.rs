@@ -19,6 +19,7 @@ oracle: source document 000 (numbat's vm.rs) as published; the same written agai
 over f64, the plain machine; and document 01's machine, written for itself
 
   oracle run FILE               what the runner prints
+  oracle run --strict FILE      what it would print, were its machine strict
   oracle list FILE              what the lister prints
   oracle list --notes FILE      what the noter prints
   oracle judge FILE             `ok`, or `refused 20 OFFSET`; also checks that
@@ -71,15 +72,20 @@ over f64, the plain machine; and document 01's machine, written for itself
                                 and each breach of what a pass promises
   oracle dealt SEED COUNT       makes COUNT runs of generated images, each given its
                                 units in parts dealt out by chance, some of them
-                                of none, and compares with one run given the
-                                sum: answer, units, root Returns, backtrace,
-                                stack, frames, last result, cells; a count of
-                                what came up, and each difference
+                                of none, half of them on strict machines, and
+                                compares with one run given the sum: answer,
+                                units, root Returns, backtrace, stack, frames,
+                                last result, cells; a count of what came up, and
+                                each difference
   oracle dealt-script SEED      a script for the console of some hundreds of such
                                 runs, each begun by `start`
   oracle dealt-answers SEED     what the console has to answer: of each part by the
                                 undivided run given the units of all parts so
                                 far, paused where that run ends in 13
+  oracle strict-script SEED     a script for the console of whole runs of generated
+                                images on strict machines, each begun by `start`
+                                and given 1,000,000 units
+  oracle strict-answers SEED    what the console has to answer
   oracle console [LINE]         plays a script of host calls from standard input
                                 and prints what the console prints for it; LINE
                                 is the number of its first line (1)
@@ -125,6 +131,9 @@ oracle/tests/parts.script has each of these, parts.answers what is answered.
                                 2^48. Frames are not in good order, 19, where
                                 ENTERED falls from the root inwards, or is above
                                 what the run under way has spent
+  strict 0, strict 1            makes the machine one that is not strict, or one that
+                                is: 19, as a part of a run; 25. `done`. Loading
+                                and `new` leave one that is not
   trace, trace ROOM             the host's own backtrace, in the same lines: 19 of
                                 the frames, nothing being asked of a run; 17, 16
 
@@ -143,8 +152,9 @@ one over, frames damaged, patches, names, lines not understood, an image, a
 function defined anew, a struct added, a callee's code that grows, frames put over
 values, an image over a machine that has run, units dealt out among comparisons,
 runs abandoned, what is refused in a pause, a run begun in a callee, the words of
-a run damaged, calls inside calls and when they began), then any, emitted programs
-too. The units of most runs come in parts, none now and then.
+a run damaged, calls inside calls and when they began, arithmetic on strict
+machines), then any, emitted programs too. The units of most runs come in parts,
+none now and then, and some machines are strict.
 From 40,000 bytes on it begins with a long one: the text store is filled for seeds
 0, 4, 8 .., main's code for 1, 5 .., the others' code for 2, 6 .., constants,
 structs and functions for 3, 7 ..
@@ -168,6 +178,9 @@ fn main() -> ExitCode {
         return status;
     }
     let done = match arguments.as_slice() {
+        ["run", "--strict", file] => {
+            read(file).and_then(|bytes| put(print::strict_runner(&bytes).as_bytes()))
+        }
         ["run", file] => read(file).and_then(|bytes| put(print::runner(&bytes).as_bytes())),
         ["list", "--notes", file] => read(file).and_then(|bytes| put(&print::noter(&bytes))),
         ["list", file] => read(file).and_then(|bytes| put(&print::lister(&bytes))),
@@ -195,6 +208,12 @@ fn main() -> ExitCode {
         ["dealt-script", seed] => number(seed).and_then(|s| put(dealt_script(s).script.as_bytes())),
         ["dealt-answers", seed] => {
             number(seed).and_then(|s| put(dealt_script(s).answers.as_bytes()))
+        }
+        ["strict-script", seed] => {
+            number(seed).and_then(|s| put(strict_script(s).script.as_bytes()))
+        }
+        ["strict-answers", seed] => {
+            number(seed).and_then(|s| put(strict_script(s).answers.as_bytes()))
         }
         ["console"] => read("-").and_then(|script| console(&script, 1)),
         ["console", first] => {
@@ -518,6 +537,10 @@ const BREACHES: usize = 20;
 
 fn dealt_script(seed: u64) -> dealt::scripts::Scripted {
     dealt::scripts::scripted(seed, script::MAX_SCRIPT)
+}
+
+fn strict_script(seed: u64) -> dealt::scripts::Scripted {
+    dealt::scripts::strict(seed, script::MAX_SCRIPT)
 }
 
 fn dealt(seed: u64, count: u64) -> Done {

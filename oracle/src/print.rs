@@ -25,14 +25,29 @@ pub fn load(image: &[u8]) -> Result<Machine, Refused> {
 }
 
 pub fn run(image: &[u8]) -> Result<Ran, Refused> {
+    run_as(false, image)
+}
+
+/// The run of the runner, on a machine that is strict or not.
+fn run_as(strict: bool, image: &[u8]) -> Result<Ran, Refused> {
     let mut machine = load(image)?;
+    machine.strict = strict;
     let report = machine.run(UNITS);
     Ok(Ran { report, machine })
 }
 
-/// The text of the runner.
+/// The text of the runner, whose machine is not strict.
 pub fn runner(image: &[u8]) -> String {
-    match run(image) {
+    text_of(run(image))
+}
+
+/// What it would be on a strict machine: that of `./chaffwheel run --strict`.
+pub fn strict_runner(image: &[u8]) -> String {
+    text_of(run_as(true, image))
+}
+
+fn text_of(run: Result<Ran, Refused>) -> String {
+    match run {
         Ok(ran) => ran_text(&ran),
         Err(refused) => refused_text(refused),
     }

@@ -46,6 +46,7 @@ fn every_command_comes_up() {
     for command in [
         "new 1",
         "image 2",
+        "strict 2",
         "start 1",
         "start 2",
         "continue 2",
@@ -93,7 +94,7 @@ fn every_command_comes_up() {
 fn every_fault_and_refusal_comes_up() {
     let answers = answers();
     let has = |start: &str| answers.iter().any(|answer| answer.starts_with(start));
-    for fault in 1..=14 {
+    for fault in (1..=14).chain([26]) {
         assert!(has(&format!("fault {fault},")), "fault {fault}");
     }
     for refused in [1, 3, 5, 6, 7, 14, 16, 17, 18, 19, 21, 22, 23, 25] {
@@ -348,6 +349,38 @@ fn edges_of_entered_frames_are_counted_where_they_are() {
             "paused with no unit left",
             "paused in a callee",
             "refused 19, a frame entered before its caller"
+        ]
+    );
+}
+
+/// The edges of strict machines.
+#[test]
+fn edges_of_strict_machines_are_counted_where_they_are() {
+    let found = |story: &str| -> Vec<String> {
+        let counted = tally(std::iter::once(story.to_owned()));
+        let found = counted.into_iter().filter(|(_, count)| *count > 0);
+        found.map(|(edge, _)| edge).collect()
+    };
+    let rule = "new\nscalar 7FE0000000000000\nop1 0 0 1\nop1 0 0 2\nop 8 3\nstart";
+    assert!(found(&format!("{rule}\ncontinue 9\nstrict 1\nstrict 0")).is_empty());
+    assert_eq!(
+        found(&format!("{rule}\nstrict 1\ncontinue 9\nstrict 1\nimage 80")),
+        [
+            "refused 20",
+            "refused 25",
+            "a broken image refused by a machine that has run",
+            "refused 25, making strict or not strict",
+            "a broken image refused by a strict machine that has run"
+        ]
+    );
+    let again = "strict 1\nop1 0 0 4\nop1 0 0 5\nop 8 6\nstart\ncontinue 9";
+    let image = "image 000001063C6D61696E3E00";
+    assert_eq!(
+        found(&format!("{rule}\ncontinue 9\n{again}\n{image}")),
+        [
+            "fault 26",
+            "an image loaded over values on the stack",
+            "an image loaded over a strict machine"
         ]
     );
 }

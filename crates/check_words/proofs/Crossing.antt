@@ -35,7 +35,7 @@ use Rattle.check_words.proofs.Judged.{an-image-has-main}
 
 -- the record and the answer are long enough
 abbrev pub long : (w a : List ℕ) → Bool
-long w a = leb 16 (length w) && leb 2 (length a)
+long w a = leb 17 (length w) && leb 2 (length a)
 
 module _ (p : Program) (w a heights : List ℕ) where
   has-places : long w a ≡ true → length (p .functions) ≤ places 1 heights → hasPlaces p w a heights ≡ true

@@ -42,9 +42,9 @@ checkedCoded (c.Breaks q f) w a = told 40 (ruleNumber q ∷ f ∷ []) w a
 
 -- ---- the entry
 
--- else 17: sixteen words for the record, two for the answer, and a place for the height of each function
+-- else 17: seventeen words for the record, two for the answer, and a place for the height of each function
 unfoldable pub hasPlaces : Program → (w a heights : List ℕ) → Bool
-hasPlaces p w a hs = (leb 16 (length w) && leb 2 (length a)) && leb (length (p .functions)) (places 1 hs)
+hasPlaces p w a hs = (leb 17 (length w) && leb 2 (length a)) && leb (length (p .functions)) (places 1 hs)
 
 -- else 21: room for the program, and a place for a frame
 unfoldable pub hasRoom : Program → Stores → List Frame → Bool

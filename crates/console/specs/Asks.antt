@@ -22,7 +22,7 @@ use Rattle.console.specs.declared.commands.Asked.the-variants as q
 use Rattle.console.specs.declared.commands.Group.{Group}
 use Rattle.console.specs.declared.commands.Group.the-variants as g
 use Rattle.console_emission.specs.declared.Kind.the-variants as k
-use Rattle.console_script.specs.Words.{wordsFrom, wordOf, numberOf, roomOf, hexOf}
+use Rattle.console_script.specs.Words.{wordsFrom, wordOf, numberOf, argsOf, roomOf, hexOf}
 
 -- ---- calls over frames
 
@@ -32,6 +32,12 @@ lentWhole n = record { image = n; copy = 4294967295; trace = 4294967295 }
 
 unfoldable pub askNew : List ℕ → Asked
 askNew line = if eqb (length (wordsFrom line 1)) 0 then q.Frames c.New (lentWhole 0) else q.Other
+
+-- one number, 1 where the machine is to be strict, else 0
+unfoldable pub askStrict : List ℕ → Asked
+askStrict line =
+    if argsOf line 1 2 (record { a = 1; b = 0; c = 0; d = 0; e = 0 }) .good
+    then q.Frames (c.Strict (eqb (argsOf line 1 2 (record { a = 1; b = 0; c = 0; d = 0; e = 0 }) .a) 1)) (lentWhole 0) else q.Other
 
 unfoldable pub askStart : List ℕ → Asked
 askStart line = if roomOf line 1 .good then q.Frames c.Begin (record { image = 0; copy = roomOf line 1 .is; trace = 4294967295 }) else q.Other
@@ -62,8 +68,9 @@ askOf line space =
     if sameBytes (wordOf line 0) (ascii "start") then record { asked = askStart line; space = space } else (
     if sameBytes (wordOf line 0) (ascii "continue") then record { asked = askContinue line; space = space } else (
     if sameBytes (wordOf line 0) (ascii "abandon") then record { asked = askTraced c.Abandon line 1; space = space } else (
-    if sameBytes (wordOf line 0) (ascii "image") then askLoad line space else
-    record { asked = q.Other; space = space })))))
+    if sameBytes (wordOf line 0) (ascii "image") then askLoad line space else (
+    if sameBytes (wordOf line 0) (ascii "strict") then record { asked = askStrict line; space = space } else
+    record { asked = q.Other; space = space }))))))
 
 -- ---- the commands that need no frames, in groups
 

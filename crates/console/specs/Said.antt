@@ -1,4 +1,5 @@
 -- What is said of a list or struct, and which machine there is behind an answer: the one that it tells, or the one that was.
+use mathlib.Core.Bool.{false}
 use mathlib.Core.List.{List}
 use Prim.Native.Nat.{ℕ, _/_}
 use lib.Dec.{ltb}
@@ -12,6 +13,8 @@ use Rattle.model.specs.declared.Started.{Started}
 use Rattle.model.specs.declared.Started.the-variants as s
 use Rattle.model.specs.declared.RunResult.{RunResult}
 use Rattle.model.specs.declared.RunResult.the-variants as x
+use Rattle.model.specs.declared.Changed as setting
+use Rattle.model.specs.declared.Changed.the-variants as st
 use Rattle.model.specs.declared.Last.the-variants.{Nothing}
 use Rattle.model.specs.Basics.{if_then_else_}
 use Rattle.model.specs.Values.{payloadAt}
@@ -28,7 +31,7 @@ headerIn cells p = if ltb p (length cells / 2) then headerOf (payloadAt cells p)
 
 -- before any is made: nothing is in good order yet
 unfoldable pub noMachine : Vm
-noMachine = record { program = record { constants = 0; structs = 0; functions = 0; text = 0; current = 0 }; stack = 0; frames = 0; cells = 0; last = Nothing; run = noRun }
+noMachine = record { program = record { constants = 0; structs = 0; functions = 0; text = 0; current = 0 }; stack = 0; frames = 0; cells = 0; last = Nothing; run = noRun; strict = false }
 
 unfoldable pub afterEmitted : Vm → Emitted → Vm
 afterEmitted m (e.Done c n) = withProgram m c
@@ -50,11 +53,17 @@ afterRun m (x.Fault left n spent entries) = left
 afterRun m (x.Paused left) = left
 afterRun m (x.Refused n) = m
 
+-- with the setting that was asked, or as it was
+unfoldable pub afterSet : Vm → setting.Changed → Vm
+afterSet m (st.Done set) = set
+afterSet m (st.Refused n) = m
+
 -- a backtrace leaves the machine as it was
 unfoldable pub afterAnswer : Vm → Answer → Vm
 afterAnswer m (a.Made r) = afterStarted m r
 afterAnswer m (a.Ran r) = afterRun m r
 afterAnswer m (a.Traced t) = m
+afterAnswer m (a.Set x) = afterSet m x
 
 -- damage that was understood
 unfoldable pub afterDamage : Vm → Changed → Vm

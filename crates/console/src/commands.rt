@@ -17,7 +17,7 @@ use model::Run;
 use model::Told;
 use model::Vm;
 ghost use mathlib.Core.Path.{_≡_};
-ghost use Rattle.console.specs.Asks.{lentWhole, askNew, askStart, askTraced, askContinue, askLoad, askOf, isCode, isConstant, isName, isLook, isRead, isSaid, groupOf};
+ghost use Rattle.console.specs.Asks.{lentWhole, askNew, askStrict, askStart, askTraced, askContinue, askLoad, askOf, isCode, isConstant, isName, isLook, isRead, isSaid, groupOf};
 ghost use Rattle.console.specs.Said.{noMachine, afterDamage};
 ghost use Rattle.console_damage.specs.Sums.{sumOf};
 ghost use Rattle.console_damage.specs.Damage.{frameArgs, frameAsked};
@@ -56,6 +56,25 @@ fn ask_new(line: &[u8]) -> Asked
     let rest = console_script::words_from(line, 1);
     if rest.len() == 0 {
         return Asked::Frames(Call::New, lent_whole(0));
+    }
+    Asked::Other
+}
+
+// `strict 0`, `strict 1`.
+fn ask_strict(line: &[u8]) -> Asked
+    ensures { λ r. ⌜ r ≡ askStrict (now (line .entry)) ⌝ }
+{
+    let most = Most {
+        a: 1,
+        b: 0,
+        c: 0,
+        d: 0,
+        e: 0,
+    };
+    let args = console_script::read_args(line, 1, 2, most);
+    if args.good {
+        let strict = args.a == 1;
+        return Asked::Frames(Call::Strict(strict), lent_whole(0));
     }
     Asked::Other
 }
@@ -136,6 +155,9 @@ pub fn ask(line: &[u8], space: &mut stores::Space) -> Asked
     }
     if same_bytes(what, b"image") {
         return ask_load(line, space);
+    }
+    if same_bytes(what, b"strict") {
+        return ask_strict(line);
     }
     Asked::Other
 }
@@ -640,5 +662,6 @@ pub fn no_machine() -> Vm
         cells: 0,
         last: Last::Nothing,
         run,
+        strict: false,
     }
 }

@@ -2,6 +2,7 @@
 use console_frames::Answer;
 use console_script::front;
 use console_script::stores;
+use model::Changed;
 use model::Emitted;
 use model::Frame;
 use model::Headed;
@@ -15,7 +16,7 @@ use model::Value;
 use model::Vm;
 use value::words;
 ghost use mathlib.Core.Path.{_≡_};
-ghost use Rattle.console.specs.Said.{headerIn, soFar, afterRun, afterStarted, afterEmitted, afterAnswer};
+ghost use Rattle.console.specs.Said.{headerIn, soFar, afterRun, afterStarted, afterEmitted, afterSet, afterAnswer};
 
 pub fn say(text: &[u8]) {
     io::write_all(1, text);
@@ -223,6 +224,22 @@ fn say_started(m: Vm, s: Started, number: u64) -> Vm
     }
 }
 
+// A machine with another setting, or the one that was.
+fn say_set(m: Vm, x: Changed, number: u64) -> Vm
+    ensures { λ r. ⌜ r ≡ afterSet m x ⌝ }
+{
+    match x {
+        Changed::Done(set) => {
+            say(b"done\n");
+            set
+        }
+        Changed::Refused(n) => {
+            say_refused(n, number);
+            m
+        }
+    }
+}
+
 // What emission answers.
 pub fn say_emitted(m: Vm, e: Emitted, number: u64) -> Vm
     ensures { λ r. ⌜ r ≡ afterEmitted m e ⌝ }
@@ -321,5 +338,6 @@ pub fn say_answer(m: Vm, a: Answer, cells: &[u64], trace: &[u64], number: u64) -
         Answer::Made(s) => say_started(m, s, number),
         Answer::Ran(r) => say_run(m, r, cells, trace, number),
         Answer::Traced(t) => say_trace(m, t, trace, number),
+        Answer::Set(x) => say_set(m, x, number),
     }
 }

@@ -19,11 +19,11 @@ use Rattle.console_script.specs.Words.{wordOf, argsOf}
 
 -- a machine with other counts of its program
 unfoldable pub withProgram : Vm → Counts → Vm
-withProgram m c = record { program = c; stack = m .stack; frames = m .frames; cells = m .cells; last = m .last; run = m .run }
+withProgram m c = record { program = c; stack = m .stack; frames = m .frames; cells = m .cells; last = m .last; run = m .run; strict = m .strict }
 
 -- a machine with another run under way
 unfoldable pub withRun : Vm → Run → Vm
-withRun m r = record { program = m .program; stack = m .stack; frames = m .frames; cells = m .cells; last = m .last; run = r }
+withRun m r = record { program = m .program; stack = m .stack; frames = m .frames; cells = m .cells; last = m .last; run = r; strict = m .strict }
 
 -- understood, and the machine is then m
 unfoldable pub changed : Vm → Changed
@@ -57,14 +57,14 @@ runWith m r name n =
 -- the count of that name is n
 unfoldable pub countWith : Vm → List ℕ → ℕ → Changed
 countWith m name n =
-    if sameBytes name (ascii "stack") then changed (record { program = m .program; stack = n; frames = m .frames; cells = m .cells; last = m .last; run = m .run }) else (
-    if sameBytes name (ascii "frames") then changed (record { program = m .program; stack = m .stack; frames = n; cells = m .cells; last = m .last; run = m .run }) else (
-    if sameBytes name (ascii "cells") then changed (record { program = m .program; stack = m .stack; frames = m .frames; cells = n; last = m .last; run = m .run }) else
+    if sameBytes name (ascii "stack") then changed (record { program = m .program; stack = n; frames = m .frames; cells = m .cells; last = m .last; run = m .run; strict = m .strict }) else (
+    if sameBytes name (ascii "frames") then changed (record { program = m .program; stack = m .stack; frames = n; cells = m .cells; last = m .last; run = m .run; strict = m .strict }) else (
+    if sameBytes name (ascii "cells") then changed (record { program = m .program; stack = m .stack; frames = m .frames; cells = n; last = m .last; run = m .run; strict = m .strict }) else
     runWith m (m .run) name n))
 
 -- the last result is that
 unfoldable pub lastWith : Vm → Last → Vm
-lastWith m l = record { program = m .program; stack = m .stack; frames = m .frames; cells = m .cells; last = l; run = m .run }
+lastWith m l = record { program = m .program; stack = m .stack; frames = m .frames; cells = m .cells; last = l; run = m .run; strict = m .strict }
 
 -- `count NAME N`
 unfoldable pub countArgs : List ℕ → Args

@@ -8,18 +8,19 @@ use Rattle.model.specs.declared.Frame.{Frame}
 use Rattle.model.specs.declared.Started.{Started}
 use Rattle.model.specs.declared.RunResult.{RunResult}
 use Rattle.model.specs.declared.Told.{Told}
+use Rattle.model.specs.declared.Changed.{Changed}
 use Rattle.model.specs.Stores.{Stores}
 use Rattle.model.specs.Loading.{OutRes}
-use Rattle.model.specs.Machines.{StartRes, RunCall, begins, continues, abandons, RunPost, newMachineOf, loadMachineOf, backtraceIn}
+use Rattle.model.specs.Machines.{StartRes, RunCall, begins, continues, abandons, RunPost, setStrict, newMachineOf, loadMachineOf, backtraceIn}
 use Rattle.layout.specs.Links.{namesLent}
 use Rattle.model.specs.Stores.{storesOf}
 use Rattle.run_ends.specs.Links.{programLent}
 use Rattle.machine.specs.Links.{runLent}
-use Rattle.console_frames.specs.declared.Call.the-variants.{New, Load, Begin, Continue, Abandon, Trace}
+use Rattle.console_frames.specs.declared.Call.the-variants.{New, Load, Begin, Continue, Abandon, Trace, Strict}
 use Rattle.console_frames.specs.declared.Answer.{Answer}
-use Rattle.console_frames.specs.declared.Answer.the-variants.{Made, Ran, Traced}
+use Rattle.console_frames.specs.declared.Answer.the-variants.{Made, Ran, Traced, Set}
 use Rattle.console_frames.specs.Resting.{allKept}
-use Rattle.console_frames.specs.Calls.{Held, held, madeIn, Making, lentIn, Running, tracedIn, Tracing, Called}
+use Rattle.console_frames.specs.Calls.{Held, held, madeIn, Making, lentIn, Running, tracedIn, Tracing, Setting, Called}
 
 making : (w : StartRes) (s : Held) {x : Started} {p : Stores} {fs′ : List Frame} → record { answer = x; stores = p; frames = fs′ } ≡ w → {r : Answer} → r ≡ Made x
     → {words′ : List ℕ} → words′ ≡ allKept fs′ (s .frames)
@@ -91,3 +92,10 @@ module _ (m : Vm) (image constants structs functions text main mainPlaces other 
       → Called m Trace image fs before r fs (held constants structs functions text main mainPlaces other otherPlaces stack cells copy trace′ words)
   unfolding Called programLent
   trace-called e er = tracing (backtraceIn m (before .program) stack fs trace) fs before (e structs constants) er
+
+  -- no backtrace store is lent: this one is as any other
+  pub strict-called : (b : Bool) {x : Changed}
+      → ((backtrace : List ℕ) → x ≡ setStrict b m (programLent structs constants functions text main mainPlaces other otherPlaces) (runLent stack cells fs copy backtrace))
+      → {r : Answer} → r ≡ Set x → Called m (Strict b) image fs before r fs before
+  unfolding Called programLent runLent lentIn
+  strict-called b e er = record { answer = er ∙ ap Set (e trace); same = refl; stores = refl }

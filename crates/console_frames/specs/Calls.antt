@@ -6,10 +6,11 @@ use lib.ListN.{replicate}
 use Rattle.model.specs.declared.Vm.{Vm}
 use Rattle.model.specs.declared.Frame.{Frame}
 use Rattle.model.specs.declared.RunResult.{RunResult}
+use Rattle.model.specs.declared.Changed.{Changed}
 use Rattle.model.specs.Stores.{Stores}
 use Rattle.model.specs.Loading.{OutRes}
 use Rattle.model.specs.Machines as machine
-use Rattle.model.specs.Machines.{StartRes, RunCall, begins, continues, abandons, RunPost, newMachineOf, loadMachineOf, backtraceIn}
+use Rattle.model.specs.Machines.{StartRes, RunCall, begins, continues, abandons, RunPost, setStrict, newMachineOf, loadMachineOf, backtraceIn}
 use Rattle.frames.specs.Links.{noFrame}
 use Rattle.console_frames.specs.declared.Call.{Call}
 use Rattle.console_frames.specs.declared.Call.the-variants as c
@@ -80,6 +81,12 @@ pub record Tracing (w : OutRes) (frames : List Frame) (s : Held) (r : Answer) (f
   pub same : frames' ≡ frames
   pub stores : s' ≡ tracedIn w s
 
+-- x says what the machine's setting now is; nothing else is written
+pub record Setting (x : Changed) (frames : List Frame) (s : Held) (r : Answer) (frames' : List Frame) (s' : Held) : Type 0 where
+  pub answer : r ≡ a.Set x
+  pub same : frames' ≡ frames
+  pub stores : s' ≡ s
+
 -- the machine m is called, the image beside it; r answers, and s' is what the stores then hold
 unfoldable pub Called : (m : Vm) (call : Call) (image : List ℕ) (frames : List Frame) (s : Held) (r : Answer) (frames' : List Frame) (s' : Held) → Type 0
 Called m c.New image frames s r frames' s' = Making (newMachineOf (m .run .on) (s .program) frames) s r frames' s'
@@ -88,6 +95,7 @@ Called m c.Begin image frames s r frames' s' = Running begins m frames s r frame
 Called m (c.Continue units) image frames s r frames' s' = Running (continues units) m frames s r frames' s'
 Called m c.Abandon image frames s r frames' s' = Running abandons m frames s r frames' s'
 Called m c.Trace image frames s r frames' s' = Tracing (backtraceIn m (s .program) (s .stack) frames (s .trace)) frames s r frames' s'
+Called m (c.Strict b) image frames s r frames' s' = Setting (setStrict b m (s .program) (lentIn frames s)) frames s r frames' s'
 
 -- a call over 256 frames that rest in words
 pub record Bridged (m : Vm) (call : Call) (image : List ℕ) (s : Held) (r : Answer) (s' : Held) : Type 0 where

@@ -3,6 +3,7 @@ use console_damage::frame_in;
 use console_damage::put_frame;
 use frames::push_frame;
 use frames::read_frame;
+use model::Changed;
 use model::Frame;
 use model::RunResult;
 use model::Started;
@@ -93,6 +94,7 @@ pub enum Call {
     Continue(u64),
     Abandon,
     Trace,
+    Strict(bool),
 }
 
 // What a call answers.
@@ -100,6 +102,7 @@ pub enum Answer {
     Made(Started),
     Ran(RunResult),
     Traced(Told),
+    Set(Changed),
 }
 
 fn made(s: Started) -> Answer
@@ -118,6 +121,12 @@ fn traced(t: Told) -> Answer
     ensures { λ r. ⌜ r ≡ a.Traced t ⌝ }
 {
     Answer::Traced(t)
+}
+
+fn set(x: Changed) -> Answer
+    ensures { λ r. ⌜ r ≡ a.Set x ⌝ }
+{
+    Answer::Set(x)
 }
 
 // Whether a run is under way.
@@ -254,6 +263,26 @@ pub fn act(
                 trace,
             );
             let r = traced(t);
+            return r;
+        }
+        Call::Strict(strict) => {
+            let x = machine::set_strict(
+                m,
+                strict,
+                constants,
+                structs,
+                functions,
+                text,
+                main,
+                main_places,
+                other,
+                other_places,
+                stack,
+                cells,
+                frames,
+                copy,
+            );
+            let r = set(x);
             return r;
         }
     }

@@ -10,7 +10,7 @@ use Rattle.model.specs.Values.{places}
 use Rattle.model.specs.Heap.{heapOf}
 use Rattle.model.specs.Runs.{ends, beginOf, continueOf, abandonOf}
 use Rattle.model.specs.Stores.{Stores, functionsFrom}
-use Rattle.model.specs.Machines.{Lent, innermost, machineIn, progressIn, underIn, worldOf, runOrder, partOrder, copyShort, traceShort, ran, refused, RunCall, begins, continues, abandons, beginAnswer, continueAnswer, abandonAnswer, runAnswer}
+use Rattle.model.specs.Machines.{Lent, innermost, machineIn, progressIn, underIn, worldOf, runOrder, partOrder, copyShort, traceShort, unchanged, ran, refused, RunCall, begins, continues, abandons, beginAnswer, continueAnswer, abandonAnswer, runAnswer}
 use Rattle.layout.proofs.Bools.{either-way}
 use Rattle.laws_runs.specs.Ordered.{UnderOrdered}
 use Rattle.laws_runs.proofs.Ordered.{order-of, order-to, order-exact, idle-of, idle-to, under-of, under-to}
@@ -113,22 +113,22 @@ module _ (m : Vm) (s : Stores) {l l' : Lent} (k : LentAlike m l l') where
   -- ---- the three calls
 
   begin-by : (b : Bool) → runOrder m s l ≡ b
-      → (if b then (if m .run .on then refused 25 else (if copyShort l then refused 17 else ran (m .program) (beginOf (worldOf m s l) (machineIn m l)))) else refused 19)
-      ≡ (if b then (if m .run .on then refused 25 else (if copyShort l' then refused 17 else ran (m .program) (beginOf (worldOf m s l') (machineIn m l')))) else refused 19)
+      → (if b then (if m .run .on then refused 25 else (if copyShort l then refused 17 else ran (unchanged m) (beginOf (worldOf m s l) (machineIn m l)))) else refused 19)
+      ≡ (if b then (if m .run .on then refused 25 else (if copyShort l' then refused 17 else ran (unchanged m) (beginOf (worldOf m s l') (machineIn m l')))) else refused 19)
   begin-by true e = rw (copy-short-alike, world-alike m s k, machine-alike (order-exact m s l e .frames))
   begin-by false e = refl
 
   continue-by : (u : ℕ) (b : Bool) → runOrder m s l ≡ b
       → (if b then (if m .run .on then (if traceShort l then refused 17 else (if ltb 0xFFFF_FFFF_FFFF_FFFF (m .run .given + u) then refused 22 else
-      ran (m .program) (continueOf (worldOf m s l) (underIn m l) u))) else refused 18) else refused 19)
+      ran (unchanged m) (continueOf (worldOf m s l) (underIn m l) u))) else refused 18) else refused 19)
       ≡ (if b then (if m .run .on then (if traceShort l' then refused 17 else (if ltb 0xFFFF_FFFF_FFFF_FFFF (m .run .given + u) then refused 22 else
-      ran (m .program) (continueOf (worldOf m s l') (underIn m l') u))) else refused 18) else refused 19)
+      ran (unchanged m) (continueOf (worldOf m s l') (underIn m l') u))) else refused 18) else refused 19)
   continue-by u true e = rw (trace-short-alike, world-alike m s k, under-alike e)
   continue-by u false e = refl
 
   abandon-by : (b : Bool) → runOrder m s l ≡ b
-      → (if b then (if m .run .on then (if traceShort l then refused 17 else ran (m .program) (ends (abandonOf (worldOf m s l) (underIn m l)))) else refused 18) else refused 19)
-      ≡ (if b then (if m .run .on then (if traceShort l' then refused 17 else ran (m .program) (ends (abandonOf (worldOf m s l') (underIn m l')))) else refused 18) else refused 19)
+      → (if b then (if m .run .on then (if traceShort l then refused 17 else ran (unchanged m) (ends (abandonOf (worldOf m s l) (underIn m l)))) else refused 18) else refused 19)
+      ≡ (if b then (if m .run .on then (if traceShort l' then refused 17 else ran (unchanged m) (ends (abandonOf (worldOf m s l') (underIn m l')))) else refused 18) else refused 19)
   abandon-by true e = rw (trace-short-alike, world-alike m s k, under-alike e)
   abandon-by false e = refl
 

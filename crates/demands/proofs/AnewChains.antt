@@ -31,6 +31,7 @@ elsewhere {h = h} {d = d} {k = k} a l =
         other = l .long .other ∙ a .stores .other;
         otherPlaces = l .long .otherPlaces ∙ a .stores .otherPlaces;
       };
+      strict = ap (λ (m : Vm). m .strict) (l .relent .vm) ∙ a .strict;
       machine = rw (world-same o (l .relent) (l .rooms), z .machine) (a .machine);
       on = ap (λ (m : Vm). m .run .on) (l .relent .vm) ∙ a .on;
       under = λ on. rw (world-same o (l .relent) (l .rooms), z .under) (a .under on);

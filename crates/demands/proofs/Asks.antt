@@ -21,15 +21,17 @@ use Rattle.model.specs.Heap.{heapOf, headIn, placedBelow}
 use Rattle.model.specs.Stores.{Stores, functionsFrom}
 use Rattle.model.specs.Orders.{frameStoreOk, traces, judgedBy}
 use Rattle.model.specs.Emission.{Res}
-use Rattle.model.specs.Machines.{Lent, traceOrder, backtraceIn, startWith, fresh, unlessRunning, loadMachineOf, newMachineOf}
+use Rattle.model.specs.Machines.{Lent, runOrder, traceOrder, backtraceIn, startWith, fresh, unlessRunning, loadMachineOf, newMachineOf}
 use Rattle.model.specs.Readers.{stackValueOf, reads, headerAt, blockHeaderOf, elementShown, elementOf}
 use Rattle.value.proofs.Coding.{and-right}
 use Rattle.cells.proofs.Order.{Whole, Placed, list-of, struct-of}
 use Rattle.laws_runs.proofs.Frames.{some-frame}
 use Rattle.layout.proofs.Parts.{places-same}
-use Rattle.demands.specs.Host.{Held, Ask, new, load, addOp, addOp1, addOp2, addOp3, patch, addConstant, addStruct, beginFunction, endFunction, currentOffset, functionIdx, save, disassemble, backtrace, lastResult, stackValue, blockHeader, element, textBytes, Answer, put, shown, headed, Done, counted, withFrames, emits, starts, looks, done}
+use Rattle.demands.specs.Host.{Held, Ask, new, load, addOp, addOp1, addOp2, addOp3, patch, addConstant, addStruct, beginFunction, endFunction, setStrict, currentOffset, functionIdx, save, disassemble, backtrace, lastResult, stackValue, blockHeader, element, textBytes, Answer, put, shown, headed, Done, counted, withFrames, emits, starts, changes, looks, done}
 use Rattle.demands.specs.Agree.{Alike, LentAlike, Agree}
 use Rattle.demands.proofs.Fronts.{front-of, places-alike, value-alike, shown-alike, heap-to, heap-alike, frames-alike, innermost-alike, callers-alike}
+use Rattle.demands.proofs.Agreeing.{order-alike}
+use Rattle.demands.proofs.Setting.{setBy, set-is}
 
 -- what two calls answer and leave agrees
 pub record DoneAlike (a b : Done) : Type 0 where
@@ -71,6 +73,17 @@ module _ (m : Vm) (s : Stores) {l l' : Lent} (k : LentAlike m l l') where
   emits-alike : (x : Res) → DoneAlike (emits (here l) x) (emits (here l') x)
   unfolding emits
   emits-alike x = record { answer = refl; agree = record { vm = refl; stores = refl; lent = counted-alike (x .answer) } }
+
+  -- ---- the setting
+
+  set-by : (b inOrder running : Bool) → DoneAlike (changes (here l) (setBy b inOrder running m)) (changes (here l') (setBy b inOrder running m))
+  unfolding changes
+  set-by b true true = record { answer = refl; agree = record { vm = refl; stores = refl; lent = k } }
+  set-by b true false = record {
+    answer = refl;
+    agree = record { vm = refl; stores = refl; lent = record { stack = k .stack; cells = k .cells; frames = k .frames; copy = k .copy; backtrace = k .backtrace } };
+  }
+  set-by b false running = record { answer = refl; agree = record { vm = refl; stores = refl; lent = k } }
 
   -- ---- a machine that has not run
 
@@ -162,6 +175,7 @@ module _ (m : Vm) (s : Stores) {l l' : Lent} (k : LentAlike m l l') where
   ask-alike (addStruct text) = emits-alike _
   ask-alike (beginFunction text) = emits-alike _
   ask-alike endFunction = emits-alike _
+  ask-alike (setStrict b) = rw (set-is b m s l, set-is b m s l', ← order-alike m s k) (set-by b (runOrder m s l) (m .run .on))
   ask-alike currentOffset = looks-alike refl
   ask-alike (functionIdx text) = looks-alike refl
   ask-alike (save out) = looks-alike refl

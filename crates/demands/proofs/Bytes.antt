@@ -29,7 +29,7 @@ use Rattle.layout.proofs.Bools.{either-way}
 use Rattle.laws_images.proofs.Codecs.{bytes-front, bytes-rest}
 use Rattle.image.proofs.Trip.{image-only}
 use Rattle.laws_runs.specs.Ordered.{CodeBytes}
-use Rattle.demands.specs.Host.{Held, Ask, new, load, addOp, addOp1, addOp2, addOp3, patch, addConstant, addStruct, beginFunction, endFunction, currentOffset, functionIdx, save, disassemble, backtrace, lastResult, stackValue, blockHeader, element, textBytes, Call, run, ask, Answer, Done, emits, starts, looks, done, After}
+use Rattle.demands.specs.Host.{Held, Ask, new, load, addOp, addOp1, addOp2, addOp3, patch, addConstant, addStruct, beginFunction, endFunction, setStrict, currentOffset, functionIdx, save, disassemble, backtrace, lastResult, stackValue, blockHeader, element, textBytes, Call, run, ask, Answer, Done, emits, starts, changes, looks, done, After}
 use Rattle.demands.specs.Jobs.{jobOf, Below, Typed, AllTyped}
 use Rattle.demands.specs.Meant.{Fine}
 use Rattle.demands.proofs.Orderly.{order-kept}
@@ -201,7 +201,7 @@ unless-bytes true s fs x b k = b
 unless-bytes false s fs x b k = k
 
 ask-bytes : (q : Ask) (h : Held) → Typed (jobOf q) → CodeBytes (h .stores) → CodeBytes (done q h .held .stores)
-unfolding jobOf done emits starts looks newMachineOf loadMachineOf addOpOf addOp1Of addOp2Of addOp3Of Below
+unfolding jobOf done emits starts changes looks newMachineOf loadMachineOf addOpOf addOp1Of addOp2Of addOp3Of Below
 ask-bytes new h t b = unless-bytes (h .vm .run .on) (h .stores) (h .lent .frames) _ b (started-bytes _ _ (h .stores) (h .lent .frames) (new-bytes (h .stores) b) b)
 ask-bytes (load image) h t b = unless-bytes (h .vm .run .on) (h .stores) (h .lent .frames) _ b (started-bytes _ _ (h .stores) (h .lent .frames) (load-bytes image (h .stores) t b) b)
 ask-bytes (addOp op place) h t b = emit-bytes (h .vm .program) (h .stores) b (h .vm .run .on) op [] place (unfold Bytes in tt) .code
@@ -217,6 +217,7 @@ ask-bytes (addConstant x text) h t b = constant-bytes (h .vm .program) (h .store
 ask-bytes (addStruct text) h t b = struct-bytes (h .vm .program) (h .stores) b (h .vm .run .on) text .code
 ask-bytes (beginFunction text) h t b = begin-bytes (h .vm .program) (h .stores) b (h .vm .run .on) text .code
 ask-bytes endFunction h t b = b
+ask-bytes (setStrict x) h t b = b
 ask-bytes currentOffset h t b = b
 ask-bytes (functionIdx text) h t b = b
 ask-bytes (save out) h t b = b

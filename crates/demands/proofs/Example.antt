@@ -1,4 +1,4 @@
--- Two machines that mean the same, each with a run under way: the texts of one lie in another order, as after loading, and its cells are not behind those of
+-- Two strict machines that mean the same, each with a run under way: the texts of one lie in another order, as after loading, and its cells are not behind those of
 -- a list that nothing names, so that its run goes back to fewer cells.
 use mathlib.Core.Path.{_≡_, refl, sym, _∙_}
 use mathlib.Core.Bool.{true, false}
@@ -33,7 +33,7 @@ paused n = record { on = true; given = 2; spent = 0; returns = 0; mark = n; save
 -- `<main>` with one byte of code, and the string "ab", which lies at i of the text; `<main>` lies at j
 abbrev holds : List ℕ → ℕ → ℕ → List ℕ → ℕ → ℕ → Held
 holds text i j cells n p = record {
-  vm = record { program = counts 1 0 1 8 0; stack = 1; frames = 1; cells = n; last = Is (v.List p); run = paused n };
+  vm = record { program = counts 1 0 1 8 0; stack = 1; frames = 1; cells = n; last = Is (v.List p); run = paused n; strict = true };
   stores = record {
     constants = 2 ∷ st.pack i 2 ∷ [];
     structs = [];
@@ -76,6 +76,7 @@ mean-the-same = record {
   counts = refl;
   program = refl;
   stores = record { constants = refl; structs = refl; functions = refl; text = refl; main = refl; mainPlaces = refl; other = refl; otherPlaces = refl };
+  strict = refl;
   machine = record { stack = more refl none; last = is refl; frame = refl; callers = refl; free = refl };
   on = refl;
   under = λ _. record {

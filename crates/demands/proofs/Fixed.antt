@@ -18,7 +18,7 @@ use Rattle.model.specs.Heap.{Cell, item, cellKind, cellPayload, cellAt, cellsFr
 use Rattle.model.specs.Runs.{Machine, standing as stateOf, machineOf, root, Under}
 use Rattle.model.specs.Stores.{Stores, functionsFrom, worldIn}
 use Rattle.model.specs.Orders.{stackOk, framesOk, frameStoreOk}
-use Rattle.model.specs.Machines.{Lent, innermost, callersIn, machineIn, progressIn, underIn, worldOf, runOrder, noRun}
+use Rattle.model.specs.Machines.{Lent, innermost, callersIn, machineIn, progressIn, underIn, worldOf, runOrder, Unchanged, unchanged, noRun}
 use Rattle.value.proofs.Coding.{and-left, exact-kind, exact-payload, exact-cell-kind, exact-cell-payload}
 use Rattle.value.proofs.Stores.{length-vals, vals-slot, getD-cells}
 use Rattle.cells.proofs.Stands.{length-heap, exact-at}
@@ -167,8 +167,8 @@ run-fixes m m' l l' on e =
     let saved : m .run .saved ≡ m' .run .saved = sym (length-vals (m .run .saved) (l .copy)) ∙ ap (λ (r : Under). length (r .start)) e ∙ length-vals (m' .run .saved) (l' .copy) in
     rw (on, given, spent, returns, mark, saved)
 
--- the same machine of the same program: the same counts
-counts-fix : {m m' : Vm} {l l' : Lent} → Standing m l → Standing m' l' → m .program ≡ m' .program → m .run .on ≡ m' .run .on → underIn m l ≡ underIn m' l' → m ≡ m'
+-- the same machine of the same program and setting: the same counts
+counts-fix : {m m' : Vm} {l l' : Lent} → Standing m l → Standing m' l' → unchanged m ≡ unchanged m' → m .run .on ≡ m' .run .on → underIn m l ≡ underIn m' l' → m ≡ m'
 unfolding machineIn
 counts-fix {m} {m'} {l} {l'} a b p on u =
     let e = machine-under m m' l l' u in
@@ -178,7 +178,9 @@ counts-fix {m} {m'} {l} {l'} a b p on u =
     ∙ ap (λ (x : Machine). suc (length (x .callers))) e ∙ counted (m' .frames) (l' .frames) (b .exact .frames) (b .frames) in
     let last : m .last ≡ m' .last = ap (λ (x : Machine). x .last) e in
     let run : m .run ≡ m' .run = run-fixes m m' l l' on u in
-    rw (p, stack, cells, frames, last, run)
+    let program : m .program ≡ m' .program = ap (λ (x : Unchanged). x .program) p in
+    let strict : m .strict ≡ m' .strict = ap (λ (x : Unchanged). x .strict) p in
+    rw (program, stack, cells, frames, last, run, strict)
 
 -- and in stores of the same lengths the same below them
 lent-fix : (m : Vm) {l l' : Lent} → Standing m l → Standing m l' → Rooms l l' → underIn m l ≡ underIn m l' → LentAlike m l l'
@@ -201,7 +203,7 @@ pub record FixedBy (m m' : Vm) (l l' : Lent) : Type 0 where
   pub vm : m ≡ m'
   pub lent : LentAlike m l l'
 
-pub machine-fixes : {m m' : Vm} {l l' : Lent} (s s' : Stores) → runOrder m s l ≡ true → runOrder m' s' l' ≡ true → Rooms l l' → m .program ≡ m' .program
+pub machine-fixes : {m m' : Vm} {l l' : Lent} (s s' : Stores) → runOrder m s l ≡ true → runOrder m' s' l' ≡ true → Rooms l l' → unchanged m ≡ unchanged m'
     → m .run .on ≡ m' .run .on → underIn m l ≡ underIn m' l' → FixedBy m m' l l'
 machine-fixes {m} {m'} {l} {l'} s s' a b r p on u =
     let x = standing m s l a in

@@ -7,6 +7,8 @@
 pub mod Fronts
 pub mod Agreeing
 pub mod Fixed
+-- a machine whose setting changes
+pub mod Setting
 -- `run-one`
 pub mod OneRun
 -- `chains-agree`, `past-counts-unseen`, `ask-one`

@@ -24,7 +24,7 @@ use Rattle.model.specs.Trees.{meaning}
 use Rattle.model.specs.Stores.{Stores}
 use Rattle.model.specs.Stores as st
 use Rattle.model.specs.Emission.{Res, emitOf, addOpOf, addOp1Of, addOp2Of, addOp3Of}
-use Rattle.model.specs.Machines.{innermost, callersIn, machineIn, worldOf, backtraceIn, traceOrder, StartRes, startWith, unlessRunning, fresh, newMachineOf, loadMachineOf}
+use Rattle.model.specs.Machines.{innermost, callersIn, machineIn, worldOf, backtraceIn, traceOrder, StartRes, startWith, unlessRunning, fresh, setStrict as setStrictOf, newMachineOf, loadMachineOf}
 use Rattle.model.specs.Readers.{lastShown, lastResultOf, valueShown, stackValueOf}
 use Rattle.value.proofs.Stores.{length-vals, vals-slot}
 use Rattle.laws_runs.proofs.Ordered.{order-exact}
@@ -33,7 +33,7 @@ use Rattle.laws_meaning.specs.Alike as al
 use Rattle.laws_meaning.specs.Answers.{Begins}
 use Rattle.laws_meaning.proofs.Values.{Boths, boths-of, length-alike, at-alike}
 use Rattle.laws_meaning.proofs.Texts.{later-alike}
-use Rattle.demands.specs.Host.{Held, Ask, new, load, addOp, addOp1, addOp2, addOp3, patch, addConstant, addStruct, beginFunction, endFunction, currentOffset, functionIdx, save, disassemble, backtrace, lastResult, stackValue, blockHeader, element, textBytes, ask, Answer, shown, Done, counted, withFrames, emits, starts, looks as seen, done}
+use Rattle.demands.specs.Host.{Held, Ask, new, load, addOp, addOp1, addOp2, addOp3, patch, addConstant, addStruct, beginFunction, endFunction, setStrict, currentOffset, functionIdx, save, disassemble, backtrace, lastResult, stackValue, blockHeader, element, textBytes, ask, Answer, shown, Done, counted, withFrames, emits, starts, changes, looks as seen, done}
 use Rattle.demands.specs.Agree.{Alike}
 use Rattle.demands.specs.Kept.{InOrder, Grew}
 use Rattle.demands.specs.Meant.{worldIn, machineOf, Fine, AlikeHeld, value, saidIn, says}
@@ -43,6 +43,7 @@ use Rattle.demands.proofs.Fronts.{places-alike}
 use Rattle.demands.proofs.Fixed.{Standing, stack-fits, standing, split}
 use Rattle.demands.proofs.Fixed as fx
 use Rattle.layout.proofs.Parts.{places-same}
+use Rattle.demands.proofs.Setting.{setBy, set-is}
 use Rattle.demands.proofs.Asks.{trace-alike}
 use Rattle.demands.proofs.Emitted.{Grows, emit-grows, patch-grows, constant-grows, struct-grows, begin-grows}
 use Rattle.demands.proofs.Refusing.{ask-says}
@@ -116,6 +117,7 @@ module _ {r : Bool} {h d : Held} (a : AlikeHeld r h d) where
         counts = rw (q, q');
         program = rw (q, q') (l .program n i q);
         stores = l .rooms;
+        strict = rw (q, q') (a .strict);
         machine = rw (q, q') (later-alike (sane a 0) (beside-sane a 0) (text-begins h n (x .stores) (g .grown n i q))
             (text-begins d n (x' .stores) (g' .grown n i q')) (unfold worldOf st.worldIn in refl) (unfold worldOf st.worldIn in refl) (a .machine));
         on = rw (q, q') (a .on);
@@ -166,6 +168,7 @@ module _ {r : Bool} {h d : Held} (a : AlikeHeld r h d) where
       counts = refl;
       program = l .program n refl;
       stores = l .rooms;
+      strict = refl;
       machine = unfold machineIn vals heapOf cellsFrom innermost callersIn worldOf st.worldIn in record {
         stack = none;
         last = nothing;
@@ -216,6 +219,52 @@ module _ {r : Bool} {h d : Held} (a : AlikeHeld r h d) where
       let p = fine-made h (made x t) o off in
       let p' = fine-made d (beside x' t') o' (a .on ∙ off) in
       rw (l .answer) (starts-by q e long x t t' again (h .lent .frames) (d .lent .frames) refl refl p (rw (l .answer) at p'))))
+
+  -- ---- the setting
+
+  set-by : (b running running' : Bool) → running' ≡ running → h .vm .run .on ≡ running
+      → Fine (changes h (setBy b true running (h .vm)) .held) → Fine (changes d (setBy b true running' (d .vm)) .held)
+      → AlikeCall r (ask (setStrict b)) (changes h (setBy b true running (h .vm)) .answer) (changes h (setBy b true running (h .vm)) .held)
+      (changes d (setBy b true running' (d .vm)) .answer) (changes d (setBy b true running' (d .vm)) .held)
+  unfolding changes says saidIn jobOf
+  set-by b true true e off o o' = record { says = refl; held = a }
+  set-by b true false e off o o' = not-running refl e
+  set-by b false true e off o o' = not-running e refl
+  set-by b false false e off o o' = record {
+    says = refl;
+    held = record {
+      counts = a .counts;
+      program = a .program;
+      stores = a .stores;
+      strict = refl;
+      machine = unfold machineIn worldOf st.worldIn in record {
+        stack = a .machine .stack;
+        last = a .machine .last;
+        frame = a .machine .frame;
+        callers = a .machine .callers;
+        free = a .machine .free;
+      };
+      on = a .on;
+      under = λ on. not-running off on;
+      stack = a .stack;
+      frames = a .frames;
+      copy = a .copy;
+      backtrace = a .backtrace;
+      cells = a .cells;
+      fine = o;
+      beside = o';
+    };
+  }
+
+  -- both are in good order
+  set-line : (b : Bool) → Line (setStrict b)
+  unfolding done
+  set-line b =
+      let here : setStrictOf b (h .vm) (h .stores) (h .lent) ≡ setBy b true (h .vm .run .on) (h .vm) = rw (set-is b (h .vm) (h .stores) (h .lent), a .fine .order .machine) in
+      let there : setStrictOf b (d .vm) (d .stores) (d .lent) ≡ setBy b true (d .vm .run .on) (d .vm) = rw (set-is b (d .vm) (d .stores) (d .lent), a .beside .order .machine) in
+      let o = left (setStrict b) h (a .fine) (unfold jobOf in tt) in
+      let o' = left (setStrict b) d (a .beside) (unfold jobOf in tt) in
+      rw (here, there) (set-by b (h .vm .run .on) (d .vm .run .on) (a .on) refl (rw here at o) (rw there at o'))
 
   -- ---- entries that only look
 
@@ -313,6 +362,7 @@ module _ {r : Bool} {h d : Held} (a : AlikeHeld r h d) where
   ask-said (addStruct text) b n = emits-line _ _ _ b refl refl refl (rw (a .counts, a .on) (struct-alike one running _)) (struct-grows _ _ _ _) (struct-grows _ _ _ _)
   ask-said (beginFunction text) b n = emits-line _ _ _ b refl refl refl (rw (a .counts, a .on) (begin-alike one running _)) (begin-grows _ _ _ _) (begin-grows _ _ _ _)
   ask-said endFunction b n = emits-line _ _ _ b refl refl refl (rw (a .counts, a .on) (end-alike one running)) (end-grows _ _ _) (end-grows _ _ _)
+  ask-said (setStrict x) b n = set-line x
   ask-said currentOffset b n = looks-line _ _ _ refl refl refl (rw (a .counts, offset-same one))
   ask-said (functionIdx text) b n = looks-line _ _ _ refl refl refl (rw (a .counts, index-same one text))
   ask-said (save out) b n = looks-line _ _ _ refl refl refl (rw (a .counts, save-same one out))

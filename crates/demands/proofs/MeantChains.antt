@@ -89,15 +89,16 @@ under-self w m l = record {
   answers = answer-self (m .run .returns) _;
 }
 
-pub self-alike : (r : Bool) {h d : Held} → Fine h → Fine d → d .vm .program ≡ h .vm .program → d .stores ≡ h .stores → Rooms (d .lent) (h .lent) → d .vm .run .on ≡ h .vm .run .on
-    → underOf d ≡ underOf h → AlikeHeld r h d
-self-alike r {h} {d} o o' p s l on u = record {
+pub self-alike : (r : Bool) {h d : Held} → Fine h → Fine d → d .vm .program ≡ h .vm .program → d .vm .strict ≡ h .vm .strict → d .stores ≡ h .stores
+    → Rooms (d .lent) (h .lent) → d .vm .run .on ≡ h .vm .run .on → underOf d ≡ underOf h → AlikeHeld r h d
+self-alike r {h} {d} o o' p b s l on u = record {
   counts = p;
   program = rw (p, s);
   stores = rw s (record { constants = refl; structs = refl; functions = refl; text = refl; main = refl; mainPlaces = refl; other = refl; otherPlaces = refl });
-  machine = rw (machine-under (d .vm) (h .vm) (d .lent) (h .lent) u, same-world h d p s l) (machine-self (worldIn h) (machineOf h));
+  strict = b;
+  machine = rw (machine-under (d .vm) (h .vm) (d .lent) (h .lent) u, same-world h d p b s l) (machine-self (worldIn h) (machineOf h));
   on = on;
-  under = λ _. rw (u, same-world h d p s l) (under-self (worldIn h) (h .vm) (h .lent));
+  under = λ _. rw (u, same-world h d p b s l) (under-self (worldIn h) (h .vm) (h .lent));
   stack = l .stack;
   frames = l .frames;
   copy = l .copy;

@@ -12,7 +12,7 @@ use Rattle.model.specs.Runs.{begin, machineOf as machineAt, Ran, Under, Part, e
 use Rattle.model.specs.Programs.{Program}
 use Rattle.model.specs.Stores.{programIn}
 use Rattle.model.specs.Stores as st
-use Rattle.model.specs.Machines.{Lent, frameRoom, machineIn, underIn, worldOf, runOrder, copyShort, traceShort, RunAnswer, refused, RunCall, begins, continues, abandons, beginAnswer, continueAnswer, abandonAnswer, runAnswer}
+use Rattle.model.specs.Machines.{Lent, frameRoom, machineIn, underIn, worldOf, runOrder, copyShort, traceShort, unchanged, RunAnswer, refused, RunCall, begins, continues, abandons, beginAnswer, continueAnswer, abandonAnswer, runAnswer}
 use Rattle.model.specs.Machines as m
 use Rattle.laws_runs.specs.Sane.{SaneWorld, Sane}
 use Rattle.laws_runs.specs.Parts.{SaneUnder}
@@ -49,7 +49,7 @@ module _ {r : Bool} {h d : Held} (a : AlikeHeld r h d) where
 
   beside-world : worldIn d ≡ laidOut (layoutOf d) (worldIn h)
   unfolding worldOf st.worldIn frameRoom
-  beside-world = rw (a .counts, functions-same one-program, places-alike (d .lent .stack) (h .lent .stack) (a .stack) 2, a .frames)
+  beside-world = rw (a .counts, functions-same one-program, places-alike (d .lent .stack) (h .lent .stack) (a .stack) 2, a .frames, a .strict)
 
   constants-same : AlikeConstants (worldIn h) (layoutOf d)
   unfolding worldOf st.worldIn programIn
@@ -118,7 +118,7 @@ module _ {r : Bool} {h d : Held} (a : AlikeHeld r h d) where
   -- both are refused by one number, or come to parts that mean the same
   data AlikeAnswers : RunAnswer → RunAnswer → Type 0 where
     both-refused : (n : ℕ) → AlikeAnswers (refused n) (refused n)
-    both-ran : {x x' : Part} → AlikePart w (layoutOf d) x x' → AlikeAnswers (m.ran (h .vm .program) x) (m.ran (d .vm .program) x')
+    both-ran : {x x' : Part} → AlikePart w (layoutOf d) x x' → AlikeAnswers (m.ran (unchanged (h .vm)) x) (m.ran (unchanged (d .vm)) x')
 
   alike-if : (b b' : Bool) → b' ≡ b → {x y x' y' : RunAnswer} → (b ≡ true → AlikeAnswers x x') → (b ≡ false → AlikeAnswers y y') → AlikeAnswers (if b then x else y) (if b' then x' else y')
   alike-if true true e f g = f refl
@@ -142,10 +142,10 @@ module _ {r : Bool} {h d : Held} (a : AlikeHeld r h d) where
 
   module _ {h' d' : Held} {q q' : Part} (p : Went h q h') (p' : Went d q' d') where
     one : worldIn h' ≡ worldIn h
-    one = same-world h h' (p .program) (p .stores) (p .rooms)
+    one = same-world h h' (p .program) (p .strict) (p .stores) (p .rooms)
 
     other : worldIn d' ≡ worldIn d
-    other = same-world d d' (p' .program) (p' .stores) (p' .rooms)
+    other = same-world d d' (p' .program) (p' .strict) (p' .stores) (p' .rooms)
 
   module _ {h' d' : Held} (o : Fine h') (o' : Fine d') where
     held-alike : {q q' : Part} → Went h q h' → Went d q' d' → AlikeMachine (worldIn h') (layoutOf d') (machineOf h') (machineOf d') → d' .vm .run .on ≡ h' .vm .run .on
@@ -154,6 +154,7 @@ module _ {r : Bool} {h d : Held} (a : AlikeHeld r h d) where
       counts = q .program ∙ a .counts ∙ sym (p .program);
       program = rw (p .program, p .stores, q .program, q .stores) (a .program);
       stores = rw (p .stores, q .stores) (a .stores);
+      strict = q .strict ∙ a .strict ∙ sym (p .strict);
       machine = same;
       on = on;
       under = under;
@@ -167,8 +168,8 @@ module _ {r : Bool} {h d : Held} (a : AlikeHeld r h d) where
     }
 
   module _ (c : RunCall) {h' d' : Held} {x y : Answer} (o : Fine h') (o' : Fine d') where
-    over-alike : {z z' : Ran} → x ≡ ran (m.ran (h .vm .program) (ends z)) → y ≡ ran (m.ran (d .vm .program) (ends z')) → AlikeRan w (layoutOf d) z z' → Went h (ends z) h' → Went d (ends z') d'
-        → AlikeCall r (run c) x h' y d'
+    over-alike : {z z' : Ran} → x ≡ ran (m.ran (unchanged (h .vm)) (ends z)) → y ≡ ran (m.ran (unchanged (d .vm)) (ends z')) → AlikeRan w (layoutOf d) z z'
+        → Went h (ends z) h' → Went d (ends z') d' → AlikeCall r (run c) x h' y d'
     unfolding says saidIn meant
     over-alike e e' k p q =
         let idle : h' .vm .run .on ≡ false = ap (λ (v : _). v .on) (p .stands .run) in
@@ -178,8 +179,8 @@ module _ {r : Bool} {h d : Held} (a : AlikeHeld r h d) where
               (λ on. absurd (let f : _≡_ {A = Bool} true false = sym on ∙ idle in let n : _≡_ {A = ℕ} 0 1 = cc in let b : ⊥ = omega arith in b));
         }
 
-    waiting-alike : {z z' : Under} → x ≡ ran (m.ran (h .vm .program) (pauses z)) → y ≡ ran (m.ran (d .vm .program) (pauses z')) → AlikeUnder w (layoutOf d) z z' → Went h (pauses z) h'
-        → Went d (pauses z') d' → AlikeCall r (run c) x h' y d'
+    waiting-alike : {z z' : Under} → x ≡ ran (m.ran (unchanged (h .vm)) (pauses z)) → y ≡ ran (m.ran (unchanged (d .vm)) (pauses z')) → AlikeUnder w (layoutOf d) z z'
+        → Went h (pauses z) h' → Went d (pauses z') d' → AlikeCall r (run c) x h' y d'
     unfolding says saidIn
     waiting-alike e e' k p q =
         let under : AlikeUnder (worldIn h') (layoutOf d') (underOf h') (underOf d') = rw (one p q, other p q, p .stands .under, q .stands .under) k in
@@ -188,7 +189,8 @@ module _ {r : Bool} {h d : Held} (a : AlikeHeld r h d) where
           held = held-alike o o' p q (rw (state-machine (h' .vm) (h' .lent), state-machine (d' .vm) (d' .lent)) at (under .state .machine)) (q .stands .on ∙ sym (p .stands .on)) (λ _. under);
         }
 
-    parts-alike : {z z' : Part} → x ≡ ran (m.ran (h .vm .program) z) → y ≡ ran (m.ran (d .vm .program) z') → AlikePart w (layoutOf d) z z' → Went h z h' → Went d z' d' → AlikeCall r (run c) x h' y d'
+    parts-alike : {z z' : Part} → x ≡ ran (m.ran (unchanged (h .vm)) z) → y ≡ ran (m.ran (unchanged (d .vm)) z') → AlikePart w (layoutOf d) z z'
+        → Went h z h' → Went d z' d' → AlikeCall r (run c) x h' y d'
     parts-alike e e' (p.ends k) p q = over-alike e e' k p q
     parts-alike e e' (p.pauses k) p q = waiting-alike e e' k p q
 

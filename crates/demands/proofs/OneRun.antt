@@ -6,14 +6,13 @@ use Prim.Native.Nat.{ℕ, zero, suc}
 use native.Mathlib.Omega.{arith}
 use lib.ListN.{length}
 use lib.Seq.{length-sets}
-use Rattle.model.specs.declared.Counts.{Counts}
 use Rattle.model.specs.declared.Vm.{Vm}
 use Rattle.model.specs.declared.RunResult.{RunResult}
 use Rattle.model.specs.declared.RunResult.the-variants as r
 use Rattle.model.specs.Runs.{Reply, value, continue, fault, Ran, Under, Part, ends, pauses}
 use Rattle.model.specs.Stores.{Stores}
 use Rattle.model.specs.Emission.{written}
-use Rattle.model.specs.Machines.{Lent, machineIn, underIn, RunAnswer, ran, refused, RunCall, begins, continues, abandons, beginAnswer, runAnswer, copied, copyAfter, traceAfter, entriesIn, endedAs, answerIn, Leaves, Left, RunPost}
+use Rattle.model.specs.Machines.{Lent, machineIn, underIn, Unchanged, unchanged, RunAnswer, ran, refused, RunCall, begins, continues, abandons, beginAnswer, runAnswer, copied, copyAfter, traceAfter, entriesIn, endedAs, answerIn, Leaves, Left, RunPost}
 use Rattle.laws_runs.proofs.Ordered.{idle-of}
 use Rattle.demands.specs.Host.{vmAfter}
 use Rattle.demands.specs.Agree.{Rooms, LentAlike}
@@ -54,7 +53,7 @@ result-back m l (r.Refused n) = refl
 
 pub data Seen (m : Vm) (s : Stores) (l : Lent) (x : RunResult) (l' : Lent) : Type 0 where
   over : (y : Reply) → answerIn l' x ≡ endedAs (vmAfter m x) l' y → Leaves false (vmAfter m x) s l' → Seen m s l x l'
-  waits : answerIn l' x ≡ ran (vmAfter m x .program) (pauses (underIn (vmAfter m x) l')) → Leaves true (vmAfter m x) s l' → Seen m s l x l'
+  waits : answerIn l' x ≡ ran (unchanged (vmAfter m x)) (pauses (underIn (vmAfter m x) l')) → Leaves true (vmAfter m x) s l' → Seen m s l x l'
   stayed : (n : ℕ) → answerIn l' x ≡ refused n → vmAfter m x ≡ m → l' ≡ l → Seen m s l x l'
 
 pub seen : (m : Vm) (s : Stores) (l : Lent) (x : RunResult) (l' : Lent) → Left s l x l' → Seen m s l x l'
@@ -97,10 +96,10 @@ rooms-of : {m : Vm} {l k : Lent} → LentAlike m l k → Rooms l k
 rooms-of a = record { stack = a .stack .room; cells = a .cells .room; frames = a .frames .room; copy = a .copy .room; backtrace = a .backtrace }
 
 -- an answer is of one kind
-over-waits : {A : Type 0} {c d : Counts} {x : Ran} {r : Under} → ran c (ends x) ≡ ran d (pauses r) → A
+over-waits : {A : Type 0} {c d : Unchanged} {x : Ran} {r : Under} → ran c (ends x) ≡ ran d (pauses r) → A
 over-waits e = absurd (let z : _≡_ {A = ℕ} 0 1 = cc in let b : ⊥ = omega arith in b)
 
-pub ran-refused : {A : Type 0} {c : Counts} {x : Part} {n : ℕ} → ran c x ≡ refused n → A
+pub ran-refused : {A : Type 0} {c : Unchanged} {x : Part} {n : ℕ} → ran c x ≡ refused n → A
 ran-refused e = absurd (let z : _≡_ {A = ℕ} 0 1 = cc in let b : ⊥ = omega arith in b)
 
 module _ (c : RunCall) (m : Vm) (s : Stores) {l k l' k' : Lent} {x y : RunResult} (before : LentAlike m l k) (p : RunPost c m s l x l') (q : RunPost c m s k y k') where
@@ -118,16 +117,16 @@ module _ (c : RunCall) (m : Vm) (s : Stores) {l k l' k' : Lent} {x y : RunResult
 
   both-over : (a b : Reply) → endedAs one l' a ≡ endedAs other k' b → Leaves false one s l' → Leaves false other s k' → FixedBy one other l' k'
   both-over a b z o d =
-      let program : one .program ≡ other .program = cc in
+      let kept : unchanged one ≡ unchanged other = cc in
       let same : _≡_ {A = Ran} (record { reply = a; machine = machineIn one l' }) (record { reply = b; machine = machineIn other k' }) = cc in
-      machine-fixes s s (o .order) (d .order) rooms program (o .run ∙ sym (d .run))
+      machine-fixes s s (o .order) (d .order) rooms kept (o .run ∙ sym (d .run))
       (idle-under one other l' k' (idle-of one s l' (o .order) (o .run)) (idle-of other s k' (d .order) (d .run)) (ap (λ (t : Ran). t .machine) same))
 
-  both-wait : ran (one .program) (pauses (underIn one l')) ≡ ran (other .program) (pauses (underIn other k')) → Leaves true one s l' → Leaves true other s k' → FixedBy one other l' k'
+  both-wait : ran (unchanged one) (pauses (underIn one l')) ≡ ran (unchanged other) (pauses (underIn other k')) → Leaves true one s l' → Leaves true other s k' → FixedBy one other l' k'
   both-wait z o d =
-      let program : one .program ≡ other .program = cc in
+      let kept : unchanged one ≡ unchanged other = cc in
       let under : underIn one l' ≡ underIn other k' = cc in
-      machine-fixes s s (o .order) (d .order) rooms program (o .run ∙ sym (d .run)) under
+      machine-fixes s s (o .order) (d .order) rooms kept (o .run ∙ sym (d .run)) under
 
   leaves : Seen m s l x l' → Seen m s k y k' → FixedBy one other l' k'
   leaves (over a e o) (over b f d) = both-over a b (sym e ∙ same-answer ∙ f) o d

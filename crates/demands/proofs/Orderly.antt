@@ -23,18 +23,19 @@ use Rattle.model.specs.Stores.{Stores}
 use Rattle.model.specs.Orders.{countsOk, programOk}
 use Rattle.model.specs.Emission.{Res, counts, newOf, addOpOf, addOp1Of, addOp2Of, addOp3Of, endFunctionOf}
 use Rattle.model.specs.Loading.{LoadRes, roomFor, laid, countsFor, loadJudged, loadOf}
-use Rattle.model.specs.Machines.{copyShort, traceShort, RunCall, begins, continues, abandons, startWith, RunAnswer, runAnswer, StartRes, unlessRunning, asLoaded, fresh, newMachineOf, loadMachineOf}
+use Rattle.model.specs.Machines.{runOrder, copyShort, traceShort, RunCall, begins, continues, abandons, startWith, RunAnswer, runAnswer, StartRes, unlessRunning, asLoaded, fresh, newMachineOf, loadMachineOf}
 use Rattle.model.specs.Machines as m
 use Rattle.layout.proofs.Bools.{either-way}
 use Rattle.laws_runs.proofs.Ordered.{fresh-order}
 use Rattle.laws_programs.proofs.Keeping.{Kept, emit-keeps}
 use Rattle.laws_programs.proofs.Growing.{constant-keeps, patch-keeps, end-keeps}
 use Rattle.laws_programs.proofs.Naming.{struct-keeps, new-keeps, begin-keeps}
-use Rattle.demands.specs.Host.{Held, Ask, new, load, addOp, addOp1, addOp2, addOp3, patch, addConstant, addStruct, beginFunction, endFunction, currentOffset, functionIdx, save, disassemble, backtrace, lastResult, stackValue, blockHeader, element, textBytes, Call, run, ask, Answer, started, Done, withFrames, emits, starts, looks, done, RanBy, After, Chain, none, more}
+use Rattle.demands.specs.Host.{Held, Ask, new, load, addOp, addOp1, addOp2, addOp3, patch, addConstant, addStruct, beginFunction, endFunction, setStrict, currentOffset, functionIdx, save, disassemble, backtrace, lastResult, stackValue, blockHeader, element, textBytes, Call, run, ask, Answer, started, Done, withFrames, emits, starts, changes, looks, done, RanBy, After, Chain, none, more}
 use Rattle.image.proofs.Trip.{image-only, loaded-stands}
 use Rattle.demands.specs.Refusals.{Check, firstOf, runChecks, checks, refusedEmitted, refusedBy}
 use Rattle.demands.specs.Kept.{InOrder}
 use Rattle.demands.specs.Jobs.{jobOf, Typed, AllTyped}
+use Rattle.demands.proofs.Setting.{setBy, set-is, order-strictly}
 use Rattle.demands.proofs.Went.{stays, went}
 use Rattle.demands.proofs.Wider.{order-wider}
 use Rattle.demands.proofs.Emitted.{Grows, grows-same, emit-grows, patch-grows, constant-grows, struct-grows, begin-grows}
@@ -150,6 +151,14 @@ module _ (h : Held) (o : InOrder h) (off : h .vm .run .on ≡ false) where
   unless-kept true x k = o
   unless-kept false x k = k
 
+  -- ---- the setting
+
+  set-by : (b inOrder running : Bool) → InOrder (changes h (setBy b inOrder running (h .vm)) .held)
+  unfolding changes
+  set-by b true true = o
+  set-by b true false = record { program = o .program; machine = order-strictly b (h .vm) (h .stores) (h .lent) ∙ o .machine }
+  set-by b false running = o
+
   -- ---- a line for each entry
 
   looks-kept : (a : Answer) → InOrder (looks h a .held)
@@ -169,6 +178,7 @@ module _ (h : Held) (o : InOrder h) (off : h .vm .run .on ≡ false) where
   idle-kept (addStruct name) b = emits-kept _ (struct-keeps _ _ _ _ (o .program)) (struct-grows _ _ _ _) (ask-says h (addStruct name))
   idle-kept (beginFunction name) b = emits-kept _ (begin-keeps _ _ _ _ (o .program)) (begin-grows _ _ _ _) (ask-says h (beginFunction name))
   idle-kept endFunction b = emits-kept _ (record { kept = λ d n q. end-keeps _ _ _ (o .program) d n q }) (end-grows _ (h .vm .program) (h .stores)) (ask-says h endFunction)
+  idle-kept (setStrict x) b = rw (set-is x (h .vm) (h .stores) (h .lent)) (set-by x (runOrder (h .vm) (h .stores) (h .lent)) (h .vm .run .on))
   idle-kept currentOffset b = looks-kept _
   idle-kept (functionIdx name) b = looks-kept _
   idle-kept (save out) b = looks-kept _

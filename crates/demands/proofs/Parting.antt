@@ -7,14 +7,13 @@ use native.Mathlib.Omega.{arith}
 use borrow.Author.Tests.{ltb-false}
 use lib.ListN.{length, take}
 use lib.Seq.{length-take-le}
-use Rattle.model.specs.declared.Counts.{Counts}
 use Rattle.model.specs.declared.Run.{Run}
 use Rattle.model.specs.declared.Tally.{Tally}
 use Rattle.model.specs.Values.{places}
 use Rattle.model.specs.Steps.{World}
 use Rattle.model.specs.Runs.{Machine, begin, endOf, Entry, fault, Ran, Under, Part, ends, pauses, partOf, beginOf, continueOf, abandonOf, dealt, givenUp, runOf}
 use Rattle.model.specs.Emission.{written}
-use Rattle.model.specs.Machines.{runOrder, copyShort, RunAnswer, RunCall, begins, continues, abandons, runAnswer, copied, copyAfter}
+use Rattle.model.specs.Machines.{runOrder, copyShort, Unchanged, unchanged, RunAnswer, RunCall, begins, continues, abandons, runAnswer, copied, copyAfter}
 use Rattle.model.specs.Machines as m
 use Rattle.layout.proofs.Parts.{two-words}
 use Rattle.laws_programs.proofs.Reading.{part-longer}
@@ -68,7 +67,7 @@ module _ (w : World) (m : Machine) where
 front-written : (n : ℕ) (a b : List ℕ) → n ≤ length a → n ≤ length b → take n (written a 0 (take n b)) ≡ take n b
 front-written n a b h g = let z = length-take-le n b g in let same : 0 + length (take n b) ≡ n = omega arith in rw same at (part-longer a (take n b) 0 0 (omega arith))
 
-module _ {h k : Held} {c : Counts} {x : Part} (p : RanBy begins h (ran (m.ran c x)) k) where
+module _ {h k : Held} {c : Unchanged} {x : Part} (p : RanBy begins h (ran (m.ran c x)) k) where
   copy-is : k .lent .copy ≡ written (h .lent .copy) 0 (take (2 * h .vm .stack) (h .lent .stack))
   unfolding copyAfter copied runAnswer
   copy-is = p .post .copy ∙ ap (copied (h .vm) (h .lent)) (answered-so p)
@@ -90,6 +89,7 @@ module _ {h k k' : Held} where
   further : {x : Part} → Beside h k → Went k x k' → k' .lent .copy ≡ k .lent .copy → Beside h k'
   further b z same = record {
     program = z .program ∙ b .program;
+    strict = z .strict ∙ b .strict;
     stores = z .stores ∙ b .stores;
     rooms = rooms-then (z .rooms) (b .rooms);
     order = z .order;
@@ -97,10 +97,10 @@ module _ {h k k' : Held} where
   }
 
 beside-world : {h k : Held} → Beside h k → worldIn k ≡ worldIn h
-beside-world {h} {k} b = same-world h k (b .program) (b .stores) (b .rooms)
+beside-world {h} {k} b = same-world h k (b .program) (b .strict) (b .stores) (b .rooms)
 
 module _ {h k : Held} where
-  begun-comes : {c : Counts} {x : Part} → RanBy begins h (ran (m.ran c x)) k → CameTo h 0 x k
+  begun-comes : {c : Unchanged} {x : Part} → RanBy begins h (ran (m.ran c x)) k → CameTo h 0 x k
   unfolding beginOf
   begun-comes {c} {x} p =
       let e = answered-so p in
@@ -111,11 +111,11 @@ module _ {h k : Held} where
         idle = b .idle;
         one = b .is;
         stands = z .stands;
-        beside = record { program = z .program; stores = z .stores; rooms = z .rooms; order = z .order; copy = stack-copied p (b .order) (b .room) };
+        beside = record { program = z .program; strict = z .strict; stores = z .stores; rooms = z .rooms; order = z .order; copy = stack-copied p (b .order) (b .room) };
       }
 
 module _ {h k k' : Held} {g : ℕ} {r : Under} (o : CameTo h g (pauses r) k) where
-  continued-comes : {u : ℕ} {c : Counts} {x : Part} → RanBy (continues u) k (ran (m.ran c x)) k' → CameTo h (g + u) x k'
+  continued-comes : {u : ℕ} {c : Unchanged} {x : Part} → RanBy (continues u) k (ran (m.ran c x)) k' → CameTo h (g + u) x k'
   unfolding copyAfter
   continued-comes {u} {c} {x} p =
       let e = answered-so p in
@@ -124,7 +124,7 @@ module _ {h k k' : Held} {g : ℕ} {r : Under} (o : CameTo h g (pauses r) k) whe
       let is : x ≡ continueOf (worldIn h) r u = rw (beside-world (o .beside), o .stands .under) at (b .is) in
       record { order = o .order; idle = o .idle; one = is ∙ one-more (worldIn h) (machineOf h) g u (o .one); stands = z .stands; beside = further (o .beside) z (p .post .copy) }
 
-  abandoned-comes : {c : Counts} {x : Ran} → RanBy abandons k (ran (m.ran c (ends x))) k' → IsOne h g x k'
+  abandoned-comes : {c : Unchanged} {x : Ran} → RanBy abandons k (ran (m.ran c (ends x))) k' → IsOne h g x k'
   unfolding copyAfter
   abandoned-comes {c} {x} p =
       let e = answered-so p in
@@ -160,7 +160,7 @@ module _ {h k k' : Held} {g : ℕ} {r : Under} (q : Parts h g (pauses r) k) wher
   no-more : Onward h g k' → Onward h (g + 0) k'
   no-more o = let z : g + 0 ≡ g = omega arith in subst (λ (i : ℕ). Onward h i k') (sym z) o
 
-  ran-on : (c : RunCall) (n : Counts) (x : Part) → RanBy c k (ran (m.ran n x)) k' → Onward h (g + unitsGiven (run c) (ran (m.ran n x))) k'
+  ran-on : (c : RunCall) (n : Unchanged) (x : Part) → RanBy c k (ran (m.ran n x)) k' → Onward h (g + unitsGiven (run c) (ran (m.ran n x))) k'
   ran-on begins n x p =
       absurd (let e : _≡_ {A = Bool} true false = sym (parts-come-to q .stands .on) ∙ by-rules k n x begins (sym (answered-so p)) .idle in let z : _≡_ {A = ℕ} 0 1 = cc in
       let y : ⊥ = omega arith in y)
@@ -193,7 +193,8 @@ module _ {h k k' : Held} {g : ℕ} {r : Under} (q : Parts h g (pauses r) k) wher
 module _ {h k d : Held} (a : Beside h k) (b : Beside h d) where
   both-agree : k .vm .run .on ≡ d .vm .run .on → underOf k ≡ underOf d → Agree k d
   both-agree on u =
-      let f = machine-fixes (k .stores) (d .stores) (a .order) (b .order) (rooms-then (a .rooms) (rooms-back (b .rooms))) (a .program ∙ sym (b .program)) on u in
+      let same : unchanged (k .vm) ≡ unchanged (d .vm) = rw (a .program, a .strict, b .program, b .strict) in
+      let f = machine-fixes (k .stores) (d .stores) (a .order) (b .order) (rooms-then (a .rooms) (rooms-back (b .rooms))) same on u in
       record { vm = f .vm; stores = a .stores ∙ sym (b .stores); lent = f .lent }
 
   stands-agree : (x : Part) → Stands x k → Stands x d → Agree k d

@@ -1,6 +1,6 @@
 -- Demand 2: what each step costs, and that a run is its written steps.
 use mathlib.Core.Path.{_≡_, refl, sym, subst}
-use mathlib.Core.Bool.{Bool, true, false, not}
+use mathlib.Core.Bool.{Bool, true, false, not, _&&_}
 use mathlib.Core.List.{List, [], _∷_, _++_}
 use mathlib.Core.Option.{Option, none as no, some}
 use Prim.Native.Nat.{ℕ, suc, _+_, _*_, _≤_, _<_}
@@ -22,7 +22,7 @@ use Rattle.model.specs.declared.Found.{Found}
 use Rattle.model.specs.declared.Found.the-variants as g
 use Rattle.model.specs.Basics.{if_then_else_}
 use Rattle.model.specs.Values.{popping, poppingScalar, poppingBoolean, faultNumber}
-use Rattle.model.specs.Scalars.{zeroDivisor}
+use Rattle.model.specs.Scalars.{zeroDivisor, resultOf}
 use Rattle.model.specs.Heap.{Cell, deepest, blockOf, built, unbuilt, buildOf, fieldOf}
 use Rattle.model.specs.Equality.{Same, same, sameOf}
 use Rattle.model.specs.Steps.{World, State, Outcome, went, returned, faulted, short, withStack, withHeap, paid, at, position, codeOf, pushing, onFound, constantOf, slotOf, lastOf, loadStep, slotStep, lastStep, negateStep, arithmeticStep, orderingStep, onSame, equalStep, logicStep, notStep, jumpStep, jumpIfFalseStep, enter, callStep, enterNamed, callCallableStep, onBuilt, buildStep, structStep, fieldStep, returnTo, returnStep, execOf, operandsThen, decodedThen, fetched, stepOf}
@@ -145,7 +145,8 @@ module _ (w : World) (s : State) where
   exec-costs o.GetUpvalue a b = found-free (slotOf (s .stack) a) (λ y. push-free s y refl)
   exec-costs o.GetLastResult a b = found-free (lastOf (s .last)) (λ y. push-free s y refl)
   exec-costs o.Negate a b = scalar-free (s .stack) (λ x r. goes refl)
-  exec-costs (o.Arithmetic y) a b = scalar-free (s .stack) (λ j r. scalar-free r (λ i q. if-each Free (zeroDivisor y j) (λ z. fails refl) (λ z. goes refl)))
+  exec-costs (o.Arithmetic y) a b = scalar-free (s .stack) (λ j r. scalar-free r (λ i q. if-each Free (zeroDivisor y j) (λ z. fails refl)
+      (λ z. if-each Free (w .strict && resultOf y i j .escaped) (λ e. fails refl) (λ e. goes refl))))
   exec-costs (o.Ordering y) a b = scalar-free (s .stack) (λ j r. scalar-free r (λ i q. goes refl))
   exec-costs o.Equal a b = record { costs = equal-costs (λ x. x) (s .stack) }
   exec-costs o.NotEqual a b = record { costs = equal-costs not (s .stack) }

@@ -9,7 +9,7 @@ use Rattle.model.specs.declared.Last.{Last}
 use Rattle.model.specs.declared.Tally.{Tally}
 use Rattle.model.specs.Steps.{World, State, returned}
 use Rattle.model.specs.Runs.{Machine, begin, Progress, atStart, Entry, fault, Ran, recovered}
-use Rattle.model.specs.Machines.{innermost, machineIn}
+use Rattle.model.specs.Machines.{innermost, machineIn, unchanged}
 use Rattle.laws_runs.specs.Paths.{Adds}
 use Rattle.laws_runs.specs.Demand.{Since, Recovered}
 use Rattle.laws_runs.specs.Demand as d
@@ -76,6 +76,7 @@ module _ {h k : Held} {u n : ℕ} {did : Tally} {trace : List Entry} {x : Ran} (
     frames = one-frame;
     frame = rw one-frame at (ap (λ (z : Machine). z .frame) left-machine);
     program = p .beside .program;
+    strict = p .beside .strict;
     run = p .rests .run;
     kept = subst (λ (z : Machine). Kept w (begin (machineOf h) u) (by-rules .at) (z .last) (z .heap)) (sym left-machine) (kept-since (by-rules .since));
     leaves = left-machine;
@@ -102,12 +103,13 @@ idle-alike a b = ap (λ (r : Run). r .on) (a .run ∙ sym (b .run))
 -- they agree
 pub set-up-agrees : {x : Machine} {h k d : Held} → SetUp x h k → SetUp x h d → Agree k d
 set-up-agrees {k = k} {d = d} a b =
-    let f = machine-fixes (k .stores) (d .stores) (a .order) (b .order) (rooms-same a b) (a .program ∙ sym (b .program)) (idle-alike a b) (idle-both a b) in
+    let same : unchanged (k .vm) ≡ unchanged (d .vm) = rw (a .program, a .strict, b .program, b .strict) in
+    let f = machine-fixes (k .stores) (d .stores) (a .order) (b .order) (rooms-same a b) same (idle-alike a b) (idle-both a b) in
     record { vm = f .vm; stores = a .stores ∙ sym (b .stores); lent = f .lent }
 
 -- and they mean the same
 pub set-up-alike : (r : Bool) {x : Machine} {h k d : Held} → SetUp x h k → SetUp x h d → Fine k → Fine d → AlikeHeld r k d
-set-up-alike r a b o o' = self-alike r o o' (b .program ∙ sym (a .program)) (b .stores ∙ sym (a .stores)) (rooms-same b a) (idle-alike b a) (idle-both b a)
+set-up-alike r a b o o' = self-alike r o o' (b .program ∙ sym (a .program)) (b .strict ∙ sym (a .strict)) (b .stores ∙ sym (a .stores)) (rooms-same b a) (idle-alike b a) (idle-both b a)
 
 -- DEMAND 3
 pub fault-recovers : {h k : Held} {u n : ℕ} {did : Tally} {trace : List Entry} {x : Ran} → Over h u x k → x .reply ≡ fault n did trace → Demand3 u h n did trace k
@@ -115,5 +117,5 @@ fault-recovers {h} {k} p e =
     let z = over-is-one p in
     let left = leaves-so z e in
     let so : SetUp (recovered (worldIn h) (machineOf h .stack) (left .rules .kept)) h k =
-    record { program = left .program; stores = z .beside .stores; rooms = z .beside .rooms; machine = left .leaves; run = left .run; order = z .beside .order } in
+    record { program = left .program; strict = left .strict; stores = z .beside .stores; rooms = z .beside .rooms; machine = left .leaves; run = left .run; order = z .beside .order } in
     record { leaves = left; later = λ a t p q. chain-alike a (λ i. i) t p q .says; exact = λ d b cs xs ys i f c q. chains-agree (set-up-agrees so b) c q .answers }

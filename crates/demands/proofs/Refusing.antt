@@ -20,6 +20,7 @@ use Rattle.model.specs.declared.Last.the-variants.{Nothing, Is}
 use Rattle.model.specs.declared.Emitted.{Emitted}
 use Rattle.model.specs.declared.Emitted.the-variants as em
 use Rattle.model.specs.declared.Loaded.the-variants as ld
+use Rattle.model.specs.declared.Changed.the-variants as ch
 use Rattle.model.specs.declared.Told.{Told}
 use Rattle.model.specs.declared.Shown.{Shown}
 use Rattle.model.specs.declared.Headed.{Headed}
@@ -34,10 +35,10 @@ use Rattle.model.specs.Stores.{Stores}
 use Rattle.model.specs.Orders.{textOk}
 use Rattle.model.specs.Emission.{Res, refuse, textRoom, newOf, u16, appended, emitIn, emitOf, addOpOf, addOp1Of, addOp2Of, addOp3Of, currentOffsetOf, patched, patchOf, withConstant, withTextConstant, constantAdded, addConstantOf, structAdded, structFound, addStructOf, begun, beginFunctionOf, endFunctionOf, toldName, functionIdxOf}
 use Rattle.model.specs.Loading.{roomFor, LoadRes, loadJudged, loadOf, OutRes, putOut, saveOf, putListing, listOf}
-use Rattle.model.specs.Machines.{RunAnswer, ran, refused, RunCall, begins, continues, abandons, beginAnswer, continueAnswer, abandonAnswer, runAnswer, putTrace, backtraceIn, StartRes, startWith, unlessRunning, asLoaded, loadMachineOf, newMachineOf}
+use Rattle.model.specs.Machines.{Unchanged, RunAnswer, ran, refused, RunCall, begins, continues, abandons, beginAnswer, continueAnswer, abandonAnswer, runAnswer, setStrict as setStrictOf, putTrace, backtraceIn, StartRes, startWith, unlessRunning, asLoaded, loadMachineOf, newMachineOf}
 use Rattle.model.specs.Readers.{lastShown, lastResultOf, valueShown, stackValueOf, headerAt, headerShown, blockHeaderOf, elementShown, elementOf, textShown, readsText, textBytesOf}
 use Rattle.value.proofs.Coding.{and-left, and-right}
-use Rattle.demands.specs.Host.{Held, Ask, new, load, addOp, addOp1, addOp2, addOp3, patch, addConstant, addStruct, beginFunction, endFunction, currentOffset, functionIdx, save, disassemble, backtrace, lastResult, stackValue, blockHeader, element, textBytes, Call, run, ask, Answer, told, put, shown, headed, Done, withFrames, emits, starts, looks, done, RanBy, After}
+use Rattle.demands.specs.Host.{Held, Ask, new, load, addOp, addOp1, addOp2, addOp3, patch, addConstant, addStruct, beginFunction, endFunction, setStrict, currentOffset, functionIdx, save, disassemble, backtrace, lastResult, stackValue, blockHeader, element, textBytes, Call, run, ask, Answer, told, put, shown, headed, Done, withFrames, emits, starts, changes, looks, done, RanBy, After}
 use Rattle.demands.specs.Refusals.{Check, must, mustNot, firstOf, isNone, isEmpty, codeChecks, hasText, writing, loadChecks, newName, fitsOut, listChecks, noLast, exactAt, elementChecks, textChecks, askChecks, runChecks, checks, refusedRun, refusedBy, OutKept, Demand1}
 use Rattle.demands.proofs.Went.{answers, stays}
 
@@ -165,6 +166,16 @@ module _ (h : Held) where
       let f : LoadRes → Done = λ x. starts h (startWith (x .answer) (x .stores) (h .stores) (h .lent .frames)) in
       pass-if f h (withinLimits p) (start-refused 22) (pass-if f h (roomFor p (h .stores)) (start-refused 21) (frame-says _ _))
 
+  -- ---- the setting
+
+  change-refused : (n : ℕ) → Refusal h n (changes h (ch.Refused n))
+  unfolding changes
+  change-refused n = record { number = refl; held = refl; out = tt }
+
+  set-says : (b : Bool) → Says h (askChecks (setStrict b) h) (changes h (setStrictOf b (h .vm) (h .stores) (h .lent)))
+  unfolding askChecks setStrictOf changes
+  set-says b = pass-if (changes h) h _ (change-refused 19) (stop-if (changes h) h _ (change-refused 25) (says-none refl))
+
   -- ---- entries that only look
 
   abbrev tells : Told → Done
@@ -262,6 +273,7 @@ module _ (h : Held) where
   ask-says endFunction =
       let f : Emitted → Done = λ x. emits h (record { answer = x; stores = h .stores }) in
       pass-if f h _ (emit-refused 19) (stop-if f h (h .vm .run .on) (emit-refused 25) (emit-done _ _ _))
+  ask-says (setStrict b) = set-says b
   ask-says currentOffset = pass-if tells h _ (looked _ refl tt) (saw _ refl)
   ask-says (functionIdx name) = pass-if tells h _ (looked _ refl tt) (name-says _)
   ask-says (save out) = pass-if (puts out) h _ (looked _ refl refl) (out-says out _)
@@ -278,7 +290,7 @@ module _ (h : Held) where
 
 -- ---- the calls of a run
 
-begin-number : (order on short : Bool) (c : Counts) (x : Part)
+begin-number : (order on short : Bool) (c : Unchanged) (x : Part)
     → refusedRun (if order then (if on then refused 25 else (if short then refused 17 else ran c x)) else refused 19) ≡ firstOf (must order 19 ∷ mustNot on 25 ∷ mustNot short 17 ∷ [])
 unfolding firstOf
 begin-number true true short c x = refl
@@ -286,7 +298,7 @@ begin-number true false true c x = refl
 begin-number true false false c x = refl
 begin-number false on short c x = refl
 
-continue-number : (order on short much : Bool) (c : Counts) (x : Part)
+continue-number : (order on short much : Bool) (c : Unchanged) (x : Part)
     → refusedRun (if order then (if on then (if short then refused 17 else (if much then refused 22 else ran c x)) else refused 18) else refused 19)
     ≡ firstOf (must order 19 ∷ must on 18 ∷ mustNot short 17 ∷ mustNot much 22 ∷ [])
 unfolding firstOf
@@ -296,7 +308,7 @@ continue-number true true false false c x = refl
 continue-number true false short much c x = refl
 continue-number false on short much c x = refl
 
-abandon-number : (order on short : Bool) (c : Counts) (x : Part)
+abandon-number : (order on short : Bool) (c : Unchanged) (x : Part)
     → refusedRun (if order then (if on then (if short then refused 17 else ran c x) else refused 18) else refused 19) ≡ firstOf (must order 19 ∷ must on 18 ∷ mustNot short 17 ∷ [])
 unfolding firstOf
 abandon-number true true true c x = refl

@@ -241,9 +241,9 @@ module _ (c : Counts) (s s' : Stores) (g : ProgramAnew c s s') (ok : programOk c
   program-anew = rw (constants-anew (c .constants) 0 (omega arith), structs-anew (c .structs) 0 (omega arith), functions-anew (c .functions) 0 (omega arith))
 
   -- the same world but for its rooms
-  pub world-anew : (st fr ce : ℕ) → t.worldIn c s' st fr ce ≡ t.worldIn c s st fr ce
+  pub world-anew : (st fr ce : ℕ) (strict : Bool) → t.worldIn c s' st fr ce strict ≡ t.worldIn c s st fr ce strict
   unfolding t.worldIn
-  world-anew st fr ce = rw (values-anew (c .constants) 0 (omega arith), g .text .front .front, functions-anew (c .functions) 0 (omega arith))
+  world-anew st fr ce strict = rw (values-anew (c .constants) 0 (omega arith), g .text .front .front, functions-anew (c .functions) 0 (omega arith))
 
 -- ---- the machine
 
@@ -360,12 +360,12 @@ module _ {h k : Held} (o : InOrder h) (g : Relent h k) where
 
   -- ---- and as long as before
 
-  -- a world knows of the lent stores their rooms alone
+  -- a world knows of the lent stores their rooms alone, and of the machine its program and setting
   pub world-same : Rooms (k .lent) (h .lent) → worldIn k ≡ worldIn h
   unfolding worldOf frameRoom
   world-same l =
       rw (g .vm, places-alike (k .lent .stack) (h .lent .stack) (l .stack) 2, l .frames, places-alike (k .lent .cells) (h .lent .cells) (l .cells) 2)
-      (world-anew (h .vm .program) (h .stores) (k .stores) (g .program) (o .program) _ _ _)
+      (world-anew (h .vm .program) (h .stores) (k .stores) (g .program) (o .program) _ _ _ _)
 
 -- stores that are as long: the machines mean the same, so that every later call says the same (`chain-alike`)
 pub relent-alike : (again : Bool) {h k : Held} → Fine h → CodeBytes (k .stores) → Relent h k → AsLong (k .stores) (h .stores) → Rooms (k .lent) (h .lent) → AlikeHeld again h k
@@ -375,6 +375,7 @@ relent-alike again {h} {k} f code g long l =
       counts = ap (λ (m : Vm). m .program) (g .vm);
       program = same .program;
       stores = long;
+      strict = ap (λ (m : Vm). m .strict) (g .vm);
       machine = rw (same .machine, world-same (f .order) g l) (machine-self (worldIn h) (machineOf h));
       on = ap (λ (m : Vm). m .run .on) (g .vm);
       under = λ _. rw (same .under, world-same (f .order) g l) (under-self (worldIn h) (h .vm) (h .lent));

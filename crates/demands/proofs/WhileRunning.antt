@@ -5,15 +5,16 @@ use mathlib.Core.List.{List}
 use mathlib.Core.Option.{none, some}
 use Prim.Native.Nat.{ℕ}
 use native.Mathlib.Omega.{arith}
-use Rattle.demands.specs.Host.{Held, Ask, new, load, addOp, addOp1, addOp2, addOp3, patch, addConstant, addStruct, beginFunction, endFunction, currentOffset, functionIdx, save, disassemble, backtrace, lastResult, stackValue, blockHeader, element, textBytes, looks as seen, done}
-use Rattle.demands.specs.Jobs.{Job, makes, writes, looks, handed, jobOf}
+use Rattle.demands.specs.Host.{Held, Ask, new, load, addOp, addOp1, addOp2, addOp3, patch, addConstant, addStruct, beginFunction, endFunction, setStrict, currentOffset, functionIdx, save, disassemble, backtrace, lastResult, stackValue, blockHeader, element, textBytes, looks as seen, done}
+use Rattle.demands.specs.Jobs.{Job, makes, writes, sets, looks, handed, jobOf}
 use Rattle.demands.specs.Refusals.{Check, firstOf, codeChecks, writing, making, askChecks, refusedBy}
 use Rattle.demands.proofs.Refusing.{Says, ask-says}
 
--- it would change the program or the machine
+-- it would change the program, the machine or its setting
 abbrev changes : Job → Bool
 changes (makes image) = true
 changes (writes operands) = true
+changes sets = true
 changes looks = false
 changes handed = false
 
@@ -46,6 +47,7 @@ module _ (h : Held) where
     while-running (addStruct name) = writing-refused (addStruct name) _ _ (ask-says h (addStruct name))
     while-running (beginFunction name) = writing-refused (beginFunction name) _ _ (ask-says h (beginFunction name))
     while-running endFunction = writing-refused endFunction _ _ (ask-says h endFunction)
+    while-running (setStrict b) = writing-refused (setStrict b) _ _ (ask-says h (setStrict b))
     while-running currentOffset = only-looks refl refl
     while-running (functionIdx name) = only-looks refl refl
     while-running (save out) = only-looks refl refl

@@ -116,7 +116,7 @@ module _ {w w' : World} (g : WorldGrew w w') where
 -- ---- a machine whose program grew
 
 abbrev pub withProgram : Counts → Vm → Vm
-withProgram c m = record { program = c; stack = m .stack; frames = m .frames; cells = m .cells; last = m .last; run = m .run }
+withProgram c m = record { program = c; stack = m .stack; frames = m .frames; cells = m .cells; last = m .last; run = m .run; strict = m .strict }
 
 -- it grows only where no run is under way
 module _ (m : Vm) (s : Stores) (l : Lent) (c : Counts) (s' : Stores) (e : runOrder m s l ≡ true) (off : m .run .on ≡ false) (e' : programOk c s' ≡ true) (g : Grew (m .program) s c s') where

@@ -14,7 +14,8 @@ use Rattle.model.specs.declared.Fault.the-variants as f
 use Rattle.model.specs.Values.{faultNumber}
 use Rattle.model.specs.Steps.{World, State}
 use Rattle.model.specs.Runs.{Machine, begin, Progress, atStart, Ended, ended, stopped, paused, endOf, Entry, fault, Ran, tally, answered, Under, Part, pauses, partOf, abandonOf, givenUp, runOf}
-use Rattle.model.specs.Machines.{progressIn, underIn, someLast}
+use Rattle.model.specs.Stores as st
+use Rattle.model.specs.Machines.{progressIn, underIn, worldOf, someLast, unchanged}
 use Rattle.laws_runs.specs.Paths.{Steps, rootReturns, By, PausedBy}
 use Rattle.laws_runs.specs.Demand.{Cut, faulting, unpaid}
 use Rattle.laws_runs.proofs.Ends.{end-of}
@@ -23,7 +24,8 @@ use Rattle.laws_runs.proofs.Entered.{every-frame-tells-when-it-was-entered}
 use Rattle.laws_runs.proofs.Demands.{run-recovered}
 use Rattle.laws_runs.proofs.Ordered.{order-world, order-sane}
 use Rattle.laws_runs.proofs.Runs.{path-sane}
-use Rattle.demands.specs.Units.{spentOn, Within, Demand2}
+use Rattle.laws_rust.proofs.Strict.{Tells, a-fault-tells}
+use Rattle.demands.specs.Units.{spentOn, FaultOf, of-any, of-a-strict, Within, Demand2}
 use Rattle.demands.specs.Host.{Held}
 use Rattle.demands.specs.Meant.{worldIn, machineOf, underOf}
 use Rattle.demands.specs.Parts.{Parts, Over, IsThirteen, PausedAtThirteen, StandsBefore}
@@ -31,29 +33,30 @@ use Rattle.demands.proofs.Parting.{parts-come-to, over-is-one}
 use Rattle.demands.proofs.Paying.{fault-cost, path-units, run-is-steps}
 use Rattle.demands.proofs.Growing.{as-trees}
 
-fault-known : (n : Fault) → (1 ≤ faultNumber n) × (faultNumber n ≤ 14)
+fault-known : (w : World) (n : Fault) → Tells w n → FaultOf (w .strict) (faultNumber n)
 unfolding faultNumber
-fault-known f.UnknownOpcode = (omega arith, omega arith)
-fault-known f.NotCarried = (omega arith, omega arith)
-fault-known f.CodeEnds = (omega arith, omega arith)
-fault-known f.TooFewValues = (omega arith, omega arith)
-fault-known (f.WrongKind x) = (omega arith, omega arith)
-fault-known f.OutOfRange = (omega arith, omega arith)
-fault-known f.NoLastResult = (omega arith, omega arith)
-fault-known f.ZeroDivisor = (omega arith, omega arith)
-fault-known f.StackFull = (omega arith, omega arith)
-fault-known f.FramesFull = (omega arith, omega arith)
-fault-known f.CellsFull = (omega arith, omega arith)
-fault-known f.TooDeep = (omega arith, omega arith)
-fault-known f.NoFunction = (omega arith, omega arith)
+fault-known w f.UnknownOpcode h = of-any (omega arith) (omega arith)
+fault-known w f.NotCarried h = of-any (omega arith) (omega arith)
+fault-known w f.CodeEnds h = of-any (omega arith) (omega arith)
+fault-known w f.TooFewValues h = of-any (omega arith) (omega arith)
+fault-known w (f.WrongKind x) h = of-any (omega arith) (omega arith)
+fault-known w f.OutOfRange h = of-any (omega arith) (omega arith)
+fault-known w f.NoLastResult h = of-any (omega arith) (omega arith)
+fault-known w f.ZeroDivisor h = of-any (omega arith) (omega arith)
+fault-known w f.NotFinite h = of-a-strict h refl
+fault-known w f.StackFull h = of-any (omega arith) (omega arith)
+fault-known w f.FramesFull h = of-any (omega arith) (omega arith)
+fault-known w f.CellsFull h = of-any (omega arith) (omega arith)
+fault-known w f.TooDeep h = of-any (omega arith) (omega arith)
+fault-known w f.NoFunction h = of-any (omega arith) (omega arith)
 
 module _ (w : World) (m : Machine) (u : ℕ) where
-  answered-within : (a : Last) (i : Tally) → i .spent ≤ u → someLast a ≡ not (eqb (i .returns) 0) → Within u (answered a i)
+  answered-within : (a : Last) (i : Tally) → i .spent ≤ u → someLast a ≡ not (eqb (i .returns) 0) → Within (w .strict) u (answered a i)
   unfolding answered someLast
   answered-within Nothing i h e = (h, eqb-true _ _ (not-false _ (sym e)))
   answered-within (Is x) i h e = let some : i .returns ≡ 0 → ⊥ = eqb-false _ _ (not-true _ (sym e)) in (h, omega (arith, some))
 
-  settled-within : (e : Ended) → By w (atStart (begin m u)) (begin m u) e → Within u (givenUp w (partOf w (m .stack) u e) .reply)
+  settled-within : (e : Ended) → By w (atStart (begin m u)) (begin m u) e → Within (w .strict) u (givenUp w (partOf w (m .stack) u e) .reply)
   unfolding partOf givenUp abandonOf
   settled-within (ended k t) r =
       answered-within (k .answer) (tally (t .spent) k) (omega (arith, path-units (r .path) .spent, path-units (r .path) .left))
@@ -61,10 +64,10 @@ module _ (w : World) (m : Machine) (u : ℕ) where
   settled-within (stopped n t k) r =
       let path = path-units (r .path) in
       let cut = fault-cost w (r .at) (r .stops) in
-      (omega (arith, path .spent, path .left, cut .spent, cut .left), fault-known n)
-  settled-within (paused k t) r = (omega arith, (omega arith, omega arith))
+      (omega (arith, path .spent, path .left, cut .spent, cut .left), fault-known w n (a-fault-tells w (r .at) (r .stops)))
+  settled-within (paused k t) r = (omega arith, of-any (omega arith) (omega arith))
 
-  run-within : Within u (runOf w m u .reply)
+  run-within : Within (w .strict) u (runOf w m u .reply)
   unfolding runOf
   run-within = let s = begin m u in settled-within (endOf w s) (run-path w (atStart s) s (sym (end-of w s)))
 
@@ -78,6 +81,7 @@ module _ (w : World) (m : Machine) (u : ℕ) where
   not-thirteen f.OutOfRange e = omega arith
   not-thirteen f.NoLastResult e = omega arith
   not-thirteen f.ZeroDivisor e = omega arith
+  not-thirteen f.NotFinite e = omega arith
   not-thirteen f.StackFull e = omega arith
   not-thirteen f.FramesFull e = omega arith
   not-thirteen f.CellsFull e = omega arith
@@ -97,15 +101,16 @@ pub steps-within : {w : World} (m : Machine) {u n : ℕ} {j k : Progress} {t : S
 steps-within {w} m p = omega (arith, path-spends w p)
 
 -- DEMAND 2
-pub run-written : {h k : Held} {u : ℕ} {x : Ran} → Over h u x k → Demand2 (h .vm) (h .stores) (h .lent) u (k .vm .program) x
+pub run-written : {h k : Held} {u : ℕ} {x : Ran} → Over h u x k → Demand2 (h .vm) (h .stores) (h .lent) u (unchanged (k .vm)) x
 run-written {h} {k} {u} {x} p =
     let w = worldIn h in
     let a = machineOf h in
     let z = over-is-one p in
     record {
       program = z .beside .program;
+      strict = z .beside .strict;
       steps = rw (z .one) (run-is-steps w a u);
-      within = rw (z .one) (run-within w a u);
+      within = unfold worldOf st.worldIn in rw (z .one) (run-within w a u);
       whole = λ did es q. run-whole w a u did es (rw (← (z .one)) q);
       trees = λ b p. as-trees w _ (path-sane w (order-world (h .vm) (h .stores) (h .lent) (z .order) b) (order-sane (h .vm) (h .stores) (h .lent) (z .order) u) p);
     }

@@ -33,7 +33,7 @@ pub record LentAlike (m : Vm) (l l' : Lent) : Type 0 where
   pub copy : Alike (2 * m .run .saved) (l .copy) (l' .copy)
   pub backtrace : length (l .backtrace) ≡ length (l' .backtrace)
 
--- the same counts and last result, the same record of a run, the same program stores, and the lent stores the same below the counts
+-- the same counts and last result, the same record of a run, the same setting, the same program stores, and the lent stores the same below the counts
 pub record Agree (h h' : Held) : Type 0 where
   pub vm : h .vm ≡ h' .vm
   pub stores : h .stores ≡ h' .stores

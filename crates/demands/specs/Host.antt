@@ -1,5 +1,6 @@
 -- What a host holds, the calls that it can make, and what each call answers and leaves: as the contracts of the entries say.
 use mathlib.Core.Path.{_≡_}
+use mathlib.Core.Bool.{Bool}
 use mathlib.Core.List.{List, [], _∷_}
 use Prim.Native.Nat.{ℕ}
 use Rattle.model.specs.declared.Constant.{Constant}
@@ -10,6 +11,8 @@ use Rattle.model.specs.declared.Emitted.{Emitted}
 use Rattle.model.specs.declared.Emitted.the-variants as e
 use Rattle.model.specs.declared.Started.{Started}
 use Rattle.model.specs.declared.Started.the-variants as st
+use Rattle.model.specs.declared.Changed.{Changed}
+use Rattle.model.specs.declared.Changed.the-variants as ch
 use Rattle.model.specs.declared.Told.{Told}
 use Rattle.model.specs.declared.Shown.{Shown}
 use Rattle.model.specs.declared.Headed.{Headed}
@@ -18,7 +21,7 @@ use Rattle.model.specs.declared.RunResult.the-variants as r
 use Rattle.model.specs.Stores.{Stores}
 use Rattle.model.specs.Emission.{Res, addOpOf, addOp1Of, addOp2Of, addOp3Of, currentOffsetOf, patchOf, addConstantOf, addStructOf, beginFunctionOf, endFunctionOf, functionIdxOf}
 use Rattle.model.specs.Loading.{OutRes, saveOf, listOf}
-use Rattle.model.specs.Machines.{Lent, RunAnswer, answerIn, RunCall, RunPost, backtraceIn, StartRes, loadMachineOf, newMachineOf}
+use Rattle.model.specs.Machines.{Lent, RunAnswer, answerIn, RunCall, RunPost, setStrict as setStrictOf, backtraceIn, StartRes, loadMachineOf, newMachineOf}
 use Rattle.model.specs.Readers.{lastResultOf, stackValueOf, blockHeaderOf, elementOf, textBytesOf}
 
 -- the machine's counts, the program's stores, and what is lent besides
@@ -40,6 +43,7 @@ pub data Ask : Type 0 where
   addStruct : (text : List ℕ) → Ask
   beginFunction : (text : List ℕ) → Ask
   endFunction : Ask
+  setStrict : (strict : Bool) → Ask
   -- these only look
   currentOffset : Ask
   functionIdx : (text : List ℕ) → Ask
@@ -62,6 +66,7 @@ pub data Answer : Type 0 where
   ran : RunAnswer → Answer
   emitted : Emitted → Answer
   started : Started → Answer
+  changed : Changed → Answer
   told : Told → Answer
   put : (out : List ℕ) → OutRes → Answer
   shown : Shown → Answer
@@ -75,7 +80,7 @@ pub record Done : Type 0 where
 
 -- only the program's counts change
 abbrev pub counted : Vm → Emitted → Vm
-counted m (e.Done c n) = record { program = c; stack = m .stack; frames = m .frames; cells = m .cells; last = m .last; run = m .run }
+counted m (e.Done c n) = record { program = c; stack = m .stack; frames = m .frames; cells = m .cells; last = m .last; run = m .run; strict = m .strict }
 counted m (e.Refused n) = m
 
 unfoldable pub emits : Held → Res → Done
@@ -92,6 +97,14 @@ withFrames fs l = record { stack = l .stack; cells = l .cells; frames = fs; copy
 
 unfoldable pub starts : Held → StartRes → Done
 starts h x = record { answer = started (x .answer); held = record { vm = replaced (h .vm) (x .answer); stores = x .stores; lent = withFrames (x .frames) (h .lent) } }
+
+-- the machine comes back with the setting
+abbrev pub withSetting : Vm → Changed → Vm
+withSetting m (ch.Done m') = m'
+withSetting m (ch.Refused n) = m
+
+unfoldable pub changes : Held → Changed → Done
+changes h x = record { answer = changed x; held = record { vm = withSetting (h .vm) x; stores = h .stores; lent = h .lent } }
 
 -- nothing changes
 unfoldable pub looks : Held → Answer → Done
@@ -110,6 +123,7 @@ done (addConstant x text) h = emits h (addConstantOf (h .vm .run .on) (h .vm .pr
 done (addStruct text) h = emits h (addStructOf (h .vm .run .on) (h .vm .program) text (h .stores))
 done (beginFunction text) h = emits h (beginFunctionOf (h .vm .run .on) (h .vm .program) text (h .stores))
 done endFunction h = emits h (record { answer = endFunctionOf (h .vm .run .on) (h .vm .program); stores = h .stores })
+done (setStrict b) h = changes h (setStrictOf b (h .vm) (h .stores) (h .lent))
 done currentOffset h = looks h (told (currentOffsetOf (h .vm .program) (h .stores .functions)))
 done (functionIdx text) h = looks h (told (functionIdxOf (h .vm .program) text (h .stores)))
 done (save out) h = looks h (put out (saveOf (h .vm .program) (h .stores) out))

@@ -3,13 +3,15 @@ use mathlib.Core.Bool.{Bool, true, false, _||_}
 use mathlib.Core.List.{List, [], _∷_}
 use Prim.Native.Nat.{ℕ, _<_}
 use Rattle.model.specs.Numbers.{Bytes}
-use Rattle.demands.specs.Host.{Ask, new, load, addOp, addOp1, addOp2, addOp3, patch, addConstant, addStruct, beginFunction, endFunction, currentOffset, functionIdx, save, disassemble, backtrace, lastResult, stackValue, blockHeader, element, textBytes, Call, run, ask}
+use Rattle.demands.specs.Host.{Ask, new, load, addOp, addOp1, addOp2, addOp3, patch, addConstant, addStruct, beginFunction, endFunction, setStrict, currentOffset, functionIdx, save, disassemble, backtrace, lastResult, stackValue, blockHeader, element, textBytes, Call, run, ask}
 
 pub data Job : Type 0 where
   -- it makes a machine anew, from an image or from none
   makes : (image : List ℕ) → Job
   -- it writes to the program, these operands too
   writes : (operands : List ℕ) → Job
+  -- it sets whether the machine is strict
+  sets : Job
   -- it only looks
   looks : Job
   -- and it was handed a value, which names cells of one machine
@@ -27,6 +29,7 @@ jobOf (addConstant x text) = writes []
 jobOf (addStruct text) = writes []
 jobOf (beginFunction text) = writes []
 jobOf endFunction = writes []
+jobOf (setStrict b) = sets
 jobOf currentOffset = looks
 jobOf (functionIdx text) = looks
 jobOf (save out) = looks
@@ -42,6 +45,7 @@ jobOf (textBytes x out) = handed
 abbrev pub isMakes : Job → Bool
 isMakes (makes image) = true
 isMakes (writes operands) = false
+isMakes sets = false
 isMakes looks = false
 isMakes handed = false
 
@@ -58,6 +62,7 @@ Below n (x ∷ xs) = (x < n) × Below n xs
 abbrev pub Typed : Job → Type 0
 Typed (makes image) = Bytes image
 Typed (writes operands) = Below 65536 operands
+Typed sets = Unit
 Typed looks = Unit
 Typed handed = Unit
 

@@ -4,6 +4,7 @@ use mathlib.Core.Bool.{Bool, true}
 use mathlib.Core.List.{List, [], _∷_}
 use Prim.Native.Nat.{ℕ}
 use lib.ListN.{length}
+use Rattle.model.specs.declared.Changed.the-variants as ch
 use Rattle.model.specs.declared.Shown.the-variants as w
 use Rattle.model.specs.declared.Tally.{Tally}
 use Rattle.model.specs.Heap.{Cell}
@@ -16,9 +17,9 @@ use Rattle.model.specs.Machines as m
 use Rattle.laws_runs.specs.Ordered.{CodeBytes}
 use Rattle.laws_meaning.specs.Alike.{Layout, AlikeMachine, AlikeUnder}
 use Rattle.laws_meaning.specs.Answers.{Meant, meantIn}
-use Rattle.demands.specs.Host.{Held, Call, run, ask, Answer, ran, emitted, started, told, put, shown, headed, Chain, none, more}
+use Rattle.demands.specs.Host.{Held, Call, run, ask, Answer, ran, emitted, started, changed, told, put, shown, headed, Chain, none, more}
 use Rattle.demands.specs.Kept.{InOrder}
-use Rattle.demands.specs.Jobs.{Job, makes, writes, looks, handed, jobOf}
+use Rattle.demands.specs.Jobs.{Job, makes, writes, sets, looks, handed, jobOf}
 
 abbrev pub worldIn : Held → World
 worldIn h = worldOf (h .vm) (h .stores) (h .lent)
@@ -58,6 +59,8 @@ pub record AlikeHeld (anew : Bool) (h d : Held) : Type 0 where
   pub counts : d .vm .program ≡ h .vm .program
   pub program : programIn (d .vm .program) (d .stores) ≡ programIn (h .vm .program) (h .stores)
   pub stores : AsLong (d .stores) (h .stores)
+  -- both are strict, or neither is
+  pub strict : d .vm .strict ≡ h .vm .strict
   -- stack and last result of the same trees, the same frames with the units at which they were entered, as many cells free
   pub machine : AlikeMachine (worldIn h) (layoutOf d) (machineOf h) (machineOf d)
   -- a run is under way in both or in neither; in both it was given and has spent as much, has come as far, and its starting stack is of the same trees
@@ -81,6 +84,8 @@ pub data Said : Type 0 where
   paused : (given : ℕ) → Tally → Said
   -- a value that is told: its tree
   value : Tree → Said
+  -- the setting that the machine now has
+  set : (strict : Bool) → Said
   -- all else, as it was answered
   plain : Answer → Said
   -- to a reader that was handed a value: it names cells of one machine, so that the same value is not the same question to another.
@@ -94,6 +99,8 @@ saidIn t H (ran (m.ran c (pauses r))) = paused (r .given) (tally (r .state .spen
 saidIn t H (ran (m.refused n)) = plain (ran (m.refused n))
 saidIn t H (emitted a) = plain (emitted a)
 saidIn t H (started a) = plain (started a)
+saidIn t H (changed (ch.Done x)) = set (x .strict)
+saidIn t H (changed (ch.Refused n)) = plain (changed (ch.Refused n))
 saidIn t H (told a) = plain (told a)
 saidIn t H (put out a) = plain (put out a)
 saidIn t H (shown (w.Value x)) = value (meaning t H x)
@@ -104,6 +111,7 @@ saidIn t H (headed a) = plain (headed a)
 abbrev pub heard : Job → Said → Said
 heard (makes image) x = x
 heard (writes operands) x = x
+heard sets x = x
 heard looks x = x
 heard handed x = own
 

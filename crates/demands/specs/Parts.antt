@@ -2,14 +2,13 @@
 use mathlib.Core.Path.{_≡_}
 use mathlib.Core.Bool.{true, false}
 use Prim.Native.Nat.{ℕ, _+_, _*_}
-use Rattle.model.specs.declared.Counts.{Counts}
 use Rattle.model.specs.Runs.{begin, atStart, endOf, Reply, value, continue, fault, Ran, Under, Part, ends, pauses, partOf, runOf}
-use Rattle.model.specs.Machines.{runOrder, begins, continues, abandons, RunCall, noRun}
+use Rattle.model.specs.Machines.{runOrder, Unchanged, begins, continues, abandons, RunCall, noRun}
 use Rattle.model.specs.Machines as m
 use Rattle.laws_runs.specs.Paths.{rootReturns, PausedBy}
 use Rattle.laws_runs.specs.Entered.{enteredIn, notedAlong}
 use Rattle.demands.specs.Units.{spentOn}
-use Rattle.demands.specs.Host.{Held, Ask, Call, run, ask, Answer, ran, emitted, started, told, put, shown, headed, RanBy, After}
+use Rattle.demands.specs.Host.{Held, Ask, Call, run, ask, Answer, ran, emitted, started, changed, told, put, shown, headed, RanBy, After}
 use Rattle.demands.specs.Agree.{Front, Rooms, Agree}
 use Rattle.demands.specs.Meant.{worldIn, machineOf, underOf}
 
@@ -17,9 +16,9 @@ use Rattle.demands.specs.Meant.{worldIn, machineOf, underOf}
 
 -- a run that was begun by h: it was given g units in all, its last part came to x, and k is then held
 pub data Parts (h : Held) : (g : ℕ) → Part → Held → Type 0 where
-  begun : {c : Counts} {x : Part} {k : Held} → RanBy begins h (ran (m.ran c x)) k → Parts h 0 x k
-  continued : {g u : ℕ} {r : Under} {c : Counts} {x : Part} {k k' : Held} → Parts h g (pauses r) k → RanBy (continues u) k (ran (m.ran c x)) k' → Parts h (g + u) x k'
-  -- between two parts: readers look, and what would change the program or the machine is refused
+  begun : {c : Unchanged} {x : Part} {k : Held} → RanBy begins h (ran (m.ran c x)) k → Parts h 0 x k
+  continued : {g u : ℕ} {r : Under} {c : Unchanged} {x : Part} {k k' : Held} → Parts h g (pauses r) k → RanBy (continues u) k (ran (m.ran c x)) k' → Parts h (g + u) x k'
+  -- between two parts: readers look, and what would change the program, the machine or its setting is refused
   asked : {g : ℕ} {r : Under} (q : Ask) {a : Answer} {k k' : Held} → Parts h g (pauses r) k → After (ask q) k a k' → Parts h g (pauses r) k'
   -- and a call of the run may be refused too
   refused : {g n : ℕ} {r : Under} {c : RunCall} {k k' : Held} → Parts h g (pauses r) k → RanBy c k (ran (m.refused n)) k' → Parts h g (pauses r) k'
@@ -27,7 +26,7 @@ pub data Parts (h : Held) : (g : ℕ) → Part → Held → Type 0 where
 -- such a run that is over: it came to x by its last part, or by being abandoned where it was paused
 pub data Over (h : Held) : (g : ℕ) → Ran → Held → Type 0 where
   ended : {g : ℕ} {x : Ran} {k : Held} → Parts h g (ends x) k → Over h g x k
-  abandoned : {g : ℕ} {r : Under} {c : Counts} {x : Ran} {k k' : Held} → Parts h g (pauses r) k → RanBy abandons k (ran (m.ran c (ends x))) k' → Over h g x k'
+  abandoned : {g : ℕ} {r : Under} {c : Unchanged} {x : Ran} {k k' : Held} → Parts h g (pauses r) k → RanBy abandons k (ran (m.ran c (ends x))) k' → Over h g x k'
 
 -- ---- what they come to
 
@@ -45,16 +44,17 @@ abbrev pub Stands : Part → Held → Type 0
 Stands (ends x) k = Rests x k
 Stands (pauses r) k = Waits r k
 
--- k holds what the calls of a run of h leave: the same program in the same stores, lent stores of the same lengths, all in good order; and the copy holds
--- the stack that the run was begun with
+-- k holds what the calls of a run of h leave: the same program in the same stores, the same setting, lent stores of the same lengths, all in good order; and
+-- the copy holds the stack that the run was begun with
 pub record Beside (h k : Held) : Type 0 where
   pub program : k .vm .program ≡ h .vm .program
+  pub strict : k .vm .strict ≡ h .vm .strict
   pub stores : k .stores ≡ h .stores
   pub rooms : Rooms (k .lent) (h .lent)
   pub order : runOrder (k .vm) (k .stores) (k .lent) ≡ true
   pub copy : Front (2 * h .vm .stack) (k .lent .copy) (h .lent .stack)
 
--- THE DEALING LAW, over calls: however g units were dealt out, the run has come to what one run comes to that is given g
+-- THE DEALING LAW, over calls, of a machine strict or not: however g units were dealt out, the run has come to what one run comes to that is given g
 pub record CameTo (h : Held) (g : ℕ) (x : Part) (k : Held) : Type 0 where
   pub order : runOrder (h .vm) (h .stores) (h .lent) ≡ true
   pub idle : h .vm .run .on ≡ false
@@ -95,6 +95,7 @@ grantedOf u (ran (m.ran c x)) = u
 grantedOf u (ran (m.refused n)) = 0
 grantedOf u (emitted a) = 0
 grantedOf u (started a) = 0
+grantedOf u (changed a) = 0
 grantedOf u (told a) = 0
 grantedOf u (put out a) = 0
 grantedOf u (shown a) = 0

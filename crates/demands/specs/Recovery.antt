@@ -45,8 +45,9 @@ pub record Recovers (m : Vm) (s : Stores) (l : Lent) (u : ℕ) (m' : Vm) (n : �
   -- one frame: function 0, base 0, position at the end of main, entered at 0
   pub frames : m' .frames ≡ 1
   pub frame : getD (l' .frames) 0 (root 0) ≡ root (length (functionAt (worldOf m s l .functions) 0 .code))
-  -- unchanged code and constants, and no run is under way
+  -- unchanged code and constants, the setting kept, and no run is under way
   pub program : m' .program ≡ m .program
+  pub strict : m' .strict ≡ m .strict
   pub run : m' .run ≡ noRun
   -- the last result is that of the last root Return completed before the cut, or the former one; so are the cells
   pub kept : Kept (worldOf m s l) (begin (machineIn m l) u) (rules .at) (m' .last) (heapOf (m' .cells) (l' .cells))
@@ -56,18 +57,19 @@ pub record Recovers (m : Vm) (s : Stores) (l : Lent) (u : ℕ) (m' : Vm) (n : �
   -- the step that faulted has dropped and added no frame, and its backtrace stands
   pub traced : CodeBytes s → Faults (worldOf m s l) (rules .at) (rules .after)
 
--- a machine set up as x beside h in the same words: the same program stores, lent stores of the same lengths and so the same free cells, in good order, and
--- no run under way
+-- a machine set up as x beside h in the same words: the same program stores, the same setting, lent stores of the same lengths and so the same free cells, in
+-- good order, and no run under way
 pub record SetUp (x : Machine) (h d : Held) : Type 0 where
   pub program : d .vm .program ≡ h .vm .program
+  pub strict : d .vm .strict ≡ h .vm .strict
   pub stores : d .stores ≡ h .stores
   pub rooms : Rooms (d .lent) (h .lent)
   pub machine : machineIn (d .vm) (d .lent) ≡ x
   pub run : d .vm .run ≡ noRun
   pub order : runOrder (d .vm) (d .stores) (d .lent) ≡ true
 
--- DEMAND 3, of a run that was begun by what a host holds in h and given u units in all; it answered fault n, or was abandoned, with what it did and a
--- backtrace, and left h'
+-- DEMAND 3, of a run that was begun by what a host holds in h, a machine strict or not, and given u units in all; it answered fault n, or was abandoned,
+-- with what it did and a backtrace, and left h'
 pub record Demand3 (u : ℕ) (h : Held) (n : ℕ) (did : Tally) (trace : List Entry) (h' : Held) : Type 0 where
   pub leaves : Recovers (h .vm) (h .stores) (h .lent) u (h' .vm) n did trace (h' .lent)
   -- whatever calls come then, new code included and the same for both: they say what they say of any machine d that was set up in that state with the same free cells

@@ -16,6 +16,8 @@ use Rattle.model.specs.declared.Emitted.{Emitted}
 use Rattle.model.specs.declared.Emitted.the-variants as e
 use Rattle.model.specs.declared.Started.{Started}
 use Rattle.model.specs.declared.Started.the-variants as st
+use Rattle.model.specs.declared.Changed.{Changed}
+use Rattle.model.specs.declared.Changed.the-variants as ch
 use Rattle.model.specs.declared.Told.{Told}
 use Rattle.model.specs.declared.Told.the-variants as t
 use Rattle.model.specs.declared.Shown.{Shown}
@@ -35,7 +37,7 @@ use Rattle.model.specs.Emission.{structNames, textRoom, sizeHere, endHere, code
 use Rattle.model.specs.Loading.{roomFor, listOrder}
 use Rattle.model.specs.Machines.{innermost, callersIn, runOrder, copyShort, traceShort, RunCall, begins, continues, abandons, RunAnswer, ran as answered, refused, traceOrder}
 use Rattle.model.specs.Readers.{reads, headerAt, readsText}
-use Rattle.demands.specs.Host.{Held, Ask, new, load, addOp, addOp1, addOp2, addOp3, patch, addConstant, addStruct, beginFunction, endFunction, currentOffset, functionIdx, save, disassemble, backtrace, lastResult, stackValue, blockHeader, element, textBytes, Call, run, ask, Answer, ran, emitted, started, told, put, shown, headed}
+use Rattle.demands.specs.Host.{Held, Ask, new, load, addOp, addOp1, addOp2, addOp3, patch, addConstant, addStruct, beginFunction, endFunction, setStrict, currentOffset, functionIdx, save, disassemble, backtrace, lastResult, stackValue, blockHeader, element, textBytes, Call, run, ask, Answer, ran, emitted, started, changed, told, put, shown, headed}
 
 -- a test that must hold, or must not hold; else the number comes back
 pub data Check : Type 0 where
@@ -166,6 +168,8 @@ askChecks (beginFunction name) h =
     ∷ must (textRoom (h .vm .program) (h .stores) (length name)) 21
     ∷ [])
 askChecks endFunction h = writing h (countsOk (h .vm .program)) []
+-- the whole machine is judged, as before a run; and no run is under way, even where the setting asked for is the present one
+askChecks (setStrict b) h = must (runOrder (h .vm) (h .stores) (h .lent)) 19 ∷ mustNot (h .vm .run .on) 25 ∷ []
 askChecks currentOffset h = must (countsOk (h .vm .program) && functionsOk (h .vm .program) (h .stores .functions)) 19 ∷ []
 askChecks (functionIdx name) h =
     must (functionOrder (h .vm .program) (h .stores)) 19
@@ -234,6 +238,10 @@ refusedStarted (st.Done m) = none
 refusedStarted (st.Broken i) = some 20
 refusedStarted (st.Refused n) = some n
 
+abbrev pub refusedChanged : Changed → Option ℕ
+refusedChanged (ch.Done m) = none
+refusedChanged (ch.Refused n) = some n
+
 abbrev pub refusedTold : Told → Option ℕ
 refusedTold (t.Number n) = none
 refusedTold (t.Refused n) = some n
@@ -254,6 +262,7 @@ abbrev pub refusedBy : Answer → Option ℕ
 refusedBy (ran x) = refusedRun x
 refusedBy (emitted x) = refusedEmitted x
 refusedBy (started x) = refusedStarted x
+refusedBy (changed x) = refusedChanged x
 refusedBy (told x) = refusedTold x
 refusedBy (put out x) = refusedTold (x .answer)
 refusedBy (shown x) = refusedShown x
@@ -265,6 +274,7 @@ abbrev pub OutKept : Answer → Type 0
 OutKept (ran x) = Unit
 OutKept (emitted x) = Unit
 OutKept (started x) = Unit
+OutKept (changed x) = Unit
 OutKept (told x) = Unit
 OutKept (put out x) = x .out ≡ out
 OutKept (shown x) = Unit

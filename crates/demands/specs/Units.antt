@@ -1,6 +1,6 @@
 -- Demand 2: each unit is tied to a written step.
 use mathlib.Core.Path.{_≡_}
-use mathlib.Core.Bool.{true, false}
+use mathlib.Core.Bool.{Bool, true, false}
 use mathlib.Core.List.{List, [], _∷_}
 use Prim.Native.Nat.{ℕ, suc, _+_, _≤_, _<_}
 use Rattle.model.specs.declared.Op.{Op}
@@ -8,7 +8,6 @@ use Rattle.model.specs.declared.Op.the-variants as o
 use Rattle.model.specs.declared.Decoded.{Decoded}
 use Rattle.model.specs.declared.Decoded.the-variants as d
 use Rattle.model.specs.declared.Value.{Value}
-use Rattle.model.specs.declared.Counts.{Counts}
 use Rattle.model.specs.declared.Vm.{Vm}
 use Rattle.model.specs.declared.Fault.{Fault}
 use Rattle.model.specs.declared.Tally.{Tally}
@@ -19,7 +18,7 @@ use Rattle.model.specs.Equality.{Same, same, sameOf}
 use Rattle.model.specs.Steps.{World, State, Outcome, went, returned, faulted, short, position, codeOf, stepOf}
 use Rattle.model.specs.Runs.{Machine, begin, machineOf, Progress, atStart, over, Entry, traceOf, Reply, value, continue, fault, Ran, answered, cutAt, recovered}
 use Rattle.model.specs.Stores.{Stores}
-use Rattle.model.specs.Machines.{Lent, machineIn, worldOf}
+use Rattle.model.specs.Machines.{Lent, machineIn, worldOf, Unchanged}
 use Rattle.laws_runs.specs.Ordered.{CodeBytes}
 use Rattle.laws_runs.specs.Paths.{Steps, none, on, ret, rootReturns}
 use Rattle.demands.specs.Trees.{AsTrees}
@@ -114,19 +113,25 @@ pub data RunIs (w : World) (m : Machine) (u : ℕ) : Ran → Type 0 where
   gives-up : {n : ℕ} {k : Progress} {s : State} (p : Steps w n (atStart (begin m u)) (begin m u) k s) → over w s ≡ false → stepOf w s ≡ short
       → RunIs w m u (record { reply = fault 13 (didGiven u p) (traceOf (w .functions) (cutAt s .frame ∷ cutAt s .callers)); machine = recovered w (m .stack) k })
 
--- the units spent are at most those given, and a fault is one of the 14 faults of a run; a value is answered where a root Return was completed, "continue"
--- where none was
-abbrev pub Within : ℕ → Reply → Type 0
-Within u (value x did) = (did .spent ≤ u) × (1 ≤ did .returns)
-Within u (continue did) = (did .spent ≤ u) × (did .returns ≡ 0)
-Within u (fault n did es) = (did .spent ≤ u) × ((1 ≤ n) × (n ≤ 14))
+-- the faults of a run: 1 to 14, and on a strict machine 26
+pub data FaultOf (strict : Bool) (n : ℕ) : Type 0 where
+  of-any : 1 ≤ n → n ≤ 14 → FaultOf strict n
+  of-a-strict : strict ≡ true → n ≡ 26 → FaultOf strict n
 
--- DEMAND 2, of a run that was begun by m and given u units in all, in however many parts; c and x are what its last result and the lent stores then stand for
-pub record Demand2 (m : Vm) (s : Stores) (l : Lent) (u : ℕ) (c : Counts) (x : Ran) : Type 0 where
-  pub program : c ≡ m .program
+-- the units spent are at most those given, and a fault is one of a run; a value is answered where a root Return was completed, "continue" where none was
+abbrev pub Within : (strict : Bool) → ℕ → Reply → Type 0
+Within strict u (value x did) = (did .spent ≤ u) × (1 ≤ did .returns)
+Within strict u (continue did) = (did .spent ≤ u) × (did .returns ≡ 0)
+Within strict u (fault n did es) = (did .spent ≤ u) × FaultOf strict n
+
+-- DEMAND 2, of a run that was begun by m, strict or not, and given u units in all, in however many parts; c is the program and the setting that it left, and
+-- x what its last result and the lent stores then stand for
+pub record Demand2 (m : Vm) (s : Stores) (l : Lent) (u : ℕ) (c : Unchanged) (x : Ran) : Type 0 where
+  pub program : c .program ≡ m .program
+  pub strict : c .strict ≡ m .strict
   -- its answer, stack, frames, last result and units are those of the written steps
   pub steps : RunIs (worldOf m s l) (machineIn m l) u x
-  pub within : Within u (x .reply)
+  pub within : Within (m .strict) u (x .reply)
   -- where the units were too few, the units spent are the whole budget
   pub whole : (did : Tally) (es : List Entry) → x .reply ≡ fault 13 did es → did .spent ≡ u
   -- in each state that it comes to, values are trees

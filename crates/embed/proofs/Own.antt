@@ -5,7 +5,6 @@ use mathlib.Core.Bool.{Bool, true, false}
 use mathlib.Core.List.{List, [], _∷_}
 use Prim.Native.Nat.{ℕ, _+_}
 use lib.Dec.{ltb}
-use Rattle.model.specs.declared.Counts.{Counts}
 use Rattle.model.specs.declared.Vm.{Vm}
 use Rattle.model.specs.declared.Frame.{Frame}
 use Rattle.model.specs.declared.Emitted.{Emitted}
@@ -21,7 +20,7 @@ use Rattle.model.specs.Stores.{Stores, functionsFrom}
 use Rattle.model.specs.Emission.{newOf}
 use Rattle.model.specs.Loading.{OutRes, loadOf}
 use Rattle.model.specs.Runs.{Entry, trace, untraced, traceOf, traceable, backtraceOf, Part}
-use Rattle.model.specs.Machines.{Lent, runOrder, copyShort, traceShort, RunAnswer, ran, refused as not-run, begins, continues, abandons, beginAnswer, continueAnswer, abandonAnswer, runAnswer, refusalOf}
+use Rattle.model.specs.Machines.{Lent, runOrder, copyShort, traceShort, Unchanged, RunAnswer, ran, refused as not-run, begins, continues, abandons, beginAnswer, continueAnswer, abandonAnswer, runAnswer, refusalOf}
 use Rattle.model.specs.Machines.{traceOrder, putTrace, innermost, callersIn, backtraceIn, startWith, unlessRunning, loadMachineOf, asLoaded, newMachineOf}
 use Rattle.embed_words.specs.Coding.{atEntry, among, Coded, unmade}
 use Rattle.laws_embed.proofs.Says.{Says, late-says, says-itself}
@@ -58,7 +57,7 @@ trace-says m s stack frames out g e =
 -- ---- a run
 
 -- a run is begun where none is under way
-begin-by : (g on short : Bool) (c : Counts) (x : Part)
+begin-by : (g on short : Bool) (c : Unchanged) (x : Part)
     → Says (if g then (if on then 25 else 0) else 19) (refusalOf (if g then (if on then not-run 25 else (if short then not-run 17 else ran c x)) else not-run 19))
 unfolding refusalOf among
 begin-by true true short c x = says-itself 25
@@ -75,7 +74,7 @@ under-by true true false y p = late-says (refusalOf y) p
 under-by true false short y p = says-itself 18
 under-by false on short y p = says-itself 19
 
-given-late : (over : Bool) (c : Counts) (x : Part) → among atEntry (refusalOf (if over then not-run 22 else ran c x)) ≡ false
+given-late : (over : Bool) (c : Unchanged) (x : Part) → among atEntry (refusalOf (if over then not-run 22 else ran c x)) ≡ false
 unfolding refusalOf among
 given-late true c x = refl
 given-late false c x = refl

@@ -4,6 +4,7 @@ pub mod emission; // emission.rt: a program is written
 pub mod reading; // reading.rt: a machine is read
 
 use embed_answers::tell;
+use embed_answers::tell_changed;
 use embed_answers::tell_run;
 use embed_answers::tell_started;
 use embed_answers::tell_unmade;
@@ -11,6 +12,7 @@ use embed_refusals::crossed_idle;
 use embed_refusals::crossed_order;
 use embed_refusals::crossed_running;
 use embed_refusals::out_refusal;
+use embed_refusals::record_ok;
 use embed_refusals::slices_refusal;
 use embed_words::vm_of;
 use machine::abandon;
@@ -20,23 +22,24 @@ use machine::continue_run;
 use machine::load;
 use machine::new;
 use machine::running::order;
+use machine::set_strict;
 use machine::starting::no_place;
 use machine::tracing::trace_order;
 use model::Frame;
 ghost use mathlib.Core.Path.{_≡_};
 ghost use mathlib.Core.Bool.{false};
-ghost use mathlib.Core.List.{List};
+ghost use mathlib.Core.List.{List, []};
 ghost use Prim.Native.Nat.{ℕ};
 ghost use Rattle.model.specs.declared.Vm.{Vm};
 ghost use Rattle.model.specs.Stores.{Stores};
 ghost use Rattle.model.specs.Loading.{saveOf, listOf};
-ghost use Rattle.model.specs.Machines.{begins, continues, abandons, backtraceIn, loadMachineOf, newMachineOf};
+ghost use Rattle.model.specs.Machines.{begins, continues, abandons, setStrict, backtraceIn, loadMachineOf, newMachineOf};
 ghost use Rattle.layout.specs.Links.{namesLent};
 ghost use Rattle.model.specs.Stores.{storesOf as lent};
 ghost use Rattle.listing.specs.Links.{lent as listed};
 ghost use Rattle.run_ends.specs.Links.{programLent};
 ghost use Rattle.machine.specs.Links.{runLent};
-ghost use Rattle.embed_words.specs.Coding.{slicesRefusal, atEntry, atListing, unmade, RunThrough, startThrough, outThrough};
+ghost use Rattle.embed_words.specs.Coding.{vmIn, slicesRefusal, atEntry, atListing, unmade, changedCoded, through, RunThrough, startThrough, outThrough};
 
 // A machine over a new program. Where a run is under way in the record, that is told first (25), so what is made is made with none.
 #[no_mangle]
@@ -120,6 +123,56 @@ pub extern "C" fn chaffwheel_load(
     }
     let n = unloaded(why, image, answer);
     n
+}
+
+// Whether the machine is strict from now on. It tells nothing, so no words are asked for an answer; and no backtrace is written, so what is promised is so
+// of any store for one.
+#[no_mangle]
+pub extern "C" fn chaffwheel_set_strict(
+    strict: bool,
+    vm: &mut [u64],
+    constants: &[u64],
+    structs: &[u64],
+    functions: &[u64],
+    text: &[u8],
+    main: &[u8],
+    main_places: &[u32],
+    other: &[u8],
+    other_places: &[u32],
+    stack: &[u64],
+    cells: &[u64],
+    frames: &[Frame],
+    copy: &[u64],
+) -> u32
+    ensures { λ r. ⌜ ((trace : List ℕ) → record { number = r; vm = now (vm .exit); answer = [] }
+        ≡ through atEntry (slicesRefusal (now (vm .entry)) 0 []) (now (vm .entry)) [] (changedCoded (setStrict strict (vmIn (now (vm .entry)))
+        (programLent (now (structs .entry)) (now (constants .entry)) (now (functions .entry)) (now (text .entry))
+        (now (main .entry)) (now («main_places» .entry)) (now (other .entry)) (now («other_places» .entry)))
+        (runLent (now (stack .entry)) (now (cells .entry)) (now (frames .entry)) (now (copy .entry)) trace)) (now (vm .entry)) [])) ⌝ }
+{
+    let good = record_ok(vm);
+    if good {
+        let m = vm_of(vm);
+        let changed = set_strict(
+            m,
+            strict,
+            constants,
+            structs,
+            functions,
+            text,
+            main,
+            main_places,
+            other,
+            other_places,
+            stack,
+            cells,
+            frames,
+            copy,
+        );
+        let n = tell_changed(changed, vm);
+        return n;
+    }
+    19
 }
 
 // A run of the machine is begun: the stack is copied, and all frames were entered at 0 units. No backtrace is written, so what is promised is so of any

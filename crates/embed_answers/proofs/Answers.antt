@@ -10,6 +10,8 @@ use Rattle.model.specs.declared.Header.{Header}
 use Rattle.model.specs.declared.Counts.{Counts}
 use Rattle.model.specs.declared.Vm.{Vm}
 use Rattle.model.specs.declared.Tally.{Tally}
+use Rattle.model.specs.declared.Changed.{Changed}
+use Rattle.model.specs.declared.Changed.the-variants as ch
 use Rattle.model.specs.declared.Emitted.{Emitted}
 use Rattle.model.specs.declared.Emitted.the-variants as e
 use Rattle.model.specs.declared.Told.{Told}
@@ -26,7 +28,7 @@ use Rattle.model.specs.Basics.{if_then_else_, written}
 use Rattle.model.specs.Answers.{toldNumber, shownNumber, headedNumber}
 use Rattle.model.specs.Values.{kind, payload}
 use Rattle.embed_words.specs.Coding.{countWords, vmWords, crossed}
-use Rattle.embed_words.specs.Coding.{Coded, runWords, runCoded, startedCoded, unmade, emittedCoded, toldCoded, shownCoded, headedCoded, through}
+use Rattle.embed_words.specs.Coding.{Coded, runWords, runCoded, startedCoded, changedCoded, unmade, emittedCoded, toldCoded, shownCoded, headedCoded, through}
 
 -- c is what the entry itself does
 module _ (firsts : List ℕ) (why : ℕ) (w a : List ℕ) (c : Coded) where
@@ -111,6 +113,15 @@ module _ (w a : List ℕ) where
       pub unmade-first : (why ≡ 17 → ⊥) → {i : ℕ} → x ≡ st.Broken i → record { number = why; vm = w; answer = a } ≡ unmade why x w a
       unfolding unmade
       unmade-first z e = rw (e, ne-eqb why 17 z)
+
+  module _ {x : Changed} where
+    pub changed-done : {w' : List ℕ} {m : Vm} → x ≡ ch.Done m → w' ≡ written w 0 (vmWords m) → record { number = 0; vm = w'; answer = a } ≡ changedCoded x w a
+    unfolding changedCoded
+    changed-done e ew = rw (e, ew)
+
+    pub changed-refused : {n : ℕ} → x ≡ ch.Refused n → record { number = n; vm = w; answer = a } ≡ changedCoded x w a
+    unfolding changedCoded
+    changed-refused e = rw e
 
   module _ {x : Emitted} where
     pub emitted-done : {w' a' : List ℕ} {c : Counts} {n : ℕ} → x ≡ e.Done c n → w' ≡ written w 0 (countWords c) → a' ≡ set a 0 n → record { number = 0; vm = w'; answer = a' } ≡ emittedCoded x w a

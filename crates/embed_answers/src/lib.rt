@@ -4,6 +4,7 @@ use embed_refusals::crossed_listing;
 use embed_words::put;
 use embed_words::put_counts;
 use embed_words::put_vm;
+use model::Changed;
 use model::Emitted;
 use model::Headed;
 use model::RunResult;
@@ -19,7 +20,7 @@ ghost use Prim.Native.Nat.{ℕ};
 ghost use lib.ListN.{set};
 ghost use Rattle.model.specs.Basics.{written};
 ghost use Rattle.model.specs.Answers.{toldNumber, shownNumber, headedNumber};
-ghost use Rattle.embed_words.specs.Coding.{atEntry, atListing, runCoded, startedCoded, unmade, emittedCoded, toldCoded, shownCoded, headedCoded, through};
+ghost use Rattle.embed_words.specs.Coding.{atEntry, atListing, runCoded, startedCoded, changedCoded, unmade, emittedCoded, toldCoded, shownCoded, headedCoded, through};
 
 // What a part of a run came to, what the run did, and two words more.
 fn put_run(answer: &mut [u64], outcome: u64, did: Tally, a: u64, b: u64)
@@ -103,6 +104,19 @@ pub fn tell_unmade(why: u32, result: Started, answer: &mut [u64]) -> u32
             why
         }
         Started::Refused(n) => why,
+    }
+}
+
+// What changing the setting answers. It tells nothing besides: the answer is any.
+pub fn tell_changed(result: Changed, vm: &mut [u64]) -> u32
+    ensures { λ r. ⌜ ((a : List ℕ) → record { number = r; vm = now (vm .exit); answer = a } ≡ changedCoded result (now (vm .entry)) a) ⌝ }
+{
+    match result {
+        Changed::Done(m) => {
+            put_vm(m, vm);
+            0
+        }
+        Changed::Refused(n) => n as u32,
     }
 }
 

@@ -21,12 +21,12 @@ module _ (k a : ℕ) where
   unfolding lastExact
   exact-some h e = rw (ne-eqb _ _ h, e)
 
-pub record-is : (w : List ℕ) {k a on : ℕ} {b : Bool} → k ≡ getD w 8 0 → a ≡ getD w 9 0 → b ≡ lastExact k a → on ≡ getD w 10 0
-    → leb 16 (length w) && b && leb on 1 ≡ recordOk w
+pub record-is : (w : List ℕ) {k a on strict : ℕ} {b : Bool} → k ≡ getD w 8 0 → a ≡ getD w 9 0 → b ≡ lastExact k a → on ≡ getD w 10 0 → strict ≡ getD w 16 0
+    → leb 17 (length w) && b && leb on 1 && leb strict 1 ≡ recordOk w
 unfolding recordOk
-record-is w e f g h = rw (g, e, f, h)
+record-is w e f g h i = rw (g, e, f, h, i)
 
-pub way-is : (w : List ℕ) {on : ℕ} → on ≡ getD w 10 0 → leb 16 (length w) && eqb on 1 ≡ underWay w
+pub way-is : (w : List ℕ) {on : ℕ} → on ≡ getD w 10 0 → leb 17 (length w) && eqb on 1 ≡ underWay w
 unfolding underWay
 way-is w e = rw e
 
@@ -60,11 +60,11 @@ module _ (w : List ℕ) (n : ℕ) (a : List ℕ) where
     unfolding outRefusal
     out-running y = rw (← e, y)
 
-    pub out-fits : way ≡ false → leb 16 (length w) && leb n (length a) ≡ true → 0 ≡ outRefusal w n a
+    pub out-fits : way ≡ false → leb 17 (length w) && leb n (length a) ≡ true → 0 ≡ outRefusal w n a
     unfolding outRefusal
     out-fits y f = rw (← e, y, f)
 
-    pub out-short : way ≡ false → leb 16 (length w) && leb n (length a) ≡ false → 17 ≡ outRefusal w n a
+    pub out-short : way ≡ false → leb 17 (length w) && leb n (length a) ≡ false → 17 ≡ outRefusal w n a
     unfolding outRefusal
     out-short y f = rw (← e, y, f)
 

@@ -18,10 +18,13 @@ fn last_exact(kind: u64, payload: u64) -> bool
 }
 
 // Whether the words are a machine's record.
-fn record_ok(vm: &[u64]) -> bool
+pub fn record_ok(vm: &[u64]) -> bool
     ensures { λ r. ⌜ r ≡ recordOk (now (vm .entry)) ⌝ }
 {
-    (16 <= vm.len()) & last_exact(word(vm, 8), word(vm, 9)) & (word(vm, 10) <= 1)
+    (17 <= vm.len())
+        & last_exact(word(vm, 8), word(vm, 9))
+        & (word(vm, 10) <= 1)
+        & (word(vm, 16) <= 1)
 }
 
 // 19: no machine's record; 17: fewer than n words for the answer; or 0.
@@ -52,7 +55,7 @@ pub fn value_refusal(vm: &[u64], kind: u64, payload: u64, n: usize, answer: &[u6
 fn under_way(vm: &[u64]) -> bool
     ensures { λ r. ⌜ r ≡ underWay (now (vm .entry)) ⌝ }
 {
-    (16 <= vm.len()) & (word(vm, 10) == 1)
+    (17 <= vm.len()) & (word(vm, 10) == 1)
 }
 
 // The same where the record is only written: 25 comes first.
@@ -63,7 +66,7 @@ pub fn out_refusal(vm: &[u64], n: usize, answer: &[u64]) -> u32
     if running {
         return 25;
     }
-    if (16 <= vm.len()) & (n <= answer.len()) {
+    if (17 <= vm.len()) & (n <= answer.len()) {
         return 0;
     }
     17

@@ -19,7 +19,7 @@ use Rattle.model.specs.Values.{kind, payload, exactValue, bit}
 use Rattle.value.specs.Links.{Fine, lastIn, lastKind, lastPayload}
 use Rattle.value.proofs.Coding.{words-exact}
 use Rattle.value.proofs.Lasts.{last-words}
-use Rattle.embed_words.specs.Coding.{runIn, vmIn, underWords, vmWords, FineLast, lastExact, recordOk, RecordOf}
+use Rattle.embed_words.specs.Coding.{runIn, vmIn, vmWords, FineLast, lastExact, recordOk, RecordOf}
 
 -- ---- the last result
 
@@ -43,27 +43,27 @@ unfolding lastExact lastKind lastPayload
 last-exact Nothing f = refl
 last-exact (Is x) f = value-exact x (words-exact x f)
 
--- ---- the run
+-- ---- whether a run is under way, and the setting
 
-on-back : (b : Bool) → eqb (bit b) 1 ≡ b
-on-back true = refl
-on-back false = refl
+bit-back : (b : Bool) → eqb (bit b) 1 ≡ b
+bit-back true = refl
+bit-back false = refl
 
-on-exact : (b : Bool) → leb (bit b) 1 ≡ true
-on-exact true = refl
-on-exact false = refl
+bit-exact : (b : Bool) → leb (bit b) 1 ≡ true
+bit-exact true = refl
+bit-exact false = refl
 
 -- ---- the record
 
--- with whatever stands behind its sixteen words
+-- with whatever stands behind its seventeen words
 record-front : (m : Vm) (rest : List ℕ) → FineLast (m .last) → RecordOf m (vmWords m ++ rest)
-unfolding vmWords underWords vmIn runIn recordOk
+unfolding vmWords vmIn runIn recordOk
 record-front m rest f = record {
-  taken = rw (le-leb 16 (length (vmWords m ++ rest)) (omega arith), last-exact (m .last) f, on-exact (m .run .on));
-  machine = rw (last-back (m .last) f, on-back (m .run .on));
+  taken = rw (le-leb 17 (length (vmWords m ++ rest)) (omega arith), last-exact (m .last) f, bit-exact (m .run .on), bit-exact (m .strict));
+  machine = rw (last-back (m .last) f, bit-back (m .run .on), bit-back (m .strict));
 }
 
--- what stood in the slice does not count: sixteen words or more are enough; a run that is under way comes back too
-pub record-back : (w : List ℕ) (m : Vm) → 16 ≤ length w → FineLast (m .last) → RecordOf m (written w 0 (vmWords m))
-unfolding written vmWords underWords
-record-back w m h f = rw (sets-eq (vmWords m) w 0 (omega arith)) (record-front m (drop 16 w) f)
+-- what stood in the slice does not count: seventeen words or more are enough; a run that is under way comes back too
+pub record-back : (w : List ℕ) (m : Vm) → 17 ≤ length w → FineLast (m .last) → RecordOf m (written w 0 (vmWords m))
+unfolding written vmWords
+record-back w m h f = rw (sets-eq (vmWords m) w 0 (omega arith)) (record-front m (drop 17 w) f)

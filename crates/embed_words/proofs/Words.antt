@@ -41,11 +41,11 @@ pub run-is : (w : List ℕ) {a10 a11 a12 a13 a14 a15 : ℕ} → a10 ≡ getD w 1
 unfolding runIn
 run-is w e10 e11 e12 e13 e14 e15 = rw (e10, e11, e12, e13, e14, e15)
 
-pub vm-is : (w : List ℕ) {c : Counts} {a5 a6 a7 a8 a9 : ℕ} {last : Last} {x : Run} → c ≡ vmIn w .program → a8 ≡ getD w 8 0 → a9 ≡ getD w 9 0 → last ≡ lastIn a8 a9
-    → x ≡ runIn w → a5 ≡ getD w 5 0 → a6 ≡ getD w 6 0 → a7 ≡ getD w 7 0
-    → record { program = c; stack = a5; frames = a6; cells = a7; last = last; run = x } ≡ vmIn w
+pub vm-is : (w : List ℕ) {c : Counts} {a5 a6 a7 a8 a9 a16 : ℕ} {last : Last} {x : Run} → c ≡ vmIn w .program → a8 ≡ getD w 8 0 → a9 ≡ getD w 9 0 → last ≡ lastIn a8 a9
+    → x ≡ runIn w → a16 ≡ getD w 16 0 → a5 ≡ getD w 5 0 → a6 ≡ getD w 6 0 → a7 ≡ getD w 7 0
+    → record { program = c; stack = a5; frames = a6; cells = a7; last = last; run = x; strict = eqb a16 1 } ≡ vmIn w
 unfolding vmIn
-vm-is w ec e8 e9 e ex e5 e6 e7 = rw (ec, e, ex, e5, e6, e7, e8, e9)
+vm-is w ec e8 e9 e ex e16 e5 e6 e7 = rw (ec, e, ex, e5, e6, e7, e8, e9, e16)
 
 module _ (c : Counts) (s : List ℕ) {s1 s2 s3 s4 s5 : List ℕ} (e1 : s1 ≡ set s 0 (c .constants)) (e2 : s2 ≡ set s1 1 (c .structs))
     (e3 : s3 ≡ set s2 2 (c .functions)) (e4 : s4 ≡ set s3 3 (c .text)) (e5 : s5 ≡ set s4 4 (c .current)) where
@@ -53,27 +53,27 @@ module _ (c : Counts) (s : List ℕ) {s1 s2 s3 s4 s5 : List ℕ} (e1 : s1 ≡ se
   unfolding written countWords
   counts-put = rw (e5, e4, e3, e2, e1)
 
+byte-bit : (b : Bool) → boolByte b ≡ bit b
+byte-bit true = refl
+byte-bit false = refl
+
 module _ (x : Run) (s : List ℕ) {s1 s2 s3 s4 s5 s6 : List ℕ} (e1 : s1 ≡ set s 10 (boolByte (x .on))) (e2 : s2 ≡ set s1 11 (x .given))
     (e3 : s3 ≡ set s2 12 (x .spent)) (e4 : s4 ≡ set s3 13 (x .returns)) (e5 : s5 ≡ set s4 14 (x .mark)) (e6 : s6 ≡ set s5 15 (x .saved)) where
   pub run-put : s6 ≡ written s 10 (underWords x)
   unfolding written underWords
   run-put = rw (e6, e5, e4, e3, e2, e1, byte-bit (x .on))
-    where
-      byte-bit : (b : Bool) → boolByte b ≡ bit b
-      byte-bit true = refl
-      byte-bit false = refl
 
   pub run-put-length : length s6 ≡ length s
   unfolding written
   run-put-length = rw run-put (length-sets s 10 (underWords x))
 
-module _ (m : Vm) (s : List ℕ) {k a : ℕ} {s5 s6 s7 s8 s9 s10 s16 : List ℕ} (is-kind : k ≡ lastKind (m .last)) (is-payload : a ≡ lastPayload (m .last))
+module _ (m : Vm) (s : List ℕ) {k a : ℕ} {s5 s6 s7 s8 s9 s10 s16 s17 : List ℕ} (is-kind : k ≡ lastKind (m .last)) (is-payload : a ≡ lastPayload (m .last))
     (e5 : s5 ≡ written s 0 (countWords (m .program))) (e6 : s6 ≡ set s5 5 (m .stack)) (e7 : s7 ≡ set s6 6 (m .frames)) (e8 : s8 ≡ set s7 7 (m .cells))
-    (e9 : s9 ≡ set s8 8 k) (e10 : s10 ≡ set s9 9 a) (e16 : s16 ≡ written s10 10 (underWords (m .run))) where
-  pub vm-put : s16 ≡ written s 0 (vmWords m)
+    (e9 : s9 ≡ set s8 8 k) (e10 : s10 ≡ set s9 9 a) (e16 : s16 ≡ written s10 10 (underWords (m .run))) (e17 : s17 ≡ set s16 16 (boolByte (m .strict))) where
+  pub vm-put : s17 ≡ written s 0 (vmWords m)
   unfolding written vmWords countWords underWords
-  vm-put = rw (e16, e10, e9, e8, e7, e6, e5, is-kind, is-payload)
+  vm-put = rw (e17, byte-bit (m .strict), e16, e10, e9, e8, e7, e6, e5, is-kind, is-payload)
 
-  pub vm-put-length : length s16 ≡ length s
+  pub vm-put-length : length s17 ≡ length s
   unfolding written
   vm-put-length = rw vm-put (length-sets s 0 (vmWords m))

@@ -23,6 +23,8 @@ use Rattle.model.specs.declared.Headed.{Headed}
 use Rattle.model.specs.declared.Headed.the-variants as h
 use Rattle.model.specs.declared.Emitted.{Emitted}
 use Rattle.model.specs.declared.Emitted.the-variants as e
+use Rattle.model.specs.declared.Changed.{Changed}
+use Rattle.model.specs.declared.Changed.the-variants as ch
 use Rattle.model.specs.declared.Started.{Started}
 use Rattle.model.specs.declared.Started.the-variants as st
 use Rattle.model.specs.declared.RunResult.{RunResult}
@@ -36,8 +38,9 @@ use Rattle.model.specs.Loading.{OutRes}
 use Rattle.model.specs.Machines.{Lent, RunCall, runAnswer, refusalOf, RunPost, StartRes}
 use Rattle.value.specs.Links.{Fine, lastIn, lastKind, lastPayload}
 
--- ---- a machine's record in sixteen words: constants, structs, functions, text, current, stack, frames, cells; the last result's kind and payload (kind 7,
--- payload 0: none); and the run: whether one is under way (1, else 0), units given, units spent, root Returns, mark, values in the copy
+-- ---- a machine's record in seventeen words: constants, structs, functions, text, current, stack, frames, cells; the last result's kind and payload (kind 7,
+-- payload 0: none); and the run: whether one is under way (1, else 0), units given, units spent, root Returns, mark, values in the copy; and whether
+-- the machine is strict (1, else 0)
 
 unfoldable pub runIn : List ℕ → Run
 runIn w = record {
@@ -57,6 +60,7 @@ vmIn w = record {
   cells = getD w 7 0;
   last = lastIn (getD w 8 0) (getD w 9 0);
   run = runIn w;
+  strict = eqb (getD w 16 0) 1;
 }
 
 unfoldable pub countWords : Counts → List ℕ
@@ -68,7 +72,8 @@ underWords x = bit (x .on) ∷ x .given ∷ x .spent ∷ x .returns ∷ x .mark 
 unfoldable pub vmWords : Vm → List ℕ
 vmWords m =
     m .program .constants ∷ m .program .structs ∷ m .program .functions ∷ m .program .text ∷ m .program .current
-    ∷ m .stack ∷ m .frames ∷ m .cells ∷ lastKind (m .last) ∷ lastPayload (m .last) ∷ underWords (m .run)
+    ∷ m .stack ∷ m .frames ∷ m .cells ∷ lastKind (m .last) ∷ lastPayload (m .last)
+    ∷ bit (m .run .on) ∷ m .run .given ∷ m .run .spent ∷ m .run .returns ∷ m .run .mark ∷ m .run .saved ∷ bit (m .strict) ∷ []
 
 -- a last result that the words of a store can hold: what the types of the code say of it, and, of texts and cells, good order too
 abbrev pub FineLast : Last → Type 0
@@ -93,7 +98,7 @@ unfoldable pub lastExact : ℕ → ℕ → Bool
 lastExact k a = if eqb k 7 then eqb a 0 else exactValue k a
 
 unfoldable pub recordOk : List ℕ → Bool
-recordOk w = leb 16 (length w) && lastExact (getD w 8 0) (getD w 9 0) && leb (getD w 10 0) 1
+recordOk w = leb 17 (length w) && lastExact (getD w 8 0) (getD w 9 0) && leb (getD w 10 0) 1 && leb (getD w 16 0) 1
 
 -- these words are the record of m: no entry refuses them 19 as no record, and every entry takes them for m
 pub record RecordOf (m : Vm) (w : List ℕ) : Type 0 where
@@ -112,10 +117,10 @@ valueRefusal w k p n a = if exactValue k p then slicesRefusal w n a else 19
 
 -- where the record is only written: 25 where a machine with a run under way stands there
 unfoldable pub underWay : List ℕ → Bool
-underWay w = leb 16 (length w) && eqb (getD w 10 0) 1
+underWay w = leb 17 (length w) && eqb (getD w 10 0) 1
 
 unfoldable pub outRefusal : List ℕ → ℕ → List ℕ → ℕ
-outRefusal w n a = if underWay w then 25 else (if leb 16 (length w) && leb n (length a) then 0 else 17)
+outRefusal w n a = if underWay w then 25 else (if leb 17 (length w) && leb n (length a) then 0 else 17)
 
 -- ---- their order with the entry's own. The numbers of the entry itself that come before 17:
 
@@ -168,6 +173,15 @@ unfoldable pub startedCoded : Started → List ℕ → List ℕ → Coded
 startedCoded (st.Done m) w a = record { number = startedNumber (st.Done m); vm = written w 0 (vmWords m); answer = a }
 startedCoded (st.Broken i) w a = record { number = startedNumber (st.Broken i); vm = w; answer = written a 0 (i ∷ []) }
 startedCoded (st.Refused n) w a = refused (startedNumber (st.Refused n)) w a
+
+abbrev pub changedNumber : Changed → ℕ
+changedNumber (ch.Done m) = 0
+changedNumber (ch.Refused n) = n
+
+-- changing the setting tells nothing besides
+unfoldable pub changedCoded : Changed → List ℕ → List ℕ → Coded
+changedCoded (ch.Done m) w a = record { number = changedNumber (ch.Done m); vm = written w 0 (vmWords m); answer = a }
+changedCoded (ch.Refused n) w a = refused (changedNumber (ch.Refused n)) w a
 
 -- the counts to the record, and the number that was told
 unfoldable pub emittedCoded : Emitted → List ℕ → List ℕ → Coded

@@ -67,6 +67,7 @@ pub fn vm_of(vm: &[u64]) -> Vm
     let program = counts_of(vm);
     let last = last_in(word(vm, 8), word(vm, 9));
     let run = run_of(vm);
+    let strict = word(vm, 16) == 1;
     Vm {
         program,
         stack: word(vm, 5) as usize,
@@ -74,6 +75,7 @@ pub fn vm_of(vm: &[u64]) -> Vm
         cells: word(vm, 7) as usize,
         last,
         run,
+        strict,
     }
 }
 
@@ -114,4 +116,5 @@ pub fn put_vm(m: Vm, vm: &mut [u64])
     put(vm, 8, kind);
     put(vm, 9, payload);
     put_run(m.run, vm);
+    put(vm, 16, m.strict as u64);
 }

@@ -127,6 +127,7 @@ module _ (p : Program) (ok : Passed p) (w : World) (of : Serves p w) (s : State)
   why-allowed f.OutOfRange h = missing-unsure h
   why-allowed f.NoLastResult h = tt
   why-allowed f.ZeroDivisor h = tt
+  why-allowed f.NotFinite h = tt
   why-allowed f.StackFull h = tt
   why-allowed f.FramesFull h = tt
   why-allowed f.CellsFull h = tt

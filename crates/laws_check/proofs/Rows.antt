@@ -28,7 +28,7 @@ use Rattle.model.specs.declared.Frame.{Frame}
 use Rattle.model.specs.Basics.{if_then_else_, ascii}
 use Rattle.model.specs.Opcodes.{Opcode, op, firstNames, asCount, popped, opcodes, opcodeAt}
 use Rattle.model.specs.Values.{popping, poppingScalar, poppingBoolean}
-use Rattle.model.specs.Scalars.{zeroDivisor}
+use Rattle.model.specs.Scalars.{zeroDivisor, resultOf}
 use Rattle.model.specs.Heap.{Cell, built, unbuilt, buildOf, listElements, structFields, fieldOf, headIn, deepest}
 use Rattle.model.specs.Equality.{Same, same}
 use Rattle.model.specs.Steps.{World, State, Outcome, went, faulted, withStack, withHeap, withLast, withFrames, at, position, pushing, onFound, constantOf, slotOf, lastOf, loadStep, slotStep, lastStep, negateStep, arithmeticStep, orderingStep, onSame, equalStep, logicStep, notStep, jumpStep, jumpIfFalseStep, enter, callStep, enterNamed, callCallableStep, onBuilt, buildStep, structStep, fieldStep, cut, returnTo, returnStep, execOf}
@@ -149,11 +149,13 @@ module _ (k a b : ℕ) (w : World) (s : State) where
     two-pop : 1 < popped (opcodeAt k) a b
     two-pop = rw (row .pops) (omega arith)
 
-    arithmetic-tied : (x : Arith) → T (arithmeticStep x s)
+    arithmetic-tied : (x : Arith) → T (arithmeticStep w x s)
     unfolding arithmeticStep
     arithmetic-tied x =
         scalar-tied 0 (s .stack) (omega arith) one-pops (λ y r e. scalar-tied 1 r (omega arith) two-pop
-        (λ u q z. if-tied (zeroDivisor x y) (λ c. faults tt) (λ c. went-tied row _ (omega arith) (omega arith) refl refl)))
+        (λ u q z. if-tied (zeroDivisor x y) (λ c. faults tt)
+        (λ c. if-tied (w .strict && resultOf x u y .escaped) (λ d. faults {n = f.NotFinite} (and-left (w .strict) (resultOf x u y .escaped) d))
+        (λ d. went-tied row _ (omega arith) (omega arith) refl refl))))
 
     ordering-tied : (x : Order) → T (orderingStep x s)
     unfolding orderingStep

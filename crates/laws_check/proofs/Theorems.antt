@@ -38,6 +38,7 @@ allowed-not-ruled-out x (f.WrongKind v) h = refl
 allowed-not-ruled-out x f.OutOfRange h = refl
 allowed-not-ruled-out x f.NoLastResult h = refl
 allowed-not-ruled-out x f.ZeroDivisor h = refl
+allowed-not-ruled-out x f.NotFinite h = refl
 allowed-not-ruled-out x f.StackFull h = refl
 allowed-not-ruled-out x f.FramesFull h = refl
 allowed-not-ruled-out x f.CellsFull h = refl
@@ -55,6 +56,7 @@ only-six (f.WrongKind v) e = absurd (let z : ⊥ = omega arith in z)
 only-six f.OutOfRange e = refl
 only-six f.NoLastResult e = absurd (let z : ⊥ = omega arith in z)
 only-six f.ZeroDivisor e = absurd (let z : ⊥ = omega arith in z)
+only-six f.NotFinite e = absurd (let z : ⊥ = omega arith in z)
 only-six f.StackFull e = absurd (let z : ⊥ = omega arith in z)
 only-six f.FramesFull e = absurd (let z : ⊥ = omega arith in z)
 only-six f.CellsFull e = absurd (let z : ⊥ = omega arith in z)

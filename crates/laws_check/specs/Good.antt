@@ -13,7 +13,7 @@ use Rattle.model.specs.Steps.{World, State, Outcome, went, returned, faulted, s
 use Rattle.check_rules.specs.Rules.{Path, codeOf, countOf, isMain}
 use Rattle.laws_check.specs.Row.{Unsure}
 
--- a world of the program, which has a main: its functions, and as many constants and structs. The rooms are any
+-- a world of the program, which has a main: its functions, and as many constants and structs. The rooms are any, and it is strict or not
 pub record Serves (p : Program) (w : World) : Type 0 where
   pub main : 0 < length (p .functions)
   pub functions : w .functions ≡ p .functions
@@ -54,6 +54,7 @@ Allowed x (f.WrongKind v) = Unit
 Allowed x f.OutOfRange = Unsure x
 Allowed x f.NoLastResult = Unit
 Allowed x f.ZeroDivisor = Unit
+Allowed x f.NotFinite = Unit
 Allowed x f.StackFull = Unit
 Allowed x f.FramesFull = Unit
 Allowed x f.CellsFull = Unit

@@ -26,7 +26,7 @@ pub record JustLoaded (m : Machine) : Type 0 where
   pub frame : m .frame ≡ root 0
   pub callers : m .callers ≡ []
 
--- a state that the written steps of such a run come to, in any world of the program and with any units
+-- a state that the written steps of such a run come to, in any world of the program, strict or not, and with any units
 pub record Comes (p : Program) (w : World) (s : State) : Type 0 where
   pub serves : Serves p w
   pub machine : Machine
@@ -74,7 +74,7 @@ FramesWithin p = (w : World) (s : State) → Comes p w s → Parts p (s .frame �
 abbrev pub EndsInMain : Program → Type 0
 EndsInMain p = (w : World) (s : State) → Comes p w s → over w s ≡ true → s .frame .function ≡ 0
 
--- ---- whatever a whole run answers
+-- ---- whatever a whole run answers, on a machine that is strict or not: the check asks nothing of the setting, and 26 is not ruled out
 
 -- "For a passed program, run on a freshly loaded machine, faults 1 to 4 and 14 never come"
 abbrev pub RunsSo : Program → Type 0

@@ -31,7 +31,7 @@ pub data Missing (k a b : ℕ) (w : World) (s : State) : Type 0 where
   slot : k ≡ getLocal → length (s .stack) ≤ s .frame .base + a → Missing k a b w s
   unsure : Unsure (opcodeAt k .what) → Missing k a b w s
 
--- why an instruction that has been read can fault by n: fewer values than its row pops, a number that is missing, a name that is not found
+-- why an instruction that has been read can fault by n: fewer values than its row pops, a number that is missing, a machine that is strict, a name that is not found
 abbrev pub Why : (k a b : ℕ) → World → State → Fault → Type 0
 Why k a b w s f.UnknownOpcode = ⊥
 Why k a b w s f.NotCarried = ⊥
@@ -41,6 +41,7 @@ Why k a b w s (f.WrongKind v) = Unit
 Why k a b w s f.OutOfRange = Missing k a b w s
 Why k a b w s f.NoLastResult = Unit
 Why k a b w s f.ZeroDivisor = Unit
+Why k a b w s f.NotFinite = w .strict ≡ true
 Why k a b w s f.StackFull = Unit
 Why k a b w s f.FramesFull = Unit
 Why k a b w s f.CellsFull = Unit

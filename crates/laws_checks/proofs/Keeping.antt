@@ -24,12 +24,12 @@ use Rattle.model.specs.declared.Found.the-variants as g
 use Rattle.model.specs.declared.Frame.{Frame}
 use Rattle.model.specs.Basics.{if_then_else_}
 use Rattle.model.specs.Values.{ifScalar, ifBoolean, ifReference, ifStruct, faultNumber, popping, poppingScalar, poppingBoolean, textAt}
-use Rattle.model.specs.Scalars.{zeroDivisor}
+use Rattle.model.specs.Scalars.{zeroDivisor, resultOf}
 use Rattle.model.specs.Heap.{Cell, built, unbuilt, headIn, deepest, depthIn, fieldOf, buildOf, listElements, structFields}
 use Rattle.model.specs.Equality.{Same, same, sameOf}
 use Rattle.model.specs.Programs.{Function, functionNamed}
 use Rattle.model.specs.Steps.{World, State, Outcome, went, returned, faulted, short, pushing, onFound, constantOf, slotOf, lastOf, loadStep, slotStep, lastStep, negateStep, arithmeticStep, orderingStep, onSame, equalStep, logicStep, notStep, jumpStep, jumpIfFalseStep, enter, callStep, enterNamed, callCallableStep, onBuilt, buildStep, structStep, fieldStep, returnTo, returnStep, execOf}
-use Rattle.laws_checks.specs.Table.{Check, constant-known, slot-filled, function-known, struct-known, value-there, scalar-at, boolean-at, reference-at, struct-at, values-there, last-there, field-there, name-known, arguments-there, divisor-fine, pairs-paid, depth-fine, cells-free, frame-free, place-free, numberOf, checksOf, nth, isThere, isFound, pairsOf, passes, firstFailed, Keeps}
+use Rattle.laws_checks.specs.Table.{Check, constant-known, slot-filled, function-known, struct-known, value-there, scalar-at, boolean-at, reference-at, struct-at, values-there, last-there, field-there, name-known, arguments-there, divisor-fine, result-finite, pairs-paid, depth-fine, cells-free, frame-free, place-free, numberOf, checksOf, nth, isThere, isFound, pairsOf, passes, firstFailed, Keeps}
 
 -- ---- no check is left
 
@@ -186,22 +186,26 @@ module _ (w : World) (s : State) where
   negates = popped-scalar 0 (s .stack) top [] _ (λ y r e. went-on w s _)
 
   two-scalars : (cs : List Check) (k : Float → Float → List Value → Outcome)
-      → ((y x : Float) (r q : List Value) → s .stack ≡ v.Scalar y ∷ r → Keeps (firstFailed w s cs) (k y x q))
+      → ((y x : Float) (r q : List Value) → s .stack ≡ v.Scalar y ∷ r → r ≡ v.Scalar x ∷ q → Keeps (firstFailed w s cs) (k y x q))
       → Keeps (firstFailed w s (value-there 0 ∷ scalar-at 0 ∷ value-there 1 ∷ scalar-at 1 ∷ cs))
       (poppingScalar (s .stack) (λ n. faulted n s) (λ y r. poppingScalar r (λ n. faulted n s) (λ x q. k y x q)))
   two-scalars cs k rest =
-      popped-scalar 0 (s .stack) top _ _ (λ y r e. popped-scalar 1 r (second (v.Scalar y) r e) cs _ (λ x q e'. rest y x r q e))
+      popped-scalar 0 (s .stack) top _ _ (λ y r e. popped-scalar 1 r (second (v.Scalar y) r e) cs _ (λ x q e'. rest y x r q e e'))
 
-  computes-scalar : (x : Arith) → Keeps (firstFailed w s (value-there 0 ∷ scalar-at 0 ∷ value-there 1 ∷ scalar-at 1 ∷ divisor-fine x ∷ [])) (arithmeticStep x s)
+  computes-scalar : (x : Arith) → Keeps (firstFailed w s (value-there 0 ∷ scalar-at 0 ∷ value-there 1 ∷ scalar-at 1 ∷ divisor-fine x ∷ result-finite x ∷ [])) (arithmeticStep w x s)
   unfolding arithmeticStep passes nth ifScalar numberOf faultNumber
   computes-scalar x =
-      two-scalars _ _ (λ y z r q e.
-      asked-not w s (divisor-fine x) [] (zeroDivisor x y) (ap (λ (vs : List Value). nth 0 vs (λ u. ifScalar u (λ d. not (zeroDivisor x d)) false)) e) _ (λ z'. went-on w s _)
+      two-scalars _ _ (λ y z r q e e'.
+      let divisor = ap (λ (vs : List Value). nth 0 vs (λ u. ifScalar u (λ d. not (zeroDivisor x d)) false)) e in
+      let both : s .stack ≡ v.Scalar y ∷ v.Scalar z ∷ q = e ∙ ap (λ (vs : List Value). v.Scalar y ∷ vs) e' in
+      let result = ap (λ (vs : List Value). nth 0 vs (λ v. ifScalar v (λ b. nth 1 vs (λ u. ifScalar u (λ a. not (w .strict && resultOf x a b .escaped)) false)) false)) both in
+      asked-not w s (divisor-fine x) (result-finite x ∷ []) (zeroDivisor x y) divisor _
+      (λ z'. asked-not w s (result-finite x) [] (w .strict && resultOf x z y .escaped) result _ (λ q'. went-on w s _) f.NotFinite s refl)
       f.ZeroDivisor s refl)
 
   orders : (x : Order) → Keeps (firstFailed w s (value-there 0 ∷ scalar-at 0 ∷ value-there 1 ∷ scalar-at 1 ∷ [])) (orderingStep x s)
   unfolding orderingStep
-  orders x = two-scalars [] _ (λ y z r q e. went-on w s _)
+  orders x = two-scalars [] _ (λ y z r q e e'. went-on w s _)
 
   -- a step that goes on if the pairs are paid for, and is short otherwise
   paid-or : (b : Bool) → passes w s pairs-paid ≡ b → (t : State) → Keeps (firstFailed w s (pairs-paid ∷ [])) (if b then went t else short)

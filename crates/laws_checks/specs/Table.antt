@@ -1,7 +1,7 @@
 -- [step] What each opcode checks, in order, as a table. The checks of every opcode come first and stand in `stepOf`: units, 1, 2, 3.
--- "Number operands, pops from the top (4 before 5 at each), 7, field number, 14, argument count, zero divisor, comparison units, 12, 11, frames, stack."
+-- "Number operands, pops from the top (4 before 5 at each), 7, field number, 14, argument count, zero divisor, 26, comparison units, 12, 11, frames, stack."
 use mathlib.Core.Path.{_≡_}
-use mathlib.Core.Bool.{Bool, true, false, not}
+use mathlib.Core.Bool.{Bool, true, false, not, _&&_}
 use mathlib.Core.List.{List, [], _∷_}
 use mathlib.Core.Option.{Option, none, some}
 use Prim.Native.Nat.{ℕ, zero, suc, _+_}
@@ -16,7 +16,7 @@ use Rattle.model.specs.declared.Last.{Last}
 use Rattle.model.specs.declared.Last.the-variants.{Nothing, Is}
 use Rattle.model.specs.Basics.{if_then_else_}
 use Rattle.model.specs.Values.{ifScalar, ifBoolean, ifReference, ifStruct, faultNumber, textAt}
-use Rattle.model.specs.Scalars.{zeroDivisor}
+use Rattle.model.specs.Scalars.{zeroDivisor, resultOf}
 use Rattle.model.specs.Heap.{headIn, deepest}
 use Rattle.model.specs.Equality.{Same, same, sameOf}
 use Rattle.model.specs.Programs.{functionNamed}
@@ -45,6 +45,8 @@ pub data Check : Type 0 where
   -- below that reference, or from the top on
   arguments-there : (popped count : ℕ) → Check
   divisor-fine : Arith → Check
+  -- of a strict machine
+  result-finite : Arith → Check
   pairs-paid : Check
   -- of the list or struct to be built of the values on top
   depth-fine : (count : ℕ) → Check
@@ -69,6 +71,7 @@ numberOf (field-there a) = 6
 numberOf name-known = 14
 numberOf (arguments-there p n) = 4
 numberOf (divisor-fine x) = 8
+numberOf (result-finite x) = 26
 numberOf pairs-paid = 13
 numberOf (depth-fine n) = 12
 numberOf (cells-free n) = 11
@@ -82,7 +85,7 @@ checksOf o.GetLocal base a b = slot-filled (base + a) ∷ place-free 0 ∷ []
 checksOf o.GetUpvalue base a b = slot-filled a ∷ place-free 0 ∷ []
 checksOf o.GetLastResult base a b = last-there ∷ place-free 0 ∷ []
 checksOf o.Negate base a b = value-there 0 ∷ scalar-at 0 ∷ []
-checksOf (o.Arithmetic x) base a b = value-there 0 ∷ scalar-at 0 ∷ value-there 1 ∷ scalar-at 1 ∷ divisor-fine x ∷ []
+checksOf (o.Arithmetic x) base a b = value-there 0 ∷ scalar-at 0 ∷ value-there 1 ∷ scalar-at 1 ∷ divisor-fine x ∷ result-finite x ∷ []
 checksOf (o.Ordering x) base a b = value-there 0 ∷ scalar-at 0 ∷ value-there 1 ∷ scalar-at 1 ∷ []
 checksOf o.Equal base a b = value-there 0 ∷ value-there 1 ∷ pairs-paid ∷ []
 checksOf o.NotEqual base a b = value-there 0 ∷ value-there 1 ∷ pairs-paid ∷ []
@@ -133,6 +136,7 @@ passes w s (field-there a) = nth 0 (s .stack) (λ x. ifStruct x (λ p. ltb a (he
 passes w s name-known = nth 0 (s .stack) (λ x. ifReference x (λ p n. isFound (functionNamed (textAt (w .text) p n) (w .functions))) false)
 passes w s (arguments-there popped n) = not (ltb (length (drop popped (s .stack))) n)
 passes w s (divisor-fine x) = nth 0 (s .stack) (λ y. ifScalar y (λ f. not (zeroDivisor x f)) false)
+passes w s (result-finite o) = nth 0 (s .stack) (λ v. ifScalar v (λ y. nth 1 (s .stack) (λ u. ifScalar u (λ x. not (w .strict && resultOf o x y .escaped)) false)) false)
 passes w s pairs-paid = nth 0 (s .stack) (λ y. nth 1 (s .stack) (λ x. leb (pairsOf (sameOf (w .text) (s .heap) x y)) (s .units)))
 passes w s (depth-fine n) = not (ltb 64 (suc (deepest (s .heap) (take n (s .stack)))))
 passes w s (cells-free n) = not (ltb (w .cellRoom) (length (s .heap) + suc n))

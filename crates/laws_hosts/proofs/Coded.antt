@@ -12,6 +12,8 @@ use Rattle.model.specs.declared.Emitted.{Emitted}
 use Rattle.model.specs.declared.Emitted.the-variants as e
 use Rattle.model.specs.declared.Started.{Started}
 use Rattle.model.specs.declared.Started.the-variants as st
+use Rattle.model.specs.declared.Changed.{Changed}
+use Rattle.model.specs.declared.Changed.the-variants as ch
 use Rattle.model.specs.declared.Told.{Told}
 use Rattle.model.specs.declared.Told.the-variants as t
 use Rattle.model.specs.declared.Shown.{Shown}
@@ -24,9 +26,9 @@ use Rattle.model.specs.Basics.{written}
 use Rattle.model.specs.Stores.{Stores}
 use Rattle.model.specs.Loading.{OutRes}
 use Rattle.model.specs.Machines.{Lent, underIn, progressIn, runOrder, answerIn, Left}
-use Rattle.embed_words.specs.Coding.{vmIn, vmWords, recordOk, FineLast, TypedLast, Coded, runWords, runCoded, startedCoded, emittedCoded, toldCoded, shownCoded, headedCoded}
+use Rattle.embed_words.specs.Coding.{vmIn, vmWords, recordOk, FineLast, TypedLast, Coded, runWords, runCoded, startedCoded, changedCoded, emittedCoded, toldCoded, shownCoded, headedCoded}
 use Rattle.embed_words.proofs.Back.{record-back}
-use Rattle.demands.specs.Host.{Done, counted, replaced, vmAfter, backtrace, run, Answer, ran, emitted, started, told, put, shown, headed}
+use Rattle.demands.specs.Host.{Done, counted, replaced, withSetting, vmAfter, backtrace, run, Answer, ran, emitted, started, changed, told, put, shown, headed}
 use Rattle.demands.specs.Refusals.{refusedBy}
 use Rattle.demands.proofs.OneRun.{length-entries}
 use Rattle.laws_hosts.specs.Crossed.{numberOf, answerWords}
@@ -44,16 +46,21 @@ not-refused : {A : Type 0} {n : ℕ} → none ≡ some n → A
 not-refused e = absurd (let z : _≡_ {A = ℕ} 0 1 = cc in let y : ⊥ = omega arith in y)
 
 module _ (w a : List ℕ) where
-  pub emitted-as : 16 ≤ length w → (x : Emitted) → CodedAs w a (emitted x) (counted (vmIn w) x) (emittedCoded x w a)
+  pub emitted-as : 17 ≤ length w → (x : Emitted) → CodedAs w a (emitted x) (counted (vmIn w) x) (emittedCoded x w a)
   unfolding emittedCoded written
   emitted-as l (e.Done c n) = let z = recounted c w l in record { machine = z .machine; taken = λ ok. z .taken ∙ ok; number = refl; words = refl; kept = λ i y. not-refused y }
   emitted-as l (e.Refused n) = record { machine = refl; taken = λ ok. ok; number = refl; words = refl; kept = λ i y. refl }
 
-  pub started-as : 16 ≤ length w → (x : Started) → ((m : Vm) → x ≡ st.Done m → FineLast (m .last)) → CodedAs w a (started x) (replaced (vmIn w) x) (startedCoded x w a)
+  pub started-as : 17 ≤ length w → (x : Started) → ((m : Vm) → x ≡ st.Done m → FineLast (m .last)) → CodedAs w a (started x) (replaced (vmIn w) x) (startedCoded x w a)
   unfolding startedCoded written
   started-as l (st.Done m) f = let z = record-back w m l (f m refl) in record { machine = z .machine; taken = λ ok. z .taken; number = refl; words = refl; kept = λ i y. not-refused y }
   started-as l (st.Broken i) f = record { machine = refl; taken = λ ok. ok; number = refl; words = refl; kept = λ i y. refl }
   started-as l (st.Refused n) f = record { machine = refl; taken = λ ok. ok; number = refl; words = refl; kept = λ i y. refl }
+
+  pub changed-as : 17 ≤ length w → (x : Changed) → ((m : Vm) → x ≡ ch.Done m → FineLast (m .last)) → CodedAs w a (changed x) (withSetting (vmIn w) x) (changedCoded x w a)
+  unfolding changedCoded written
+  changed-as l (ch.Done m) f = let z = record-back w m l (f m refl) in record { machine = z .machine; taken = λ ok. z .taken; number = refl; words = refl; kept = λ i y. not-refused y }
+  changed-as l (ch.Refused n) f = record { machine = refl; taken = λ ok. ok; number = refl; words = refl; kept = λ i y. refl }
 
   pub told-as : (x : Told) → CodedAs w a (told x) (vmIn w) (toldCoded x w a)
   unfolding toldCoded written
@@ -74,7 +81,7 @@ module _ (w a : List ℕ) where
   headed-as (hd.Refused n) = record { machine = refl; taken = λ ok. ok; number = refl; words = refl; kept = λ i y. refl }
 
 -- a part of a run: what it leaves is in good order, so that its last result fits two words
-module _ (w a : List ℕ) (long : 16 ≤ length w) (s : Stores) (l l' : Lent) where
+module _ (w a : List ℕ) (long : 17 ≤ length w) (s : Stores) (l l' : Lent) where
   left-as : (m : Vm) (x : Answer) (c : Coded) → runOrder m s l' ≡ true → TypedLast (m .last) → c .vm ≡ written w 0 (vmWords m) → refusedBy x ≡ none → c .number ≡ numberOf (refusedBy x)
       → c .answer ≡ written a 0 (answerWords x) → CodedAs w a x m c
   left-as m x c o t ev er en ea =

@@ -10,6 +10,7 @@ use lib.ListN.{length, getD}
 use Rattle.model.specs.declared.Vm.{Vm}
 use Rattle.model.specs.declared.Value.{Value}
 use Rattle.model.specs.declared.Frame.{Frame}
+use Rattle.model.specs.declared.Changed.the-variants as ch
 use Rattle.model.specs.declared.Started.{Started}
 use Rattle.model.specs.declared.Started.the-variants as st
 use Rattle.model.specs.declared.Loaded.{Loaded}
@@ -19,18 +20,19 @@ use Rattle.model.specs.Values.{kind, payload}
 use Rattle.model.specs.Stores.{Stores}
 use Rattle.model.specs.Emission.{Res, newOf}
 use Rattle.model.specs.Loading.{OutRes, loadOf}
-use Rattle.model.specs.Machines.{RunCall, answerIn, RunPost, StartRes, fresh, startWith, asLoaded, unlessRunning, loadMachineOf, newMachineOf}
-use Rattle.embed_words.specs.Coding.{vmIn, runIn, recordOk, FineLast, slicesRefusal, valueRefusal, underWay, outRefusal, Coded, refused, startedCoded, emittedCoded, toldCoded, through, emitThrough, outThrough, unmade, startThrough}
+use Rattle.model.specs.Machines.{RunCall, answerIn, RunPost, setStrict as setStrictOf, runOrder, Lent, StartRes, fresh, startWith, asLoaded, unlessRunning, loadMachineOf, newMachineOf}
+use Rattle.embed_words.specs.Coding.{vmIn, runIn, recordOk, FineLast, TypedLast, slicesRefusal, valueRefusal, underWay, outRefusal, Coded, refused, startedCoded, changedCoded, emittedCoded, toldCoded, through, emitThrough, outThrough, unmade, startThrough}
 use Rattle.embed_words.proofs.Back.{record-back}
 use Rattle.embed_refusals.proofs.Refusals.{slices-fit, value-exact}
-use Rattle.demands.specs.Host.{Held, withFrames, Done, emits, starts, looks, vmAfter, done, Ask, new, load, addOp, addOp1, addOp2, addOp3, patch, addConstant, addStruct, beginFunction, endFunction, currentOffset, functionIdx, save, disassemble, backtrace, lastResult, stackValue, blockHeader, element, textBytes, Call, run, ask, Answer, ran, emitted, started, told, put, shown, headed, RanBy, After}
+use Rattle.demands.specs.Host.{Held, withFrames, Done, emits, starts, changes, looks, vmAfter, done, Ask, new, load, addOp, addOp1, addOp2, addOp3, patch, addConstant, addStruct, beginFunction, endFunction, setStrict, currentOffset, functionIdx, save, disassemble, backtrace, lastResult, stackValue, blockHeader, element, textBytes, Call, run, ask, Answer, ran, emitted, started, changed, told, put, shown, headed, RanBy, After}
 use Rattle.demands.specs.Refusals.{refusedStarted, refusedBy}
 use Rattle.demands.proofs.Refusing.{refuses}
-use Rattle.laws_hosts.specs.Hosts.{CHeld, CDone, leftBy, emitting, making, looking, putting, askThrough, RanThrough, Through}
-use Rattle.laws_hosts.specs.Crossed.{heldIn, Taken, wayOf, Exact, Handed, outOf, Did, Crossed}
+use Rattle.demands.proofs.Setting.{setBy, set-is}
+use Rattle.laws_hosts.specs.Hosts.{CHeld, CDone, leftBy, emitting, making, setting, looking, putting, askThrough, RanThrough, Through}
+use Rattle.laws_hosts.specs.Crossed.{heldIn, Taken, wayOf, Exact, Handed, outOf, Did, strictly, Crossed}
 use Rattle.laws_hosts.proofs.Typed.{last-typed, run-typed}
-use Rattle.laws_hosts.proofs.Records.{record-long}
-use Rattle.laws_hosts.proofs.Coded.{CodedAs, emitted-as, started-as, told-as, put-as, shown-as, headed-as, ran-as}
+use Rattle.laws_hosts.proofs.Records.{order-fine, record-long}
+use Rattle.laws_hosts.proofs.Coded.{CodedAs, emitted-as, started-as, changed-as, told-as, put-as, shown-as, headed-as, ran-as}
 
 -- ---- from the words to what is done
 
@@ -77,7 +79,30 @@ module _ (a : List ℕ) (g : CHeld) where
       rw (← z) (did-so (ask q) a g d (put out x) (heldIn g) e (put-as (g .words) a out x) refl refl refl
       (λ n i. refuses (ask q) {h = heldIn g} {h' = heldIn g} {a = put out x} e .kept n i .1 ∙ eo))
 
--- ---- making a machine, over whatever sixteen words
+-- ---- changing the setting
+
+-- it is changed of a machine in good order alone, whose last result two words can hold
+module _ (b : Bool) (m : Vm) (s : Stores) (l : Lent) (t : TypedLast (m .last)) (k : Vm) where
+  fine-by : (order on : Bool) → runOrder m s l ≡ order → setBy b order on m ≡ ch.Done k → FineLast (k .last)
+  fine-by true true o e = absurd (let z : _≡_ {A = ℕ} 0 1 = cc in let y : ⊥ = omega arith in y)
+  fine-by true false o e = let z : strictly b m ≡ k = cc in subst (λ (x : Vm). FineLast (x .last)) z (order-fine m s l o t)
+  fine-by false on o e = absurd (let z : _≡_ {A = ℕ} 0 1 = cc in let y : ⊥ = omega arith in y)
+
+  set-fine : setStrictOf b m s l ≡ ch.Done k → FineLast (k .last)
+  set-fine e = fine-by (runOrder m s l) (m .run .on) refl (sym (set-is b m s l) ∙ e)
+
+module _ (a : List ℕ) (g : CHeld) where
+  set-crosses : Taken g → (b : Bool) → Crosses (ask (setStrict b)) a g (askThrough (setStrict b) a g)
+  unfolding askThrough done setting through changes vmIn
+  set-crosses ok b =
+      let m = vmIn (g .words) in
+      let x = setStrictOf b m (g .stores) (g .lent) in
+      let typed = last-typed (getD (g .words) 8 0) (getD (g .words) 9 0) in
+      let y = changed-as (g .words) a (record-long (g .words) ok) x (set-fine b m (g .stores) (g .lent) typed) in
+      let d : CDone = record { coded = changedCoded x (g .words) a; out = []; stores = g .stores; lent = g .lent } in
+      rw (← slices-fit (g .words) 0 a refl ok (omega arith)) (did-so (ask (setStrict b)) a g d (changed x) _ refl y refl refl refl (λ n i. refl))
+
+-- ---- making a machine, over whatever seventeen words
 
 -- a machine that has not run has no last result
 start-fine : (x : Loaded) (s' s : Stores) (fs : List Frame) (m : Vm) → startWith x s' s fs .answer ≡ st.Done m → FineLast (m .last)
@@ -97,10 +122,10 @@ unmade-25 (st.Done m) w a = refl
 unmade-25 (st.Broken i) w a = refl
 unmade-25 (st.Refused n) w a = refl
 
-module _ (a : List ℕ) (g : CHeld) (long : 16 ≤ length (g .words)) (room : 1 ≤ length a) where
+module _ (a : List ℕ) (g : CHeld) (long : 17 ≤ length (g .words)) (room : 1 ≤ length a) where
   out-is : outRefusal (g .words) 1 a ≡ (if vmIn (g .words) .run .on then 25 else 0)
   unfolding outRefusal underWay vmIn runIn
-  out-is = rw (le-leb 16 (length (g .words)) long, le-leb 1 (length a) room)
+  out-is = rw (le-leb 17 (length (g .words)) long, le-leb 1 (length a) room)
 
   start-crosses : (q : Ask) → [] ≡ wayOf (ask q) .out → (x : StartRes) → ((m : Vm) → x .answer ≡ st.Done m → FineLast (m .last)) → (on : Bool) → vmIn (g .words) .run .on ≡ on
       → done q (heldIn g) ≡ starts (heldIn g) (unlessRunning on (g .stores) (g .lent .frames) x) → Crosses (ask q) a g (making a g x)
@@ -171,6 +196,7 @@ module _ (a : List ℕ) (g : CHeld) (ok : Taken g) where
   ask-crosses (addStruct text) i = emit-crosses a g ok (i .room) (addStruct text) refl _ refl
   ask-crosses (beginFunction text) i = emit-crosses a g ok (i .room) (beginFunction text) refl _ refl
   ask-crosses endFunction i = emit-crosses a g ok (i .room) endFunction refl _ refl
+  ask-crosses (setStrict b) i = set-crosses a g ok b
   ask-crosses currentOffset i = look-crosses a g currentOffset refl _ _ (fit 1 (i .room)) (told _) _ refl (told-as (g .words) a _) refl
   ask-crosses (functionIdx text) i = look-crosses a g (functionIdx text) refl _ _ (fit 1 (i .room)) (told _) _ refl (told-as (g .words) a _) refl
   ask-crosses (save out) i = put-crosses a g (save out) _ _ (fit 1 (i .room)) out refl _ refl

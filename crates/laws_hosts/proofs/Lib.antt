@@ -1,5 +1,5 @@
 -- The theorems. A call from C does what the entry does: `crossing`; one whose answer has no room: `short-answer`. Demand 1: `c-refuses`, `no-record-refused`,
--- `zero-is-done`, `c-new-made`, `c-load-made`, `c-chain-kept`, `c-run-in-order`. Calls one after another: `c-chain-is-a-chain`, `c-chains-alike`.
+-- `zero-is-done`, `c-new-made`, `c-load-made`, `c-chain-kept`, `c-run-in-order`. The setting: `c-set-strict`. Calls one after another: `c-chain-is-a-chain`, `c-chains-alike`.
 -- Demand 3: `c-fault-recovers`; with the dealing law, `c-dealings-agree`.
 
 -- what the exports ensure is what is said of them
@@ -19,6 +19,8 @@ pub mod Refusing
 pub mod Zero
 -- `c-new-made`, `c-load-made`
 pub mod Made
+-- `c-set-strict`
+pub mod Set
 -- `c-chain-is-a-chain`, `c-chain-kept`, `c-run-in-order`, `c-chains-alike`
 pub mod Chains
 -- `c-dealings-agree`, `c-fault-recovers`

@@ -1,4 +1,4 @@
--- A machine that is made from C, over sixteen words or more, whatever stood there.
+-- A machine that is made from C, over seventeen words or more, whatever stood there.
 use mathlib.Core.Path.{_≡_, refl, sym, ap, subst, _∙_}
 use mathlib.Core.List.{List}
 use mathlib.Core.Option.{none}
@@ -24,7 +24,7 @@ was-made (st.Done m) e f = f m refl
 was-made (st.Broken i) e f = absurd (let z : _≡_ {A = ℕ} 0 1 = cc in let y : ⊥ = omega arith in y)
 was-made (st.Refused n) e f = absurd (let z : _≡_ {A = ℕ} 0 1 = cc in let y : ⊥ = omega arith in y)
 
-module _ (a : List ℕ) (g : CHeld) (long : 16 ≤ length (g .words)) (room : 1 ≤ length a) where
+module _ (a : List ℕ) (g : CHeld) (long : 17 ≤ length (g .words)) (room : 1 ≤ length a) where
   module _ (q : Ask) (x : Started) (is : done q (heldIn g) .answer ≡ started x) {d : CDone} (did : Did (ask q) a g d) (zero : d .coded .number ≡ 0) where
     not-refused : refusedBy (done q (heldIn g) .answer) ≡ none
     not-refused = ap (λ (z : Done). refusedBy (z .answer)) (did .after) ∙ zero-is-done did zero

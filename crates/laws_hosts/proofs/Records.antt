@@ -66,21 +66,21 @@ order-fine m s l o k =
 pub record-holds : (h : Held) (w : List ℕ) → RecordOf (h .vm) w → heldIn (record { words = w; stores = h .stores; lent = h .lent }) ≡ h
 record-holds h w r = rw (r .machine)
 
-pub record-long : (w : List ℕ) → recordOk w ≡ true → 16 ≤ length w
+pub record-long : (w : List ℕ) → recordOk w ≡ true → 17 ≤ length w
 unfolding recordOk
 record-long w e =
-    let long = leb 16 (length w) in let last = lastExact (getD w 8 0) (getD w 9 0) in
-    leb-true 16 (length w) (and-left long last (and-left (long && last) (leb (getD w 10 0) 1) e))
+    let long = leb 17 (length w) in let last = lastExact (getD w 8 0) (getD w 9 0) in let on = leb (getD w 10 0) 1 in
+    leb-true 17 (length w) (and-left long last (and-left (long && last) on (and-left (long && last && on) (leb (getD w 16 0) 1) e)))
 
 -- the record with the counts written anew is one as before, of the machine with those counts
 abbrev withProgram : Counts → Vm → Vm
-withProgram c m = record { program = c; stack = m .stack; frames = m .frames; cells = m .cells; last = m .last; run = m .run }
+withProgram c m = record { program = c; stack = m .stack; frames = m .frames; cells = m .cells; last = m .last; run = m .run; strict = m .strict }
 
 pub record Recounted (c : Counts) (w : List ℕ) : Type 0 where
   pub machine : vmIn (written w 0 (countWords c)) ≡ withProgram c (vmIn w)
   pub taken : recordOk (written w 0 (countWords c)) ≡ recordOk w
 
-pub recounted : (c : Counts) (w : List ℕ) → 16 ≤ length w → Recounted c w
+pub recounted : (c : Counts) (w : List ℕ) → 17 ≤ length w → Recounted c w
 unfolding vmIn runIn recordOk written countWords
 recounted c [] h = absurd (let z : ⊥ = omega arith in z)
 recounted c (i ∷ []) h = absurd (let z : ⊥ = omega arith in z)

@@ -6,13 +6,12 @@ use Prim.Native.Nat.{ℕ, _+_, _≤_}
 use native.Mathlib.Omega.{arith}
 use borrow.Author.Tests.{le-leb}
 use lib.ListN.{length, getD}
-use Rattle.model.specs.declared.Counts.{Counts}
 use Rattle.model.specs.declared.Run.{Run}
 use Rattle.model.specs.declared.RunResult.{RunResult}
 use Rattle.model.specs.declared.RunResult.the-variants as r
 use Rattle.model.specs.Basics.{written}
 use Rattle.model.specs.Runs.{Ran, fault, Under, ends, pauses}
-use Rattle.model.specs.Machines.{RunCall, begins, continues, abandons, RunAnswer, runAnswer, entriesIn, answerIn, noRun}
+use Rattle.model.specs.Machines.{Unchanged, RunCall, begins, continues, abandons, RunAnswer, runAnswer, entriesIn, answerIn, noRun}
 use Rattle.model.specs.Machines as m
 use Rattle.embed_words.specs.Coding.{vmIn, runIn, underWay}
 use Rattle.demands.specs.Host.{Held, run, Answer, ran, RanBy}
@@ -38,7 +37,7 @@ use Rattle.laws_hosts.proofs.Chains.{c-chain-is-a-chain, c-chains-alike
 -- where words are a record, word 10 says whether a run is under way
 way-is : (g : CHeld) → Taken g → underWay (g .words) ≡ heldIn g .vm .run .on
 unfolding underWay vmIn runIn
-way-is g ok = rw (le-leb 16 (length (g .words)) (record-long (g .words) ok))
+way-is g ok = rw (le-leb 17 (length (g .words)) (record-long (g .words) ok))
 
 no-way : {A : Type 0} {b : Bool} → b ≡ true → b ≡ false → A
 no-way e f = absurd (let z : _≡_ {A = Bool} true false = sym e ∙ f in let y : _≡_ {A = ℕ} 0 1 = cc in let x : ⊥ = omega arith in x)
@@ -87,7 +86,7 @@ c-dealings-agree {g} {k} {d} ok p q e =
 -- ---- its end
 
 -- a call that ends it
-over-by : {h k k' : Held} {u : ℕ} {w : Under} (c : RunCall) → Parts h u (pauses w) k → {n : Counts} {x : Ran} → RanBy c k (ran (m.ran n (ends x))) k' → Over h (u + unitsOf c) x k'
+over-by : {h k k' : Held} {u : ℕ} {w : Under} (c : RunCall) → Parts h u (pauses w) k → {n : Unchanged} {x : Ran} → RanBy c k (ran (m.ran n (ends x))) k' → Over h (u + unitsOf c) x k'
 over-by {k = k} begins q {n} {x} p = no-way (parts-come-to q .stands .on) (by-rules k n (ends x) begins (sym (answered-so p)) .idle)
 over-by (continues i) q p = ended (continued q p)
 over-by {h} {k' = k'} {u} abandons q {x = x} p = let z : u + 0 ≡ u = omega arith in subst (λ (i : ℕ). Over h i x k') (sym z) (abandoned q p)

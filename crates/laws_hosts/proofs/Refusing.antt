@@ -18,11 +18,11 @@ use Rattle.model.specs.declared.Value.{Value}
 use Rattle.value.proofs.Coding.{exact-kind, exact-payload}
 use Rattle.embed_words.specs.Coding.{vmIn, recordOk, slicesRefusal, valueRefusal, atEntry, among, crossed, Coded, refused, through, emitThrough, outThrough, runCoded}
 use Rattle.embed_refusals.proofs.Refusals.{no-record, value-exact, value-inexact}
-use Rattle.demands.specs.Host.{Held, Ask, new, load, addOp, addOp1, addOp2, addOp3, patch, addConstant, addStruct, beginFunction, endFunction, currentOffset, functionIdx, save, disassemble, backtrace, lastResult, stackValue, blockHeader, element, textBytes, Call, run, ask}
+use Rattle.demands.specs.Host.{Held, Ask, new, load, addOp, addOp1, addOp2, addOp3, patch, addConstant, addStruct, beginFunction, endFunction, setStrict, currentOffset, functionIdx, save, disassemble, backtrace, lastResult, stackValue, blockHeader, element, textBytes, Call, run, ask}
 use Rattle.demands.specs.Jobs.{isMakes, jobOf, anew}
 use Rattle.demands.specs.Refusals.{refusedBy}
 use Rattle.demands.proofs.Refusing.{refuses}
-use Rattle.laws_hosts.specs.Hosts.{CHeld, CDone, leftBy, emitting, looking, putting, askThrough, RanThrough, Through}
+use Rattle.laws_hosts.specs.Hosts.{CHeld, CDone, leftBy, emitting, setting, looking, putting, askThrough, RanThrough, Through}
 use Rattle.laws_hosts.specs.Crossed.{heldIn, Taken, wayOf, Exact, ExactIf, numberOf, Crossed, ownNumber, numberFrom, CDemand1, NotTaken}
 use Rattle.laws_hosts.proofs.Crossing.{crossing}
 use Rattle.laws_hosts.proofs.Short.{short-answer}
@@ -83,6 +83,10 @@ module _ (a : List ℕ) (g : CHeld) where
   unfolding emitting emitThrough through
   emit-not q eo z rule = rw (← z, stays-19 atEntry _) (not-taken (ask q) [] eo)
 
+  set-not : (b : Bool) → 19 ≡ slicesRefusal (g .words) 0 a → NotTaken (ask (setStrict b)) a g (askThrough (setStrict b) a g)
+  unfolding askThrough setting through
+  set-not b z = rw (← z, stays-19 atEntry _) (not-taken (ask (setStrict b)) [] refl)
+
   look-not : (q : Ask) → [] ≡ wayOf (ask q) .out → (firsts : List ℕ) (why : ℕ) → 19 ≡ why → (x : Coded) → NotTaken (ask q) a g (looking firsts why a g x)
   unfolding looking through
   look-not q eo firsts why z x = rw (← z, stays-19 firsts (x .number)) (not-taken (ask q) [] eo)
@@ -116,6 +120,7 @@ module _ (a : List ℕ) (g : CHeld) where
     ask-not (addStruct text) e = emit-not (addStruct text) refl (none-taken 1) _
     ask-not (beginFunction text) e = emit-not (beginFunction text) refl (none-taken 1) _
     ask-not endFunction e = emit-not endFunction refl (none-taken 1) _
+    ask-not (setStrict b) e = set-not b (none-taken 0)
     ask-not currentOffset e = look-not currentOffset refl _ _ (none-taken 1) _
     ask-not (functionIdx text) e = look-not (functionIdx text) refl _ _ (none-taken 1) _
     ask-not (save out) e = put-not (save out) _ _ (none-taken 1) out refl _

@@ -24,7 +24,7 @@ use Rattle.model.specs.Loading.{OutRes, LoadRes, roomFor, loadJudged, loadOf}
 use Rattle.model.specs.Machines.{RunCall, RunAnswer, ran as answered, refused as not-run, runAnswer, StartRes, startWith, unlessRunning, asLoaded, loadMachineOf, newMachineOf, refusalOf}
 use Rattle.embed_words.specs.Coding.{vmIn, runIn, slicesRefusal, valueRefusal, underWay, outRefusal, atEntry, among, crossed, Coded, refused, runCoded, startedCoded, through, emitThrough, outThrough, unmade, startThrough}
 use Rattle.embed_refusals.proofs.Refusals.{answer-short, value-exact}
-use Rattle.demands.specs.Host.{Held, Done, emits, starts, looks, done, Ask, new, load, addOp, addOp1, addOp2, addOp3, patch, addConstant, addStruct, beginFunction, endFunction, currentOffset, functionIdx, save, disassemble, backtrace, lastResult, stackValue, blockHeader, element, textBytes, Call, run, ask, Answer, started, told, put, shown, headed}
+use Rattle.demands.specs.Host.{Held, Done, emits, starts, looks, done, Ask, new, load, addOp, addOp1, addOp2, addOp3, patch, addConstant, addStruct, beginFunction, endFunction, setStrict, currentOffset, functionIdx, save, disassemble, backtrace, lastResult, stackValue, blockHeader, element, textBytes, Call, run, ask, Answer, started, told, put, shown, headed}
 use Rattle.demands.specs.Refusals.{refusedBy, refusedRun, checks}
 use Rattle.demands.proofs.Refusing.{run-number, refuses}
 use Rattle.laws_hosts.specs.Hosts.{CHeld, CDone, emitting, making, looking, putting, askThrough, RanThrough, Through}
@@ -57,7 +57,7 @@ module _ (a : List ℕ) (g : CHeld) where
       → Short c a g (record { coded = refused n (g .words) a; out = out; stores = g .stores; lent = g .lent })
   short-so c out eo n en = record { number = en; unchanged = record { held = refl; answer = refl; out = eo } }
 
-  emit-short : 17 ≡ slicesRefusal (g .words) 1 a → 16 ≤ length (g .words) → (q : Ask) → atEntry ≡ wayOf (ask q) .firsts → [] ≡ wayOf (ask q) .out → (rule : Vm → Res)
+  emit-short : 17 ≡ slicesRefusal (g .words) 1 a → 17 ≤ length (g .words) → (q : Ask) → atEntry ≡ wayOf (ask q) .firsts → [] ≡ wayOf (ask q) .out → (rule : Vm → Res)
       → done q (heldIn g) ≡ emits (heldIn g) (rule (vmIn (g .words))) → Short (ask q) a g (emitting a g rule)
   unfolding emitting emitThrough through emits
   emit-short z l q ef eo rule e =
@@ -120,10 +120,10 @@ first-25 = refl
 made-number : (q : Ask) → 25 ∷ 20 ∷ [] ≡ wayOf (ask q) .firsts → (h : Held) (n : ℕ) → n ≡ ownNumber (ask q) h → crossed (25 ∷ 20 ∷ []) 17 n ≡ crossed (wayOf (ask q) .firsts) 17 (ownNumber (ask q) h)
 made-number q ef h n e = ap (crossed (25 ∷ 20 ∷ []) 17) e ∙ ap (λ (fs : List ℕ). crossed fs 17 (ownNumber (ask q) h)) ef
 
-module _ (g : CHeld) (long : 16 ≤ length (g .words)) where
+module _ (g : CHeld) (long : 17 ≤ length (g .words)) where
   out-is : outRefusal (g .words) 1 [] ≡ (if vmIn (g .words) .run .on then 25 else 17)
   unfolding outRefusal underWay vmIn runIn
-  out-is = rw (le-leb 16 (length (g .words)) long)
+  out-is = rw (le-leb 17 (length (g .words)) long)
 
   start-short : (q : Ask) → 25 ∷ 20 ∷ [] ≡ wayOf (ask q) .firsts → [] ≡ wayOf (ask q) .out → (x : StartRes) → LateStarted (x .answer) → (on : Bool) → vmIn (g .words) .run .on ≡ on
       → done q (heldIn g) ≡ starts (heldIn g) (unlessRunning on (g .stores) (g .lent .frames) x) → Short (ask q) [] g (making [] g x)
@@ -152,7 +152,7 @@ empty [] l = refl
 empty (x ∷ a) l = absurd (let z : ⊥ = omega arith in z)
 
 module _ (a : List ℕ) (g : CHeld) (ok : Taken g) where
-  long : 16 ≤ length (g .words)
+  long : 17 ≤ length (g .words)
   long = record-long (g .words) ok
 
   none-fits : (n : ℕ) → length a < n → 17 ≡ slicesRefusal (g .words) n a
@@ -175,6 +175,8 @@ module _ (a : List ℕ) (g : CHeld) (ok : Taken g) where
   ask-short (addStruct text) i l = emit-short a g (none-fits 1 l) long (addStruct text) refl refl _ refl
   ask-short (beginFunction text) i l = emit-short a g (none-fits 1 l) long (beginFunction text) refl refl _ refl
   ask-short endFunction i l = emit-short a g (none-fits 1 l) long endFunction refl refl _ refl
+  -- no words are too short for it
+  ask-short (setStrict b) i l = absurd (let z : ⊥ = omega arith in z)
   ask-short currentOffset i l = look-short a g currentOffset _ refl refl _ (none-fits 1 l) (told _) _ refl (told-as (g .words) a _)
   ask-short (functionIdx text) i l = look-short a g (functionIdx text) _ refl refl _ (none-fits 1 l) (told _) _ refl (told-as (g .words) a _)
   ask-short (save out) i l = put-short a g (save out) _ refl out refl _ (none-fits 1 l) _ refl

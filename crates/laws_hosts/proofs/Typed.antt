@@ -1,6 +1,6 @@
 -- A run keeps what the types of the code say of its values: a scalar is a float of 64 bits. So two words of a record can hold its last result.
 use mathlib.Core.Path.{_≡_, refl, sym, subst}
-use mathlib.Core.Bool.{Bool, true, false}
+use mathlib.Core.Bool.{Bool, true, false, _&&_}
 use mathlib.Core.List.{List, [], _∷_, _++_, map, reverseAux}
 use mathlib.Core.Option.{Option, none, some}
 use Prim.Native.Nat.{ℕ, zero, suc, _+_, _-_, _*_}
@@ -24,19 +24,18 @@ use Rattle.model.specs.declared.Fault.{Fault}
 use Rattle.model.specs.declared.Found.{Found}
 use Rattle.model.specs.declared.Found.the-variants as g
 use Rattle.model.specs.declared.Frame.{Frame}
-use Rattle.model.specs.declared.Counts.{Counts}
 use Rattle.model.specs.declared.Vm.{Vm}
 use Rattle.model.specs.declared.RunResult.{RunResult}
 use Rattle.model.specs.declared.RunResult.the-variants as r
 use Rattle.model.specs.Basics.{if_then_else_}
 use Rattle.model.specs.Values.{popping, poppingScalar, poppingBoolean, kindAt, payloadAt, valueOf, valueAt, vals, valuesFrom}
-use Rattle.model.specs.Scalars.{arithOf, zeroDivisor}
+use Rattle.model.specs.Scalars.{arithOf, zeroDivisor, resultOf}
 use Rattle.model.specs.Heap.{Cell, item, head, headerOf, cellOf, cellAt, cellsFrom, heapOf, cellIn, itemIn, headIn, fieldOf, listElements, structFields, blockOf, Built, built, unbuilt, buildOf}
 use Rattle.model.specs.Equality.{Same, same}
 use Rattle.model.specs.Steps.{World, State, Outcome, went, returned, faulted, short, withStack, withUnits, paid, at, codeOf, pushing, onFound, constantOf, slotOf, lastOf, loadStep, slotStep, lastStep, negateStep, arithmeticStep, orderingStep, onSame, equalStep, logicStep, notStep, jumpStep, jumpIfFalseStep, enter, callStep, enterNamed, callCallableStep, onBuilt, buildStep, structStep, fieldStep, cut, returnTo, returnStep, execOf, operandsThen, decodedThen, fetched, stepOf}
 use Rattle.model.specs.Runs.{standing, begin, Progress, atStart, Ended, ended, stopped, paused, endFrom, endOf, recovered, Part, ends, pauses, partOf, beginOf, continueOf, abandonOf}
 use Rattle.model.specs.Stores.{Stores, worldIn}
-use Rattle.model.specs.Machines.{Lent, machineIn, progressIn, underIn, worldOf, runOrder, copyShort, traceShort, RunAnswer, ran, refused, RunCall, begins, continues, abandons, beginAnswer, continueAnswer, abandonAnswer, runAnswer, answerIn, RunPost}
+use Rattle.model.specs.Machines.{Lent, machineIn, progressIn, underIn, worldOf, runOrder, copyShort, traceShort, Unchanged, RunAnswer, ran, refused, RunCall, begins, continues, abandons, beginAnswer, continueAnswer, abandonAnswer, runAnswer, answerIn, RunPost}
 use Rattle.value.specs.Links.{lastIn}
 use Rattle.cells.proofs.Order.{Every, nil, cons}
 use Rattle.cells.proofs.Frame.{grown-of}
@@ -145,8 +144,8 @@ built-typed : (room : ℕ) (H : List Cell) (k : ℕ) (us : List Value) {H' : Lis
 unfolding blockOf
 built-typed room H k us {H'} c a e = rw (grown-of room H k us H' e .is) (behind-typed c (header (items-typed a)))
 
-arith-fits : (a : Arith) (x y : Float) → T (fits binary64 (arithOf a x y))
-unfolding arithOf
+arith-fits : (a : Arith) (x y : Float) → T (fits binary64 (resultOf a x y .value))
+unfolding resultOf arithOf
 arith-fits ar.Add x y = add-fits binary64 x y
 arith-fits ar.Subtract x y = sub-fits binary64 x y
 arith-fits ar.Multiply x y = mul-fits binary64 x y
@@ -254,7 +253,8 @@ module _ (w : World) (constants : Every TypedValue (w .constants)) (s : State) (
   exec-typed o.Negate a b = pops-scalar (t .stack) (λ n. fails n) (λ x r f q. stacked (cons (neg-fits binary64 x f) q))
   exec-typed (o.Arithmetic c) a b =
       pops-scalar (t .stack) (λ n. fails n) (λ y r f q.
-      pops-scalar q (λ n. fails n) (λ x r' f' q'. if-typed (zeroDivisor c y) (fails _) (stacked (cons (arith-fits c x y) q'))))
+      pops-scalar q (λ n. fails n) (λ x r' f' q'.
+      if-typed (zeroDivisor c y) (fails _) (if-typed (w .strict && resultOf c x y .escaped) (fails _) (stacked (cons (arith-fits c x y) q')))))
   exec-typed (o.Ordering c) a b = pops-scalar (t .stack) (λ n. fails n) (λ y r f q. pops-scalar q (λ n. fails n) (λ x r' f' q'. stacked (cons tt q')))
   exec-typed o.Equal a b = pops (t .stack) (λ n. fails n) (λ y r f q. pops q (λ n. fails n) (λ x r' f' q'. equals _ q' _))
   exec-typed o.NotEqual a b = pops (t .stack) (λ n. fails n) (λ y r f q. pops q (λ n. fails n) (λ x r' f' q'. equals _ q' _))
@@ -310,7 +310,7 @@ TypedPart (ends x) = TypedLast (x .machine .last)
 TypedPart (pauses x) = TypedLast (x .state .last)
 
 data TypedAnswer : RunAnswer → Type 0 where
-  runs : (c : Counts) (x : Part) → TypedPart x → TypedAnswer (ran c x)
+  runs : (c : Unchanged) (x : Part) → TypedPart x → TypedAnswer (ran c x)
   not-run : (n : ℕ) → TypedAnswer (refused n)
 
 answer-if : (b : Bool) {x y : RunAnswer} → TypedAnswer x → TypedAnswer y → TypedAnswer (if b then x else y)
@@ -352,7 +352,7 @@ module _ (m : Vm) (s : Stores) (l : Lent) (last : TypedLast (m .last)) where
       answer-if (runOrder m s l) (answer-if (m .run .on) (answer-if (traceShort l) (not-run 17) within) (not-run 18)) (not-run 19)
   answer-typed abandons = answer-if (runOrder m s l) (answer-if (m .run .on) (answer-if (traceShort l) (not-run 17) (runs _ _ last)) (not-run 18)) (not-run 19)
 
-part-of : {c : Counts} {x : Part} → TypedAnswer (ran c x) → TypedPart x
+part-of : {c : Unchanged} {x : Part} → TypedAnswer (ran c x) → TypedPart x
 part-of (runs c x p) = p
 
 -- the last result that a call of a run leaves is typed

@@ -16,7 +16,7 @@ use Rattle.model.specs.Machines.{begins, continues, abandons}
 use Rattle.model.specs.Readers.{headerAt}
 use Rattle.value.proofs.Coding.{and-left, and-right}
 use Rattle.laws_code.proofs.Numbers.{listing-numbers}
-use Rattle.demands.specs.Host.{Held, new, load, addOp, addOp1, addOp2, addOp3, patch, addConstant, addStruct, beginFunction, endFunction, currentOffset, functionIdx, save, disassemble, backtrace, lastResult, stackValue, blockHeader, element, textBytes, Call, run, ask, Answer, After}
+use Rattle.demands.specs.Host.{Held, new, load, addOp, addOp1, addOp2, addOp3, patch, addConstant, addStruct, beginFunction, endFunction, setStrict, currentOffset, functionIdx, save, disassemble, backtrace, lastResult, stackValue, blockHeader, element, textBytes, Call, run, ask, Answer, After}
 use Rattle.demands.specs.Refusals.{Check, must, mustNot, firstOf, codeChecks, loadChecks, listChecks, elementChecks, textChecks, askChecks, runChecks, checks, refusedBy}
 use Rattle.demands.proofs.Refusing.{refuses}
 use Rattle.laws_hosts.specs.Hosts.{CHeld, CDone}
@@ -83,6 +83,7 @@ call-numbered (ask (addConstant x bytes)) h = refl
 call-numbered (ask (addStruct name)) h = refl
 call-numbered (ask (beginFunction name)) h = refl
 call-numbered (ask endFunction) h = refl
+call-numbered (ask (setStrict b)) h = refl
 call-numbered (ask currentOffset) h = refl
 call-numbered (ask (functionIdx name)) h = refl
 call-numbered (ask (save out)) h = refl

@@ -1,16 +1,18 @@
 -- What crosses: a host in C holds what a host in Rattle holds, and what comes back to it tells the entry's answer.
 use mathlib.Core.Path.{_≡_}
-use mathlib.Core.Bool.{true}
+use mathlib.Core.Bool.{Bool, true}
 use mathlib.Core.List.{List, [], _∷_}
 use mathlib.Core.Option.{Option, none, some}
 use Prim.Native.Nat.{ℕ, _≤_}
 use lib.Dec.{leb}
 use lib.ListN.{length}
 use Rattle.model.specs.declared.Value.{Value}
+use Rattle.model.specs.declared.Vm.{Vm}
 use Rattle.model.specs.declared.Emitted.{Emitted}
 use Rattle.model.specs.declared.Emitted.the-variants as e
 use Rattle.model.specs.declared.Started.{Started}
 use Rattle.model.specs.declared.Started.the-variants as st
+use Rattle.model.specs.declared.Changed.{Changed}
 use Rattle.model.specs.declared.Told.{Told}
 use Rattle.model.specs.declared.Told.the-variants as t
 use Rattle.model.specs.declared.Shown.{Shown}
@@ -22,10 +24,14 @@ use Rattle.model.specs.Values.{valueOf, kind, payload, exactValue}
 use Rattle.model.specs.Runs.{Reply, value, continue, fault, ends, pauses}
 use Rattle.model.specs.Machines.{RunAnswer, ran as answered, refused}
 use Rattle.embed_words.specs.Coding.{vmIn, recordOk, atEntry, atListing, crossed}
-use Rattle.demands.specs.Host.{Held, Ask, new, load, addOp, addOp1, addOp2, addOp3, patch, addConstant, addStruct, beginFunction, endFunction, currentOffset, functionIdx, save, disassemble, backtrace, lastResult, stackValue, blockHeader, element, textBytes, Call, run, ask, Answer, ran, emitted, started, told, put, shown, headed, After}
+use Rattle.demands.specs.Host.{Held, Ask, new, load, addOp, addOp1, addOp2, addOp3, patch, addConstant, addStruct, beginFunction, endFunction, setStrict, currentOffset, functionIdx, save, disassemble, backtrace, lastResult, stackValue, blockHeader, element, textBytes, Call, run, ask, Answer, ran, emitted, started, changed, told, put, shown, headed, After}
 use Rattle.demands.specs.Refusals.{firstOf, checks, refusedBy}
 use Rattle.demands.specs.Kept.{InOrder}
 use Rattle.laws_hosts.specs.Hosts.{CHeld, CDone, leftBy}
+
+-- the machine m with that setting
+abbrev pub strictly : (strict : Bool) → Vm → Vm
+strictly b m = record { program = m .program; stack = m .stack; frames = m .frames; cells = m .cells; last = m .last; run = m .run; strict = b }
 
 -- what a host in C holds, as the entries take it
 abbrev pub heldIn : CHeld → Held
@@ -72,6 +78,8 @@ askWay (addConstant x text) = plain 1
 askWay (addStruct text) = plain 1
 askWay (beginFunction text) = plain 1
 askWay endFunction = plain 1
+-- it tells nothing but its number
+askWay (setStrict b) = plain 0
 askWay currentOffset = plain 1
 askWay (functionIdx text) = plain 1
 askWay (save out) = into atEntry out
@@ -127,6 +135,10 @@ startedWords (st.Done m) = []
 startedWords (st.Broken i) = i ∷ []
 startedWords (st.Refused n) = []
 
+-- whether the machine is strict is a word of its record
+abbrev pub changedWords : Changed → List ℕ
+changedWords x = []
+
 abbrev pub toldWords : Told → List ℕ
 toldWords (t.Number n) = n ∷ []
 toldWords (t.Refused n) = []
@@ -143,6 +155,7 @@ abbrev pub answerWords : Answer → List ℕ
 answerWords (ran x) = partWords x
 answerWords (emitted x) = emittedWords x
 answerWords (started x) = startedWords x
+answerWords (changed x) = changedWords x
 answerWords (told x) = toldWords x
 answerWords (put out x) = toldWords (x .answer)
 answerWords (shown x) = shownWords x
@@ -152,6 +165,7 @@ abbrev pub outOf : Answer → List ℕ
 outOf (ran x) = []
 outOf (emitted x) = []
 outOf (started x) = []
+outOf (changed x) = []
 outOf (told x) = []
 outOf (put out x) = x .out
 outOf (shown x) = []
@@ -176,11 +190,16 @@ pub record Crossed (c : Call) (a : List ℕ) (g : CHeld) (d : CDone) : Type 0 wh
   pub did : Did c a g d
   pub taken : Taken (leftBy d)
 
--- a machine that was made over sixteen words, whatever stood there: they are a record then, and what the host holds is in good order
+-- a machine that was made over seventeen words, whatever stood there: they are a record then, and what the host holds is in good order
 pub record MadeIn (q : Ask) (a : List ℕ) (g : CHeld) (d : CDone) : Type 0 where
   pub did : Did (ask q) a g d
   pub taken : Taken (leftBy d)
   pub order : InOrder (heldIn (leftBy d))
+
+-- THE SETTING, changed from C: what the host then holds is what it held, but for that
+pub record SetIn (strict : Bool) (g : CHeld) (d : CDone) : Type 0 where
+  pub held : heldIn (leftBy d) ≡ record { vm = strictly strict (heldIn g .vm); stores = g .stores; lent = g .lent }
+  pub taken : Taken (leftBy d)
 
 -- ---- DEMAND 1 of a call from C
 

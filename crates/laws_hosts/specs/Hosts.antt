@@ -4,14 +4,15 @@ use mathlib.Core.Bool.{false}
 use mathlib.Core.List.{List, []}
 use Prim.Native.Nat.{ℕ}
 use Rattle.model.specs.declared.Vm.{Vm}
+use Rattle.model.specs.declared.Changed.{Changed}
 use Rattle.model.specs.Values.{valueOf, kind, payload}
 use Rattle.model.specs.Stores.{Stores}
 use Rattle.model.specs.Emission.{Res, addOpOf, addOp1Of, addOp2Of, addOp3Of, currentOffsetOf, patchOf, addConstantOf, addStructOf, beginFunctionOf, endFunctionOf, functionIdxOf}
 use Rattle.model.specs.Loading.{OutRes, saveOf, listOf}
-use Rattle.model.specs.Machines.{Lent, RunCall, backtraceIn, StartRes, loadMachineOf, newMachineOf}
+use Rattle.model.specs.Machines.{Lent, RunCall, setStrict as setStrictOf, backtraceIn, StartRes, loadMachineOf, newMachineOf}
 use Rattle.model.specs.Readers.{lastResultOf, stackValueOf, blockHeaderOf, elementOf, textBytesOf}
-use Rattle.embed_words.specs.Coding.{vmIn, slicesRefusal, valueRefusal, atEntry, atListing, Coded, toldCoded, shownCoded, headedCoded, through, emitThrough, outThrough, RunThrough, startThrough}
-use Rattle.demands.specs.Host.{withFrames, Ask, new, load, addOp, addOp1, addOp2, addOp3, patch, addConstant, addStruct, beginFunction, endFunction, currentOffset, functionIdx, save, disassemble, backtrace, lastResult, stackValue, blockHeader, element, textBytes, Call, run, ask}
+use Rattle.embed_words.specs.Coding.{vmIn, slicesRefusal, valueRefusal, atEntry, atListing, Coded, changedCoded, toldCoded, shownCoded, headedCoded, through, emitThrough, outThrough, RunThrough, startThrough}
+use Rattle.demands.specs.Host.{withFrames, Ask, new, load, addOp, addOp1, addOp2, addOp3, patch, addConstant, addStruct, beginFunction, endFunction, setStrict, currentOffset, functionIdx, save, disassemble, backtrace, lastResult, stackValue, blockHeader, element, textBytes, Call, run, ask}
 
 -- the words of a machine's record, the program's stores, and what is lent besides
 pub record CHeld : Type 0 where
@@ -44,6 +45,15 @@ making a g r =
     let x = startThrough (g .words) a (g .stores) (g .lent .frames) r in
     record { coded = x .coded; out = []; stores = x .stores; lent = withFrames (x .frames) (g .lent) }
 
+-- changing the setting: the record alone is written. Nothing is told besides, so that no store is lent for an answer: a is [], and in any case as it was
+unfoldable pub setting : (a : List ℕ) → CHeld → (Vm → Changed) → CDone
+setting a g rule = record {
+  coded = through atEntry (slicesRefusal (g .words) 0 a) (g .words) a (changedCoded (rule (vmIn (g .words))) (g .words) a);
+  out = [];
+  stores = g .stores;
+  lent = g .lent;
+}
+
 -- only looking: x is what the entry itself does, in words
 unfoldable pub looking : (firsts : List ℕ) (why : ℕ) (a : List ℕ) → CHeld → (x : Coded) → CDone
 looking firsts why a g x = record { coded = through firsts why (g .words) a x; out = []; stores = g .stores; lent = g .lent }
@@ -67,6 +77,7 @@ askThrough (addConstant x text) a g = emitting a g (λ m. addConstantOf (m .run 
 askThrough (addStruct text) a g = emitting a g (λ m. addStructOf (m .run .on) (m .program) text (g .stores))
 askThrough (beginFunction text) a g = emitting a g (λ m. beginFunctionOf (m .run .on) (m .program) text (g .stores))
 askThrough endFunction a g = emitting a g (λ m. record { answer = endFunctionOf (m .run .on) (m .program); stores = g .stores })
+askThrough (setStrict b) a g = setting a g (λ m. setStrictOf b m (g .stores) (g .lent))
 askThrough currentOffset a g =
     let m = vmIn (g .words) in looking atEntry (slicesRefusal (g .words) 1 a) a g (toldCoded (currentOffsetOf (m .program) (g .stores .functions)) (g .words) a)
 askThrough (functionIdx text) a g =

@@ -158,7 +158,7 @@ module _ {s : Stores} where
   answers-from-C (abandoning before part) ran = abandoning (under-way-from-C before) (part-from-C part ran)
 
 -- a record in which a fresh machine was written is read back as that machine
-fresh-back : (w : List ℕ) (k : Counts) → 16 ≤ length w → vmIn (written w 0 (vmWords (fresh k))) ≡ fresh k
+fresh-back : (w : List ℕ) (k : Counts) → 17 ≤ length w → vmIn (written w 0 (vmWords (fresh k))) ≡ fresh k
 unfolding fresh
 fresh-back w k n = record-back w (fresh k) n tt .machine
 
@@ -183,14 +183,14 @@ module _ (image w a heights : List ℕ) (s : Stores) (fs : List Frame) (bytes : 
   idle-leaves (cw.no-room j m b r) z = absurd (let y : ⊥ = omega (arith, z) in y)
   idle-leaves (cw.breaks j m b r d) z = absurd (let y : ⊥ = omega (arith, z) in y)
   idle-leaves (cw.passes {p} j m b r ok {hs} h) z =
-      let long = and-left (leb 16 (length w) && leb 2 (length a)) (leb (length (p .functions)) (places 1 heights)) m in
-      let sixteen = leb-true 16 (length w) (and-left (leb 16 (length w)) (leb 2 (length a)) long) in
-      let room = leb-true _ _ (and-right (leb 16 (length w) && leb 2 (length a)) (leb (length (p .functions)) (places 1 heights)) m) in
+      let long = and-left (leb 17 (length w) && leb 2 (length a)) (leb (length (p .functions)) (places 1 heights)) m in
+      let seventeen = leb-true 17 (length w) (and-left (leb 17 (length w)) (leb 2 (length a)) long) in
+      let room = leb-true _ _ (and-right (leb 17 (length w) && leb 2 (length a)) (leb (length (p .functions)) (places 1 heights)) m) in
       record {
         program = p;
         passed = ok;
         tells = written-tells p heights hs room h;
-        installed = λ l f. subst (λ (v : Vm). Installed p v (laid p s) l) (sym (fresh-back w (countsFor p) sixteen))
+        installed = λ l f. subst (λ (v : Vm). Installed p v (laid p s) l) (sym (fresh-back w (countsFor p) seventeen))
             (laid-is-installed image p s bytes j b (and-left (roomFor p s) (leb 1 (length fs)) r) l (rw f (root-first fs)));
       }
 

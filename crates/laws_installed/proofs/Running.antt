@@ -6,10 +6,10 @@ use Prim.Native.Nat.{ℕ, zero, suc, _+_, _≤_, _<_}
 use native.Mathlib.Omega.{arith}
 use lib.Dec.{ltb}
 use lib.ListN.{length, getD}
-use Rattle.model.specs.declared.Counts.{Counts}
 use Rattle.model.specs.declared.Frame.{Frame}
 use Rattle.model.specs.declared.Tally.{Tally}
 use Rattle.model.specs.declared.Vm.{Vm}
+use Rattle.model.specs.declared.Changed.the-variants as ch
 use Rattle.model.specs.declared.RunResult.{RunResult}
 use Rattle.model.specs.declared.RunResult.the-variants as r
 use Rattle.model.specs.Basics.{if_then_else_}
@@ -18,7 +18,7 @@ use Rattle.model.specs.Programs.{Program}
 use Rattle.model.specs.Stores.{Stores, constantsFrom, structsFrom, programIn, worldIn}
 use Rattle.model.specs.Steps.{World, State}
 use Rattle.model.specs.Runs.{Machine, fault, Ran, Progress, atStart, Ended, ended, stopped, paused, endOf, begin, root, Under, Part, ends, pauses, partOf, beginOf, continueOf, abandonOf, dealt, givenUp, runOf}
-use Rattle.model.specs.Machines.{Lent, frameRoom, innermost, callersIn, machineIn, underIn, worldOf, runOrder, copyShort, traceShort, RunAnswer, ran, refused, beginAnswer, continueAnswer, abandonAnswer, RunCall, begins, continues, abandons, runAnswer, answerIn, entriesIn, SameRooms, RunPost}
+use Rattle.model.specs.Machines.{Lent, frameRoom, innermost, callersIn, machineIn, underIn, worldOf, runOrder, copyShort, traceShort, Unchanged, unchanged, RunAnswer, ran, refused, beginAnswer, continueAnswer, abandonAnswer, RunCall, begins, continues, abandons, runAnswer, answerIn, entriesIn, SameRooms, RunPost, setStrict}
 use Rattle.laws_runs.specs.Paths.{PausedBy, more}
 use Rattle.laws_runs.specs.Parts.{onward, sumOf}
 use Rattle.laws_runs.proofs.Ends.{end-of}
@@ -69,20 +69,39 @@ module _ {p : Program} {m : Vm} {s : Stores} {l : Lent} (here : Installed p m s 
     callers = rw (here .frames);
   }
 
+-- ---- a host makes it strict, or not strict, before its run: what was installed is as it was but for that
+
+abbrev strictly : (strict : Bool) → Vm → Vm
+strictly b m = record { program = m .program; stack = m .stack; frames = m .frames; cells = m .cells; last = m .last; run = m .run; strict = b }
+
+-- by what is judged
+set-installed : {p : Program} {m : Vm} {s : Stores} {l : Lent} → Installed p m s l → (b order on : Bool) {k : Vm}
+    → (if order then (if on then ch.Refused 25 else ch.Done (strictly b m)) else ch.Refused 19) ≡ ch.Done k → Installed p k s l
+set-installed here b true true e = absurd (let z : _≡_ {A = ℕ} 0 1 = cc in let y : ⊥ = omega arith in y)
+set-installed {p} {m} {s} {l} here b true false {k} e =
+    let same : strictly b m ≡ k = cc in
+    subst (λ (x : Vm). Installed p x s l) same
+    (record { main = here .main; program = here .program; stack = here .stack; frames = here .frames; frame = here .frame })
+set-installed here b false on e = absurd (let z : _≡_ {A = ℕ} 0 1 = cc in let y : ⊥ = omega arith in y)
+
+pub a-setting-keeps-what-is-installed : {p : Program} {m : Vm} {s : Stores} {l : Lent} → Installed p m s l → (b : Bool) {k : Vm} → setStrict b m s l ≡ ch.Done k → Installed p k s l
+unfolding setStrict
+a-setting-keeps-what-is-installed {m = m} {s} {l} here b e = set-installed here b (runOrder m s l) (m .run .on) e
+
 -- ---- a run through its entries: what a part comes to, where it is not refused
 
-abbrev Carries : RunAnswer → Counts → Part → Type 0
+abbrev Carries : RunAnswer → Unchanged → Part → Type 0
 Carries (ran c x) d y = (c ≡ d) × (x ≡ y)
 Carries (refused n) d y = ⊥
 
-only-begun : (order on short : Bool) (c : Counts) (x : Part) {d : Counts} {y : Part}
+only-begun : (order on short : Bool) (c : Unchanged) (x : Part) {d : Unchanged} {y : Part}
     → Carries (if order then (if on then refused 25 else (if short then refused 17 else ran c x)) else refused 19) d y → (c ≡ d) × (x ≡ y)
 only-begun true true short c x h = absurd h
 only-begun true false true c x h = absurd h
 only-begun true false false c x h = h
 only-begun false on short c x h = absurd h
 
-only-continued : (order on short many : Bool) (c : Counts) (x : Part) {d : Counts} {y : Part}
+only-continued : (order on short many : Bool) (c : Unchanged) (x : Part) {d : Unchanged} {y : Part}
     → Carries (if order then (if on then (if short then refused 17 else (if many then refused 22 else ran c x)) else refused 18) else refused 19) d y → (c ≡ d) × (x ≡ y)
 only-continued true true true many c x h = absurd h
 only-continued true true false true c x h = absurd h
@@ -90,7 +109,7 @@ only-continued true true false false c x h = h
 only-continued true false short many c x h = absurd h
 only-continued false on short many c x h = absurd h
 
-only-abandoned : (order on short : Bool) (c : Counts) (x : Part) {d : Counts} {y : Part}
+only-abandoned : (order on short : Bool) (c : Unchanged) (x : Part) {d : Unchanged} {y : Part}
     → Carries (if order then (if on then (if short then refused 17 else ran c x) else refused 18) else refused 19) d y → (c ≡ d) × (x ≡ y)
 only-abandoned true true true c x h = absurd h
 only-abandoned true true false c x h = h
@@ -98,7 +117,7 @@ only-abandoned true false short c x h = absurd h
 only-abandoned false on short c x h = absurd h
 
 -- an answer that stands for a part, not for a refusal
-ran-as : {a : RunAnswer} {d : Counts} {y : Part} → ran d y ≡ a → Carries a d y
+ran-as : {a : RunAnswer} {d : Unchanged} {y : Part} → ran d y ≡ a → Carries a d y
 ran-as {d = d} {y = y} e = subst (λ (x : RunAnswer). Carries x d y) e (refl, refl)
 
 -- the part that each call comes to, by the rules
@@ -107,11 +126,11 @@ comesTo begins w m l = beginOf w (machineIn m l)
 comesTo (continues u) w m l = continueOf w (underIn m l) u
 comesTo abandons w m l = ends (abandonOf w (underIn m l))
 
-part-is : (c : RunCall) (m : Vm) (s : Stores) (l : Lent) {d : Counts} {y : Part} → ran d y ≡ runAnswer c m s l → (m .program ≡ d) × (comesTo c (worldOf m s l) m l ≡ y)
+part-is : (c : RunCall) (m : Vm) (s : Stores) (l : Lent) {d : Unchanged} {y : Part} → ran d y ≡ runAnswer c m s l → (unchanged m ≡ d) × (comesTo c (worldOf m s l) m l ≡ y)
 unfolding runAnswer beginAnswer continueAnswer abandonAnswer
-part-is begins m s l e = only-begun (runOrder m s l) (m .run .on) (copyShort l) (m .program) _ (ran-as e)
-part-is (continues u) m s l e = only-continued (runOrder m s l) (m .run .on) (traceShort l) (ltb 0xFFFF_FFFF_FFFF_FFFF (m .run .given + u)) (m .program) _ (ran-as e)
-part-is abandons m s l e = only-abandoned (runOrder m s l) (m .run .on) (traceShort l) (m .program) _ (ran-as e)
+part-is begins m s l e = only-begun (runOrder m s l) (m .run .on) (copyShort l) (unchanged m) _ (ran-as e)
+part-is (continues u) m s l e = only-continued (runOrder m s l) (m .run .on) (traceShort l) (ltb 0xFFFF_FFFF_FFFF_FFFF (m .run .given + u)) (unchanged m) _ (ran-as e)
+part-is abandons m s l e = only-abandoned (runOrder m s l) (m .run .on) (traceShort l) (unchanged m) _ (ran-as e)
 
 -- ---- units dealt out are one run with their sum
 
@@ -152,9 +171,13 @@ module _ (w : World) where
 -- ---- the run under way
 
 module _ (s : Stores) where
-  part-world : (m k : Vm) {l l' : Lent} → m .program ≡ k .program → SameRooms l l' → worldOf k s l' ≡ worldOf m s l
+  -- the setting is what it was, so that it is the same world
+  part-world : (m k : Vm) {l l' : Lent} → unchanged m ≡ unchanged k → SameRooms l l' → worldOf k s l' ≡ worldOf m s l
   unfolding worldOf worldIn places frameRoom
-  part-world m k e same = rw (← e, same .stack, same .cells, same .frames)
+  part-world m k e same =
+      let program = ap (λ (c : Unchanged). c .program) e in
+      let strict = ap (λ (c : Unchanged). c .strict) e in
+      rw (← program, ← strict, same .stack, same .cells, same .frames)
 
   module _ (m : Vm) (l : Lent) where
     -- it has come to what one run comes to that is given its units at once, in the world in which it was begun
@@ -180,7 +203,7 @@ module _ (s : Stores) where
     same-end e = cc
 
     -- a part that ends the run, by a fault too: it is one run, given all the units
-    came-to-an-end : {g : ℕ} {x : RunResult} {l' : Lent} → Answers (byEntries s) m l g x l' → {c : Counts} {y : Ran} → answerIn l' x ≡ ran c (ends y)
+    came-to-an-end : {g : ℕ} {x : RunResult} {l' : Lent} → Answers (byEntries s) m l g x l' → {c : Unchanged} {y : Ran} → answerIn l' x ≡ ran c (ends y)
         → runOf (worldOf m s l) (machineIn m l) g ≡ y
     unfolding beginOf
     came-to-an-end (beginning post) e = over-is-one (worldOf m s l) (machineIn m l) 0 (sym (part-is begins m s l (sym e ∙ post .answer) .1))

@@ -19,7 +19,7 @@ use Rattle.check_rules.specs.Rules.{Greatest, codeOf, countOf, isMain}
 use Rattle.laws_check.specs.Passed.{ruledOut, Asked}
 
 -- the counts and the program's stores stand for p, and the machine over them has not run: nothing on its stack, one frame at the start of main.
--- Its cells, its last result and all that is lent besides are any
+-- Its cells, its last result and all that is lent besides are any, and it is strict or not
 pub record Installed (p : Program) (m : Vm) (s : Stores) (l : Lent) : Type 0 where
   pub main : 0 < length (p .functions)
   pub program : programIn (m .program) s ≡ p

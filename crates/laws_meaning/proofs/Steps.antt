@@ -1,6 +1,6 @@
 -- A step of two machines that mean the same: the one induction over the opcodes.
 use mathlib.Core.Path.{_≡_, refl, sym, _∙_}
-use mathlib.Core.Bool.{Bool, true, false}
+use mathlib.Core.Bool.{Bool, true, false, _&&_}
 use mathlib.Core.List.{List, [], _∷_}
 use mathlib.Core.Option.{Option, none, some}
 use Prim.Native.Nat.{ℕ, suc, _+_, _-_, _*_}
@@ -22,7 +22,7 @@ use Rattle.model.specs.declared.Found.{Found}
 use Rattle.model.specs.declared.Frame.{Frame}
 use Rattle.model.specs.Basics.{if_then_else_}
 use Rattle.model.specs.Values.{faultNumber, textAt, ifScalar, ifBoolean, ifReference, ifStruct, popping, poppingScalar, poppingBoolean}
-use Rattle.model.specs.Scalars.{zeroDivisor}
+use Rattle.model.specs.Scalars.{zeroDivisor, resultOf}
 use Rattle.model.specs.Heap.{Cell, Built, listElements, structFields, fieldOf, placedBelow, blocksFrom, heapOk}
 use Rattle.model.specs.Equality.{Same, same}
 use Rattle.model.specs.Trees.{treeOf, meaningTo, meaning}
@@ -280,7 +280,8 @@ module _ (w : World) (lay : Layout) (good : SaneWorld w) (beside-good : SaneWorl
   exec-alike o.GetLastResult i j = found-alike _ _ (result-alike (sides .last)) (λ z z' b. push b)
   exec-alike o.Negate i j = poppingScalar-alike _ _ (sides .stack) (λ x r r' b. stacks (over (number _) b))
   exec-alike (o.Arithmetic x) i j =
-      poppingScalar-alike _ _ (sides .stack) (λ y r r' b. poppingScalar-alike _ _ b (λ z q q' c. if-each R (zeroDivisor x y) (λ h. halt f.ZeroDivisor) (λ h. stacks (over (number _) c))))
+      poppingScalar-alike _ _ (sides .stack) (λ y r r' b. poppingScalar-alike _ _ b (λ z q q' c. if-each R (zeroDivisor x y) (λ h. halt f.ZeroDivisor)
+      (λ h. if-each R (w .strict && resultOf x z y .escaped) (λ e. halt f.NotFinite) (λ e. stacks (over (number _) c)))))
   exec-alike (o.Ordering x) i j = poppingScalar-alike _ _ (sides .stack) (λ y r r' b. poppingScalar-alike _ _ b (λ z q q' c. stacks (over (truth _) c)))
   exec-alike o.Equal i j = popping-alike (sides .stack) (λ y y' r r' c b. popping-alike b (λ x x' q q' d bs. rw (← same-alike _ _ _ _ (sides .left) (sides .right) d c) (onSame-alike _ _ bs)))
   exec-alike o.NotEqual i j = popping-alike (sides .stack) (λ y y' r r' c b. popping-alike b (λ x x' q q' d bs. rw (← same-alike _ _ _ _ (sides .left) (sides .right) d c) (onSame-alike _ _ bs)))

@@ -35,7 +35,7 @@ pub record Both (t t' : List ℕ) (H H' : List Cell) (x x' : Value) : Type 0 whe
 
 -- ---- worlds
 
--- what may differ: where texts lie, and so the words of constants; and the room of cells
+-- what may differ: where texts lie, and so the words of constants; and the room of cells. The program, the other rooms and the setting may not
 pub record Layout : Type 0 where
   pub text : List ℕ
   pub constants : List Value
@@ -43,7 +43,16 @@ pub record Layout : Type 0 where
 
 -- the world w, laid out so
 abbrev pub laidOut : Layout → World → World
-laidOut o w = record { constants = o .constants; text = o .text; structs = w .structs; functions = w .functions; stackRoom = w .stackRoom; frameRoom = w .frameRoom; cellRoom = o .cellRoom }
+laidOut o w = record {
+  constants = o .constants;
+  text = o .text;
+  structs = w .structs;
+  functions = w .functions;
+  stackRoom = w .stackRoom;
+  frameRoom = w .frameRoom;
+  cellRoom = o .cellRoom;
+  strict = w .strict;
+}
 
 -- its constants mean those of w; a constant names no cells
 abbrev pub AlikeConstants : World → Layout → Type 0

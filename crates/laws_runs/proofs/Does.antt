@@ -1,6 +1,6 @@
 -- All that an instruction can do, and that each does one of these: the one induction over the rules.
 use mathlib.Core.Path.{_≡_, refl, sym, ap, _∙_}
-use mathlib.Core.Bool.{Bool, true, false}
+use mathlib.Core.Bool.{Bool, true, false, _&&_}
 use mathlib.Core.List.{List, [], _∷_, map}
 use mathlib.Core.Option.{Option, none, some}
 use Prim.Native.Nat.{ℕ, suc, _+_, _-_, _*_, _≤_, _<_}
@@ -23,7 +23,7 @@ use Rattle.model.specs.declared.Found.{Found}
 use Rattle.model.specs.declared.Found.the-variants as g
 use Rattle.model.specs.declared.Frame.{Frame}
 use Rattle.model.specs.Basics.{if_then_else_}
-use Rattle.model.specs.Scalars.{zeroDivisor}
+use Rattle.model.specs.Scalars.{zeroDivisor, resultOf}
 use Rattle.model.specs.Heap.{Cell, built, buildOf, listElements, structFields, fieldOf}
 use Rattle.model.specs.Equality.{Same, sameBytes}
 use Rattle.model.specs.Programs.{Function, functionNamed, newestFrom, orElse, wordAt}
@@ -190,7 +190,8 @@ module _ (w : World) (a : ℕ) (s : State) (u : ℕ) (h : s .units ≤ u) where
   exec-does o.GetLastResult b = found-does _ (last-held (s .last) refl)
   exec-does o.Negate b = poppingScalar-each D _ fault (λ x r e. answer (top e) (number _))
   exec-does (o.Arithmetic x) b = poppingScalar-each D _ fault (λ j r e. poppingScalar-each D _ fault
-      (λ i q e'. if-each D (zeroDivisor x j) (λ z. fault f.ZeroDivisor) (λ z. answer (second e e') (number _))))
+      (λ i q e'. if-each D (zeroDivisor x j) (λ z. fault f.ZeroDivisor)
+      (λ z. if-each D (w .strict && resultOf x i j .escaped) (λ y. fault f.NotFinite) (λ y. answer (second e e') (number _)))))
   exec-does (o.Ordering x) b = poppingScalar-each D _ fault (λ j r e. poppingScalar-each D _ fault (λ i q e'. answer (second e e') (truth _)))
   exec-does o.Equal b = popping-each D _ fault (λ y r e. popping-each D _ fault (λ x q e'. same-does _ _ (second e e')))
   exec-does o.NotEqual b = popping-each D _ fault (λ y r e. popping-each D _ fault (λ x q e'. same-does _ _ (second e e')))

@@ -23,3 +23,5 @@ pub mod Frames
 pub mod Ordered
 -- what a run that faults leaves
 pub mod Demands
+-- strict and not
+pub mod Strict

@@ -232,7 +232,7 @@ module _ (m : Vm) (s : Stores) (l : Lent) where
 
   pub order-world : runOrder m s l ≡ true → CodeBytes s → SaneWorld (worldOf m s l)
   unfolding worldOf
-  order-world e b = program-world (m .program) s (places 2 (l .stack)) (frameRoom (l .frames)) (places 2 (l .cells)) (order-of m s l e .program) b
+  order-world e b = program-world (m .program) s (places 2 (l .stack)) (frameRoom (l .frames)) (places 2 (l .cells)) (m .strict) (order-of m s l e .program) b
 
   -- when e units are spent, at which no frame was entered later
   order-standing : runOrder m s l ≡ true → (e u : ℕ) → innermost (m .frames) (l .frames) .entered ≤ e → Sane (worldOf m s l) (standing (machineIn m l) e u)
@@ -314,7 +314,7 @@ module _ (m : Vm) (s : Stores) (l : Lent) where
 
 pub same-world : {m m' : Vm} {l l' : Lent} (s : Stores) → Beside m l m' l' → worldOf m' s l' ≡ worldOf m s l
 unfolding worldOf worldIn places frameRoom
-same-world s b = rw (b .program, b .stack, b .cells, b .frames)
+same-world s b = rw (b .program, b .stack, b .cells, b .frames, b .strict)
 
 -- what the rules leave in good order, in exact words, is in good order for the next call
 pub sane-order : {m m' : Vm} {l l' : Lent} (s : Stores) (d u : ℕ) → runOrder m s l ≡ true → Beside m l m' l' → Exact m' l' → Sane (worldOf m s l) (standing (machineIn m' l') d u)

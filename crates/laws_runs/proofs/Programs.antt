@@ -218,9 +218,9 @@ module _ (s : Stores) (b : CodeBytes s) where
 
 -- ---- the world of a program in good order
 
-pub program-world : (c : Counts) (s : Stores) (stackRoom frameRoom cellRoom : ℕ) → programOk c s ≡ true → CodeBytes s → SaneWorld (worldIn c s stackRoom frameRoom cellRoom)
+pub program-world : (c : Counts) (s : Stores) (stackRoom frameRoom cellRoom : ℕ) (strict : Bool) → programOk c s ≡ true → CodeBytes s → SaneWorld (worldIn c s stackRoom frameRoom cellRoom strict)
 unfolding worldIn
-program-world c s stackRoom frameRoom cellRoom e b =
+program-world c s stackRoom frameRoom cellRoom strict e b =
     let p = parts-of c s e in
     record {
       constants = rw (length-text c s p) (constants-placed c (s .constants) (p .constants));

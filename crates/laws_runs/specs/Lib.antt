@@ -5,3 +5,4 @@ pub mod Parts
 pub mod Ordered
 pub mod Demand
 pub mod Entered
+pub mod Strict

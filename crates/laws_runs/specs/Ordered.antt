@@ -48,9 +48,10 @@ pub record Exact (m : Vm) (l : Lent) : Type 0 where
   pub stack : (i : ℕ) → i < m .stack → exactValue (kindAt (l .stack) i) (payloadAt (l .stack) i) ≡ true
   pub frames : 1 ≤ m .frames
 
--- m' over l' beside m over l: the same program, and stores of the same lengths
+-- m' over l' beside m over l: the same program and setting, and stores of the same lengths
 pub record Beside (m : Vm) (l : Lent) (m' : Vm) (l' : Lent) : Type 0 where
   pub program : m' .program ≡ m .program
+  pub strict : m' .strict ≡ m .strict
   pub stack : length (l' .stack) ≡ length (l .stack)
   pub cells : length (l' .cells) ≡ length (l .cells)
   pub frames : length (l' .frames) ≡ length (l .frames)

@@ -1,6 +1,6 @@
 -- Arms of the Rust, each of which does what the rules' step does from a state whose operands are read: values that are held, numbers, logic, jumps.
 use mathlib.Core.Path.{_≡_, refl, sym, ap, _∙_}
-use mathlib.Core.Bool.{Bool, true, false, not, _||_}
+use mathlib.Core.Bool.{Bool, true, false, not, _&&_, _||_}
 use mathlib.Core.List.{List, [], _∷_, map, reverse}
 use Prim.Native.Nat.{ℕ, _+_, _-_, _<_}
 use native.Mathlib.Omega.{arith}
@@ -10,6 +10,7 @@ use lib.ListN.{length, getD, length-map, length-reverse, List·getD-map}
 use lib.Ieee as f64
 use lib.Ieee.{Float, binary64, fin}
 use lib.IntN.{pos}
+use Rattle.model.specs.declared.Arith.{Arith}
 use Rattle.model.specs.declared.Arith.the-variants as a
 use Rattle.model.specs.declared.Order.{Order}
 use Rattle.model.specs.declared.Order.the-variants as c
@@ -21,11 +22,12 @@ use Rattle.model.specs.declared.Fault.the-variants as f
 use Rattle.model.specs.declared.Found.the-variants as g
 use Rattle.model.specs.Basics.{if_then_else_}
 use Rattle.model.specs.Values.{poppingScalar}
-use Rattle.model.specs.Scalars.{arithOf, zeroDivisor, orderOf}
+use Rattle.model.specs.Scalars.{arithOf, finite, resultOf, zeroDivisor, orderOf}
 use Rattle.model.specs.Heap.{heapOk, blocksFrom}
 use Rattle.model.specs.Trees.{Tree, treeOf, meaningTo, meaning, scalar, boolean}
 use Rattle.model.specs.Steps.{World, State, Outcome, went, faulted, withStack, at, position, pushing, onFound, constantOf, slotOf, lastOf, loadStep, slotStep, lastStep, negateStep}
 use Rattle.model.specs.Steps.{arithmeticStep, orderingStep, logicStep, notStep, jumpStep, jumpIfFalseStep}
+use Rattle.value.proofs.Coding.{and-right}
 use Rattle.cells.proofs.Meaning.{meaning-kept}
 use Rattle.laws_runs.specs.Sane.{SaneWorld}
 use Rattle.laws_runs.proofs.Placed.{all-at}
@@ -36,6 +38,10 @@ use Rattle.laws_rust.proofs.Reading.{agrees-as, index-there, index-past
 use Rattle.laws_rust.proofs.Pops.{pop-scalar-agrees, pop-boolean-agrees}
 use Rattle.laws_rust.proofs.Orderings.{compared, less-than, greater-than, less-or-equal, greater-or-equal}
 use Rattle.laws_rust.proofs.Stacks.{slot-there}
+
+not-so : (b : Bool) → not b ≡ true → b ≡ false
+not-so true e = sym e
+not-so false e = refl
 
 module _ (w : World) (s : State) where
   -- what a value of s means
@@ -101,32 +107,42 @@ module _ (w : World) (s : State) where
   unfolding rust.two-quantities
   two-scalars k k' next = pop-scalar-agrees w s s _ _ (λ y r. pop-scalar-agrees w s (withStack r s) _ _ (λ x q. next y x q))
 
-  computed : (op : Float → Float → Float)
-      → Agrees w (poppingScalar (s .stack) (λ n. faulted n s) (λ y r. poppingScalar r (λ n. faulted n s) (λ x q. went (withStack (v.Scalar (op x y) ∷ q) s))))
-      (rust.arithmetic op (rustAt w s))
-  unfolding rust.arithmetic push rustOf meaning meaningTo treeOf Agrees
-  computed op = two-scalars _ _ (λ y x q. refl)
+  -- a result, which a strict machine refuses if it has escaped; the Rust goes on with it
+  pushes-result : (o : Arith) (y x : Float) (q : List Value) (b : Bool) → (w .strict && resultOf o x y .escaped) ≡ b
+      → Agrees w (if b then faulted f.NotFinite s else went (withStack (v.Scalar (resultOf o x y .value) ∷ q) s))
+      (rust.went (push (rustAt w (withStack q s)) (scalar (resultOf o x y .value))))
+  unfolding push rustOf meaning meaningTo treeOf Agrees FaultsAs resultOf
+  pushes-result o y x q true e =
+      let result = arithOf o x y in
+      let escaped = and-right (w .strict) (finite x && finite y && not (finite result)) e in
+      record { number = result; rest = map tree q; escaped = not-so (finite result) (and-right (finite x && finite y) (not (finite result)) escaped); is = refl }
+  pushes-result o y x q false e = refl
+
+  computed : (o : Arith) → ((y : Float) → zeroDivisor o y ≡ false) → Agrees w (arithmeticStep w o s) (rust.arithmetic (arithOf o) (rustAt w s))
+  unfolding arithmeticStep rust.arithmetic resultOf
+  computed o fine = two-scalars _ _ (λ y x q. rw (fine y) (pushes-result o y x q (w .strict && resultOf o x y .escaped) refl))
 
   divided : (y x : Float) (q : List Value) (b : Bool)
-      → Agrees w (if b then faulted f.ZeroDivisor s else went (withStack (v.Scalar (f64.div binary64 x y) ∷ q) s))
+      → Agrees w (if b then faulted f.ZeroDivisor s else
+      (if w .strict && resultOf a.Divide x y .escaped then faulted f.NotFinite s else went (withStack (v.Scalar (resultOf a.Divide x y .value) ∷ q) s)))
       (if b then rust.division-by-zero (rustAt w (withStack q s)) else rust.went (push (rustAt w (withStack q s)) (scalar (f64.div binary64 x y))))
-  unfolding push rustOf meaning meaningTo treeOf Agrees FaultsAs DividesByZero
+  unfolding push rustOf meaning meaningTo treeOf Agrees FaultsAs DividesByZero resultOf arithOf
   divided y x q true = (map tree q, refl)
-  divided y x q false = refl
+  divided y x q false = pushes-result a.Divide y x q (w .strict && resultOf a.Divide x y .escaped) refl
 
-  pub adds : Agrees w (arithmeticStep a.Add s) (rust.arithmetic (f64.add binary64) (rustAt w s))
-  unfolding arithmeticStep arithOf zeroDivisor
-  adds = computed (f64.add binary64)
+  pub adds : Agrees w (arithmeticStep w a.Add s) (rust.arithmetic (f64.add binary64) (rustAt w s))
+  unfolding arithOf zeroDivisor
+  adds = computed a.Add (λ y. refl)
 
-  pub subtracts : Agrees w (arithmeticStep a.Subtract s) (rust.arithmetic (f64.sub binary64) (rustAt w s))
-  unfolding arithmeticStep arithOf zeroDivisor
-  subtracts = computed (f64.sub binary64)
+  pub subtracts : Agrees w (arithmeticStep w a.Subtract s) (rust.arithmetic (f64.sub binary64) (rustAt w s))
+  unfolding arithOf zeroDivisor
+  subtracts = computed a.Subtract (λ y. refl)
 
-  pub multiplies : Agrees w (arithmeticStep a.Multiply s) (rust.arithmetic (f64.mul binary64) (rustAt w s))
-  unfolding arithmeticStep arithOf zeroDivisor
-  multiplies = computed (f64.mul binary64)
+  pub multiplies : Agrees w (arithmeticStep w a.Multiply s) (rust.arithmetic (f64.mul binary64) (rustAt w s))
+  unfolding arithOf zeroDivisor
+  multiplies = computed a.Multiply (λ y. refl)
 
-  pub divides : Agrees w (arithmeticStep a.Divide s) (rust.checked-div (rustAt w s))
+  pub divides : Agrees w (arithmeticStep w a.Divide s) (rust.checked-div (rustAt w s))
   unfolding arithmeticStep arithOf zeroDivisor rust.checked-div
   divides = two-scalars _ _ (λ y x q. divided y x q (f64.eq y (fin false 0 (pos 0))))
 

@@ -1,6 +1,6 @@
--- The other way: what the Rust comes to is what the rules answer, if they meet no limit. More turns change nothing of an end.
+-- The other way: what the Rust comes to is what the rules answer, if they meet no limit and, on a strict machine, do not fault by 26. More turns change nothing of an end.
 use mathlib.Core.Path.{_≡_, refl, sym, ap, subst, _∙_}
-use mathlib.Core.Bool.{Bool, true, false, true≢false}
+use mathlib.Core.Bool.{Bool, true, false, _&&_, true≢false}
 use mathlib.Core.Option.{Option, none, some}
 use Prim.Native.Nat.{ℕ, zero, suc, _+_, _≤_}
 use native.Mathlib.Omega.{arith}
@@ -78,7 +78,7 @@ module _ (w : World) (m : Machine) (u : ℕ) where
   answers-as e q a = subst (AnswersAs w (givenUp w (partOf w (m .stack) u e))) (sym q) a
 
   -- where x is what `run` comes to
-  answers-so : (e : Ended) → Unlimited e → (x : Result) → RunAs w (givenUp w (partOf w (m .stack) u e) .machine) e x → AnswersAs w (givenUp w (partOf w (m .stack) u e)) x
+  answers-so : (e : Ended) → Unlimited w e → (x : Result) → RunAs w (givenUp w (partOf w (m .stack) u e) .machine) e x → AnswersAs w (givenUp w (partOf w (m .stack) u e)) x
   unfolding RunAs Unlimited partOf givenUp faultNumber IsFault AnswersAs
   answers-so (ended k s) l x h = answers-as (ended k s) h (answered-so s (k .answer) _, refl)
   answers-so (stopped f.UnknownOpcode s k) l x h = answers-as (stopped f.UnknownOpcode s k) h refl
@@ -89,6 +89,7 @@ module _ (w : World) (m : Machine) (u : ℕ) where
   answers-so (stopped f.OutOfRange s k) l x h = answers-as (stopped f.OutOfRange s k) h refl
   answers-so (stopped f.NoLastResult s k) l x h = answers-as (stopped f.NoLastResult s k) h refl
   answers-so (stopped f.ZeroDivisor s k) l x h = answers-as (stopped f.ZeroDivisor s k) h (refl, refl)
+  answers-so (stopped f.NotFinite s k) l x h = absurd (true≢false (sym (ap (λ (b : Bool). b && true) h) ∙ l))
   answers-so (stopped f.StackFull s k) l x h = absurd (true≢false l)
   answers-so (stopped f.FramesFull s k) l x h = absurd (true≢false l)
   answers-so (stopped f.CellsFull s k) l x h = absurd (true≢false l)
@@ -98,7 +99,7 @@ module _ (w : World) (m : Machine) (u : ℕ) where
 
 -- THE THEOREM, THE OTHER WAY: whatever the Rust comes to, in however many turns, the rules answer, and leave the machine that it leaves
 pub rust-same : (w : World) → SaneWorld w → length (w .functions) ≤ 65536 → (m : Machine) (u : ℕ) → Sane w (begin m u)
-    → Unlimited (endOf w (begin m u)) → (turns : ℕ) → AnswersAs w (runOf w m u) (rust.run turns (rustOf w m))
+    → Unlimited w (endOf w (begin m u)) → (turns : ℕ) → AnswersAs w (runOf w m u) (rust.run turns (rustOf w m))
 unfolding runOf
 rust-same w good few m u sane l turns = on (rust.run turns (rustOf w m)) (ends-same w good few m u sane turns)
   where
@@ -111,7 +112,7 @@ rust-same w good few m u sane l turns = on (rust.run turns (rustOf w m)) (ends-s
     on rust.goes-on h = unfold AnswersAs in tt
 
 -- so, if the Rust answers Ok, the rules answer that value, or "continue", and leave a machine that is the Rust's
-pub ok-same : (w : World) → SaneWorld w → length (w .functions) ≤ 65536 → (m : Machine) (u : ℕ) → Sane w (begin m u) → Unlimited (endOf w (begin m u))
+pub ok-same : (w : World) → SaneWorld w → length (w .functions) ≤ 65536 → (m : Machine) (u : ℕ) → Sane w (begin m u) → Unlimited w (endOf w (begin m u))
     → (turns : ℕ) (r : Option Tree) (vm : Vm) → rust.run turns (rustOf w m) ≡ rust.ok r vm
     → Means w (runOf w m u .machine) (runOf w m u .reply) r × (vm ≡ rustOf w (runOf w m u .machine))
 unfolding AnswersAs

@@ -14,6 +14,8 @@ pub mod Calls
 pub mod Builds
 -- a step, and a turn of the loop
 pub mod Turns
+-- 26 comes of a strict machine alone
+pub mod Strict
 -- a run
 pub mod Loop
 pub mod Back

@@ -1,4 +1,4 @@
--- THE RUN: from a machine in good order the rules' run and the Rust's `run` come to the same, if no limit of the rules is met.
+-- THE RUN: from a machine in good order the rules' run and the Rust's `run` come to the same, if no limit of the rules is met and no strict machine faults by 26.
 use mathlib.Core.Path.{_≡_, refl, sym, ap, subst, _∙_}
 use mathlib.Core.Bool.{Bool, true, false}
 use mathlib.Core.List.{List, [], _∷_, map}
@@ -29,6 +29,7 @@ use Rattle.laws_rust.specs.Same.{chunkOf, frameOf, lastIn, rustOf, rustA
 use Rattle.laws_rust.proofs.Reading.{end-is-over}
 use Rattle.laws_rust.proofs.Stacks.{stack-grown, last-grown}
 use Rattle.laws_rust.proofs.Turns.{step-same}
+use Rattle.laws_rust.proofs.Strict.{Tells, a-fault-tells}
 
 -- ---- one turn
 
@@ -113,22 +114,23 @@ module _ (w : World) (m : Machine) (u : ℕ) (sane : Sane w (begin m u)) (k : Pr
     unfolding rust.clean-up
     comes-to-panic h = ap (rust.clean-up (rustAt w (begin m u))) (panicked-behind turns r d h)
 
-    stops-so : (n : Fault) → FaultsAs (rustAt w t) n d
+    stops-so : (n : Fault) → Tells w n → FaultsAs (rustAt w t) n d
         → RunAs w (recovered w (m .stack) k) (stopped n t k) (rust.clean-up (rustAt w (begin m u)) (rust.behind (run-without-cleanup (suc turns)) r d))
     unfolding FaultsAs RunAs DividesByZero rust.clean-up rust.behind
-    stops-so f.UnknownOpcode h = comes-to h
-    stops-so f.NotCarried h = comes-to h
-    stops-so f.CodeEnds h = comes-to-panic h
-    stops-so f.TooFewValues h = comes-to-panic h
-    stops-so (f.WrongKind v) h = comes-to-panic h
-    stops-so f.OutOfRange h = comes-to-panic h
-    stops-so f.NoLastResult h = comes-to-panic h
-    stops-so f.ZeroDivisor h = comes-to (h .1) ∙ ap rust.err (cleaned-is (h .0))
-    stops-so f.StackFull h = tt
-    stops-so f.FramesFull h = tt
-    stops-so f.CellsFull h = tt
-    stops-so f.TooDeep h = tt
-    stops-so f.NoFunction h = comes-to-panic h
+    stops-so f.UnknownOpcode tells h = comes-to h
+    stops-so f.NotCarried tells h = comes-to h
+    stops-so f.CodeEnds tells h = comes-to-panic h
+    stops-so f.TooFewValues tells h = comes-to-panic h
+    stops-so (f.WrongKind v) tells h = comes-to-panic h
+    stops-so f.OutOfRange tells h = comes-to-panic h
+    stops-so f.NoLastResult tells h = comes-to-panic h
+    stops-so f.ZeroDivisor tells h = comes-to (h .1) ∙ ap rust.err (cleaned-is (h .0))
+    stops-so f.NotFinite tells h = tells
+    stops-so f.StackFull tells h = tt
+    stops-so f.FramesFull tells h = tt
+    stops-so f.CellsFull tells h = tt
+    stops-so f.TooDeep tells h = tt
+    stops-so f.NoFunction tells h = comes-to-panic h
 
 -- ---- a run
 
@@ -169,7 +171,7 @@ module _ (w : World) (good : SaneWorld w) (few : length (w .functions) ≤ 65536
         let d : FaultsAs (rustAt w t) n (rust.turn (rustAt w (by .at))) = does w good few before (by .goes-on) (by .stops) in
         rw (z, turns-to (suc (u - by .steps - 1 + turns)))
         (stops-so w m u sane k t (path-mark w good sane (mark-sane sane) (by .path)) (so .last ∙ sym (adds .1)) (mark-grows w (marked (begin m u)) (by .path))
-        (grows-on (so .heap) (adds .0)) _ _ _ n d)
+        (grows-on (so .heap) (adds .0)) _ _ _ n (a-fault-tells w (by .at) (by .stops)) d)
 
     stopped-same : (turns : ℕ) → RunAs w (givenUp w (partOf w (m .stack) u (stopped n t k)) .machine) (stopped n t k) (rust.run (suc u + turns) (rustAt w (begin m u)))
     unfolding partOf givenUp RunAs

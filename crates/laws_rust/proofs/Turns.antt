@@ -152,7 +152,7 @@ module _ (w : World) (good : SaneWorld w) (few : length (w .functions) ≤ 65536
     decodes-the-same (r then rs) zero = row-same r
     decodes-the-same (r then rs) (suc byte) = decodes-the-same rs byte
 
--- THE THEOREM: a step of the rules does what a turn of the Rust's loop does; of limits and units the Rust knows nothing
+-- THE THEOREM: a step of the rules does what a turn of the Rust's loop does; of limits and units the Rust knows nothing, and it has no strict machine
 pub step-same : (w : World) → SaneWorld w → length (w .functions) ≤ 65536 → (s : State) → Sane w s → over w s ≡ false
     → Agrees w (stepOf w s) (rust.turn (rustAt w s))
 unfolding stepOf over fetched opcodeAt codeOf rust.turn Agrees FaultsAs

@@ -5,14 +5,16 @@ use mathlib.Core.List.{List, [], _∷_, map}
 use mathlib.Core.Option.{Option, none, some}
 use Prim.Native.Nat.{ℕ}
 use lib.Dec.{leb, eqb}
+use lib.Ieee.{Float}
 use Rattle.model.specs.declared.Last.{Last}
 use Rattle.model.specs.declared.Last.the-variants.{Nothing, Is}
 use Rattle.model.specs.declared.Fault.{Fault}
 use Rattle.model.specs.declared.Fault.the-variants as f
 use Rattle.model.specs.declared.Frame.{Frame}
 use Rattle.model.specs.Values.{faultNumber}
+use Rattle.model.specs.Scalars.{finite}
 use Rattle.model.specs.Heap.{Cell}
-use Rattle.model.specs.Trees.{Tree, meaning}
+use Rattle.model.specs.Trees.{Tree, meaning, scalar}
 use Rattle.model.specs.Programs.{Function}
 use Rattle.model.specs.Steps.{World, State, Outcome, went, returned, faulted, short}
 use Rattle.model.specs.Runs.{Machine, Ended, ended, stopped, paused, Reply, value, continue, fault, Ran}
@@ -31,7 +33,7 @@ abbrev pub lastIn : List ℕ → List Cell → Last → Option Tree
 lastIn t H Nothing = none
 lastIn t H (Is v) = some (meaning t H v)
 
--- a machine between runs, and so the state of a run: units, when frames were entered, and cells are not the Rust's
+-- a machine between runs, and so the state of a run: units, when frames were entered, cells, and the setting are not the Rust's
 unfoldable pub rustOf : World → Machine → Vm
 rustOf w m = record {
   bytecode = map chunkOf (w .functions);
@@ -60,7 +62,15 @@ Panics rust.not-carried = ⊥
 unfoldable pub DividesByZero : Vm → Did → Type 0
 DividesByZero vm d = (vs : List Tree) × (d ≡ rust.division-by-zero (rust.with-stack vs vm))
 
--- THE TABLE: what the Rust does where the rules fault, from a state that is the Rust's vm. Of a limit it knows nothing.
+-- the Rust goes on from vm: the operands are popped, and a number that is not finite is pushed
+pub record GoesOn (vm : Vm) (d : Did) : Type 0 where
+  pub number : Float
+  pub rest : List Tree
+  pub escaped : finite number ≡ false
+  pub is : d ≡ rust.went (rust.with-stack (scalar number ∷ rest) vm)
+
+-- THE TABLE: what the Rust does where the rules fault, from a state that is the Rust's vm. Of a limit it knows nothing; and it has no strict machine: where
+-- one faults by 26, it goes on.
 unfoldable pub FaultsAs : Vm → Fault → Did → Type 0
 FaultsAs vm f.UnknownOpcode d = d ≡ rust.cast
 FaultsAs vm f.NotCarried d = d ≡ rust.not-carried
@@ -70,6 +80,7 @@ FaultsAs vm (f.WrongKind v) d = Panics d
 FaultsAs vm f.OutOfRange d = Panics d
 FaultsAs vm f.NoLastResult d = Panics d
 FaultsAs vm f.ZeroDivisor d = DividesByZero vm d
+FaultsAs vm f.NotFinite d = GoesOn vm d
 FaultsAs vm f.StackFull d = Unit {0}
 FaultsAs vm f.FramesFull d = Unit {0}
 FaultsAs vm f.CellsFull d = Unit {0}
@@ -85,7 +96,7 @@ Agrees w short d = Unit {0}
 
 -- ---- a run
 
--- what `run` answers where the rules' run ends so; `left` is the machine that it leaves
+-- what `run` answers where the rules' run ends so; `left` is the machine that it leaves. Where it ends in 26, the machine is strict, and the Rust goes on
 unfoldable pub RunAs : World → (left : Machine) → Ended → Result → Type 0
 RunAs w left (ended k s) r = r ≡ rust.ok (lastIn (w .text) (s .heap) (k .answer)) (rustOf w left)
 RunAs w left (stopped f.UnknownOpcode s k) r = r ≡ rust.casts
@@ -96,6 +107,7 @@ RunAs w left (stopped (f.WrongKind v) s k) r = r ≡ rust.panics
 RunAs w left (stopped f.OutOfRange s k) r = r ≡ rust.panics
 RunAs w left (stopped f.NoLastResult s k) r = r ≡ rust.panics
 RunAs w left (stopped f.ZeroDivisor s k) r = r ≡ rust.err (rustOf w left)
+RunAs w left (stopped f.NotFinite s k) r = w .strict ≡ true
 RunAs w left (stopped f.StackFull s k) r = Unit {0}
 RunAs w left (stopped f.FramesFull s k) r = Unit {0}
 RunAs w left (stopped f.CellsFull s k) r = Unit {0}
@@ -114,11 +126,15 @@ Ends rust.casts = Unit
 Ends rust.leaves = Unit
 Ends rust.goes-on = ⊥
 
--- no limit is met: the rules' run does not stop by 9 to 12, and its units reach
-unfoldable pub Unlimited : Ended → Type 0
-Unlimited (ended k s) = Unit {0}
-Unlimited (stopped n s k) = leb 9 (faultNumber n) && leb (faultNumber n) 12 ≡ false
-Unlimited (paused k s) = ⊥
+-- faults that are not the Rust's: those for a limit, and, on a strict machine, 26. On a machine that is not strict 26 never comes, and nothing is left out for it
+abbrev pub notTheRusts : (strict : Bool) → ℕ → Bool
+notTheRusts strict n = (leb 9 n && leb n 12) || (strict && eqb n 26)
+
+-- no limit is met: the rules' run does not stop by 9 to 12, nor, on a strict machine, by 26, and its units reach
+unfoldable pub Unlimited : World → Ended → Type 0
+Unlimited w (ended k s) = Unit {0}
+Unlimited w (stopped n s k) = notTheRusts (w .strict) (faultNumber n) ≡ false
+Unlimited w (paused k s) = ⊥
 
 -- the answer is that value, or "continue" if there is none
 unfoldable pub Means : World → Machine → Reply → Option Tree → Type 0

@@ -1,5 +1,5 @@
 -- [rust] numbat's vm.rs (source document 000), its carried part, arm by arm, in its order and names (a hyphen for an underscore). The numbers beside
--- are lines of vm.rs. It knows no limits, units, cells or numbers of document 01. A `Quantity` is an f64; overflow checks are on.
+-- are lines of vm.rs. It knows no limits, units, cells or numbers of document 01, and no strict machine. A `Quantity` is an f64; overflow checks are on.
 -- Decided differences: the sign of a zero that Add or Subtract gives, and a list compared with itself (docs/DIFFERENCES.md, 1 and 2).
 use mathlib.Core.Bool.{Bool, true, false, not, _&&_, _||_, Bool·beq}
 use mathlib.Core.List.{List, [], _∷_, reverse}

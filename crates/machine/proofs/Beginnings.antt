@@ -19,7 +19,7 @@ use Rattle.model.specs.Programs.{functionAt}
 use Rattle.model.specs.Steps.{World}
 use Rattle.model.specs.Runs.{standing, begin, Entry}
 use Rattle.model.specs.Stores.{Stores, size, codeWord, functionsFrom, worldIn}
-use Rattle.model.specs.Machines.{Lent, frameRoom, innermost, machineIn, worldOf, RunAnswer, ran, refused, begins, entryWords, traceOfReply, traceOfPart, answerIn, Left, RunPost}
+use Rattle.model.specs.Machines.{unchanged, Lent, frameRoom, innermost, machineIn, worldOf, RunAnswer, ran, refused, begins, entryWords, traceOfReply, traceOfPart, answerIn, Left, RunPost}
 use Rattle.laws_runs.specs.Sane.{Sane}
 use Rattle.laws_runs.specs.Parts.{SanePart}
 use Rattle.laws_runs.specs.Ordered.{CodeBytes, Exact}
@@ -92,7 +92,7 @@ module _ (m : Vm) (s : Stores) (l : Lent) (g : Granted begins m s l) where
       let known : here .function < length (functionsFrom (m .program .functions) 0 s) = rw here-is at inner in
       code-size (m .program) s p (here .function) (omega (arith, length-functions s (m .program .functions) 0))
 
-  says : answerIn left (begunWith m here (s .functions)) ≡ ran (m .program) (comesTo m s l begins)
+  says : answerIn left (begunWith m here (s .functions)) ≡ ran (unchanged m) (comesTo m s l begins)
   says =
       unfold runLent in
       a-beginning-answers-by-the-rules m l left world begun-there (s .functions) here (sym here-is) its-code (same-vals (m .stack) copied (l .stack) same-words)
@@ -131,9 +131,9 @@ module _ (m : Vm) (s : Stores) (l : Lent) (g : Granted begins m s l) where
   left-by : CodeBytes s → (b : Bool) → leb (size (codeWord (s .functions) (here .function))) (here .position) ≡ b → Left s l (begunWith m here (s .functions)) left
   unfolding begunWith answerIn
   left-by bytes true e = rw e
-      (leaves-idle s (g .order) (unfold runLent in record { program = refl; stack = refl; cells = refl; frames = unentered-room (m .frames) (l .frames) }) exact refl (rw e at (sane bytes)))
+      (leaves-idle s (g .order) (unfold runLent in record { program = refl; strict = refl; stack = refl; cells = refl; frames = unentered-room (m .frames) (l .frames) }) exact refl (rw e at (sane bytes)))
   left-by bytes false e = rw e
-      (leaves-under s (g .order) (unfold vmBegun runLent in record { program = refl; stack = refl; cells = refl; frames = unentered-room (m .frames) (l .frames) }) begun-exact (unfold vmBegun in refl)
+      (leaves-under s (g .order) (unfold vmBegun runLent in record { program = refl; strict = refl; stack = refl; cells = refl; frames = unentered-room (m .frames) (l .frames) }) begun-exact (unfold vmBegun in refl)
       paused-exact (rw e at (sane bytes)))
 
   nothing-told : (b : Bool) → leb (size (codeWord (s .functions) (here .function))) (here .position) ≡ b → tells (answerIn left (begunWith m here (s .functions))) ≡ []

@@ -25,7 +25,7 @@ use Rattle.model.specs.Programs.{Function}
 use Rattle.model.specs.Runs.{Part}
 use Rattle.model.specs.Stores.{Stores, functionsFrom}
 use Rattle.model.specs.Orders.{cellsOk, stackOk, functionOk, functionsOk, framesOk, frameStoreOk}
-use Rattle.model.specs.Machines.{Lent, frameRoom, runOrder, copyShort, traceShort, RunAnswer, ran, refused, RunCall, begins, continues, abandons, runAnswer, beginAnswer, continueAnswer, abandonAnswer, copied, copyAfter, traceAfter, answerIn, RunPost, refusalOf}
+use Rattle.model.specs.Machines.{Unchanged, unchanged, Lent, frameRoom, runOrder, copyShort, traceShort, RunAnswer, ran, refused, RunCall, begins, continues, abandons, runAnswer, beginAnswer, continueAnswer, abandonAnswer, copied, copyAfter, traceAfter, answerIn, RunPost, refusalOf}
 use Rattle.value.proofs.Coding.{and-left, and-right}
 use Rattle.laws_runs.proofs.Tests.{every-of}
 use Rattle.laws_runs.proofs.Programs.{Parts}
@@ -62,7 +62,7 @@ module _ (m : Vm) (s : Stores) (l : Lent) where
 
 -- ---- the tests that a call has passed which is not refused
 
-module _ (k : Counts) (x : Part) where
+module _ (k : Unchanged) (x : Part) where
   begins-by : (order on short : Bool) → refusalOf (if order then (if on then refused 25 else (if short then refused 17 else ran k x)) else refused 19) ≡ 0
       → (order ≡ true) × ((on ≡ false) × (short ≡ false))
   unfolding refusalOf
@@ -92,12 +92,12 @@ module _ (k : Counts) (x : Part) where
 module _ (m : Vm) (s : Stores) (l : Lent) where
   pub granted-by : (c : RunCall) {n : ℕ} → n ≡ refusalOf (runAnswer c m s l) → n ≡ 0 → Granted c m s l
   unfolding runAnswer beginAnswer continueAnswer abandonAnswer
-  granted-by begins e z = let t = begins-by (m .program) _ (runOrder m s l) (m .run .on) (copyShort l) (sym e ∙ z) in record { order = t .0; fits = t .1 }
+  granted-by begins e z = let t = begins-by (unchanged m) _ (runOrder m s l) (m .run .on) (copyShort l) (sym e ∙ z) in record { order = t .0; fits = t .1 }
   granted-by (continues u) e z =
-      let t = continues-by (m .program) _ (runOrder m s l) (m .run .on) (traceShort l) (ltb 0xFFFF_FFFF_FFFF_FFFF (m .run .given + u)) (sym e ∙ z) in
+      let t = continues-by (unchanged m) _ (runOrder m s l) (m .run .on) (traceShort l) (ltb 0xFFFF_FFFF_FFFF_FFFF (m .run .given + u)) (sym e ∙ z) in
       let few : m .run .given + u ≤ 0xFFFF_FFFF_FFFF_FFFF = ltb-false _ _ (t .1 .1 .1) in
       record { order = t .0; fits = (t .1 .0, (t .1 .1 .0, omega arith)) }
-  granted-by abandons e z = let t = abandons-by (m .program) _ (runOrder m s l) (m .run .on) (traceShort l) (sym e ∙ z) in record { order = t .0; fits = t .1 }
+  granted-by abandons e z = let t = abandons-by (unchanged m) _ (runOrder m s l) (m .run .on) (traceShort l) (sym e ∙ z) in record { order = t .0; fits = t .1 }
 
 -- ---- bounds
 

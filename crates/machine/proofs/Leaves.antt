@@ -12,7 +12,6 @@ use Prim.Native.Nat.{ℕ, _+_, _-_, _*_, _≤_}
 use native.Mathlib.Omega.{arith}
 use borrow.Author.Tests.{le-ltb}
 use lib.ListN.{take}
-use Rattle.model.specs.declared.Counts.{Counts}
 use Rattle.model.specs.declared.Vm.{Vm}
 use Rattle.model.specs.declared.RunResult.{RunResult}
 use Rattle.model.specs.Basics.{if_then_else_, written}
@@ -20,7 +19,7 @@ use Rattle.model.specs.Values.{places}
 use Rattle.model.specs.Runs.{Part, ends, beginOf, continueOf, abandonOf}
 use Rattle.model.specs.Stores.{Stores, worldIn}
 use Rattle.model.specs.Orders.{programOk}
-use Rattle.model.specs.Machines.{Lent, frameRoom, machineIn, underIn, worldOf, runOrder, ran, refused, RunCall, begins, continues, abandons, runAnswer, beginAnswer, continueAnswer, abandonAnswer, copied, copyAfter, entryWords, traceOfPart, traceAfter, noRun, SameRooms, Leaves, Left, RunPost}
+use Rattle.model.specs.Machines.{Unchanged, unchanged, Lent, frameRoom, machineIn, underIn, worldOf, runOrder, ran, refused, RunCall, begins, continues, abandons, runAnswer, beginAnswer, continueAnswer, abandonAnswer, copied, copyAfter, entryWords, traceOfPart, traceAfter, noRun, SameRooms, Leaves, Left, RunPost}
 use Rattle.model.specs.Machines as mc
 use Rattle.laws_runs.specs.Sane.{Sane}
 use Rattle.laws_runs.specs.Parts.{SaneUnder, SaneMachine, SanePart}
@@ -32,7 +31,7 @@ use Rattle.machine.specs.Links.{Granted}
 
 -- ---- the part that a granted call is
 
-module _ (k : Counts) (x : Part) {order on short : Bool} where
+module _ (k : Unchanged) (x : Part) {order on short : Bool} where
   begun-by : order ≡ true → on ≡ false → short ≡ false → (if order then (if on then refused 25 else (if short then refused 17 else ran k x)) else refused 19) ≡ ran k x
   begun-by o r h = rw (o, r, h)
 
@@ -55,13 +54,13 @@ copyLeft m l (continues u) = l .copy
 copyLeft m l abandons = l .copy
 
 module _ (m : Vm) (s : Stores) (l : Lent) where
-  pub answers : (c : RunCall) → Granted c m s l → runAnswer c m s l ≡ ran (m .program) (comesTo m s l c)
+  pub answers : (c : RunCall) → Granted c m s l → runAnswer c m s l ≡ ran (unchanged m) (comesTo m s l c)
   unfolding runAnswer beginAnswer continueAnswer abandonAnswer
-  answers begins g = begun-by (m .program) _ (g .order) (g .fits .0) (g .fits .1)
+  answers begins g = begun-by (unchanged m) _ (g .order) (g .fits .0) (g .fits .1)
   answers (continues u) g =
       let few : m .run .given + u ≤ 0xFFFF_FFFF_FFFF_FFFF = let z = g .fits .1 .1 in omega arith in
-      continued-by (m .program) _ (g .order) (g .fits .0) (g .fits .1 .0) (le-ltb _ _ few)
-  answers abandons g = abandoned-by (m .program) _ (g .order) (g .fits .0) (g .fits .1)
+      continued-by (unchanged m) _ (g .order) (g .fits .0) (g .fits .1 .0) (le-ltb _ _ few)
+  answers abandons g = abandoned-by (unchanged m) _ (g .order) (g .fits .0) (g .fits .1)
 
   pub part-sane : (c : RunCall) → Granted c m s l → CodeBytes s → SanePart (worldOf m s l) (comesTo m s l c)
   part-sane begins g b = begun-sane (worldOf m s l) (order-world m s l (g .order) b) (machineIn m l) (order-sane m s l (g .order) 0)
@@ -72,11 +71,11 @@ module _ (m : Vm) (s : Stores) (l : Lent) where
 
   copy-is : (c : RunCall) → Granted c m s l → copyLeft m l c ≡ copyAfter c m s l
   unfolding copyAfter copied
-  copy-is begins g = let e : beginAnswer m s l ≡ ran (m .program) (comesTo m s l begins) = unfold runAnswer in answers begins g in rw e
+  copy-is begins g = let e : beginAnswer m s l ≡ ran (unchanged m) (comesTo m s l begins) = unfold runAnswer in answers begins g in rw e
   copy-is (continues u) g = refl
   copy-is abandons g = refl
 
-  pub posted : (c : RunCall) → Granted c m s l → {x : Part} → comesTo m s l c ≡ x → (r : RunResult) (l' : Lent) → mc.answerIn l' r ≡ ran (m .program) x
+  pub posted : (c : RunCall) → Granted c m s l → {x : Part} → comesTo m s l c ≡ x → (r : RunResult) (l' : Lent) → mc.answerIn l' r ≡ ran (unchanged m) x
       → l' .copy ≡ copyLeft m l c → l' .backtrace ≡ written (l .backtrace) 0 (entryWords (traceOfPart x)) → SameRooms l l' → Left s l r l' → RunPost c m s l r l'
   unfolding traceAfter
   posted c g q r l' a e b x z = record {

@@ -31,7 +31,7 @@ use Rattle.run_arms.specs.declared.Fixed.{Fixed}
 use Rattle.run_steps.specs.Links as st
 use Rattle.run_loop.specs.Links.{codeIn}
 
--- the counts and rooms that no step changes, and the u units that are given in all
+-- the counts and rooms that no step changes, the u units that are given in all, and the setting
 pub record FixedIn (m : Vm) (l : Lent) (u : ℕ) (k : Fixed) : Type 0 where
   pub constants : k .constants ≡ m .program .constants
   pub structs : k .structs ≡ m .program .structs
@@ -39,6 +39,7 @@ pub record FixedIn (m : Vm) (l : Lent) (u : ℕ) (k : Fixed) : Type 0 where
   pub slots : k .slots ≡ places 2 (l .stack)
   pub frames : k .frames ≡ frameRoom (l .frames)
   pub given : k .given ≡ u
+  pub strict : k .strict ≡ m .strict
 
 -- a part of the front of a store is a part of the store
 part-taken : (t : ℕ) (xs : List ℕ) (w : ℕ) → t ≤ length xs → start w + size w ≤ t → part (take t xs) w ≡ part xs w
@@ -90,6 +91,7 @@ module _ (m : Vm) (s : Stores) (l : Lent) {u : ℕ} (k : Fixed) (x : FixedIn m l
           functions = length-functions s (c .functions) 0 ∙ sym (x .functions);
           stackRoom = sym (x .slots);
           frameRoom = sym (x .frames);
+          strict = sym (x .strict);
         };
         values = rw (x .constants);
         room = rw (x .constants) (constants-there c s p);

@@ -16,6 +16,7 @@ use Rattle.model.specs.declared.Vm.{Vm}
 use Rattle.model.specs.declared.Told.{Told}
 use Rattle.model.specs.declared.RunResult.{RunResult}
 use Rattle.model.specs.declared.Started.{Started}
+use Rattle.model.specs.declared.Changed.{Changed}
 use Rattle.run_arms.specs.declared.Fixed.{Fixed}
 use Rattle.run_arms.specs.declared.Going.{Going}
 use Rattle.run_loop.specs.declared.Course.{Course}
@@ -25,6 +26,8 @@ use Rattle.model.proofs.Told as O
 use Rattle.model.proofs.Told.Laws as O′
 use Rattle.model.proofs.Started as B
 use Rattle.model.proofs.Started.Laws as B′
+use Rattle.model.proofs.Changed as X
+use Rattle.model.proofs.Changed.Laws as X′
 use Rattle.model.proofs.RunResult as Q
 use Rattle.model.proofs.RunResult.Laws as Q′
 use Rattle.run_arms.proofs.Fixed as F
@@ -81,6 +84,20 @@ IsStarted x = Is StartedRow x (startedVal x ∷ [])
 
 pub started-tells : Tells StartedRow (Is StartedRow) (λ x. startedVal x ∷ [])
 started-tells = B′.lowers .val-is
+
+-- ---- what changing the setting answers
+
+abbrev pub ChangedRow : RattleType
+ChangedRow = X.the-row
+
+abbrev pub changedVal : Changed → Val
+changedVal = X′.lowered
+
+abbrev pub IsChanged : Changed → Type 0
+IsChanged x = Is ChangedRow x (changedVal x ∷ [])
+
+pub changed-tells : Tells ChangedRow (Is ChangedRow) (λ x. changedVal x ∷ [])
+changed-tells = X′.lowers .val-is
 
 -- ---- what a run answers
 
@@ -189,3 +206,9 @@ module _ {M : Type 1} (𝓤 : URA M) (H : Heap 𝓤) (A : Atoms 𝓤) (W : Given
 
   pub started-makes : Makes 𝓤 H A StartedRow (Is StartedRow)
   started-makes = EL.makes B.the-type B′.the-plain 𝓤 H A
+
+  pub changed-typed : (x : Changed) → IsChanged x → T (hasTy X′.mir (changedVal x)) × WT (changedVal x)
+  changed-typed x is = EL.lawful X.the-type X′.the-laws 𝓤 H A W tt .typed x _ is .0
+
+  pub changed-makes : Makes 𝓤 H A ChangedRow (Is ChangedRow)
+  changed-makes = EL.makes X.the-type X′.the-plain 𝓤 H A

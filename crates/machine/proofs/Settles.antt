@@ -82,6 +82,7 @@ some-fault (f.WrongKind v) = refl
 some-fault f.OutOfRange = refl
 some-fault f.NoLastResult = refl
 some-fault f.ZeroDivisor = refl
+some-fault f.NotFinite = refl
 some-fault f.StackFull = refl
 some-fault f.FramesFull = refl
 some-fault f.CellsFull = refl
@@ -193,7 +194,7 @@ module _ (m : Vm) (s : Stores) (l : Lent) (u : ℕ) (k : Fixed) (g : Going) (c :
     leaves-ended : Leaves false (vmEnded m now) s left
     leaves-ended =
         leaves-idle s (granted .order)
-        (unfold vmEnded in record { program = refl; stack = rooms .stack; cells = rooms .cells; frames = rooms .frames })
+        (unfold vmEnded in record { program = refl; strict = refl; stack = rooms .stack; cells = rooms .cells; frames = rooms .frames })
         (unfold vmEnded runLent in record { cells = h .turns .fits .cells .exact; stack = exact-at (now .sp) stack (h .turns .fits .stack .exact); frames = omega arith })
         (unfold vmEnded in refl)
         (rw machine-ended machine-sane)
@@ -231,7 +232,7 @@ module _ (m : Vm) (s : Stores) (l : Lent) (u : ℕ) (k : Fixed) (g : Going) (c :
     leaves-paused : Leaves true (vmPaused m given now) s left
     leaves-paused =
         leaves-under s (granted .order)
-        (unfold vmPaused in record { program = refl; stack = rooms .stack; cells = rooms .cells; frames = rooms .frames })
+        (unfold vmPaused in record { program = refl; strict = refl; stack = rooms .stack; cells = rooms .cells; frames = rooms .frames })
         (unfold vmPaused runLent in record { cells = h .turns .fits .cells .exact; stack = exact-at (now .sp) stack (h .turns .fits .stack .exact); frames = omega arith })
         (unfold vmPaused in refl) paused-exact under-sane
 

@@ -172,7 +172,7 @@ module _ (c : RunCall) (m : Vm) (s : Stores) (l : Lent) (now : Going) (f : Frame
         (unfold runLent traceOfReply traceOfPart in rw told-words)
         rooms
         (unfold faultedWith in leaves-idle s (h .granted .order)
-        (unfold vmFaulted in record { program = refl; stack = rooms .stack; cells = rooms .cells; frames = rooms .frames })
+        (unfold vmFaulted in record { program = refl; strict = refl; stack = rooms .stack; cells = rooms .cells; frames = rooms .frames })
         exact
         (unfold vmFaulted in refl)
         (rw recovers (h .sane)))

@@ -18,6 +18,7 @@ use crate::tracing::trace_order;
 use crate::tracing::trace_refusal;
 use frames::push_frame;
 use frames::unenter;
+use model::Changed;
 use model::Frame;
 use model::RunResult;
 use model::Started;
@@ -30,10 +31,11 @@ use run_ends::begun;
 use run_ends::continue_refusal;
 use run_ends::copy_front;
 use run_ends::cut_frame;
+use run_ends::set_to;
 ghost use mathlib.Core.Path.{_≡_};
 ghost use mathlib.Core.List.{List};
 ghost use Prim.Native.Nat.{ℕ};
-ghost use Rattle.model.specs.Machines.{backtraceIn, begins, continues, abandons, RunPost, loadMachineOf, newMachineOf};
+ghost use Rattle.model.specs.Machines.{backtraceIn, begins, continues, abandons, RunPost, setStrict, loadMachineOf, newMachineOf};
 ghost use Rattle.model.specs.Stores.{Stores};
 ghost use Rattle.layout.specs.Links.{namesLent};
 ghost use Rattle.model.specs.Stores.{storesOf as lent};
@@ -204,6 +206,44 @@ pub fn abandon(
     }
     let answer = not_run(why);
     answer
+}
+
+// Whether the machine is strict from now on.
+pub fn set_strict(
+    m: Vm,
+    strict: bool,
+    constants: &[u64],
+    structs: &[u64],
+    functions: &[u64],
+    text: &[u8],
+    main: &[u8],
+    main_places: &[u32],
+    other: &[u8],
+    other_places: &[u32],
+    stack: &[u64],
+    cells: &[u64],
+    frames: &[Frame],
+    copy: &[u64],
+) -> Changed
+    ensures { λ r. ⌜ ((backtrace : List ℕ) → r ≡ setStrict strict m (programLent (now (structs .entry)) (now (constants .entry)) (now (functions .entry)) (now (text .entry)) (now (main .entry)) (now («main_places» .entry)) (now (other .entry)) (now («other_places» .entry))) (runLent (now (stack .entry)) (now (cells .entry)) (now (frames .entry)) (now (copy .entry)) backtrace)) ⌝ }
+{
+    let good = order(
+        m,
+        constants,
+        structs,
+        functions,
+        text,
+        main,
+        main_places,
+        other,
+        other_places,
+        stack,
+        cells,
+        frames,
+        copy,
+    );
+    let set = set_to(good, m, strict);
+    set
 }
 
 // The backtrace of a machine's frames, into out, and how many entries it has.

@@ -16,6 +16,8 @@ use Rattle.model.specs.declared.Tally.{Tally}
 use Rattle.model.specs.declared.Vm.{Vm}
 use Rattle.model.specs.declared.Emitted.{Emitted}
 use Rattle.model.specs.declared.Emitted.the-variants as e
+use Rattle.model.specs.declared.Changed.{Changed}
+use Rattle.model.specs.declared.Changed.the-variants as ch
 use Rattle.model.specs.declared.Started.{Started}
 use Rattle.model.specs.declared.Started.the-variants as st
 use Rattle.model.specs.Programs.{Program}
@@ -24,8 +26,8 @@ use Rattle.model.specs.Runs.{Machine, root, Entry, entry, Reply, value, 
 use Rattle.model.specs.Stores.{Stores}
 use Rattle.model.specs.Loading.{laid, countsFor}
 use Rattle.model.specs.Emission.{addOpOf, patchOf, endFunctionOf}
-use Rattle.model.specs.Machines.{Lent, RunAnswer, ran, refused, RunCall, begins, continues, abandons, runAnswer, copyAfter, traceAfter, noRun, loadMachineOf, newMachineOf}
-use Rattle.model.specs.Examples.{n42, n1, alone, scalarOf}
+use Rattle.model.specs.Machines.{Lent, RunAnswer, ran, refused, RunCall, begins, continues, abandons, runAnswer, copyAfter, traceAfter, setStrict, noRun, loadMachineOf, newMachineOf}
+use Rattle.model.specs.Examples.{n42, n1, alone, product, p1-image, scalarOf}
 use Rattle.model.specs.Basics as basics
 use Rattle.model.specs.Opcodes as opcodes
 use Rattle.model.specs.Numbers as numbers
@@ -42,6 +44,8 @@ use Rattle.model.specs.Orders as orders
 use Rattle.model.specs.Emission as emission
 use Rattle.model.specs.Loading as loading
 use Rattle.model.specs.Machines as machines
+use Rattle.model.specs.Reports as reports
+use Rattle.model.specs.Reports.{emptyStores}
 use Rattle.model.specs.Examples as examples
 
 -- ---- the program: a list of 42 is returned; another is built and compared with it, and the verdict returned. 9 units, 2 of them for Equal at byte 14
@@ -49,8 +53,8 @@ use Rattle.model.specs.Examples as examples
 unfoldable pub twice : Program
 twice = alone n42 n1 (0x00 ∷ 0x00 ∷ 0x00 ∷ 0x24 ∷ 0x01 ∷ 0x00 ∷ 0x25 ∷ 0x00 ∷ 0x00 ∷ 0x00 ∷ 0x24 ∷ 0x01 ∷ 0x00 ∷ 0x05 ∷ 0x12 ∷ 0x25 ∷ [])
 
-unfoldable pub lentStores : Stores
-lentStores = laid twice (record {
+unfoldable pub storesFor : Program → Stores
+storesFor p = laid p (record {
   constants = replicate 4 0;
   structs = [];
   functions = replicate 2 0;
@@ -61,10 +65,13 @@ lentStores = laid twice (record {
   otherPlaces = [];
 })
 
+unfoldable pub lentStores : Stores
+lentStores = storesFor twice
+
 -- ---- the machine: true on the stack. Idle, at the start of main; and given 7 units, before Equal with 1 unit left
 
 abbrev vm : ℕ → ℕ → Last → Run → Vm
-vm n cells last r = record { program = countsFor twice; stack = n; frames = 1; cells = cells; last = last; run = r }
+vm n cells last r = record { program = countsFor twice; stack = n; frames = 1; cells = cells; last = last; run = r; strict = false }
 
 abbrev under : ℕ → ℕ → ℕ → ℕ → ℕ → Run
 under given spent returns mark saved = record { on = true; given = given; spent = spent; returns = returns; mark = mark; saved = saved }
@@ -74,7 +81,7 @@ idle = vm 1 0 Nothing noRun
 
 -- the same, with n frames
 abbrev vmIn : ℕ → Vm
-vmIn n = record { program = countsFor twice; stack = 1; frames = n; cells = 0; last = Nothing; run = noRun }
+vmIn n = record { program = countsFor twice; stack = 1; frames = n; cells = 0; last = Nothing; run = noRun; strict = false }
 
 abbrev paused : Vm
 paused = vm 3 4 (Is (v.List 0)) (under 7 6 1 2 1)
@@ -110,6 +117,8 @@ mainAt i e = record { function = 0; position = i; base = 0; entered = e }
 pub data Shown : Type 0 where
   part : Part → (copy backtrace : List ℕ) → Shown
   not : ℕ → Shown
+  -- whether the machine is strict
+  setting : Bool → Shown
 
 unfoldable pub shownAs : RunAnswer → List ℕ → List ℕ → Shown
 shownAs (ran c x) copy trace = part x copy trace
@@ -117,6 +126,27 @@ shownAs (refused n) copy trace = not n
 
 unfoldable pub asked : RunCall → Vm → Lent → Shown
 asked c m l = shownAs (runAnswer c m lentStores l) (copyAfter c m lentStores l) (traceAfter l (runAnswer c m lentStores l))
+
+-- ---- two large readings are multiplied, on a machine that has been begun
+
+abbrev multiplying : Bool → Vm
+multiplying strict = record { program = countsFor product; stack = 0; frames = 1; cells = 0; last = Nothing; run = under 0 0 0 0 0; strict = strict }
+
+unfoldable pub multiplied : Bool → RunAnswer
+multiplied strict = runAnswer (continues 9) (multiplying strict) (storesFor product) (lentAt 0)
+
+unfoldable pub settingOf : Changed → Shown
+settingOf (ch.Done m) = setting (m .strict)
+settingOf (ch.Refused n) = not n
+
+unfoldable pub settingIn : RunAnswer → Shown
+settingIn (ran c x) = setting (c .strict)
+settingIn (refused n) = not n
+
+unfoldable pub startedSetting : Started → Shown
+startedSetting (st.Done m) = setting (m .strict)
+startedSetting (st.Broken i) = not 20
+startedSetting (st.Refused n) = not n
 
 unfoldable pub startedAs : Started → Shown
 startedAs (st.Done m) = not 0
@@ -219,6 +249,19 @@ entries =
     -- a frame that was entered at more units than are spent; one that was entered before its caller
     ∷ (asked abandons paused (lentOver saved (9 ∷ 9 ∷ 9 ∷ []) (mainAt 14 7 ∷ [])) is not 19)
     ∷ (asked begins (vmIn 2) (lentOver (replicate 8 9) [] (mainAt 1 9 ∷ mainAt 16 8 ∷ [])) is not 19)
+    -- the setting: 19, 25 even if it is what it is already, and then it is changed
+    ∷ (settingOf (setStrict true (vm 1 0 Nothing (record { on = false; given = 1; spent = 0; returns = 0; mark = 0; saved = 0 })) lentStores (lentAt 0)) is not 19)
+    ∷ (settingOf (setStrict false paused lentStores (lentAt 14)) is not 25)
+    ∷ (settingOf (setStrict true idle lentStores (lentAt 0)) is setting true)
+    ∷ (settingOf (setStrict false idle lentStores (lentAt 0)) is setting false)
+    -- a run goes by the machine's setting, and leaves it as it is; a machine is not strict as loaded
+    ∷ (shownAs (multiplied true) [] []
+    is part (ends (record { reply = fault 26 (paid 3 0) (entry 0 6 0 ∷ []); machine = record { stack = []; frame = root 8; callers = []; heap = []; last = Nothing } })) [] [])
+    ∷ (shownAs (multiplied false) [] []
+    is part (ends (record { reply = value (v.Scalar (Ieee.inf false)) (paid 4 1); machine = record { stack = []; frame = root 8; callers = []; heap = []; last = Is (v.Scalar (Ieee.inf false)) } })) [] [])
+    ∷ (settingIn (multiplied true) is setting true)
+    ∷ (settingIn (multiplied false) is setting false)
+    ∷ (startedSetting (loadMachineOf false p1-image emptyStores (replicate 1 (root 0)) .answer) is setting false)
     -- loading and making anew: 25 first, also of what is no image
     ∷ (startedAs (loadMachineOf true (0x80 ∷ []) lentStores [] .answer) is not 25)
     ∷ (startedAs (loadMachineOf false (0x80 ∷ []) lentStores [] .answer) is not 20)
@@ -232,9 +275,9 @@ entries =
 
 -- each call answers so
 pub entries-answer : map (λ r. r .shown) entries ≡ map (λ r. r .is) entries
-unfolding twice lentStores shownAs asked startedAs emittedAs entries trailingZeros
+unfolding twice storesFor lentStores shownAs asked multiplied settingOf settingIn startedSetting startedAs emittedAs entries trailingZeros examples.calculating examples.product examples.p1-image
     basics.computes opcodes.computes numbers.computes values.computes scalars.computes heap.computes equality.computes programs.computes
     images.computes steps.computes runs.computes stores.computes orders.computes loading.computes machines.computes examples.computes examples.alone examples.program
     emission.codeOrder emission.emitIn emission.emitOf emission.addOpOf emission.patchOrder emission.patchOf emission.endFunctionOf emission.sizeHere emission.endHere emission.codeRoom emission.newOf
-    Ieee.ofBits Ieee.ofFields Ieee.odd Ieee.eq Ieee.toBits
+    Ieee.ofBits Ieee.ofFields Ieee.odd Ieee.eq Ieee.toBits Ieee.mul Ieee.round Ieee.units Ieee.size Ieee.span Ieee.climb reports.emptyStores
 entries-answer = refl

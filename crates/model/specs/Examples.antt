@@ -5,7 +5,7 @@ use mathlib.Core.List.{List, [], _∷_, map}
 use Prim.Native.Nat.{ℕ, zero, suc}
 use lib.Count.{trailingZeros}
 use lib.Ieee as Ieee
-use lib.Ieee.{binary64, ofBits}
+use lib.Ieee.{binary64, ofBits, inf}
 use lib.ListN.{length, replicate}
 use Rattle.model.specs.declared.Value.{Value}
 use Rattle.model.specs.declared.Value.the-variants as v
@@ -153,10 +153,33 @@ calling = program n42 n0
     ∷ coded (ascii "f") (0x00 ∷ 0x00 ∷ 0x00 ∷ 0x00 ∷ 0x00 ∷ 0x00 ∷ 0x1C ∷ 0x02 ∷ 0x00 ∷ 0x00 ∷ 0x00 ∷ [])
     ∷ coded (ascii "g") (0x00 ∷ 0x00 ∷ 0x00 ∷ 0x00 ∷ 0x01 ∷ 0x00 ∷ 0x0B ∷ []) ∷ [])
 
+-- an operation on two constants
+unfoldable pub calculating : (opcode first second : ℕ) → Program
+calculating opcode a b = alone a b (0x00 ∷ 0x00 ∷ 0x00 ∷ 0x00 ∷ 0x01 ∷ 0x00 ∷ opcode ∷ 0x25 ∷ [])
+
+-- 2 to the 1023rd, and it negated; the least scalar above 0; infinity
+abbrev large : ℕ
+large = 0x7FE0_0000_0000_0000
+
+abbrev minusLarge : ℕ
+minusLarge = 0xFFE0_0000_0000_0000
+
+abbrev least : ℕ
+least = 1
+
+abbrev infinite : ℕ
+infinite = 0x7FF0_0000_0000_0000
+
+unfoldable pub product : Program
+product = calculating 0x0A large large
+
 -- ---- running them in the runner's stores, on a machine as it is loaded
 
+unfoldable pub worldFor : (strict : Bool) → Program → World
+worldFor strict p = worldIn (countsFor p) (laid p emptyStores) 1024 256 2048 strict
+
 unfoldable pub world : Program → World
-world p = worldIn (countsFor p) (laid p emptyStores) 1024 256 2048
+world p = worldFor false p
 
 unfoldable pub loaded : Machine
 loaded = record { stack = []; frame = root 0; callers = []; heap = []; last = Nothing }
@@ -170,6 +193,10 @@ inParts p m us = givenUp (world p) (dealt (world p) (beginOf (world p) m) us)
 
 unfoldable pub run : Program → ℕ → Ran
 run p u = inParts p loaded (u ∷ [])
+
+-- the same on a strict machine
+unfoldable pub strictly : Program → ℕ → Ran
+strictly p u = givenUp (worldFor true p) (dealt (worldFor true p) (beginOf (worldFor true p) loaded) (u ∷ []))
 
 -- run, and run again on the machine that is left
 unfoldable pub again : Program → ℕ → Ran
@@ -243,6 +270,19 @@ examples =
     -- when each call began: main calls f with its second unit, f calls g with its fifth, and g divides by zero; so too where the units are dealt out
     ∷ (shown (run calling 1000000) shows ran (fault 8 (did 8 0) (entry 2 6 5 ∷ entry 1 10 2 ∷ entry 0 7 0 ∷ [])) [] (frame 0 8 0 ∷ []) Nothing)
     ∷ (shown (inParts calling loaded (1 ∷ 3 ∷ 0 ∷ 2 ∷ 9 ∷ [])) shows ran (fault 8 (did 8 0) (entry 2 6 5 ∷ entry 1 10 2 ∷ entry 0 7 0 ∷ [])) [] (frame 0 8 0 ∷ []) Nothing)
+    -- two large readings multiplied: infinity, and on a strict machine 26
+    ∷ (shown (run product 1000000) shows ran (value (v.Scalar (inf false)) (did 4 1)) [] (frame 0 8 0 ∷ []) (Is (v.Scalar (inf false))))
+    ∷ (shown (strictly product 1000000) shows ran (fault 26 (did 3 0) (entry 0 6 0 ∷ [])) [] (frame 0 8 0 ∷ []) Nothing)
+    -- so with the other three
+    ∷ (shown (strictly (calculating 0x08 large large) 1000000) shows ran (fault 26 (did 3 0) (entry 0 6 0 ∷ [])) [] (frame 0 8 0 ∷ []) Nothing)
+    ∷ (shown (strictly (calculating 0x09 minusLarge large) 1000000) shows ran (fault 26 (did 3 0) (entry 0 6 0 ∷ [])) [] (frame 0 8 0 ∷ []) Nothing)
+    ∷ (shown (strictly (calculating 0x0B n1 least) 1000000) shows ran (fault 26 (did 3 0) (entry 0 6 0 ∷ [])) [] (frame 0 8 0 ∷ []) Nothing)
+    -- an operand that was not finite before is no fault of the operation, on either side
+    ∷ (shown (strictly (calculating 0x08 infinite n1) 1000000) shows ran (value (v.Scalar (inf false)) (did 4 1)) [] (frame 0 8 0 ∷ []) (Is (v.Scalar (inf false))))
+    ∷ (shown (strictly (calculating 0x09 n1 infinite) 1000000) shows ran (value (v.Scalar (inf true)) (did 4 1)) [] (frame 0 8 0 ∷ []) (Is (v.Scalar (inf true))))
+    -- the zero divisor comes first; a strict machine that stays finite does as any
+    ∷ (shown (strictly p3 1000000) shows ran (fault 8 (did 3 0) (entry 0 6 0 ∷ [])) [] (frame 0 8 0 ∷ []) Nothing)
+    ∷ (shown (strictly p1 1000000) shows ran (value (scalarOf n43) (did 4 1)) [] (frame 0 8 0 ∷ []) (Is (scalarOf n43)))
     -- P9
     ∷ (bytes (digits 127) shows bytes (0x7F ∷ []))
     ∷ (bytes (digits 128) shows bytes (0x80 ∷ 0x01 ∷ []))
@@ -251,16 +291,16 @@ examples =
     ∷ (read (number (0xFF ∷ 0xFF ∷ 0xFF ∷ 0xFF ∷ 0x1F ∷ [])) shows read (bad 5))
     ∷ []
 
--- P1 to P9, the jump and the calls, together: the rules give what they are said to give
+-- P1 to P9, the jump, the calls and the strict machine, together: the rules give what they are said to give
 pub examples-hold : map (λ e. e .gives) examples ≡ map (λ e. e .says) examples
-unfolding from coded program alone p1 p1-flat p1-image p1-listing counted-operands counted-listing p3 p4 p5 p6 p7 p8 jumped calling world loaded shown inParts run again scalarOf examples trailingZeros
+unfolding from coded program alone p1 p1-flat p1-image p1-listing counted-operands counted-listing p3 p4 p5 p6 p7 p8 jumped calling calculating product worldFor world loaded shown inParts run strictly again scalarOf examples trailingZeros
     basics.computes opcodes.computes numbers.computes values.computes scalars.computes heap.computes equality.computes programs.computes
     images.computes listings.computes steps.computes runs.computes stores.computes orders.computes loading.computes machines.computes
-    reports.computes Ieee.ofBits Ieee.ofFields Ieee.odd Ieee.add Ieee.sum Ieee.round Ieee.units Ieee.size Ieee.span Ieee.climb Ieee.div Ieee.eq
+    reports.computes Ieee.ofBits Ieee.ofFields Ieee.odd Ieee.add Ieee.sum Ieee.round Ieee.units Ieee.size Ieee.span Ieee.climb Ieee.div Ieee.mul Ieee.sub Ieee.neg Ieee.eq
     Ieee.toBits
 examples-hold = refl
 
 -- what other examples compute with of these
 unfoldable pub computes : Type 1
-unfolding from coded world loaded scalarOf
+unfolding from coded worldFor world loaded scalarOf
 computes = Type 0

@@ -18,6 +18,8 @@ use Rattle.model.specs.declared.Emitted.the-variants as e
 use Rattle.model.specs.declared.Loaded.{Loaded}
 use Rattle.model.specs.declared.Loaded.the-variants as l
 use Rattle.model.specs.declared.Told.the-variants as t
+use Rattle.model.specs.declared.Changed.{Changed}
+use Rattle.model.specs.declared.Changed.the-variants as ch
 use Rattle.model.specs.declared.Started.{Started}
 use Rattle.model.specs.declared.Started.the-variants as st
 use Rattle.model.specs.Basics.{if_then_else_}
@@ -61,7 +63,7 @@ machineIn m l = record {
 }
 
 unfoldable pub worldOf : Vm → Stores → Lent → World
-worldOf m s l = worldIn (m .program) s (places 2 (l .stack)) (frameRoom (l .frames)) (places 2 (l .cells))
+worldOf m s l = worldIn (m .program) s (places 2 (l .stack)) (frameRoom (l .frames)) (places 2 (l .cells)) (m .strict)
 
 -- how far the run under way has come: the last result is that of its last root Return, if it had one
 unfoldable pub progressIn : Vm → Lent → Progress
@@ -131,9 +133,17 @@ traceShort l = ltb (places 3 (l .backtrace)) (frameRoom (l .frames))
 
 -- ---- [begin], [continue], [abandon] as entries: 19, then 18 or 25, 17, 22, then the run
 
--- the program's counts, and what the part comes to; or a refusal
+-- what a run leaves as it is in the machine: the program's counts, and the setting
+pub record Unchanged : Type 0 where
+  pub program : Counts
+  pub strict : Bool
+
+abbrev pub unchanged : Vm → Unchanged
+unchanged m = record { program = m .program; strict = m .strict }
+
+-- that, and what the part comes to; or a refusal
 pub data RunAnswer : Type 0 where
-  ran : Counts → Part → RunAnswer
+  ran : Unchanged → Part → RunAnswer
   refused : ℕ → RunAnswer
 
 -- the number of a refusal; 0 where there is none
@@ -147,7 +157,7 @@ beginAnswer m s l =
     if runOrder m s l then
     (if m .run .on then refused 25 else
     (if copyShort l then refused 17 else
-    ran (m .program) (beginOf (worldOf m s l) (machineIn m l))))
+    ran (unchanged m) (beginOf (worldOf m s l) (machineIn m l))))
     else refused 19
 
 -- "18, continue or abandon with no run under way .. 22, units given in all above 64 bits, nothing run"
@@ -157,7 +167,7 @@ continueAnswer m s l u =
     (if m .run .on then
     (if traceShort l then refused 17 else
     (if ltb 0xFFFF_FFFF_FFFF_FFFF (m .run .given + u) then refused 22 else
-    ran (m .program) (continueOf (worldOf m s l) (underIn m l) u)))
+    ran (unchanged m) (continueOf (worldOf m s l) (underIn m l) u)))
     else refused 18)
     else refused 19
 
@@ -166,7 +176,7 @@ abandonAnswer m s l =
     if runOrder m s l then
     (if m .run .on then
     (if traceShort l then refused 17 else
-    ran (m .program) (ends (abandonOf (worldOf m s l) (underIn m l))))
+    ran (unchanged m) (ends (abandonOf (worldOf m s l) (underIn m l))))
     else refused 18)
     else refused 19
 
@@ -221,14 +231,14 @@ entriesIn zero i b = []
 entriesIn (suc n) i b = entry (getD b (3 * i) 0) (getD b (3 * i + 1) 0) (getD b (3 * i + 2) 0) ∷ entriesIn n (suc i) b
 
 abbrev pub endedAs : Vm → Lent → Reply → RunAnswer
-endedAs m l y = ran (m .program) (ends (record { reply = y; machine = machineIn m l }))
+endedAs m l y = ran (unchanged m) (ends (record { reply = y; machine = machineIn m l }))
 
 -- the part that a result stands for, in the stores as it left them
 unfoldable pub answerIn : (left : Lent) → RunResult → RunAnswer
 answerIn l (r.Value m v n) = endedAs m l (value v n)
 answerIn l (r.Continue m n) = endedAs m l (continue n)
 answerIn l (r.Fault m k n j) = endedAs m l (fault k n (entriesIn j 0 (l .backtrace)))
-answerIn l (r.Paused m) = ran (m .program) (pauses (underIn m l))
+answerIn l (r.Paused m) = ran (unchanged m) (pauses (underIn m l))
 answerIn l (r.Refused n) = refused n
 
 -- ---- the entries in full: the answer; copy and backtrace whole; a machine in good order, in stores as long as before; a refusal changes nothing
@@ -259,6 +269,15 @@ pub record RunPost (c : RunCall) (m : Vm) (s : Stores) (l : Lent) (r : RunResult
   pub rooms : SameRooms l l'
   pub left : Left s l r l'
 
+-- ---- [strict] as an entry: 19, and "25, changing the setting with a run under way", to what it is already too
+
+unfoldable pub setStrict : (strict : Bool) → Vm → Stores → Lent → Changed
+setStrict b m s l =
+    if runOrder m s l then
+    (if m .run .on then ch.Refused 25 else
+    ch.Done (record { program = m .program; stack = m .stack; frames = m .frames; cells = m .cells; last = m .last; run = m .run; strict = b }))
+    else ch.Refused 19
+
 -- ---- [backtrace] as an entry: 19, 17 where a frame has no place in the lent store, 16
 
 -- what it judges: the functions with their codes and places, and the frames
@@ -276,13 +295,13 @@ backtraceIn m s stack frames out =
     putTrace (backtraceOf (functionsFrom (m .program .functions) 0 s) (innermost (m .frames) frames ∷ callersIn (m .frames) frames)) out)
     else record { answer = t.Refused 19; out = out }
 
--- ---- [start] a machine that has not run: an empty stack, no last result, one frame: function 0, base 0, position 0, entered at 0
+-- ---- [start] a machine that has not run: an empty stack, no last result, one frame: function 0, base 0, position 0, entered at 0; "not strict, as loaded"
 
 abbrev pub noRun : Run
 noRun = record { on = false; given = 0; spent = 0; returns = 0; mark = 0; saved = 0 }
 
 unfoldable pub fresh : Counts → Vm
-fresh c = record { program = c; stack = 0; frames = 1; cells = 0; last = Nothing; run = noRun }
+fresh c = record { program = c; stack = 0; frames = 1; cells = 0; last = Nothing; run = noRun; strict = false }
 
 pub record StartRes : Type 0 where
   pub answer : Started
@@ -314,6 +333,6 @@ newMachineOf running s rs = unlessRunning running s rs (startWith (asLoaded (new
 -- all that an example computes with here
 unfoldable pub computes : Type 1
 unfolding frameRoom innermost callersIn machineIn worldOf progressIn underIn machineOrder someLast underOrder idle partOrder runOrder copyShort traceShort beginAnswer continueAnswer
-    abandonAnswer refusalOf runRefusal runAnswer copied copyAfter entryWords traceOfReply traceOfPart traceAfter entriesIn answerIn traceOrder putTrace backtraceIn fresh startWith unlessRunning
+    abandonAnswer refusalOf runRefusal runAnswer copied copyAfter entryWords traceOfReply traceOfPart traceAfter entriesIn answerIn setStrict traceOrder putTrace backtraceIn fresh startWith unlessRunning
     loadMachineOf asLoaded newMachineOf
 computes = Type 0

@@ -1,7 +1,7 @@
 -- [arithmetic] One binary64 operation, rounded once.
-use mathlib.Core.Bool.{Bool, true, false}
+use mathlib.Core.Bool.{Bool, true, false, not, _&&_}
 use lib.Ieee as Ieee
-use lib.Ieee.{Float, binary64, fin}
+use lib.Ieee.{Float, binary64, nan, inf, fin}
 use lib.IntN.{pos}
 use Rattle.model.specs.declared.Arith.{Arith}
 use Rattle.model.specs.declared.Arith.the-variants as a
@@ -13,6 +13,20 @@ arithOf a.Add x y = Ieee.add binary64 x y
 arithOf a.Subtract x y = Ieee.sub binary64 x y
 arithOf a.Multiply x y = Ieee.mul binary64 x y
 arithOf a.Divide x y = Ieee.div binary64 x y
+
+-- neither infinite nor a NaN
+unfoldable pub finite : Float → Bool
+finite nan = false
+finite (inf negative) = false
+finite (fin negative m e) = true
+
+-- [strict] "Arithmetic should also say whether finite operands gave a result that is not finite"
+pub record Result : Type 0 where
+  pub value : Float
+  pub escaped : Bool
+
+unfoldable pub resultOf : Arith → Float → Float → Result
+resultOf a x y = record { value = arithOf a x y; escaped = finite x && finite y && not (finite (arithOf a x y)) }
 
 -- [zero] dividing by either zero is a fault
 unfoldable pub zeroDivisor : Arith → Float → Bool
@@ -30,5 +44,5 @@ orderOf c.GreatorOrEqual x y = Ieee.le y x
 
 -- all that an example computes with here
 unfoldable pub computes : Type 1
-unfolding arithOf zeroDivisor orderOf
+unfolding arithOf finite resultOf zeroDivisor orderOf
 computes = Type 0

@@ -1,5 +1,5 @@
 -- [step] One step for each carried opcode, in the order of checks:
--- units, 1, 2, 3, number operands, pops from the top, 7, field number, 14, argument count, zero divisor, comparison units, 12, 11, frames, stack.
+-- units, 1, 2, 3, number operands, pops from the top, 7, field number, 14, argument count, zero divisor, 26, comparison units, 12, 11, frames, stack.
 use mathlib.Core.Bool.{Bool, true, false, not, _&&_, _||_}
 use mathlib.Core.List.{List, [], _∷_}
 use mathlib.Core.Option.{Option, none, some}
@@ -25,12 +25,12 @@ use Rattle.model.specs.declared.Frame.{Frame}
 use Rattle.model.specs.Basics.{if_then_else_}
 use Rattle.model.specs.Opcodes.{Opcode, operands}
 use Rattle.model.specs.Values.{ifReference, ifStruct, popping, poppingScalar, poppingBoolean, textAt}
-use Rattle.model.specs.Scalars.{arithOf, zeroDivisor, orderOf}
+use Rattle.model.specs.Scalars.{resultOf, zeroDivisor, orderOf}
 use Rattle.model.specs.Heap.{Cell, Built, built, unbuilt, buildOf, listElements, structFields, fieldOf}
 use Rattle.model.specs.Equality.{Same, same, sameOf}
 use Rattle.model.specs.Programs.{Function, functionAt, functionNamed, wordAt, opcodeIn}
 
--- what a run does not change: the program, and the rooms of the stores
+-- what a run does not change: the program, the rooms of the stores, and whether the machine is strict
 pub record World : Type 0 where
   pub constants : List Value
   pub text : List ℕ
@@ -39,6 +39,7 @@ pub record World : Type 0 where
   pub stackRoom : ℕ
   pub frameRoom : ℕ
   pub cellRoom : ℕ
+  pub strict : Bool
 
 -- what a step changes, with the units that the run has spent and those that are left. The stack has its top first; the callers of the current frame stand
 -- innermost first.
@@ -127,11 +128,14 @@ lastStep w s = onFound (lastOf (s .last)) s (λ v. pushing w v s)
 unfoldable pub negateStep : State → Outcome
 negateStep s = poppingScalar (s .stack) (λ n. faulted n s) (λ x r. went (withStack (v.Scalar (Ieee.neg x) ∷ r) s))
 
-unfoldable pub arithmeticStep : Arith → State → Outcome
-arithmeticStep a s =
+-- [strict] "26, a fault, right after the zero divisor, strict only"
+unfoldable pub arithmeticStep : World → Arith → State → Outcome
+arithmeticStep w a s =
     poppingScalar (s .stack) (λ n. faulted n s) (λ y r.
     poppingScalar r (λ n. faulted n s) (λ x q.
-    if zeroDivisor a y then faulted f.ZeroDivisor s else went (withStack (v.Scalar (arithOf a x y) ∷ q) s)))
+    if zeroDivisor a y then faulted f.ZeroDivisor s else
+    (if w .strict && resultOf a x y .escaped then faulted f.NotFinite s else
+    went (withStack (v.Scalar (resultOf a x y .value) ∷ q) s))))
 
 unfoldable pub orderingStep : Order → State → Outcome
 orderingStep c s =
@@ -230,7 +234,7 @@ execOf w o.GetLocal a b s = slotStep w (s .frame .base + a) s
 execOf w o.GetUpvalue a b s = slotStep w a s
 execOf w o.GetLastResult a b s = lastStep w s
 execOf w o.Negate a b s = negateStep s
-execOf w (o.Arithmetic x) a b s = arithmeticStep x s
+execOf w (o.Arithmetic x) a b s = arithmeticStep w x s
 execOf w (o.Ordering x) a b s = orderingStep x s
 execOf w o.Equal a b s = equalStep (λ x. x) w s
 execOf w o.NotEqual a b s = equalStep not w s

@@ -130,9 +130,9 @@ programIn c s = record {
   functions = functionsFrom (c .functions) 0 s;
 }
 
--- what a run does not change, in stores with these rooms
-unfoldable pub worldIn : Counts → Stores → ℕ → ℕ → ℕ → World
-worldIn c s stackRoom frameRoom cellRoom = record {
+-- what a run does not change, in stores with these rooms, on a machine that is strict or not
+unfoldable pub worldIn : Counts → Stores → (stackRoom frameRoom cellRoom : ℕ) → (strict : Bool) → World
+worldIn c s stackRoom frameRoom cellRoom strict = record {
   constants = valuesFrom (c .constants) 0 (s .constants);
   text = take (c .text) (s .text);
   structs = c .structs;
@@ -140,6 +140,7 @@ worldIn c s stackRoom frameRoom cellRoom = record {
   stackRoom = stackRoom;
   frameRoom = frameRoom;
   cellRoom = cellRoom;
+  strict = strict;
 }
 
 -- all that an example computes with here

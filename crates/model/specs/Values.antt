@@ -53,6 +53,7 @@ faultNumber (f.WrongKind v) = 5
 faultNumber f.OutOfRange = 6
 faultNumber f.NoLastResult = 7
 faultNumber f.ZeroDivisor = 8
+faultNumber f.NotFinite = 26
 faultNumber f.StackFull = 9
 faultNumber f.FramesFull = 10
 faultNumber f.CellsFull = 11

@@ -113,6 +113,7 @@ pub enum Fault {
     OutOfRange,
     NoLastResult,
     ZeroDivisor,
+    NotFinite,
     StackFull,
     FramesFull,
     CellsFull,
@@ -184,7 +185,8 @@ pub struct Run {
     pub saved: usize,
 }
 
-// A machine between calls: how much of each store is taken, the last result, and the run that is under way.
+// A machine between calls: how much of each store is taken, the last result, the run that is under way, and whether it is strict: then arithmetic whose
+// operands are finite and whose result is not is a fault.
 pub struct Vm {
     pub program: Counts,
     pub stack: usize,
@@ -192,6 +194,7 @@ pub struct Vm {
     pub cells: usize,
     pub last: Last,
     pub run: Run,
+    pub strict: bool,
 }
 
 // What a run did: the units that it spent, and how many root Returns it completed. 0 returns: nothing has counted.
@@ -214,6 +217,12 @@ pub enum RunResult {
 pub enum Started {
     Done(Vm),
     Broken(usize),
+    Refused(u8),
+}
+
+// What changing the setting answers: the machine, or a refusal.
+pub enum Changed {
+    Done(Vm),
     Refused(u8),
 }
 

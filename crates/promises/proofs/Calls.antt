@@ -2,13 +2,12 @@
 use mathlib.Core.Path.{_≡_, refl, sym, ap, subst, _∙_}
 use Prim.Native.Nat.{ℕ, _+_}
 use native.Mathlib.Omega.{arith}
-use Rattle.model.specs.declared.Counts.{Counts}
 use Rattle.model.specs.declared.Vm.{Vm}
 use Rattle.model.specs.declared.RunResult.{RunResult}
 use Rattle.model.specs.declared.RunResult.the-variants as r
 use Rattle.model.specs.Runs.{Under, pauses}
 use Rattle.model.specs.Stores.{Stores}
-use Rattle.model.specs.Machines.{Lent, RunCall, answerIn, RunPost}
+use Rattle.model.specs.Machines.{Lent, Unchanged, RunCall, answerIn, RunPost}
 use Rattle.model.specs.Machines as m
 use Rattle.laws_installed.specs.Installed.{byEntries, UnderWay, begun, continued}
 use Rattle.demands.specs.Host.{Held, ask, Answer, ran, Done, vmAfter, RanBy, After}
@@ -19,7 +18,7 @@ use Rattle.demands.proofs.WhileRunning.{kept-while-running}
 use Rattle.demands.proofs.Parting.{parts-come-to}
 
 -- only a paused result stands for a pause
-paused-result : (v : Vm) (l : Lent) (x : RunResult) {c : Counts} {u : Under} → answerIn l x ≡ m.ran c (pauses u) → x ≡ r.Paused (vmAfter v x)
+paused-result : (v : Vm) (l : Lent) (x : RunResult) {c : Unchanged} {u : Under} → answerIn l x ≡ m.ran c (pauses u) → x ≡ r.Paused (vmAfter v x)
 unfolding answerIn
 paused-result v l (r.Value k y n) e = absurd (let z : _≡_ {A = ℕ} 0 1 = cc in let b : ⊥ = omega arith in b)
 paused-result v l (r.Continue k n) e = absurd (let z : _≡_ {A = ℕ} 0 1 = cc in let b : ⊥ = omega arith in b)
@@ -28,7 +27,7 @@ paused-result v l (r.Paused k) e = refl
 paused-result v l (r.Refused n) e = absurd (let z : _≡_ {A = ℕ} 0 1 = cc in let b : ⊥ = omega arith in b)
 
 -- a call that paused is a part by the entries
-paused-by-entries : {c : RunCall} {h k : Held} {n : Counts} {u : Under} → RanBy c h (ran (m.ran n (pauses u))) k → byEntries (h .stores) c (h .vm) (h .lent) (r.Paused (k .vm)) (k .lent)
+paused-by-entries : {c : RunCall} {h k : Held} {n : Unchanged} {u : Under} → RanBy c h (ran (m.ran n (pauses u))) k → byEntries (h .stores) c (h .vm) (h .lent) (r.Paused (k .vm)) (k .lent)
 paused-by-entries {c} {h} {k} {n} {u} q =
     let e = q .answer in
     let so : m.ran n (pauses u) ≡ answerIn (k .lent) (q .result) = cc in

@@ -12,6 +12,7 @@ use Rattle.laws_checks.proofs.Keeping.{keeps-the-table}
 use Rattle.laws_runs.proofs.Paths.{returns-counted}
 use Rattle.laws_runs.proofs.Entered.{every-frame-tells-when-it-was-entered, a-paused-run-tells-when-its-frames-were-entered}
 use Rattle.laws_runs.proofs.More.{more-units}
+use Rattle.laws_runs.proofs.Strict.{a-strict-run-does-as-any-other-unless-it-ends-in-26}
 use Rattle.laws_runs.proofs.Parts.{a-run-begun-at-its-end-is-over-at-once, a-run-begun-before-an-instruction-is-paused-there, dealt-as-one, parts-are-one-run}
 use Rattle.laws_meaning.proofs.Runs.{begin-alike, continue-alike, abandon-alike}
 use Rattle.laws_meaning.proofs.Blocks.{lists-alike, structs-alike, strings-alike, references-alike}
@@ -22,6 +23,7 @@ use Rattle.laws_rust.specs.Same.{rustOf}
 use Rattle.laws_rust.proofs.Turns.{step-same}
 use Rattle.laws_rust.proofs.Loop.{run-same}
 use Rattle.laws_rust.proofs.Back.{more-turns, rust-same, ok-same}
+use Rattle.laws_rust.proofs.Strict.{a-machine-not-strict-never-faults-by-26}
 use Rattle.image.proofs.Trip.{image-back, image-only, one-program-one-image, load-then-save, save-then-load, saved-loads}
 use Rattle.demands.specs.Host.{Held}
 use Rattle.demands.specs.Kept.{InOrder}
@@ -37,7 +39,7 @@ use Rattle.check_heights.proofs.Answers.{heights-one-answer, a-flaw-breaks}
 use Rattle.check_words.proofs.One.{check-through-one}
 use Rattle.laws_check.proofs.Rows.{a-step-keeps-its-row, the-row-counts-the-values}
 use Rattle.laws_check.proofs.Theorems.{passed-never-faults-so, passed-asks-in-range, passed-runs-so, passed-runs-ask-in-range, passed-frames-fit, passed-ends-in-main}
-use Rattle.laws_installed.proofs.Running.{installed-runs-so, installed-stays-within}
+use Rattle.laws_installed.proofs.Running.{a-setting-keeps-what-is-installed, installed-runs-so, installed-stays-within}
 use Rattle.laws_installed.proofs.Entries.{checked-runs-so, loaded-runs-so, checked-stays-within, host-runs-so, host-stays-within}
 use Rattle.noted_listing.proofs.Walking.{notes-show-the-walk}
 use Rattle.noted_report.proofs.Fits.{noter-fits}
@@ -59,6 +61,7 @@ use Rattle.laws_hosts.proofs.Crossing.{crossing}
 use Rattle.laws_hosts.proofs.Refusing.{c-refuses, no-record-refused}
 use Rattle.laws_hosts.proofs.Short.{short-answer}
 use Rattle.laws_hosts.proofs.Made.{c-new-made, c-load-made}
+use Rattle.laws_hosts.proofs.Set.{c-set-strict}
 use Rattle.laws_hosts.proofs.Chains.{c-chain-is-a-chain, c-chain-kept, c-run-in-order, c-chains-alike}
 use Rattle.laws_hosts.proofs.Recovering.{c-dealings-agree, c-fault-recovers}
 use Rattle.promises.specs.Promises.{Promises}
@@ -99,6 +102,8 @@ kept = record {
   as-the-rust = λ h f u turns. run-same (worldIn h) (order-world _ _ _ (f .order .machine) (f .code)) (few h f) _ u (order-sane _ _ _ (f .order .machine) u) turns;
   from-the-rust = λ h f u turns l. rust-same (worldIn h) (order-world _ _ _ (f .order .machine) (f .code)) (few h f) _ u (order-sane _ _ _ (f .order .machine) u) l turns;
   ok-same = ok-same;
+  a-machine-not-strict-never-faults-by-26 = a-machine-not-strict-never-faults-by-26;
+  a-strict-run-does-as-any-other-unless-it-ends-in-26 = a-strict-run-does-as-any-other-unless-it-ends-in-26;
   more-turns = more-turns;
   step-same = step-same;
   run-written = λ h k u x p. run-written p;
@@ -144,7 +149,7 @@ kept = record {
   structs-alike = structs-alike;
   strings-alike = λ t t' H H' o n o' n' b. strings-alike t t' H H' b;
   references-alike = λ t t' H H' o n o' n' b. references-alike t t' H H' b;
-  self-alike = λ again h d o p c s r b u. self-alike again o p c s r b u;
+  self-alike = λ again h d o p c strict s r b u. self-alike again o p c strict s r b u;
   set-up-alike = λ again x h k d a b o p. set-up-alike again a b o p;
   chains-agree = λ calls h k e f xs ys a p q. chains-agree a p q;
   past-counts-unseen = λ calls h k e f xs ys a p q. past-counts-unseen a p q;
@@ -165,6 +170,7 @@ kept = record {
   parts-are-under-way = λ h k g r p. parts-are-under-way p;
   installed-runs-so = λ p ok m s e e' here g x answer. installed-runs-so m s e ok here x answer;
   installed-stays-within = λ p ok m s e here hs tells. installed-stays-within ok here hs tells;
+  a-setting-keeps-what-is-installed = λ p m k s e here strict set. a-setting-keeps-what-is-installed here strict set;
   checked-stays-within = λ image heights s s' k hs b p e f. checked-stays-within image heights s b p e f;
   notes-show-the-walk = notes-show-the-walk;
   noter-fits = noter-fits;
@@ -177,6 +183,7 @@ kept = record {
   no-record-refused = λ a g no c made d p. no-record-refused a g no c made p;
   c-new-made = λ a g long room d p zero. c-new-made a g long room p zero;
   c-load-made = λ a g long room image bytes d p zero. c-load-made a g long room image bytes p zero;
+  c-set-strict = λ a g ok strict d p zero. c-set-strict a g ok strict p zero;
   c-run-in-order = λ c a g d o ok p e. c-run-in-order o ok p e;
   c-dealings-agree = λ g k d ok p q e. c-dealings-agree ok p q e;
   c-chain-is-a-chain = λ cs g k ds ok p. c-chain-is-a-chain ok p;

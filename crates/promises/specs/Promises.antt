@@ -15,6 +15,7 @@ use Rattle.model.specs.declared.Fault.{Fault}
 use Rattle.model.specs.declared.Frame.{Frame}
 use Rattle.model.specs.declared.Tally.{Tally}
 use Rattle.model.specs.declared.Started.the-variants as st
+use Rattle.model.specs.declared.Changed.the-variants as ch
 use Rattle.model.specs.declared.Loaded.the-variants as l
 use Rattle.model.specs.declared.Told.the-variants as t
 use Rattle.model.specs.declared.RunResult.{RunResult}
@@ -32,7 +33,7 @@ use Rattle.model.specs.Loading.{roomFor, loadOf, saveOf, putOut}
 use Rattle.model.specs.Steps.{World, State, position, codeOf, went, faulted, execOf, stepOf}
 use Rattle.model.specs.Listings.{text, unlisted, listingOf}
 use Rattle.model.specs.Runs.{Machine, Progress, Entry, fault, Ran, begin, machineOf as machineAt, over, endOf, root, Under, Part, pauses, partOf, beginOf, continueOf, abandonOf, dealt, givenUp, runOf, atStart, continue, ends}
-use Rattle.model.specs.Machines.{Lent, innermost, RunCall, RunPost, fresh, loadMachineOf}
+use Rattle.model.specs.Machines.{Lent, innermost, unchanged, setStrict as setStrictOf, RunCall, RunPost, fresh, loadMachineOf}
 use Rattle.model.specs.Examples.{Example, examples}
 use Rattle.model.specs.Entries.{Row as EntryRow, entries}
 use Rattle.model.specs.Mistakes.{Row, mistakes}
@@ -60,13 +61,14 @@ use Rattle.laws_runs.specs.Paths.{Steps, rootReturns}
 use Rattle.laws_runs.specs.Parts.{SaneUnder, sumOf}
 use Rattle.laws_runs.specs.Entered.{enteredIn, notedAlong, Watched}
 use Rattle.laws_runs.specs.Demand.{Recovered}
+use Rattle.laws_runs.specs.Strict.{setTo}
 use Rattle.laws_meaning.specs.Alike.{Layout, laidOut, Both, AlikeConstants, AlikeMachine, AlikeUnder}
 use Rattle.laws_meaning.specs.Blocks.{AlikeBlock}
 use Rattle.laws_meaning.specs.Answers.{AlikeRan, AlikePart}
 use Rattle.laws_rust.specs.Vm as rust
 use Rattle.laws_rust.specs.Same.{rustOf, rustAt, Agrees, RunAs, Ends, Unlimited, AnswersAs, Means}
 use Rattle.image.specs.Loads.{Below, LoadsAs}
-use Rattle.demands.specs.Host.{Held, Ask, Call, run, ask, new, load, Answer, started, done, After, RanBy, Chain}
+use Rattle.demands.specs.Host.{Held, Ask, Call, run, ask, new, load, setStrict, Answer, started, done, After, RanBy, Chain}
 use Rattle.demands.specs.Refusals.{Demand1, refusedBy}
 use Rattle.demands.specs.Kept.{InOrder}
 use Rattle.demands.specs.Jobs.{AllTyped, anew}
@@ -80,7 +82,7 @@ use Rattle.demands.specs.Relent.{Relent, StandsFor, ChainAnew, saidAnew}
 use Rattle.demands.specs.One.{SameRun}
 use Rattle.embed_words.specs.Coding.{Coded, vmIn, vmWords, TypedLast, RecordOf, recordOk}
 use Rattle.laws_hosts.specs.Hosts.{CHeld, CDone, Through}
-use Rattle.laws_hosts.specs.Crossed.{heldIn, Taken, Handed, ExactIf, wayOf, Crossed, MadeIn, CDemand1, Short, NotTaken}
+use Rattle.laws_hosts.specs.Crossed.{heldIn, Taken, Handed, ExactIf, wayOf, Crossed, MadeIn, SetIn, CDemand1, Short, NotTaken}
 use Rattle.laws_hosts.specs.Chains.{Called, CChain, HostChain, SameSaid, Waiting, Faulted, CDemand3}
 
 pub record Promises : Type 0 where
@@ -106,19 +108,24 @@ pub record Promises : Type 0 where
   pub as-the-rust : (h : Held) → Fine h → (u turns : ℕ)
       → RunAs (worldIn h) (runOf (worldIn h) (machineOf h) u .machine) (endOf (worldIn h) (begin (machineOf h) u))
       (rust.run (suc u + turns) (rustOf (worldIn h) (machineOf h)))
-  -- and the other way: whatever the Rust comes to, in however many turns, the run answers so where it meets no limit
-  pub from-the-rust : (h : Held) → Fine h → (u turns : ℕ) → Unlimited (endOf (worldIn h) (begin (machineOf h) u))
+  -- and the other way: whatever the Rust comes to, in however many turns, the run answers so where it meets no limit nor, on a strict machine, 26
+  pub from-the-rust : (h : Held) → Fine h → (u turns : ℕ) → Unlimited (worldIn h) (endOf (worldIn h) (begin (machineOf h) u))
       → AnswersAs (worldIn h) (runOf (worldIn h) (machineOf h) u) (rust.run turns (rustOf (worldIn h) (machineOf h)))
   -- what the Rust answers is what the run answers, and it leaves the same machine
-  pub ok-same : (w : World) → SaneWorld w → length (w .functions) ≤ 65536 → (m : Machine) (u : ℕ) → Sane w (begin m u) → Unlimited (endOf w (begin m u))
+  pub ok-same : (w : World) → SaneWorld w → length (w .functions) ≤ 65536 → (m : Machine) (u : ℕ) → Sane w (begin m u) → Unlimited w (endOf w (begin m u))
       → (turns : ℕ) (x : Option Tree) (vm : rust.Vm) → rust.run turns (rustOf w m) ≡ rust.ok x vm
       → Means w (runOf w m u .machine) (runOf w m u .reply) x × (vm ≡ rustOf w (runOf w m u .machine))
+  -- 26 is not the Rust's: no machine that is not strict faults by it; and where a strict one does not, it does as one that is not strict
+  pub a-machine-not-strict-never-faults-by-26 : (w : World) → w .strict ≡ false → (m : Machine) (u : ℕ) (did : Tally) (trace : List Entry)
+      → runOf w m u .reply ≡ fault 26 did trace → ⊥
+  pub a-strict-run-does-as-any-other-unless-it-ends-in-26 : (w : World) (m : Machine) (u : ℕ)
+      → ((did : Tally) (trace : List Entry) → runOf (setTo true w) m u .reply ≡ fault 26 did trace → ⊥) → runOf (setTo true w) m u ≡ runOf (setTo false w) m u
   -- more turns change nothing of what the Rust has come to
   pub more-turns : (n k : ℕ) (vm : rust.Vm) → Ends (rust.run n vm) → rust.run (n + k) vm ≡ rust.run n vm
   -- step for step: a step of the rules does what a turn of the Rust's loop does
   pub step-same : (w : World) → SaneWorld w → length (w .functions) ≤ 65536 → (s : State) → Sane w s → over w s ≡ false → Agrees w (stepOf w s) (rust.turn (rustAt w s))
   -- what the calls of a run come to is a path of written steps, with their units and root Returns: where it is over, and where it is paused
-  pub run-written : (h k : Held) (u : ℕ) (x : Ran) → Over h u x k → Demand2 (h .vm) (h .stores) (h .lent) u (k .vm .program) x
+  pub run-written : (h k : Held) (u : ℕ) (x : Ran) → Over h u x k → Demand2 (h .vm) (h .stores) (h .lent) u (unchanged (k .vm)) x
   pub pause-written : (h k : Held) (g : ℕ) (r : Under) → Parts h g (pauses r) k → StandsBefore h g k
   -- so is one run by the rules
   pub run-is-steps : (w : World) (m : Machine) (u : ℕ) → RunIs w m u (runOf w m u)
@@ -204,8 +211,8 @@ pub record Promises : Type 0 where
   pub references-alike : (t t' : List ℕ) (H H' : List Cell) (o n o' n' : ℕ) → Both t t' H H' (v.FunctionReference o n) (v.FunctionReference o' n')
       → textAt t o n ≡ textAt t' o' n'
   -- a machine in another place, with its run under way, means the same as itself
-  pub self-alike : (again : Bool) (h d : Held) → Fine h → Fine d → d .vm .program ≡ h .vm .program → d .stores ≡ h .stores → Rooms (d .lent) (h .lent)
-      → d .vm .run .on ≡ h .vm .run .on → underOf d ≡ underOf h → AlikeHeld again h d
+  pub self-alike : (again : Bool) (h d : Held) → Fine h → Fine d → d .vm .program ≡ h .vm .program → d .vm .strict ≡ h .vm .strict → d .stores ≡ h .stores
+      → Rooms (d .lent) (h .lent) → d .vm .run .on ≡ h .vm .run .on → underOf d ≡ underOf h → AlikeHeld again h d
   -- two machines set up in one state mean the same
   pub set-up-alike : (again : Bool) (x : Machine) (h k d : Held) → SetUp x h k → SetUp x h d → Fine k → Fine d → AlikeHeld again k d
   -- whatever lies past the counts is not seen: the same calls answer the same, in the same words, and leave what agrees again
@@ -255,15 +262,18 @@ pub record Promises : Type 0 where
   pub installed-runs-so : (p : Program) → Passed p → (m : Vm) (s : Stores) (e e' : Lent) → Installed p m s e → (g : ℕ) (x : RunResult) → Answers (byEntries s) m e g x e'
       → FaultsSo m s e g e' x
   pub installed-stays-within : (p : Program) → Passed p → (m : Vm) (s : Stores) (e : Lent) → Installed p m s e → (hs : List ℕ) → Tells p hs → StaysWithin (byEntries s) m s e hs
+  -- one that a host has made strict among them: changing the setting keeps what is installed
+  pub a-setting-keeps-what-is-installed : (p : Program) (m k : Vm) (s : Stores) (e : Lent) → Installed p m s e → (strict : Bool) → setStrictOf strict m s e ≡ ch.Done k
+      → Installed p k s e
   -- ---- THE LISTING WITH NOTES: it shows a line for each place where the walk over instructions stands, and the text of every image fits its store
 
   pub notes-show-the-walk : (p : Program) (t : List ℕ) → notedListing p ≡ text t → t ≡ notedWalk (knownOf p) 0 (p .functions)
   pub noter-fits : (image : List ℕ) → Bytes image → length (noterText image) ≤ 1048576
   -- ---- A HOST IN C: it hands back the machine by handing back the record
 
-  -- a record of sixteen words or more, in which a machine in good order was written, as calls leave it, is taken and read back as that machine
+  -- a record of seventeen words or more, in which a machine in good order was written, as calls leave it, is taken and read back as that machine
   -- (`TypedLast`: if its last result is a scalar, it is a float of 64 bits, as its type says)
-  pub record-back : (h : Held) (w : List ℕ) → InOrder h → TypedLast (h .vm .last) → 16 ≤ length w → RecordOf (h .vm) (written w 0 (vmWords (h .vm)))
+  pub record-back : (h : Held) (w : List ℕ) → InOrder h → TypedLast (h .vm .last) → 17 ≤ length w → RecordOf (h .vm) (written w 0 (vmWords (h .vm)))
   -- a call from C, with room for its answer, does what the entry does from what the record's words stand for, and tells its answer
   pub crossing : (a : List ℕ) (g : CHeld) → Taken g → (c : Call) → Handed c a → (d : CDone) → Through c a g d → Crossed c a g d
   -- demand 1 from C: the number is that of the first check that fails, and with any but 0 nothing has changed; a short answer is 17, behind what comes first;
@@ -271,11 +281,13 @@ pub record Promises : Type 0 where
   pub c-refuses : (c : Call) (a : List ℕ) (g : CHeld) (d : CDone) → Taken g → ExactIf (wayOf c .value) → Through c a g d → CDemand1 c a g d
   pub short-answer : (a : List ℕ) (g : CHeld) → Taken g → (c : Call) → ExactIf (wayOf c .value) → length a < wayOf c .room → (d : CDone) → Through c a g d → Short c a g d
   pub no-record-refused : (a : List ℕ) (g : CHeld) → recordOk (g .words) ≡ false → (c : Call) → anew (c ∷ []) ≡ false → (d : CDone) → Through c a g d → NotTaken c a g d
-  -- over any sixteen words, a machine that was made is in good order, and its record is taken; and no call of a run over it is refused 19
-  pub c-new-made : (a : List ℕ) (g : CHeld) → 16 ≤ length (g .words) → 1 ≤ length a → (d : CDone) → Through (ask new) a g d → d .coded .number ≡ 0 → MadeIn new a g d
-  pub c-load-made : (a : List ℕ) (g : CHeld) → 16 ≤ length (g .words) → 1 ≤ length a → (image : List ℕ) → Bytes image → (d : CDone) → Through (ask (load image)) a g d
+  -- over any seventeen words, a machine that was made is in good order, and its record is taken; and no call of a run over it is refused 19
+  pub c-new-made : (a : List ℕ) (g : CHeld) → 17 ≤ length (g .words) → 1 ≤ length a → (d : CDone) → Through (ask new) a g d → d .coded .number ≡ 0 → MadeIn new a g d
+  pub c-load-made : (a : List ℕ) (g : CHeld) → 17 ≤ length (g .words) → 1 ≤ length a → (image : List ℕ) → Bytes image → (d : CDone) → Through (ask (load image)) a g d
       → d .coded .number ≡ 0 → MadeIn (load image) a g d
   pub c-run-in-order : (c : RunCall) (a : List ℕ) (g : CHeld) (d : CDone) → InOrder (heldIn g) → Taken g → Called (run c) a g d → d .coded .number ≡ 19 → ⊥
+  -- where the setting was changed from C, the host holds the machine that it held, with that setting
+  pub c-set-strict : (a : List ℕ) (g : CHeld) → Taken g → (strict : Bool) (d : CDone) → Through (ask (setStrict strict)) a g d → d .coded .number ≡ 0 → SetIn strict g d
   -- calls from C are host calls; they keep good order, and machines that mean the same say the same to them
   pub c-chain-is-a-chain : (cs : List Call) (g k : CHeld) (ds : List CDone) → Taken g → CChain cs g ds k → HostChain cs g ds k
   pub c-chain-kept : (cs : List Call) (g k : CHeld) (ds : List CDone) → AllTyped cs → Taken g → CChain cs g ds k → InOrder (heldIn g) → InOrder (heldIn k)

@@ -8,7 +8,6 @@ use lib.Dec.{ltb, eqb}
 use lib.ListN.{length}
 use lib.Seq.{length-sets}
 use borrow.Author.Tests.{le-ltb}
-use Rattle.model.specs.declared.Counts.{Counts}
 use Rattle.model.specs.declared.Vm.{Vm}
 use Rattle.model.specs.declared.RunResult.{RunResult}
 use Rattle.model.specs.declared.RunResult.the-variants as r
@@ -18,7 +17,7 @@ use Rattle.model.specs.Steps.{World}
 use Rattle.model.specs.Runs.{Machine, Ended, ended, stopped, paused, begin, endOf, Ran, Under, Part, ends, pauses, partOf, beginOf, continueOf, abandonOf, dealt, givenUp, runOf}
 use Rattle.model.specs.Stores.{Stores, worldIn}
 use Rattle.model.specs.Emission.{written}
-use Rattle.model.specs.Machines.{Lent, frameRoom, machineIn, underIn, worldOf, runOrder, copyShort, traceShort, runRefusal, RunAnswer, ran, refused, beginAnswer, continueAnswer, abandonAnswer, RunCall, begins, continues, abandons, runAnswer, entryWords, traceOfPart, traceAfter, answerIn, SameRooms, Leaves, RunPost}
+use Rattle.model.specs.Machines.{Lent, frameRoom, machineIn, underIn, worldOf, runOrder, copyShort, traceShort, runRefusal, Unchanged, unchanged, RunAnswer, ran, refused, beginAnswer, continueAnswer, abandonAnswer, RunCall, begins, continues, abandons, runAnswer, entryWords, traceOfPart, traceAfter, answerIn, SameRooms, Leaves, RunPost}
 use Rattle.layout.proofs.Bools.{either-way}
 use Rattle.laws_runs.specs.Parts.{sumOf}
 use Rattle.laws_runs.proofs.Parts.{parts-are-one-run}
@@ -26,14 +25,14 @@ use Rattle.report.specs.Links.{isPaused, OneRun, at-once, continued, aba
 
 -- what one run of u units comes to
 unfoldable pub oneAnswer : Vm → Stores → Lent → (u : ℕ) → RunAnswer
-oneAnswer m s l u = if eqb (runRefusal m s l) 0 then ran (m .program) (ends (runOf (worldOf m s l) (machineIn m l) u)) else refused (runRefusal m s l)
+oneAnswer m s l u = if eqb (runRefusal m s l) 0 then ran (unchanged m) (ends (runOf (worldOf m s l) (machineIn m l) u)) else refused (runRefusal m s l)
 
 -- ---- an answer by the rules
 
-not-ran : {n : ℕ} {c : Counts} {x : Part} → refused n ≡ ran c x → ⊥
+not-ran : {n : ℕ} {c : Unchanged} {x : Part} → refused n ≡ ran c x → ⊥
 not-ran e = let z : _≡_ {A = ℕ} 0 1 = cc in omega arith
 
-same-ran : {c d : Counts} {x y : Part} → ran c x ≡ ran d y → (c ≡ d) × (x ≡ y)
+same-ran : {c d : Unchanged} {x y : Part} → ran c x ≡ ran d y → (c ≡ d) × (x ≡ y)
 same-ran e = (cc, cc)
 
 -- units dealt out once are one run with them
@@ -70,9 +69,12 @@ module _ (w : World) (m : Machine) where
 
 -- what is paused leaves the backtrace store, and all stores as long as they were
 module _ (s : Stores) {l l' : Lent} (rooms : SameRooms l l') where
-  same-world : (m k : Vm) → m .program ≡ k .program → worldOf k s l' ≡ worldOf m s l
+  same-world : (m k : Vm) → unchanged m ≡ unchanged k → worldOf k s l' ≡ worldOf m s l
   unfolding worldOf worldIn places frameRoom
-  same-world m k e = rw (← e, rooms .stack, rooms .cells, rooms .frames)
+  same-world m k e =
+      let program : m .program ≡ k .program = ap (λ (c : Unchanged). c .program) e in
+      let setting : m .strict ≡ k .strict = ap (λ (c : Unchanged). c .strict) e in
+      rw (← program, ← setting, rooms .stack, rooms .cells, rooms .frames)
 
   still-long : length (l' .backtrace) ≡ length (l .backtrace) → traceShort l ≡ false → traceShort l' ≡ false
   unfolding traceShort places frameRoom
@@ -89,7 +91,7 @@ record EndsIn (x : Part) : Type 0 where
   ran-so : Ran
   is : x ≡ ends ran-so
 
-over-ends : (l : Lent) (x : RunResult) → isPaused x ≡ false → {c : Counts} {y : Part} → answerIn l x ≡ ran c y → EndsIn y
+over-ends : (l : Lent) (x : RunResult) → isPaused x ≡ false → {c : Unchanged} {y : Part} → answerIn l x ≡ ran c y → EndsIn y
 unfolding answerIn isPaused
 over-ends l (r.Value m v n) o e = record { ran-so = _; is = sym (same-ran e .1) }
 over-ends l (r.Continue m n) o e = record { ran-so = _; is = sym (same-ran e .1) }
@@ -104,7 +106,7 @@ module _ (m : Vm) (s : Stores) (l : Lent) (long : traceShort l ≡ false) where
   abbrev x₀ : Machine
   x₀ = machineIn m l
 
-  granted : (u : ℕ) → runOrder m s l ≡ true → m .run .on ≡ false → copyShort l ≡ false → ran (m .program) (ends (runOf w x₀ u)) ≡ oneAnswer m s l u
+  granted : (u : ℕ) → runOrder m s l ≡ true → m .run .on ≡ false → copyShort l ≡ false → ran (unchanged m) (ends (runOf w x₀ u)) ≡ oneAnswer m s l u
   unfolding oneAnswer runRefusal
   granted u order off fits = rw (order, off, fits)
 
@@ -116,9 +118,9 @@ module _ (m : Vm) (s : Stores) (l : Lent) (long : traceShort l ≡ false) where
       (λ order. either-way (m .run .on) (λ on. rw (order, on) (rw (order, on) at e))
       (λ off. either-way (copyShort l) (λ short. rw (order, off, short) (rw (order, off, short) at e))
       (λ fits.
-      let f : answerIn l' x ≡ ran (m .program) (beginOf w x₀) = rw (order, off, fits) at e in
+      let f : answerIn l' x ≡ ran (unchanged m) (beginOf w x₀) = rw (order, off, fits) at e in
       let over = over-ends l' x o f in
-      f ∙ ap (ran (m .program)) (over .is ∙ ap ends (over-at-once w x₀ u (over .ran-so) (sym (over .is)))) ∙ granted u order off fits)))
+      f ∙ ap (ran (unchanged m)) (over .is ∙ ap ends (over-at-once w x₀ u (over .ran-so) (sym (over .is)))) ∙ granted u order off fits)))
       (λ bad. rw bad (rw bad at e))
 
   -- paused at its beginning
@@ -126,7 +128,7 @@ module _ (m : Vm) (s : Stores) (l : Lent) (long : traceShort l ≡ false) where
     order : runOrder m s l ≡ true
     off : m .run .on ≡ false
     fits : copyShort l ≡ false
-    program : m .program ≡ k .program
+    same : unchanged m ≡ unchanged k
     is : pauses (underIn k l₁) ≡ beginOf w x₀
 
   begun-paused : (k : Vm) (l₁ : Lent) → RunPost begins m s l (r.Paused k) l₁ → Begun k l₁
@@ -138,7 +140,7 @@ module _ (m : Vm) (s : Stores) (l : Lent) (long : traceShort l ≡ false) where
       (λ off. either-way (copyShort l) (λ short. absurd (not-ran (sym (rw (order, off, short) at e))))
       (λ fits.
       let f = same-ran (rw (order, off, fits) at e) in
-      record { order = order; off = off; fits = fits; program = sym (f .0); is = f .1 })))
+      record { order = order; off = off; fits = fits; same = sym (f .0); is = f .1 })))
       (λ bad. absurd (not-ran (sym (rw bad at e))))
 
   long-after : {c : RunCall} {k k' : Vm} {l₁ l₂ : Lent} → RunPost c k s l₁ (r.Paused k') l₂ → traceShort l₁ ≡ false → traceShort l₂ ≡ false
@@ -149,10 +151,10 @@ module _ (m : Vm) (s : Stores) (l : Lent) (long : traceShort l ≡ false) where
     start = begun-paused k l₁ post
 
     world : worldOf k s l₁ ≡ w
-    world = same-world s (post .rooms) m k (start .program)
+    world = same-world s (post .rooms) m k (start .same)
 
     -- it is continued, and not refused
-    continued-so : continueAnswer k s l₁ u ≡ ran (k .program) (continueOf w (underIn k l₁) u)
+    continued-so : continueAnswer k s l₁ u ≡ ran (unchanged k) (continueOf w (underIn k l₁) u)
     unfolding continueAnswer
     continued-so =
         let none : k .run .given ≡ 0 = (unfold underIn in none-given w x₀ (underIn k l₁) (start .is)) in
@@ -163,18 +165,18 @@ module _ (m : Vm) (s : Stores) (l : Lent) (long : traceShort l ≡ false) where
     continued-over l' x o e =
         let f = e ∙ continued-so in
         let over = over-ends l' x o f in
-        f ∙ ap (λ (c : Counts). ran c (continueOf w (underIn k l₁) u)) (sym (start .program))
-        ∙ ap (ran (m .program)) (over .is ∙ ap ends (over-when-continued w x₀ u (underIn k l₁) (start .is) (over .ran-so) (sym (over .is))))
+        f ∙ ap (λ (c : Unchanged). ran c (continueOf w (underIn k l₁) u)) (sym (start .same))
+        ∙ ap (ran (unchanged m)) (over .is ∙ ap ends (over-when-continued w x₀ u (underIn k l₁) (start .is) (over .ran-so) (sym (over .is))))
         ∙ granted u (start .order) (start .off) (start .fits)
 
     -- paused again
     module _ (k' : Vm) (l₂ : Lent) (more : RunPost (continues u) k s l₁ (r.Paused k') l₂) where
-      again : (k' .program ≡ k .program) × (pauses (underIn k' l₂) ≡ continueOf w (underIn k l₁) u)
+      again : (unchanged k' ≡ unchanged k) × (pauses (underIn k' l₂) ≡ continueOf w (underIn k l₁) u)
       unfolding runAnswer answerIn
       again = same-ran (more .answer ∙ continued-so)
 
       -- it is abandoned, and not refused
-      abandoned-so : abandonAnswer k' s l₂ ≡ ran (k' .program) (ends (abandonOf w (underIn k' l₂)))
+      abandoned-so : abandonAnswer k' s l₂ ≡ ran (unchanged k') (ends (abandonOf w (underIn k' l₂)))
       unfolding abandonAnswer
       abandoned-so =
           let there : worldOf k' s l₂ ≡ w = same-world s (more .rooms) k k' (sym (again .0)) ∙ world in
@@ -182,8 +184,8 @@ module _ (m : Vm) (s : Stores) (l : Lent) (long : traceShort l ≡ false) where
 
       abandoned-over : abandonAnswer k' s l₂ ≡ oneAnswer m s l u
       abandoned-over =
-          abandoned-so ∙ ap (λ (c : Counts). ran c (ends (abandonOf w (underIn k' l₂)))) (again .0 ∙ sym (start .program))
-          ∙ ap (λ (y : Ran). ran (m .program) (ends y)) (over-when-abandoned w x₀ u (underIn k l₁) (start .is) (underIn k' l₂) (again .1))
+          abandoned-so ∙ ap (λ (c : Unchanged). ran c (ends (abandonOf w (underIn k' l₂)))) (again .0 ∙ sym (start .same))
+          ∙ ap (λ (y : Ran). ran (unchanged m) (ends y)) (over-when-abandoned w x₀ u (underIn k l₁) (start .is) (underIn k' l₂) (again .1))
           ∙ granted u (start .order) (start .off) (start .fits)
 
   pub one-run-is : (u : ℕ) → u ≤ 0xFFFF_FFFF_FFFF_FFFF → {x : RunResult} {l' : Lent} → OneRun m u s l x l' → answerIn l' x ≡ oneAnswer m s l u

@@ -20,7 +20,7 @@ use Rattle.model.specs.Steps.{World}
 use Rattle.model.specs.Runs.{Machine, begin, root, Entry, fault, Ran, ends, runOf}
 use Rattle.model.specs.Stores.{Stores, worldIn}
 use Rattle.model.specs.Orders.{cellsOk}
-use Rattle.model.specs.Machines.{Lent, frameRoom, machineIn, worldOf, runOrder, traceShort, runRefusal, ran, refused, RunCall, runAnswer, entriesIn, answerIn, RunPost}
+use Rattle.model.specs.Machines.{Lent, frameRoom, machineIn, worldOf, runOrder, traceShort, runRefusal, Unchanged, unchanged, ran, refused, RunCall, runAnswer, entriesIn, answerIn, RunPost}
 use Rattle.value.proofs.Coding.{and-left}
 use Rattle.layout.proofs.Bools.{either-way}
 use Rattle.laws_runs.specs.Sane.{SaneWorld, Sane}
@@ -93,7 +93,7 @@ cells-there m s l ok =
     (and-left (first && exactCells n 0 (l .cells)) (heapOk t (heapOf n (l .cells))) (order-of m s l ok .cells))) in
     omega arith
 
-not-refused : (b : Bool) (n : ℕ) (d : Counts) {c : Counts} {x y : Ran} → ran c (ends x) ≡ (if b then ran d (ends y) else refused n) → (b ≡ true) × (x ≡ y)
+not-refused : (b : Bool) (n : ℕ) (d : Unchanged) {c : Unchanged} {x y : Ran} → ran c (ends x) ≡ (if b then ran d (ends y) else refused n) → (b ≡ true) × (x ≡ y)
 not-refused true n d e = (refl, cc)
 not-refused false n d e = absurd (let z : _≡_ {A = ℕ} 0 1 = cc in let y : ⊥ = omega arith in y)
 
@@ -122,7 +122,7 @@ module _ (m : Vm) (s : Stores) (l : Lent) (u : ℕ) where
         on (r.Value k v n) run = cells-there k s l' (value-in-order run)
         on (r.Continue k n) run = tt
         on (r.Fault k n did j) run =
-            let is = not-refused (eqb (runRefusal m s l) 0) (runRefusal m s l) (m .program) (one-run-is m s l long u small run) in
+            let is = not-refused (eqb (runRefusal m s l) 0) (runRefusal m s l) (unchanged m) (one-run-is m s l long u small run) in
             let a = run-trace m s l u bytes long (is .0) n did (entriesIn j 0 (l' .backtrace)) (ap (λ (y : Ran). y .reply) (sym (is .1))) in
             omega (arith, a, length-entries j 0 (l' .backtrace), as-long run)
         on (r.Paused k) run = tt

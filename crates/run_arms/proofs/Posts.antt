@@ -1,7 +1,7 @@
 -- What an arm ensures, for each way out of an arm.
 use mathlib.Core.Path.{_≡_, refl, sym, ap, _∙_}
 use mathlib.Core.Option.{Option, none, some}
-use mathlib.Core.Bool.{Bool, true, false, not}
+use mathlib.Core.Bool.{Bool, true, false, not, _&&_}
 use mathlib.Core.List.{List, [], _∷_}
 use Prim.Native.Nat.{ℕ, zero, suc, _+_, _-_, _≤_, _<_, min}
 use native.Mathlib.Omega.{arith}
@@ -26,7 +26,7 @@ use Rattle.model.specs.declared.Told.the-variants.{Number, Refused}
 use Rattle.model.specs.declared.Frame.{Frame}
 use Rattle.model.specs.Basics.{if_then_else_}
 use Rattle.model.specs.Values.{kind, vals, popping, poppingScalar, poppingBoolean, ifScalar, ifBoolean, ifReference, textAt}
-use Rattle.model.specs.Scalars.{arithOf, zeroDivisor, orderOf}
+use Rattle.model.specs.Scalars.{arithOf, finite, resultOf, zeroDivisor, orderOf}
 use Rattle.model.specs.Heap.{item}
 use Rattle.model.specs.Programs.{functionNamed}
 use Rattle.model.specs.Emission.{toldName}
@@ -287,24 +287,37 @@ module _ {k : Fixed} {g : Going} {s : List ℕ} (w : Within k g s) where
 
   module _ {r : Scalars} (p : r ≡ scalarsOf (vals (g .sp) s)) where
     module _ {n : Fault} (e : r ≡ sc.Bad n) where
-      pub arithmetic-bad : (a : Arith) → ArmPost (arithmeticStep a) k g s (Stopped g n) s
+      pub arithmetic-bad : (u : World) (a : Arith) → ArmPost (arithmeticStep u a) k g s (Stopped g n) s
       unfolding arithmeticStep
-      arithmetic-bad a = refused w (λ x ar h. no-scalars (g .sp) s p _ _ e)
+      arithmetic-bad u a = refused w (λ x ar h. no-scalars (g .sp) s p _ _ e)
 
       pub ordering-bad : (c : Order) → ArmPost (orderingStep c) k g s (Stopped g n) s
       unfolding orderingStep
       ordering-bad c = refused w (λ x ar h. no-scalars (g .sp) s p _ _ e)
 
     module _ {x y : Float} (e : r ≡ sc.Two x y) where
-      pub zero-divided : (a : Arith) {b : Bool} → b ≡ zeroDivisor a y → b ≡ true → ArmPost (arithmeticStep a) k g s (Stopped g f.ZeroDivisor) s
+      pub zero-divided : (u : World) (a : Arith) {b : Bool} → b ≡ zeroDivisor a y → b ≡ true → ArmPost (arithmeticStep u a) k g s (Stopped g f.ZeroDivisor) s
       unfolding arithmeticStep
-      zero-divided a d z = refused w (λ x ar h. scalars (g .sp) s p _ _ e ∙ rw (← d, z))
+      zero-divided u a d z = refused w (λ x ar h. scalars (g .sp) s p _ _ e ∙ rw (← d, z))
+
+      -- what the strict machine asks of the result z
+      strictly : {u : World} → Suits k u → (a : Arith) {z : Float} → z ≡ arithOf a x y → {b : Bool} → b ≡ (k .strict && (finite x && finite y && not (finite z)))
+          → (u .strict && resultOf a x y .escaped) ≡ b
+      unfolding resultOf
+      strictly c a h q = rw (c .strict, q, h)
+
+      pub not-finite : {u : World} → Suits k u → (a : Arith) {b j : Bool} {z : Float} → b ≡ zeroDivisor a y → b ≡ false → z ≡ arithOf a x y
+          → j ≡ (k .strict && (finite x && finite y && not (finite z))) → j ≡ true → ArmPost (arithmeticStep u a) k g s (Stopped g f.NotFinite) s
+      unfolding arithmeticStep
+      not-finite c a o b h q l = refused w (λ x ar i. scalars (g .sp) s p _ _ e ∙ rw (← o, b, strictly c a h q, l))
 
       module _ {i n : ℕ} (c : i ≡ g .sp - 2) (d : n ≡ g .sp - 1) {t : List ℕ} where
-        pub computed : (a : Arith) {b : Bool} {z : Float} → b ≡ zeroDivisor a y → b ≡ false → z ≡ arithOf a x y → Written s i (item (Scalar z)) t
-            → ArmPost (arithmeticStep a) k g s (Went (withCount n g)) t
+        pub computed : {u : World} → Suits k u → (a : Arith) {b j : Bool} {z : Float} → b ≡ zeroDivisor a y → b ≡ false → z ≡ arithOf a x y
+            → j ≡ (k .strict && (finite x && finite y && not (finite z))) → j ≡ false → Written s i (item (Scalar z)) t
+            → ArmPost (arithmeticStep u a) k g s (Went (withCount n g)) t
         unfolding arithmeticStep
-        computed a o b h q = two-replaced (two-scalars (g .sp) s p e) c d q (λ x ar. scalars (g .sp) s p _ _ e ∙ rw (← o, b, h))
+        computed m a o b h f l q =
+            two-replaced (two-scalars (g .sp) s p e) c d q (λ x ar. scalars (g .sp) s p _ _ e ∙ rw (← o, b, strictly m a h f, l) (unfold resultOf in rw h))
 
         pub ordered : (o : Order) {z : Bool} → z ≡ orderOf o x y → Written s i (item (Boolean z)) t
             → ArmPost (orderingStep o) k g s (Went (withCount n g)) t

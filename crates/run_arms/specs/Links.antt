@@ -82,6 +82,7 @@ pub record Suits (k : Fixed) (w : World) : Type 0 where
   pub functions : length (w .functions) ≡ k .functions
   pub stackRoom : w .stackRoom ≡ k .slots
   pub frameRoom : w .frameRoom ≡ k .frames
+  pub strict : w .strict ≡ k .strict
 
 -- the world's text and its functions' names are those that stand in the stores
 pub record Named (k : Fixed) (s : Stores) (w : World) : Type 0 where

@@ -6,7 +6,7 @@ use model::Value;
 pub mod pushes; // pushes.rt: constants, slots, the last result
 pub mod frames; // frames.rt: calls and returns; the frames themselves are the run's
 
-// What no step changes: the counts of the program, the rooms of stack and frames, and the units that the run was given in all.
+// What no step changes: the counts of the program, the rooms of stack and frames, the units that the run was given in all, and whether it is strict.
 pub struct Fixed {
     pub constants: usize,
     pub structs: usize,
@@ -14,6 +14,7 @@ pub struct Fixed {
     pub slots: usize,
     pub frames: usize,
     pub given: u64,
+    pub strict: bool,
 }
 
 // What a step changes, in plain words: the values on the stack, the current frame (but when it was entered, which the run has), how many callers it

@@ -61,6 +61,7 @@ pub pauses : (m : Vm) (u : ℕ) (g : Going) {last : Last} → last ≡ lastIn (g
   cells = g .used;
   last = last;
   run = record { on = true; given = u; spent = g .spent; returns = g .returns; mark = g .mark; saved = m .run .saved };
+  strict = m .strict;
 }) ≡ pausedWith m u g
 unfolding pausedWith vmPaused
 pauses m u g e = rw (e, add-one)
@@ -89,6 +90,7 @@ module _ (m : Vm) (f : Frame) (words : List ℕ) {w n : ℕ} (e : w ≡ payloadA
     cells = m .cells;
     last = m .last;
     run = record { on = true; given = 0; spent = 0; returns = 0; mark = m .cells; saved = m .stack };
+    strict = m .strict;
   }) ≡ begunWith m f words
   unfolding begunWith vmBegun codeWord
   under-way h = rw (← e, ← l, lt-leb _ _ h)

@@ -35,7 +35,7 @@ pub record PausedExact (m : Vm) (l : Lent) : Type 0 where
 module _ (m : Vm) (s : Stores) (l : Lent) (program : programOk (m .program) s ≡ true) (exact : PausedExact m l) (sane : SaneUnder (worldOf m s l) (underIn m l)) where
   -- what abandoning would leave: the copy as a stack, the mark's cells, the last result
   abbrev kept : Vm
-  kept = record { program = m .program; stack = m .run .saved; frames = 1; cells = m .run .mark; last = m .last; run = noRun }
+  kept = record { program = m .program; stack = m .run .saved; frames = 1; cells = m .run .mark; last = m .last; run = noRun; strict = m .strict }
 
   abbrev copied : Lent
   copied = record { stack = l .copy; cells = l .cells; frames = root 0 ∷ []; copy = []; backtrace = [] }

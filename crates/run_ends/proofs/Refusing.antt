@@ -6,15 +6,14 @@ use native.Mathlib.Omega.{arith}
 use borrow.Author.Tests.{lt-ltb, le-ltb, ne-eqb}
 use lib.Dec.{ltb, eqb}
 use lib.ListN.{length}
-use Rattle.model.specs.declared.Counts.{Counts}
 use Rattle.model.specs.declared.Vm.{Vm}
 use Rattle.model.specs.Basics.{if_then_else_}
 use Rattle.model.specs.Runs.{Part}
 use Rattle.model.specs.Stores.{Stores}
-use Rattle.model.specs.Machines.{Lent, runOrder, copyShort, traceShort, ran, refused, begins, continues, abandons, runAnswer, beginAnswer, continueAnswer, abandonAnswer, refusalOf}
+use Rattle.model.specs.Machines.{Unchanged, unchanged, Lent, runOrder, copyShort, traceShort, ran, refused, begins, continues, abandons, runAnswer, beginAnswer, continueAnswer, abandonAnswer, refusalOf}
 
 -- continuing is refused as abandoning is, and 22 where that is not
-by-the-tests : (order on short long : Bool) (c : Counts) (x y : Part)
+by-the-tests : (order on short long : Bool) (c : Unchanged) (x y : Part)
     → refusalOf (if order then (if on then (if short then refused 17 else (if long then refused 22 else ran c x)) else refused 18) else refused 19)
     ≡ (if eqb (refusalOf (if order then (if on then (if short then refused 17 else ran c y) else refused 18) else refused 19)) 0 then (if long then 22 else 0)
     else refusalOf (if order then (if on then (if short then refused 17 else ran c y) else refused 18) else refused 19))
@@ -28,7 +27,7 @@ by-the-tests false on short long c x y = refl
 continued-as-abandoned : (m : Vm) (u : ℕ) (s : Stores) (l : Lent) → refusalOf (runAnswer (continues u) m s l)
     ≡ (if eqb (refusalOf (runAnswer abandons m s l)) 0 then (if ltb 0xFFFF_FFFF_FFFF_FFFF (m .run .given + u) then 22 else 0) else refusalOf (runAnswer abandons m s l))
 unfolding runAnswer continueAnswer abandonAnswer
-continued-as-abandoned m u s l = by-the-tests (runOrder m s l) (m .run .on) (traceShort l) (ltb 0xFFFF_FFFF_FFFF_FFFF (m .run .given + u)) (m .program) _ _
+continued-as-abandoned m u s l = by-the-tests (runOrder m s l) (m .run .on) (traceShort l) (ltb 0xFFFF_FFFF_FFFF_FFFF (m .run .given + u)) (unchanged m) _ _
 
 -- the order of a machine is judged, and the stores by their lengths
 module _ (m : Vm) (good : Bool) (a b : ℕ) where

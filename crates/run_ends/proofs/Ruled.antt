@@ -18,7 +18,7 @@ use Rattle.model.specs.Programs.{functionAt}
 use Rattle.model.specs.Steps.{World, State, codeOf}
 use Rattle.model.specs.Runs.{standing, begin, Progress, atStart, machineOf, ended, paused, over, root, Entry, traceOf, recovered, fault, tally, answered, ends, partOf, beginOf, cutAt, abandonOf}
 use Rattle.model.specs.Stores.{size, codeWord}
-use Rattle.model.specs.Machines.{Lent, innermost, callersIn, machineIn, underIn, ran, entriesIn, endedAs, answerIn}
+use Rattle.model.specs.Machines.{Lent, innermost, callersIn, machineIn, underIn, ran, unchanged, entriesIn, endedAs, answerIn}
 use Rattle.model.specs.Machines as mc
 use Rattle.laws_runs.proofs.Parts.{a-run-begun-at-its-end-is-over-at-once, a-run-begun-before-an-instruction-is-paused-there}
 use Rattle.run_arms.specs.declared.Fixed.{Fixed}
@@ -56,13 +56,13 @@ module _ (m : Vm) (l l' : Lent) (w : World) (begun : standing (machineIn m l') 0
     its-end-is-read-from-the-words = rw (← begun, ← here, long)
 
     module _ (same : vals (m .stack) (l' .copy) ≡ vals (m .stack) (l .stack)) where
-      begins-by : (b : Bool) → over w first ≡ b → answerIn l' (begunWith m f words) ≡ ran (m .program) (beginOf w (machineIn m l))
+      begins-by : (b : Bool) → over w first ≡ b → answerIn l' (begunWith m f words) ≡ ran (unchanged m) (beginOf w (machineIn m l))
       unfolding answerIn begunWith
       begins-by true e = rw (a-run-begun-at-its-end-is-over-at-once w (machineIn m l) e, ← its-end-is-read-from-the-words, e, ← a-begun-machine-is-left)
           (unfold machineIn in refl)
       begins-by false e = rw (a-run-begun-before-an-instruction-is-paused-there w (machineIn m l) e, ← its-end-is-read-from-the-words, e) (unfold vmBegun in rw (a-begun-run-is-under-way same))
 
-      pub a-beginning-answers-by-the-rules : answerIn l' (begunWith m f words) ≡ ran (m .program) (beginOf w (machineIn m l))
+      pub a-beginning-answers-by-the-rules : answerIn l' (begunWith m f words) ≡ ran (unchanged m) (beginOf w (machineIn m l))
       a-beginning-answers-by-the-rules = begins-by (over w first) refl
 
 module _ (m : Vm) (g : Going) (l : Lent) where
@@ -82,7 +82,7 @@ module _ (m : Vm) (g : Going) (l : Lent) where
     unfolding machineIn vmEnded
     an-end-leaves-the-machine-as-it-stands = rw (current, callers)
 
-    pub an-end-answers-by-the-rules : (w : World) (start : List Value) (u : ℕ) → answerIn l (endedWith m g) ≡ ran (m .program) (partOf w start u (ended progress here))
+    pub an-end-answers-by-the-rules : (w : World) (start : List Value) (u : ℕ) → answerIn l (endedWith m g) ≡ ran (unchanged m) (partOf w start u (ended progress here))
     unfolding endedWith partOf
     an-end-answers-by-the-rules w start u =
         a-result-says-what-is-answered l (steps.answerIn g) (vmEnded m g) (tallyOf g)
@@ -94,7 +94,7 @@ module _ (m : Vm) (g : Going) (l : Lent) where
       unfolding underIn mc.progressIn machineIn vmPaused steps.answerIn
       a-paused-run-is-under-way = rw (copy, current, callers, given)
 
-      pub a-pause-answers-by-the-rules : (w : World) → answerIn l (pausedWith m u g) ≡ ran (m .program) (partOf w start u (paused progress here))
+      pub a-pause-answers-by-the-rules : (w : World) → answerIn l (pausedWith m u g) ≡ ran (unchanged m) (partOf w start u (paused progress here))
       unfolding answerIn pausedWith partOf
       a-pause-answers-by-the-rules w = unfold vmPaused in rw a-paused-run-is-under-way
 
@@ -107,7 +107,7 @@ module _ (m : Vm) (g : Going) (l : Lent) where
     a-fault-leaves-the-recovered-machine = rw (stack, main, alone)
 
     pub a-fault-answers-by-the-rules : (n : ℕ) {es : List Entry} → entriesIn (suc (g .callers)) 0 (l .backtrace) ≡ es
-        → answerIn l (faultedWith m g n) ≡ ran (m .program) (ends (record { reply = fault n (tally (g .spent) progress) es; machine = recovered w start progress }))
+        → answerIn l (faultedWith m g n) ≡ ran (unchanged m) (ends (record { reply = fault n (tally (g .spent) progress) es; machine = recovered w start progress }))
     unfolding answerIn faultedWith
     a-fault-answers-by-the-rules n told = unfold vmFaulted in rw (a-fault-leaves-the-recovered-machine, the-tally-counts-the-units-spent, told)
 

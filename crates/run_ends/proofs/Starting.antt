@@ -29,9 +29,9 @@ module _ (from to : List ℕ) (n : ℕ) (g : n ≤ length from) {t : List ℕ} {
 -- ---- what no step changes
 
 pub fixed-is : (m : Vm) (u a b : ℕ) {ra rb : ℕ} → Room 2 a ra → rb ≡ min b 0xFFFF_FFFF
-    → FixedPost m u a b (record { constants = m .program .constants; structs = m .program .structs; functions = m .program .functions; slots = ra; frames = rb; given = u })
+    → FixedPost m u a b (record { constants = m .program .constants; structs = m .program .structs; functions = m .program .functions; slots = ra; frames = rb; given = u; strict = m .strict })
 unfolding frameRoom
-fixed-is m u a b ha hb = record { constants = refl; structs = refl; functions = refl; slots = ha; frames = λ fs e. rw (hb, e); given = refl }
+fixed-is m u a b ha hb = record { constants = refl; structs = refl; functions = refl; slots = ha; frames = λ fs e. rw (hb, e); given = refl; strict = refl }
 
 -- ---- the last result, by its two words
 

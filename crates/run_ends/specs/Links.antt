@@ -7,6 +7,8 @@ use lib.Dec.{ltb, leb, eqb}
 use lib.ListN.{length}
 use Rattle.model.specs.declared.Run.{Run}
 use Rattle.model.specs.declared.Vm.{Vm}
+use Rattle.model.specs.declared.Changed.{Changed}
+use Rattle.model.specs.declared.Changed.the-variants as ch
 use Rattle.model.specs.declared.Last.{Last}
 use Rattle.model.specs.declared.Last.the-variants.{Nothing, Is}
 use Rattle.model.specs.declared.Frame.{Frame}
@@ -66,6 +68,16 @@ partBy m f slots words cells copy =
     && ltb (f .position) (size (codeWord words (f .function)))
     else idle (m .run)
 
+-- ---- the setting
+
+-- where the order is good and no run is under way, the machine with another setting
+unfoldable pub setBy : (good : Bool) → Vm → (strict : Bool) → Changed
+setBy good m strict =
+    if good then
+    (if m .run .on then ch.Refused 25 else
+    ch.Done (record { program = m .program; stack = m .stack; frames = m .frames; cells = m .cells; last = m .last; run = m .run; strict = strict }))
+    else ch.Refused 19
+
 -- ---- the loop's start
 
 -- what no step changes: u units are given in all, in stores of a words of stack and b frames
@@ -76,6 +88,7 @@ pub record FixedPost (m : Vm) (u a b : ℕ) (k : Fixed) : Type 0 where
   pub slots : (s : List ℕ) → length s ≡ a → k .slots ≡ places 2 s
   pub frames : (fs : List Frame) → length fs ≡ b → k .frames ≡ frameRoom fs
   pub given : k .given ≡ u
+  pub strict : k .strict ≡ m .strict
 
 -- the running machine where its run goes on, in the frame f and with e units spent
 pub record Begun (m : Vm) (f : Frame) (e : ℕ) (g : Going) : Type 0 where
@@ -101,9 +114,9 @@ cutFrame m f = record {
 
 -- ---- what a part leaves and answers
 
--- the machine with other counts and last result, over the same program, and no run under way
+-- the machine with other counts and last result, over the same program, of the same setting, and no run under way
 abbrev pub vmWith : Vm → ℕ → ℕ → ℕ → Last → Vm
-vmWith m stack frames cells last = record { program = m .program; stack = stack; frames = frames; cells = cells; last = last; run = noRun }
+vmWith m stack frames cells last = record { program = m .program; stack = stack; frames = frames; cells = cells; last = last; run = noRun; strict = m .strict }
 
 -- the machine of a run that is begun
 unfoldable pub vmBegun : Vm → Vm
@@ -114,6 +127,7 @@ vmBegun m = record {
   cells = m .cells;
   last = m .last;
   run = record { on = true; given = 0; spent = 0; returns = 0; mark = m .cells; saved = m .stack };
+  strict = m .strict;
 }
 
 -- over at once, or paused
@@ -151,6 +165,7 @@ vmPaused m u g = record {
   cells = g .used;
   last = lastIn (g .kind) (g .payload);
   run = record { on = true; given = u; spent = g .spent; returns = g .returns; mark = g .mark; saved = m .run .saved };
+  strict = m .strict;
 }
 
 unfoldable pub pausedWith : Vm → ℕ → Going → RunResult

@@ -6,6 +6,7 @@ use layout::reads::lesser;
 use layout::reads::room;
 use layout::reads::second;
 use layout::reads::size_of;
+use model::Changed;
 use model::Counts;
 use model::Frame;
 use model::Last;
@@ -34,7 +35,7 @@ ghost use Rattle.model.specs.Stores.{Stores, size, codeWord};
 ghost use Rattle.model.specs.Orders.{cellsOk, stackOk, lastOk};
 ghost use Rattle.model.specs.Runs.{root};
 ghost use Rattle.model.specs.Machines.{Lent, someLast, idle, runOrder, copyShort, traceShort, begins, continues, abandons, runAnswer, noRun, fresh, refusalOf};
-ghost use Rattle.run_ends.specs.Links.{programLent, valuesOk, restOrder, countsBy, partBy, FixedPost, Begun, cutFrame, vmWith, tallyOf, Answerable, endedWith, faultedWith, pausedWith, settledWith, begunWith};
+ghost use Rattle.run_ends.specs.Links.{setBy, programLent, valuesOk, restOrder, countsBy, partBy, FixedPost, Begun, cutFrame, vmWith, tallyOf, Answerable, endedWith, faultedWith, pausedWith, settledWith, begunWith};
 
 // ---- a machine that has not run, and judging
 
@@ -63,6 +64,7 @@ pub fn fresh_vm(c: Counts) -> Vm
         cells: 0,
         last: Last::Nothing,
         run: no_run(),
+        strict: false,
     }
 }
 
@@ -290,6 +292,20 @@ pub fn continue_refusal(good: bool, m: Vm, units: u64, frames: usize, backtrace:
     why
 }
 
+// The machine with this setting, where its order is good and no run is under way.
+pub fn set_to(good: bool, m: Vm, strict: bool) -> Changed
+    ensures { λ r. ⌜ r ≡ setBy good m strict ⌝ }
+{
+    if good {
+        let running = m.run.on;
+        if running {
+            return Changed::Refused(25);
+        }
+        return Changed::Done(Vm { strict, ..m });
+    }
+    Changed::Refused(19)
+}
+
 // ---- copying, and the loop's start
 
 // The first n values of one store at the front of another: the starting stack is kept, and put back.
@@ -317,6 +333,7 @@ pub fn fixed(m: Vm, given: u64, stack: usize, frames: usize) -> Fixed
         slots: room(stack, 2),
         frames: lesser(frames, MOST_PLACES),
         given,
+        strict: m.strict,
     }
 }
 
@@ -394,12 +411,13 @@ pub fn abandoned(m: Vm, f: Frame) -> Going
 
 // ---- what a part leaves and answers
 
-// A machine over the same program with no run under way, with these counts and this last result.
+// A machine over the same program, of the same setting, with no run under way, with these counts and this last result.
 fn vm_with(m: Vm, stack: usize, frames: usize, cells: usize, last: Last) -> Vm
     ensures { λ r. ⌜ r ≡ vmWith m stack frames cells last ⌝ }
 {
     let c = m.program;
     let run = no_run();
+    let strict = m.strict;
     Vm {
         program: c,
         stack,
@@ -407,6 +425,7 @@ fn vm_with(m: Vm, stack: usize, frames: usize, cells: usize, last: Last) -> Vm
         cells,
         last,
         run,
+        strict,
     }
 }
 
@@ -485,6 +504,7 @@ fn paused(m: Vm, given: u64, g: Going) -> RunResult
         cells: g.used,
         last,
         run,
+        strict: m.strict,
     })
 }
 

@@ -39,6 +39,7 @@ fn fault_number(f: Fault) -> u8
         Fault::OutOfRange => 6,
         Fault::NoLastResult => 7,
         Fault::ZeroDivisor => 8,
+        Fault::NotFinite => 26,
         Fault::StackFull => 9,
         Fault::FramesFull => 10,
         Fault::CellsFull => 11,

@@ -11,8 +11,8 @@ use value::pops;
 use value::pops::Scalars;
 use value::scalars;
 use value::words;
-ghost use Rattle.model.specs.Steps.{negateStep, arithmeticStep, orderingStep};
-ghost use Rattle.run_arms.specs.Links.{Within, ArmPost};
+ghost use Rattle.model.specs.Steps.{World, negateStep, arithmeticStep, orderingStep};
+ghost use Rattle.run_arms.specs.Links.{Within, Suits, ArmPost};
 
 // Negate.
 pub fn negate(k: Fixed, g: Going, stack: &mut [u64]) -> Answer
@@ -33,7 +33,7 @@ pub fn negate(k: Fixed, g: Going, stack: &mut [u64]) -> Answer
 // Add, Subtract, Multiply, Divide.
 pub fn arithmetic(k: Fixed, g: Going, which: Arith, stack: &mut [u64]) -> Answer
     requires { ⌜ Within k g (now stack) ⌝ }
-    ensures { λ r. ⌜ ArmPost (arithmeticStep which) k g (now (stack .entry)) r (now (stack .exit)) ⌝ }
+    ensures { λ r. ⌜ ((w : World) → Suits k w → ArmPost (arithmeticStep w which) k g (now (stack .entry)) r (now (stack .exit))) ⌝ }
 {
     let sp = g.sp;
     match pops::two_scalars(stack, sp) {
@@ -42,12 +42,12 @@ pub fn arithmetic(k: Fixed, g: Going, which: Arith, stack: &mut [u64]) -> Answer
             if scalars::zero_divisor(which, y) {
                 return Answer::Stopped(g, Fault::ZeroDivisor);
             }
+            let result = scalars::arithmetic(which, x, y);
+            if scalars::strict_fault(k.strict, x, y, result) {
+                return Answer::Stopped(g, Fault::NotFinite);
+            }
             let count = sp - 1;
-            words::write_value(
-                stack,
-                count - 1,
-                Value::Scalar(scalars::arithmetic(which, x, y)),
-            );
+            words::write_value(stack, count - 1, Value::Scalar(result));
             Answer::Went(Going { sp: count, ..g })
         }
     }

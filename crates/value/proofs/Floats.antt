@@ -15,7 +15,7 @@ use types.Run.{OneOf, miss}
 use Rattle.model.proofs.Arith.{the-type}
 use Rattle.model.specs.declared.Arith.{Arith}
 use Rattle.model.specs.declared.Arith.the-variants as a
-use Rattle.model.specs.Scalars.{zeroDivisor}
+use Rattle.model.specs.Scalars.{finite, zeroDivisor}
 
 -- what differs from itself is the NaN
 pub nan-word : (x : Float) → Ieee.ne x x ≡ true → 0x7FF8_0000_0000_0000 ≡ toBits binary64 x
@@ -48,6 +48,29 @@ zero-by-zero = refl
 pub zero-bits : ofBits binary64 0 ≡ fin false 0 (pos 0)
 unfolding Ieee.ofBits Ieee.ofFields Ieee.odd
 zero-bits = refl
+
+-- ---- what is finite lies between the infinities
+
+pub infinity-bits : ofBits binary64 0x7FF0_0000_0000_0000 ≡ inf false
+unfolding Ieee.ofBits Ieee.ofFields Ieee.odd
+infinity-bits = refl
+
+pub infinity-is-no-nan : T (not (nanBits binary64 0x7FF0_0000_0000_0000))
+unfolding nanBits
+infinity-is-no-nan = tt
+
+pub above-the-least : (x : Float) → Ieee.lt x (inf false) ≡ true → Ieee.lt (Ieee.neg (inf false)) x ≡ finite x
+unfolding Ieee.lt Ieee.neg finite
+above-the-least nan e = refl
+above-the-least (inf true) e = refl
+above-the-least (inf false) e = sym e
+above-the-least (fin s m d) e = refl
+
+pub not-below-the-most : (x : Float) → Ieee.lt x (inf false) ≡ false → false ≡ finite x
+unfolding Ieee.lt finite
+not-below-the-most nan e = refl
+not-below-the-most (inf s) e = refl
+not-below-the-most (fin s m d) e = sym e
 
 -- what is no division has no zero divisor
 pub no-division : (w : Arith) (y : Float) → OneOf (0 ∷ 1 ∷ 2 ∷ []) (tagOf the-type w) → false ≡ zeroDivisor w y

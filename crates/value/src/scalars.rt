@@ -3,7 +3,8 @@ use model::Arith;
 use model::Order;
 ghost use mathlib.Core.Path.{_≡_};
 ghost use lib.Ieee as Ieee;
-ghost use Rattle.model.specs.Scalars.{arithOf, zeroDivisor, orderOf};
+ghost use mathlib.Core.Bool.{not, _&&_};
+ghost use Rattle.model.specs.Scalars.{arithOf, finite, zeroDivisor, orderOf};
 
 // The result of the operation, of whichever the machine asks.
 pub fn arithmetic(which: Arith, x: f64, y: f64) -> f64
@@ -15,6 +16,37 @@ pub fn arithmetic(which: Arith, x: f64, y: f64) -> f64
         Arith::Multiply => x * y,
         Arith::Divide => x / y,
     }
+}
+
+// Whether x is neither infinite nor a NaN.
+fn is_finite(x: f64) -> bool
+    ensures { λ r. ⌜ r ≡ finite x ⌝ }
+{
+    let infinity = f64::from_bits(0x7FF0_0000_0000_0000);
+    if x < infinity {
+        return -infinity < x;
+    }
+    false
+}
+
+// Whether finite operands x and y gave a result that is not finite.
+fn escaped(x: f64, y: f64, result: f64) -> bool
+    ensures { λ r. ⌜ r ≡ finite x && finite y && not (finite result) ⌝ }
+{
+    let first = is_finite(x);
+    let second = is_finite(y);
+    let third = is_finite(result);
+    first & second & !third
+}
+
+// Whether a strict machine faults by the result of an operation on x and y; one that is not strict never does.
+pub fn strict_fault(strict: bool, x: f64, y: f64, result: f64) -> bool
+    ensures { λ r. ⌜ r ≡ strict && (finite x && finite y && not (finite result)) ⌝ }
+{
+    if strict {
+        return escaped(x, y, result);
+    }
+    false
 }
 
 // Whether the operation is a division by zero, of either sign.

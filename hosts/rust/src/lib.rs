@@ -9,6 +9,11 @@ extern "C" {
         image: *const u8, _: usize, vm: *mut u64, _: usize, constants: *mut u64, _: usize, structs: *mut u64, _: usize,
         functions: *mut u64, _: usize, text: *mut u8, _: usize, main: *mut u8, _: usize, main_places: *mut u32, _: usize,
         other: *mut u8, _: usize, other_places: *mut u32, _: usize, frames: *mut Frame, _: usize, answer: *mut u64, _: usize) -> u32;
+    fn chaffwheel_set_strict(
+        strict: bool, vm: *mut u64, _: usize, constants: *const u64, _: usize, structs: *const u64, _: usize,
+        functions: *const u64, _: usize, text: *const u8, _: usize, main: *const u8, _: usize, main_places: *const u32, _: usize,
+        other: *const u8, _: usize, other_places: *const u32, _: usize, stack: *const u64, _: usize, cells: *const u64, _: usize,
+        frames: *const Frame, _: usize, copy: *const u64, _: usize) -> u32;
     fn chaffwheel_begin(
         vm: *mut u64, _: usize, constants: *const u64, _: usize, structs: *const u64, _: usize,
         functions: *const u64, _: usize, text: *const u8, _: usize, main: *const u8, _: usize, main_places: *const u32, _: usize,
@@ -107,7 +112,7 @@ impl Outcome {
 
 /// The stores have the runner's sizes. Constants, structs, functions, the stack, its copy and the cells have two words to a place.
 pub struct Machine {
-    vm: [u64; 16],
+    vm: [u64; 17],
     constants: [u64; 512],
     structs: [u64; 512],
     functions: [u64; 512],
@@ -134,7 +139,7 @@ impl Machine {
     /// Loads a rule.
     pub fn load(image: &[u8]) -> Result<Box<Machine>, Refused> {
         let mut m = Box::new(Machine {
-            vm: [0; 16],
+            vm: [0; 17],
             constants: [0; 512],
             structs: [0; 512],
             functions: [0; 512],
@@ -153,10 +158,21 @@ impl Machine {
         // Each store is lent whole, with its own count, and none twice.
         #[rustfmt::skip]
         done(unsafe { chaffwheel_load(
-            image.as_ptr(), image.len(), m.vm.as_mut_ptr(), 16, m.constants.as_mut_ptr(), 512, m.structs.as_mut_ptr(), 512,
+            image.as_ptr(), image.len(), m.vm.as_mut_ptr(), 17, m.constants.as_mut_ptr(), 512, m.structs.as_mut_ptr(), 512,
             m.functions.as_mut_ptr(), 512, m.text.as_mut_ptr(), 16384, m.main.as_mut_ptr(), 8192, m.main_places.as_mut_ptr(), 8192,
             m.other.as_mut_ptr(), 8192, m.other_places.as_mut_ptr(), 8192, m.frames.as_mut_ptr(), 256, answer.as_mut_ptr(), 5) })?;
         Ok(m)
+    }
+
+    /// On a strict machine finite numbers that give infinity or NaN are fault 26. A machine is not strict as it is loaded.
+    pub fn set_strict(&mut self, strict: bool) -> Result<(), Refused> {
+        #[rustfmt::skip]
+        done(unsafe { chaffwheel_set_strict(
+            strict, self.vm.as_mut_ptr(), 17, self.constants.as_ptr(), 512, self.structs.as_ptr(), 512,
+            self.functions.as_ptr(), 512, self.text.as_ptr(), 16384, self.main.as_ptr(), 8192, self.main_places.as_ptr(), 8192,
+            self.other.as_ptr(), 8192, self.other_places.as_ptr(), 8192, self.stack.as_ptr(), 2048, self.cells.as_ptr(), 4096,
+            self.frames.as_ptr(), 256, self.copy.as_ptr(), 2048) })?;
+        Ok(())
     }
 
     /// Begins a run; it takes no units.
@@ -164,7 +180,7 @@ impl Machine {
         let mut answer = [0; 5];
         #[rustfmt::skip]
         done(unsafe { chaffwheel_begin(
-            self.vm.as_mut_ptr(), 16, self.constants.as_ptr(), 512, self.structs.as_ptr(), 512,
+            self.vm.as_mut_ptr(), 17, self.constants.as_ptr(), 512, self.structs.as_ptr(), 512,
             self.functions.as_ptr(), 512, self.text.as_ptr(), 16384, self.main.as_ptr(), 8192, self.main_places.as_ptr(), 8192,
             self.other.as_ptr(), 8192, self.other_places.as_ptr(), 8192, self.stack.as_ptr(), 2048, self.cells.as_ptr(), 4096,
             self.frames.as_mut_ptr(), 256, self.copy.as_mut_ptr(), 2048, answer.as_mut_ptr(), 5) })?;
@@ -176,7 +192,7 @@ impl Machine {
         let mut answer = [0; 5];
         #[rustfmt::skip]
         done(unsafe { chaffwheel_continue(
-            units, self.vm.as_mut_ptr(), 16, self.constants.as_ptr(), 512, self.structs.as_ptr(), 512,
+            units, self.vm.as_mut_ptr(), 17, self.constants.as_ptr(), 512, self.structs.as_ptr(), 512,
             self.functions.as_ptr(), 512, self.text.as_ptr(), 16384, self.main.as_ptr(), 8192, self.main_places.as_ptr(), 8192,
             self.other.as_ptr(), 8192, self.other_places.as_ptr(), 8192, self.stack.as_mut_ptr(), 2048, self.cells.as_mut_ptr(), 4096,
             self.frames.as_mut_ptr(), 256, self.copy.as_ptr(), 2048, self.trace.as_mut_ptr(), 768, answer.as_mut_ptr(), 5) })?;
@@ -188,7 +204,7 @@ impl Machine {
         let mut answer = [0; 5];
         #[rustfmt::skip]
         done(unsafe { chaffwheel_abandon(
-            self.vm.as_mut_ptr(), 16, self.constants.as_ptr(), 512, self.structs.as_ptr(), 512,
+            self.vm.as_mut_ptr(), 17, self.constants.as_ptr(), 512, self.structs.as_ptr(), 512,
             self.functions.as_ptr(), 512, self.text.as_ptr(), 16384, self.main.as_ptr(), 8192, self.main_places.as_ptr(), 8192,
             self.other.as_ptr(), 8192, self.other_places.as_ptr(), 8192, self.stack.as_mut_ptr(), 2048, self.cells.as_ptr(), 4096,
             self.frames.as_mut_ptr(), 256, self.copy.as_ptr(), 2048, self.trace.as_mut_ptr(), 768, answer.as_mut_ptr(), 5) })?;

@@ -5,8 +5,12 @@ use crate::limits::Stores;
 use crate::script::in_hex as hex;
 
 impl Story<'_> {
-    /// Begins a run, perhaps after a try with too short a copy store.
+    /// Begins a run, perhaps after a try with too short a copy store, and perhaps
+    /// on a machine that was made strict, or not strict again.
     pub(super) fn start(&mut self) {
+        if self.rng.chance(10) {
+            self.set_strict();
+        }
         match self.rng.below(8) {
             0 => {
                 let room = self.rng.pick(&[0, 1, Stores::RUNNER.values - 1]);
@@ -107,8 +111,10 @@ impl Story<'_> {
     /// A call that is refused 25, whatever else would be wrong with it.
     pub(super) fn refused_in_pause(&mut self) {
         let image = hex(&self.machine().save());
-        const LINES: [&str; 19] = [
+        const LINES: [&str; 21] = [
             "new",
+            "strict 0",
+            "strict 1",
             "image",
             "image 00",
             "start",

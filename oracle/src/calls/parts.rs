@@ -229,7 +229,9 @@ impl Story<'_> {
         }
         let needed = self.needed();
         self.start();
-        self.deal(needed);
+        // Its one root Return is in the first part.
+        self.go_on(2);
+        self.deal(needed - 2);
         self.lines(&["start", "last", "trace", "frame 1"]);
         // What is emitted into the callee is run, and behind it the end again.
         self.load(one);

@@ -12,7 +12,7 @@ use crate::run_record::RunRecord;
 use crate::script::lines;
 use crate::value::Value;
 
-const FAULTS: [u32; 14] = [1, 2, 3, 4, 5, 6, 7, 8, 9, 10, 11, 12, 13, 14];
+const FAULTS: [u32; 15] = [1, 2, 3, 4, 5, 6, 7, 8, 9, 10, 11, 12, 13, 14, 26];
 const REFUSALS: [u32; 15] = [1, 3, 5, 6, 7, 14, 16, 17, 18, 19, 20, 21, 22, 23, 25];
 
 /// What is looked for beside those numbers.
@@ -64,6 +64,9 @@ pub enum Edge {
     ImageInPause,
     NewInPause,
     BeginInPause,
+    StrictInPause,
+    ImageOverStrict,
+    BrokenOverStrict,
     PartTooShort,
     RunDamaged,
     GoesOnDamaged,
@@ -71,7 +74,7 @@ pub enum Edge {
 
 use Edge::*;
 
-const EDGES: [(Edge, &str); 49] = [
+const EDGES: [(Edge, &str); 52] = [
     (CopyTooShort, "refused 17, a copy store"),
     (TraceTooShort, "refused 17, a backtrace store"),
     (BytesTooShort, "refused 17, a store for bytes"),
@@ -157,6 +160,12 @@ const EDGES: [(Edge, &str); 49] = [
     (ImageInPause, "refused 25, loading"),
     (NewInPause, "refused 25, a new machine"),
     (BeginInPause, "refused 25, beginning a run"),
+    (StrictInPause, "refused 25, making strict or not strict"),
+    (ImageOverStrict, "an image loaded over a strict machine"),
+    (
+        BrokenOverStrict,
+        "a broken image refused by a strict machine that has run",
+    ),
     (PartTooShort, "refused 17, a backtrace store of a part"),
     (RunDamaged, "refused 19, a damaged word of a run"),
     (
@@ -344,7 +353,11 @@ impl Watch {
                     self.forget();
                 }
                 used.map_or(vec![], |machine| match broken {
-                    true => vec![BrokenOverUsed],
+                    true => [
+                        vec![BrokenOverUsed],
+                        if_so(machine.strict, BrokenOverStrict),
+                    ]
+                    .concat(),
                     false => over(&machine),
                 })
             }
@@ -431,6 +444,7 @@ fn refused_in_pause(command: &Command) -> Edge {
         Command::Start(_) => BeginInPause,
         Command::Patch(..) => PatchInPause,
         Command::End => EndInPause,
+        Command::Strict(_) => StrictInPause,
         _ => EmissionInPause,
     }
 }
@@ -488,6 +502,7 @@ fn over(machine: &Machine) -> Vec<Edge> {
         if_so(machine.cells_used > 0, ImageOverCells),
         if_so(machine.frames.len() > 1, ImageOverCallees),
         if_so(machine.current != 0, ImageOverCurrent),
+        if_so(machine.strict, ImageOverStrict),
     ]
     .concat()
 }

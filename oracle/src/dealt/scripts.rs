@@ -1,12 +1,13 @@
 //! Dealt runs as scripts for the console, and what it has to answer. The
 //! script deals units out; each answer is that of document 01's undivided run
-//! given the units of all parts so far: no run in parts is asked.
+//! given the units of all parts so far: no run in parts is asked. And whole runs
+//! on strict machines, likewise.
 
 use super::{deal, units};
 use crate::console::{said_of, Console};
 use crate::generate::{self, Rng};
 use crate::limits::{Answer, Machine, Part};
-use crate::print;
+use crate::print::{self, UNITS};
 use crate::script::in_hex;
 
 /// The most units of a run that may not come to its end by itself: the console
@@ -26,8 +27,21 @@ pub struct Scripted {
     pub runs: u64,
 }
 
-/// The script of a seed, of at most so many bytes.
+/// What is made of an image.
+type Tell = fn(&[u8], Machine, &mut Rng) -> Scripted;
+
+/// The script of a seed, of at most so many bytes: runs in parts, on machines
+/// that are strict or not.
 pub fn scripted(seed: u64, most: usize) -> Scripted {
+    script_of(seed, most, dealt_runs)
+}
+
+/// The same of whole runs on strict machines, given the runner's units.
+pub fn strict(seed: u64, most: usize) -> Scripted {
+    script_of(seed, most, strict_run)
+}
+
+fn script_of(seed: u64, most: usize, tell: Tell) -> Scripted {
     let mut all = Scripted::default();
     for index in 0.. {
         let image = generate::case(seed, index);
@@ -39,7 +53,7 @@ pub fn scripted(seed: u64, most: usize) -> Scripted {
         }
         // Chance that does not depend on the image's.
         let mut rng = Rng::new(!seed, index);
-        let told = of_image(&image, machine, &mut rng);
+        let told = tell(&image, machine, &mut rng);
         if all.script.len() + told.script.len() > most {
             break;
         }
@@ -50,14 +64,14 @@ pub fn scripted(seed: u64, most: usize) -> Scripted {
     all
 }
 
-fn of_image(image: &[u8], machine: Machine, rng: &mut Rng) -> Scripted {
-    let mut told = Telling {
-        console: Console::of(machine),
-        told: Scripted::default(),
-        rng,
-    };
-    told.line(&format!("image {}", in_hex(image)), "done\n");
+fn dealt_runs(image: &[u8], machine: Machine, rng: &mut Rng) -> Scripted {
+    let mut told = Telling::of(image, machine, rng);
     for run in 0..told.rng.between(1, RUNS) {
+        match told.rng.below(4) {
+            0 => told.look("strict 0"),
+            1 => told.look("strict 1"),
+            _ => {}
+        }
         if run > 0 {
             // A beginning sets to 0 when the frame was entered.
             let entered = told.rng.below(3);
@@ -69,6 +83,21 @@ fn of_image(image: &[u8], machine: Machine, rng: &mut Rng) -> Scripted {
     told.told
 }
 
+fn strict_run(image: &[u8], machine: Machine, rng: &mut Rng) -> Scripted {
+    let mut told = Telling::of(image, machine, rng);
+    told.look("strict 1");
+    let lent = told.console.as_lent();
+    let machine = lent.expect("a loaded machine is in good order");
+    let after = match told.part("start", &machine, 0) {
+        Some(after) => after,
+        None => told.given(&machine, [UNITS].into_iter()),
+    };
+    told.console = Console::of(after);
+    told.told.runs += 1;
+    told.look("last");
+    told.told
+}
+
 struct Telling<'a> {
     /// Its machine is the one that undivided runs have left.
     console: Console,
@@ -76,7 +105,17 @@ struct Telling<'a> {
     rng: &'a mut Rng,
 }
 
-impl Telling<'_> {
+impl<'a> Telling<'a> {
+    fn of(image: &[u8], machine: Machine, rng: &'a mut Rng) -> Telling<'a> {
+        let mut told = Telling {
+            console: Console::of(machine),
+            told: Scripted::default(),
+            rng,
+        };
+        told.line(&format!("image {}", in_hex(image)), "done\n");
+        told
+    }
+
     fn line(&mut self, line: &str, answer: &str) {
         self.told.script += line;
         self.told.script.push('\n');
@@ -115,11 +154,17 @@ impl Telling<'_> {
         let needed = machine.clone().one_run(MANY);
         let ends = !matches!(needed.answer, Answer::Fault(13));
         let sum = units(self.rng, needed.spent, ends);
-        let mut given = 0;
-        if let Some(after) = self.part("start", machine, given) {
+        if let Some(after) = self.part("start", machine, 0) {
             return after;
         }
-        for units in deal(self.rng, sum) {
+        let parts = deal(self.rng, sum);
+        self.given(machine, parts.into_iter())
+    }
+
+    /// The parts behind the beginning; abandoned where it is then paused.
+    fn given(&mut self, machine: &Machine, parts: impl Iterator<Item = u64>) -> Machine {
+        let mut given = 0;
+        for units in parts {
             given += units;
             if let Some(after) = self.part(&format!("continue {units}"), machine, given) {
                 return after;

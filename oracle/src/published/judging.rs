@@ -67,9 +67,10 @@ pub(super) struct Ruled<'a> {
 }
 
 impl Ruled<'_> {
-    /// 9 to 13 are limits, of which the Rust has none.
+    /// 9 to 13 are limits, of which the Rust has none, and so is 26 of a strict
+    /// machine.
     fn is_past_a_limit(&self) -> bool {
-        matches!(self.report.answer, Answer::Fault(9..=13))
+        matches!(self.report.answer, Answer::Fault(9..=13 | 26))
     }
 
     fn agrees(&self, ending: &Ending, after: &State) -> bool {

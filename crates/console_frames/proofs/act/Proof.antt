@@ -9,23 +9,25 @@ use Rattle.model.specs.declared.Frame.{Frame}
 use Rattle.model.specs.declared.Started.{Started}
 use Rattle.model.specs.declared.RunResult.{RunResult}
 use Rattle.model.specs.declared.Told.{Told}
+use Rattle.model.specs.declared.Changed.{Changed}
 use Rattle.model.specs.Stores.{Stores}
-use Rattle.model.specs.Machines.{backtraceIn, begins, continues, abandons, RunPost, loadMachineOf, newMachineOf}
+use Rattle.model.specs.Machines.{backtraceIn, begins, continues, abandons, RunPost, setStrict, loadMachineOf, newMachineOf}
 use Rattle.layout.specs.Links.{namesLent}
 use Rattle.model.specs.Stores.{storesOf as imageLent}
 use Rattle.run_ends.specs.Links.{programLent}
 use Rattle.machine.specs.Links.{runLent}
 use Rattle.console_frames.specs.declared.Call.{Call}
-use Rattle.console_frames.specs.declared.Call.the-variants.{New, Load, Begin, Continue, Abandon, Trace}
+use Rattle.console_frames.specs.declared.Call.the-variants.{New, Load, Begin, Continue, Abandon, Trace, Strict}
 use Rattle.console_frames.specs.declared.Answer.{Answer}
 use Rattle.console_frames.specs.declared.Answer.the-variants as ans
 use Rattle.frames.proofs.Frames.{R}
 use Rattle.machine.proofs.Rows.{VmRow, vmVal, vm-tells, vm-typed, vm-makes, StartedRow, startedVal, IsStarted, started-tells, started-typed, started-makes, ResultRow, resultVal, IsResult, result-tells, result-typed, result-makes, ToldRow, toldVal, IsTold, told-tells, told-typed, told-makes}
+use Rattle.machine.proofs.Rows.{ChangedRow, changedVal, changed-tells, changed-typed, changed-makes}
 use Rattle.laws_walks.proofs.Branches.{returns-match}
 use Rattle.console_frames.specs.Resting.{allLaid, allKept}
 use Rattle.console_frames.specs.Calls.{Held, held, Called}
-use Rattle.console_frames.proofs.Answers.{new-called, load-called, begin-called, continue-called, abandon-called, trace-called}
-use Rattle.console_frames.proofs.Calls.{CallRow, callVal, IsCall, call-tells, call-typed, call-makes, AnswerRow, answerVal, IsAnswer, answer-tells, answer-typed, answer-makes, units-fit}
+use Rattle.console_frames.proofs.Answers.{new-called, load-called, begin-called, continue-called, abandon-called, trace-called, strict-called}
+use Rattle.console_frames.proofs.Calls.{CallRow, callVal, IsCall, call-tells, call-typed, call-makes, AnswerRow, answerVal, IsAnswer, answer-tells, answer-typed, answer-makes, units-fit, setting-is}
 use Rattle.console_frames.proofs.lay as lay-of
 use Rattle.console_frames.proofs.lay.Symbol as lay-def
 use Rattle.console_frames.proofs.lay.Symbol.{name as #lay}
@@ -58,6 +60,10 @@ use Rattle.machine.proofs.backtrace as back-of
 use Rattle.machine.proofs.backtrace.Symbol as back-def
 use Rattle.machine.proofs.backtrace.Symbol.{name as #back}
 use Rattle.machine.proofs.backtrace.Met as back-thm
+use Rattle.machine.proofs.set_strict as strict-of
+use Rattle.machine.proofs.set_strict.Symbol as strict-def
+use Rattle.machine.proofs.set_strict.Symbol.{name as #strict}
+use Rattle.machine.proofs.set_strict.Met as strict-thm
 use Rattle.console_frames.proofs.under_way as running-of
 use Rattle.console_frames.proofs.under_way.Symbol as running-def
 use Rattle.console_frames.proofs.under_way.Symbol.{name as #running}
@@ -74,6 +80,10 @@ use Rattle.console_frames.proofs.traced as traced-of
 use Rattle.console_frames.proofs.traced.Symbol as traced-def
 use Rattle.console_frames.proofs.traced.Symbol.{name as #traced}
 use Rattle.console_frames.proofs.traced.Met as traced-thm
+use Rattle.console_frames.proofs.set as set-of
+use Rattle.console_frames.proofs.set.Symbol as set-def
+use Rattle.console_frames.proofs.set.Symbol.{name as #set}
+use Rattle.console_frames.proofs.set.Met as set-thm
 use Rattle.console_frames.proofs.act.Key.{name as #me}
 use Rattle.console_frames.proofs.act as me
 use Rattle.console_frames.proofs.act.Statement as stated
@@ -111,6 +121,9 @@ module _ {M : Type 1} (𝓤 : URA M) (H : Heap 𝓤) (A : Atoms 𝓤) (W : Given
   abbrev ToBack : Contract 𝓤
   ToBack = tripleOf 𝓤 H A back-of.signature (back-of.spec 𝓤 H A mem run)
 
+  abbrev ToStrict : Contract 𝓤
+  ToStrict = tripleOf 𝓤 H A strict-of.signature (strict-of.spec 𝓤 H A mem run)
+
   abbrev ToRunning : Contract 𝓤
   ToRunning = tripleOf 𝓤 H A running-of.signature (running-of.spec 𝓤 H A mem run)
 
@@ -122,6 +135,9 @@ module _ {M : Type 1} (𝓤 : URA M) (H : Heap 𝓤) (A : Atoms 𝓤) (W : Given
 
   abbrev ToTraced : Contract 𝓤
   ToTraced = tripleOf 𝓤 H A traced-of.signature (traced-of.spec 𝓤 H A mem run)
+
+  abbrev ToSet : Contract 𝓤
+  ToSet = tripleOf 𝓤 H A set-of.signature (set-of.spec 𝓤 H A mem run)
 
   abbrev to-made : Started → List Arg
   to-made x = val StartedRow x (startedVal x) ∷ []
@@ -150,11 +166,20 @@ module _ {M : Type 1} (𝓤 : URA M) (H : Heap 𝓤) (A : Atoms 𝓤) (W : Given
       (λ ns. passing (lent (to-traced x) ns)) (λ ns. refl) (λ ns. unasked W (lent (to-traced x) ns)) (λ ns w. id⊢ 𝓤 _)
       (told-makes 𝓤 H A W x _ isx, tt) tt
 
+  abbrev to-set : Changed → List Arg
+  to-set x = val ChangedRow x (changedVal x) ∷ []
+
+  call-set : (x : Changed) → Is ChangedRow x (changedVal x ∷ []) → Rule 𝓤 H A W (to-set x) ToSet AnswerRow answerVal (λ r zs. r ≡ ans.Set x)
+  call-set x isx =
+      call-with 𝓤 H A W (to-set x) ToSet AnswerRow answerVal (λ r zs. r ≡ ans.Set x) answer-tells
+      (λ ns. passing (lent (to-set x) ns)) (λ ns. refl) (λ ns. unasked W (lent (to-set x) ns)) (λ ns w. id⊢ 𝓤 _)
+      (changed-makes 𝓤 H A W x _ isx, tt) tt
+
   module _ (𝓣 : Tables 𝓤 H) (known-lay : Triple 𝓤 (𝓣 .C #lay) ToLay) (known-keep : Triple 𝓤 (𝓣 .C #keep) ToKeep) (known-new : Triple 𝓤 (𝓣 .C #new) ToNew)
       (known-load : Triple 𝓤 (𝓣 .C #load) ToLoad) (known-begin : Triple 𝓤 (𝓣 .C #begin) ToBegin) (known-more : Triple 𝓤 (𝓣 .C #more) ToMore) (known-end : Triple
       𝓤 (𝓣 .C #end) ToEnd) (known-back : Triple 𝓤 (𝓣 .C #back) ToBack)
       (known-running : Triple 𝓤 (𝓣 .C #running) ToRunning) (known-made : Triple 𝓤 (𝓣 .C #made) ToMade) (known-ran : Triple 𝓤 (𝓣 .C #ran) ToRan) (known-traced :
-      Triple 𝓤 (𝓣 .C #traced) ToTraced)
+      Triple 𝓤 (𝓣 .C #traced) ToTraced) (known-strict : Triple 𝓤 (𝓣 .C #strict) ToStrict) (known-set : Triple 𝓤 (𝓣 .C #set) ToSet)
       (κs : Lfts 15) (qs : Shares 15) (a : Passed kinds AnswerRow κs) (is : Known kinds AnswerRow κs a) where
     abbrev m : Vm
     m = a .0
@@ -654,6 +679,58 @@ module _ {M : Type 1} (𝓤 : URA M) (H : Heap 𝓤) (A : Atoms 𝓤) (W : Given
           ),
         )
 
+    abbrev to-strict : Bool → List Frame → List Arg
+    to-strict b frames′ =
+        val VmRow m (vmVal m) ∷ val Boolean b (vbool b) ∷ peek u64 s1 constants ∷ peek u64 s2 structs ∷ peek u64 s3 functions ∷ peek u8 s4 text ∷
+        peek u8 s5 main ∷ peek u32 s6 mainPlaces ∷ peek u8 s7 other ∷ peek u32 s8 otherPlaces ∷ peek u64 s9 stack ∷ peek u64 s10 cells ∷
+        peek R s11 frames′ ∷ peek u64 s12 copy ∷ []
+
+    -- what the entry answers, beside any store for a backtrace
+    abbrev Sets : Bool → List Frame → Changed → Type 0
+    Sets b frames′ x =
+        (backtrace : List ℕ) → x ≡ setStrict b m (programLent structs constants functions text main mainPlaces other otherPlaces)
+        (runLent stack cells frames′ copy backtrace)
+
+    call-strict : (b : Bool) → Is Boolean b (vbool b ∷ []) → (frames′ : List Frame) → length frames′ ≡ s11 .count
+        → Rule 𝓤 H A W (to-strict b frames′) ToStrict ChangedRow changedVal (λ x zs. Sets b frames′ x)
+    call-strict b isb frames′ len-frames =
+        call-with 𝓤 H A W (to-strict b frames′) ToStrict ChangedRow changedVal (λ x zs. Sets b frames′ x) changed-tells
+        (λ ns. passing (lent (to-strict b frames′) ns)) (λ ns. refl) (λ ns. unasked W (lent (to-strict b frames′) ns)) (λ ns w. id⊢ 𝓤 _)
+        (vm-makes 𝓤 H A W m _ is-m, (bool-makes 𝓤 H A W b _ isb, tt)) (
+          (refl, room1),
+          (
+            (refl, room2),
+            (
+              (refl, room3),
+              (
+                (refl, room4),
+                (
+                  (refl, room5),
+                  (
+                    (refl, room6),
+                    (
+                      (refl, room7),
+                      (
+                        (refl, room8),
+                        (
+                          (refl, room9),
+                          (
+                            (refl, room10),
+                            (
+                              (len-frames, room11),
+                              ((refl, room12), tt),
+                            ),
+                          ),
+                        ),
+                      ),
+                    ),
+                  ),
+                ),
+              ),
+            ),
+          ),
+        )
+
     module _ (ls : Blocks (code.function .locals)) where
       fm : FmC 𝓤 H (W .laws) (𝓣 .C)
       fm = fmOf 𝓤 H (W .laws) 𝓣
@@ -663,14 +740,19 @@ module _ {M : Type 1} (𝓤 : URA M) (H : Heap 𝓤) (A : Atoms 𝓤) (W : Given
       slots c =
           none ∷ some (vmVal m) ∷ some (callVal c) ∷ some (sval s0) ∷ some (sval s1) ∷ some (sval s2) ∷ some (sval s3) ∷ some
           (sval s4) ∷ some (sval s5) ∷ some (sval s6) ∷ some (sval s7) ∷ some (sval s8) ∷ some (sval s9) ∷ some (sval s10) ∷ some
-          (sval s11) ∷ some (sval s12) ∷ some (sval s13) ∷ some (sval s14) ∷ none ∷ none ∷ none ∷ none ∷ none ∷ none ∷ none ∷ none ∷ none ∷ none ∷ none ∷ none ∷ none ∷ none ∷ none ∷ some vunit ∷ some (vptr (s11 .block) (s11 .offset)) ∷ some (sval s11) ∷ some (vptr (s14 .block) (s14 .offset))
+          (sval s11) ∷ some (sval s12) ∷ some (sval s13) ∷ some (sval s14) ∷ none ∷ none ∷ none ∷ none ∷ none ∷ none ∷ none ∷ none ∷ none ∷ none ∷ none ∷ none ∷ none ∷ none ∷ none ∷ none ∷ none ∷ none ∷ some vunit ∷ some (vptr (s11 .block) (s11 .offset)) ∷ some (sval s11) ∷ some (vptr (s14 .block) (s14 .offset))
           ∷ some (sval s14) ∷ []
 
-      answers : (c : Call) → c ≡ call → IsCall c → (fs : List Frame) → length fs ≡ s11 .count → fs ≡ laid
+      -- such a call is answered, over the frames that were laid; one call to a lemma
+      abbrev Answered : Call → Type 1
+      Answered c =
+          c ≡ call → IsCall c → (fs : List Frame) → length fs ≡ s11 .count → fs ≡ laid
           → Sq W (‵ (Locals (code.function .locals) ls (slots c)) ∷ ‵
           (Holds (slices constants structs functions text main mainPlaces other otherPlaces stack cells fs copy trace words)) ∷ [])
           (runs (𝓣 .C) (𝓣 .Λ) (envAt (code.function .locals) ls) cm.t-6 (atRet (envAt (code.function .locals) ls) Post))
-      answers New e isc fs len el =
+
+      answers-new : Answered New
+      answers-new e isc fs len el =
           returns-match ! 𝓣 (tag-of ! refl refl refl refl) refl
           (calls-on ! [] (slices constants structs functions text main mainPlaces other otherPlaces stack cells fs copy trace words) call-running
           (λ zs. slices constants structs functions text main mainPlaces other otherPlaces stack cells fs copy trace words) refl (λ zs. refl) (λ zs. refl) fm
@@ -703,7 +785,9 @@ module _ {M : Type 1} (𝓤 : URA M) (H : Heap 𝓤) (A : Atoms 𝓤) (W : Given
           (zs₂ .1 .0) isr refl refl (lens₁ .0) (lens₁ .1 .0) refl refl refl refl refl refl (lens₁ .1 .1 .0) refl refl (lens₂ .0)
           (as-asked New e fs el _ _ _ (new-called m image constants structs functions text main mainPlaces other otherPlaces stack cells copy trace words
           fs eb (zs₁ .1 .0) (zs₁ .1 .1 .0) said₁ said₂ er))))))))
-      answers Load e isc fs len el =
+
+      answers-load : Answered Load
+      answers-load e isc fs len el =
           returns-match ! 𝓣 (tag-of ! refl refl refl refl) refl
           (calls-on ! [] (slices constants structs functions text main mainPlaces other otherPlaces stack cells fs copy trace words) call-running
           (λ zs. slices constants structs functions text main mainPlaces other otherPlaces stack cells fs copy trace words) refl (λ zs. refl) (λ zs. refl) fm
@@ -752,7 +836,9 @@ module _ {M : Type 1} (𝓤 : URA M) (H : Heap 𝓤) (A : Atoms 𝓤) (W : Given
           (lens₁ .1 .1 .1 .1 .1 .1 .1 .0) refl refl (lens₁ .1 .1 .1 .1 .1 .1 .1 .1 .0) refl refl (lens₂ .0)
           (as-asked Load e fs el _ _ _ (load-called m image constants structs functions text main mainPlaces other otherPlaces stack cells copy trace words
           fs eb said₁ said₂ er))))))))
-      answers Begin e isc fs len el =
+
+      answers-begin : Answered Begin
+      answers-begin e isc fs len el =
           returns-match ! 𝓣 (tag-of ! refl refl refl refl) refl
           (sets ! (addr ! (behind ! refl refl)) (tt, tt) $ sets ! (agg ! (ofs ! refl)) (tt, (tt, (record { fits = room1 .0 }, tt))) $
           sets ! (addr ! (behind ! refl refl)) (tt, tt) $ sets ! (agg ! (ofs ! refl)) (tt, (tt, (record { fits = room2 .0 }, tt))) $
@@ -791,7 +877,9 @@ module _ {M : Type 1} (𝓤 : URA M) (H : Heap 𝓤) (A : Atoms 𝓤) (W : Given
           refl refl refl refl refl refl refl refl refl refl (lens₁ .0) (lens₁ .1 .0) refl (lens₂ .0)
           (as-asked Begin e fs el _ _ _ (begin-called m image constants structs functions text main mainPlaces other otherPlaces stack cells copy trace words
           fs (zs₁ .1 .1 .1 .1 .1 .1 .1 .1 .1 .1 .1 .0) (zs₁ .1 .1 .1 .1 .1 .1 .1 .1 .1 .1 .1 .1 .0) said₁ said₂ er)))))))
-      answers (Continue units) e isc fs len el =
+
+      answers-continue : (units : ℕ) → Answered (Continue units)
+      answers-continue units e isc fs len el =
           returns-match ! 𝓣 (tag-of ! refl refl refl refl) refl
           (sets ! (of-opd ! (payload-of ! refl refl refl refl refl refl)) (tt, record { fits = units-fit units isc .1 }) $
           sets ! (addr ! (behind ! refl refl)) (tt, tt) $ sets ! (agg ! (ofs ! refl)) (tt, (tt, (record { fits = room1 .0 }, tt))) $
@@ -838,7 +926,9 @@ module _ {M : Type 1} (𝓤 : URA M) (H : Heap 𝓤) (A : Atoms 𝓤) (W : Given
           refl refl refl refl refl refl refl refl (lens₁ .0) (lens₁ .1 .0) (lens₁ .1 .1 .0) refl (lens₁ .1 .1 .1 .0) (lens₂ .0)
           (as-asked (Continue units) e fs el _ _ _ (continue-called m image constants structs functions text main mainPlaces other otherPlaces stack cells copy trace words
           fs units _ _ _ _ said₁ said₂ er)))))))
-      answers Abandon e isc fs len el =
+
+      answers-abandon : Answered Abandon
+      answers-abandon e isc fs len el =
           returns-match ! 𝓣 (tag-of ! refl refl refl refl) refl
           (sets ! (addr ! (behind ! refl refl)) (tt, tt) $ sets ! (agg ! (ofs ! refl)) (tt, (tt, (record { fits = room1 .0 }, tt))) $
           sets ! (addr ! (behind ! refl refl)) (tt, tt) $ sets ! (agg ! (ofs ! refl)) (tt, (tt, (record { fits = room2 .0 }, tt))) $
@@ -881,7 +971,9 @@ module _ {M : Type 1} (𝓤 : URA M) (H : Heap 𝓤) (A : Atoms 𝓤) (W : Given
           refl refl refl refl refl refl refl refl (lens₁ .0) refl (lens₁ .1 .0) refl (lens₁ .1 .1 .0) (lens₂ .0)
           (as-asked Abandon e fs el _ _ _ (abandon-called m image constants structs functions text main mainPlaces other otherPlaces stack cells copy trace words
           fs _ _ _ said₁ said₂ er)))))))
-      answers Trace e isc fs len el =
+
+      answers-trace : Answered Trace
+      answers-trace e isc fs len el =
           returns-match ! 𝓣 (tag-of ! refl refl refl refl) refl
           (sets ! (addr ! (behind ! refl refl)) (tt, tt) $ sets ! (agg ! (ofs ! refl))
           (tt, (tt, (record { fits = room3 .0 }, tt))) $ sets ! (addr ! (behind ! refl refl)) (tt, tt) $ sets !
@@ -910,6 +1002,47 @@ module _ {M : Type 1} (𝓤 : URA M) (H : Heap 𝓤) (A : Atoms 𝓤) (W : Given
           (zs₁ .1 .1 .1 .1 .1 .1 .1 .1 .1 .0) words isr refl refl refl refl refl refl refl refl refl refl len refl (lens₁ .0) refl
           (as-asked Trace e fs el _ _ _ (trace-called m image constants structs functions text main mainPlaces other otherPlaces stack cells copy trace words
           fs said₁ er))))))
+
+      answers-strict : (b : Bool) → Answered (Strict b)
+      answers-strict b e isc fs len el =
+          returns-match ! 𝓣 (tag-of ! refl refl refl refl) refl
+          (sets ! (of-opd ! (payload-of ! refl refl refl refl refl refl)) (tt, tt) $
+          sets ! (addr ! (behind ! refl refl)) (tt, tt) $ sets ! (agg ! (ofs ! refl)) (tt, (tt, (record { fits = room1 .0 }, tt))) $
+          sets ! (addr ! (behind ! refl refl)) (tt, tt) $ sets ! (agg ! (ofs ! refl)) (tt, (tt, (record { fits = room2 .0 }, tt))) $
+          sets ! (addr ! (behind ! refl refl)) (tt, tt) $ sets ! (agg ! (ofs ! refl)) (tt, (tt, (record { fits = room3 .0 }, tt))) $
+          sets ! (addr ! (behind ! refl refl)) (tt, tt) $ sets ! (agg ! (ofs ! refl)) (tt, (tt, (record { fits = room4 .0 }, tt))) $
+          sets ! (addr ! (behind ! refl refl)) (tt, tt) $ sets ! (agg ! (ofs ! refl)) (tt, (tt, (record { fits = room5 .0 }, tt))) $
+          sets ! (addr ! (behind ! refl refl)) (tt, tt) $ sets ! (agg ! (ofs ! refl)) (tt, (tt, (record { fits = room6 .0 }, tt))) $
+          sets ! (addr ! (behind ! refl refl)) (tt, tt) $ sets ! (agg ! (ofs ! refl)) (tt, (tt, (record { fits = room7 .0 }, tt))) $
+          sets ! (addr ! (behind ! refl refl)) (tt, tt) $ sets ! (agg ! (ofs ! refl)) (tt, (tt, (record { fits = room8 .0 }, tt))) $
+          sets ! (addr ! (behind ! refl refl)) (tt, tt) $ sets ! (agg ! (ofs ! refl)) (tt, (tt, (record { fits = room9 .0 }, tt))) $
+          sets ! (addr ! (behind ! refl refl)) (tt, tt) $ sets ! (agg ! (ofs ! refl)) (tt, (tt, (record { fits = room10 .0 }, tt))) $
+          sets ! (addr ! (behind ! refl refl)) (tt, tt) $ sets ! (agg ! (ofs ! refl)) (tt, (tt, (record { fits = room11 .0 }, tt))) $
+          sets ! (addr ! (behind ! refl refl)) (tt, tt) $ sets ! (agg ! (ofs ! refl)) (tt, (tt, (record { fits = room12 .0 }, tt))) $
+          calls-on ! (false ∷ true ∷ true ∷ true ∷ true ∷ true ∷ true ∷ true ∷ true ∷ true ∷ true ∷ true ∷ true ∷ [])
+          (slices constants structs functions text main mainPlaces other otherPlaces stack cells fs copy trace words)
+          (call-strict b (setting-is b isc) fs len)
+          (λ zs. slices constants structs functions text main mainPlaces other otherPlaces stack cells fs copy trace words)
+          refl (λ zs. refl) (λ zs. refl) fm known-strict refl
+          (λ x zs₁ said₁ lens₁ isx. lands-in ! (changed-typed 𝓤 H A W x isx) $ calls-on ! []
+          (slices constants structs functions text main mainPlaces other otherPlaces stack cells fs copy trace words) (call-set x isx)
+          (λ zs. slices constants structs functions text main mainPlaces other otherPlaces stack cells fs copy trace words)
+          refl (λ zs. refl) (λ zs. refl) fm known-set refl
+          (λ r zs₉ er lens₉ isr. lands-in ! (answer-typed 𝓤 H A W r isr) $ sets ! (of-opd ! (of ! refl))
+          (answer-typed 𝓤 H A W r isr) $ leaves ! refl $ by !
+          (exits r constants structs functions text main mainPlaces other otherPlaces stack cells fs copy trace words isr
+          refl refl refl refl refl refl refl refl refl refl len refl refl refl
+          (as-asked (Strict b) e fs el _ _ _ (strict-called m image constants structs functions text main mainPlaces other otherPlaces stack cells copy trace words
+          fs b said₁ er))))))
+
+      answers : (c : Call) → Answered c
+      answers New = answers-new
+      answers Load = answers-load
+      answers Begin = answers-begin
+      answers (Continue units) = answers-continue units
+      answers Abandon = answers-abandon
+      answers Trace = answers-trace
+      answers (Strict b) = answers-strict b
 
     walk : ent 𝓤 (onEntry 𝓤 H A me.signature (lfts xs₀) (shares xs₀) (denots xs₀) (valss xs₀)) (WpFn 𝓤 H (𝓣 .C) (𝓣 .Λ) code.function (values xs₀) Post)
     walk =
@@ -1003,4 +1136,8 @@ act-spec 𝓤 H 𝓜 𝓖 𝓡 =
     (cited 𝓤 H (ToRan 𝓤 H (𝓖 .A) W (𝓜 .mem) (𝓡 .run)) 𝓜 𝓡 code.env #ran ran-def.routine code.calls-console-frames·ran
     (ran-thm.met 𝓤 H 𝓜 𝓖 𝓡))
     (cited 𝓤 H (ToTraced 𝓤 H (𝓖 .A) W (𝓜 .mem) (𝓡 .run)) 𝓜 𝓡 code.env #traced traced-def.routine code.calls-console-frames·traced
-    (traced-thm.met 𝓤 H 𝓜 𝓖 𝓡)) κs qs a is))
+    (traced-thm.met 𝓤 H 𝓜 𝓖 𝓡))
+    (cited 𝓤 H (ToStrict 𝓤 H (𝓖 .A) W (𝓜 .mem) (𝓡 .run)) 𝓜 𝓡 code.env #strict strict-def.routine code.calls-machine·set-strict
+    (strict-thm.met 𝓤 H 𝓜 𝓖 𝓡))
+    (cited 𝓤 H (ToSet 𝓤 H (𝓖 .A) W (𝓜 .mem) (𝓡 .run)) 𝓜 𝓡 code.env #set set-def.routine code.calls-console-frames·set
+    (set-thm.met 𝓤 H 𝓜 𝓖 𝓡)) κs qs a is))

@@ -16,8 +16,11 @@ last-exact-requires c κs = search
 word-requires-3 : tie.Need-word-requires-3
 word-requires-3 c κs = search
 
+word-requires-4 : tie.Need-word-requires-4
+word-requires-4 c κs = search
+
 returns : tie.Need-returns
 returns c = search record-is
 
 pub record-ok-spec : {M : Type 1} → statement M
-record-ok-spec = tie.close (tie.spec word-requires word-requires-2 last-exact-requires word-requires-3 returns)
+record-ok-spec = tie.close (tie.spec word-requires word-requires-2 last-exact-requires word-requires-3 word-requires-4 returns)

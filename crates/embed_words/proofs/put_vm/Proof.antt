@@ -1,4 +1,5 @@
 -- `embed_words::put_vm` meets its contract.
+use borrow.Author.Needs.{needs}
 use Rattle.embed_words.proofs.Words.{vm-put, vm-put-length}
 use Rattle.embed_words.proofs.put_vm.Statement.{statement}
 use Rattle.embed_words.proofs.put_vm.Tie as tie
@@ -30,9 +31,16 @@ put-requires-5 c κs = search
 put-run-requires : tie.Need-put-run-requires
 put-run-requires c κs = search
 
+cast-put : tie.Need-cast-put
+cast-put c = search needs
+
+put-requires-6 : tie.Need-put-requires-6
+put-requires-6 c κs = search
+
 same-length : tie.Need-same-length
 same-length c =
-    let at-put5 = c .before .before .before .before .before .before in
+    let at-put-run = c .before .before .before .before .before .before .before in
+    let at-put5 = at-put-run .before .before .before .before in
     let at-put4 = at-put5 .before .before .before .before in
     let at-put3 = at-put4 .before .before .before .before in
     let at-put2 = at-put3 .before .before .before .before in
@@ -44,11 +52,12 @@ same-length c =
     vm-put-length (at-start .args .m) (at-start .args .vm .now) (at-last-kind .last-kind .ensures)
     (at-last-payload .last-payload .ensures .0) (at-put-counts .put-counts .ensures) (at-put .put .ensures)
     (at-put2 .put2 .ensures) (at-put3 .put3 .ensures) (at-put4 .put4 .ensures) (at-put5 .put5 .ensures)
-    (c .before .before .put-run .ensures)
+    (at-put-run .put-run .ensures) (c .before .before .put6 .ensures)
 
 returns : tie.Need-returns
 returns c =
-    let at-put5 = c .before .before .before .before .before .before in
+    let at-put-run = c .before .before .before .before .before .before .before in
+    let at-put5 = at-put-run .before .before .before .before in
     let at-put4 = at-put5 .before .before .before .before in
     let at-put3 = at-put4 .before .before .before .before in
     let at-put2 = at-put3 .before .before .before .before in
@@ -60,7 +69,7 @@ returns c =
     vm-put (at-start .args .m) (at-start .args .vm .now) (at-last-kind .last-kind .ensures)
     (at-last-payload .last-payload .ensures .0) (at-put-counts .put-counts .ensures) (at-put .put .ensures)
     (at-put2 .put2 .ensures) (at-put3 .put3 .ensures) (at-put4 .put4 .ensures) (at-put5 .put5 .ensures)
-    (c .before .before .put-run .ensures)
+    (at-put-run .put-run .ensures) (c .before .before .put6 .ensures)
 
 pub put-vm-spec : {M : Type 1} → statement M
 put-vm-spec =
@@ -75,5 +84,7 @@ put-vm-spec =
     put-requires-4
     put-requires-5
     put-run-requires
+    cast-put
+    put-requires-6
     same-length
     returns)

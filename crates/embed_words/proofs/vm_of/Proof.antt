@@ -27,6 +27,9 @@ word-requires-4 c κs = search
 word-requires-5 : tie.Need-word-requires-5
 word-requires-5 c κs = search
 
+word-requires-6 : tie.Need-word-requires-6
+word-requires-6 c κs = search
+
 returns : tie.Need-returns
 returns c = search vm-is
 
@@ -42,4 +45,5 @@ vm-of-spec =
     word-requires-3
     word-requires-4
     word-requires-5
+    word-requires-6
     returns)

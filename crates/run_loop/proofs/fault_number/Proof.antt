@@ -43,6 +43,9 @@ enum-told-12 c = search
 enum-told-13 : tie.Need-enum-told-13
 enum-told-13 c = search
 
+enum-told-14 : tie.Need-enum-told-14
+enum-told-14 c = search
+
 returns : tie.Need-returns
 unfolding faultNumber
 returns c = search
@@ -95,6 +98,10 @@ returns-13 : tie.Need-returns-13
 unfolding faultNumber
 returns-13 c = search
 
+returns-14 : tie.Need-returns-14
+unfolding faultNumber
+returns-14 c = search
+
 pub fault-number-spec : {M : Type 1} → statement M
 fault-number-spec =
     tie.close
@@ -112,6 +119,7 @@ fault-number-spec =
     enum-told-11
     enum-told-12
     enum-told-13
+    enum-told-14
     returns
     returns-2
     returns-3
@@ -124,4 +132,5 @@ fault-number-spec =
     returns-10
     returns-11
     returns-12
-    returns-13)
+    returns-13
+    returns-14)

@@ -182,7 +182,11 @@ same-length-6 c = search
 
 returns-6 : tie.Need-returns-6
 unfolding execOf
-returns-6 c = search by-arm
+returns-6 c =
+    let at-o = c .before .before .before .before .before in
+    let at-start = at-o .before .before .before .before .before .before .before in
+    λ w l. by-arm w _ _ (at-o .o .given .1) (λ ar. refl) (at-start .pre .1 .0 .cells)
+    (c .before .before .arithmetic .ensures w (l .suits))
 
 same-length-7 : tie.Need-same-length-7
 same-length-7 c = search

@@ -186,10 +186,21 @@ returns-6 c =
       c .before .before .if6 .taken,
     ) (c .ask-load .ensures)
 
+slice-aggregate-same-bytes-7 : tie.Need-slice-aggregate-same-bytes-7
+slice-aggregate-same-bytes-7 c = search needs
+
+same-bytes-requires-7 : tie.Need-same-bytes-requires-7
+same-bytes-requires-7 c κs = search needs
+
+ask-strict-requires : tie.Need-ask-strict-requires
+ask-strict-requires c κs = search needs
+
 returns-7 : tie.Need-returns-7
 unfolding ascii askOf
 returns-7 c =
-    let at-if5 = c .before .before .before in
+    let at-if6 = c .before .before .before .before in
+    let at-same-bytes6 = at-if6 .before in
+    let at-if5 = at-same-bytes6 .before .before in
     let at-same-bytes5 = at-if5 .before in
     let at-if4 = at-same-bytes5 .before .before in
     let at-same-bytes4 = at-if4 .before in
@@ -212,8 +223,45 @@ returns-7 c =
       at-if4 .if4 .left,
       ← at-same-bytes5 .same-bytes5 .ensures,
       at-if5 .if5 .left,
-      ← c .before .same-bytes6 .ensures,
-      c .if6 .left,
+      ← at-same-bytes6 .same-bytes6 .ensures,
+      at-if6 .if6 .left,
+      ← c .before .before .same-bytes7 .ensures,
+      c .before .if7 .taken,
+      c .ask-strict .ensures,
+    )
+
+returns-8 : tie.Need-returns-8
+unfolding ascii askOf
+returns-8 c =
+    let at-if6 = c .before .before .before in
+    let at-same-bytes6 = at-if6 .before in
+    let at-if5 = at-same-bytes6 .before .before in
+    let at-same-bytes5 = at-if5 .before in
+    let at-if4 = at-same-bytes5 .before .before in
+    let at-same-bytes4 = at-if4 .before in
+    let at-if3 = at-same-bytes4 .before .before in
+    let at-same-bytes3 = at-if3 .before in
+    let at-if2 = at-same-bytes3 .before .before in
+    let at-same-bytes2 = at-if2 .before in
+    let at-if1 = at-same-bytes2 .before .before in
+    let at-same-bytes = at-if1 .before in
+    let at-word = at-same-bytes .before .before in
+    rw (
+      ← at-word .word .ensures,
+      ← at-same-bytes .same-bytes .ensures,
+      at-if1 .if1 .left,
+      ← at-same-bytes2 .same-bytes2 .ensures,
+      at-if2 .if2 .left,
+      ← at-same-bytes3 .same-bytes3 .ensures,
+      at-if3 .if3 .left,
+      ← at-same-bytes4 .same-bytes4 .ensures,
+      at-if4 .if4 .left,
+      ← at-same-bytes5 .same-bytes5 .ensures,
+      at-if5 .if5 .left,
+      ← at-same-bytes6 .same-bytes6 .ensures,
+      at-if6 .if6 .left,
+      ← c .before .same-bytes7 .ensures,
+      c .if7 .left,
     )
 
 pub ask-spec : {M : Type 1} → statement M
@@ -223,4 +271,4 @@ ask-spec =
     same-bytes-requires-2 ask-traced-requires returns-2 slice-aggregate-same-bytes-3 same-bytes-requires-3 ask-start-requires
     returns-3 slice-aggregate-same-bytes-4 same-bytes-requires-4 ask-continue-requires returns-4 slice-aggregate-same-bytes-5
     same-bytes-requires-5 ask-traced-requires-2 returns-5 slice-aggregate-same-bytes-6 same-bytes-requires-6 ask-load-requires
-    returns-6 returns-7)
+    returns-6 slice-aggregate-same-bytes-7 same-bytes-requires-7 ask-strict-requires returns-7 returns-8)

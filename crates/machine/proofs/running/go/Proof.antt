@@ -720,6 +720,7 @@ module _ {M : Type 1} (𝓤 : URA M) (H : Heap 𝓤) (A : Atoms 𝓤) (W : Given
             slots = ek .slots stack refl;
             frames = ek .frames frames refl;
             given = ek .given ∙ eu;
+            strict = ek .strict;
           };
           begun = subst (λ (x : Frame). Begun m x (m .run .spent) g) ef eg;
         }
