@@ -1,7 +1,7 @@
 //! A script's lines, their words, and the numbers and bytes that words say.
 
 /// The longest script that the console reads; what stands behind is not read.
-pub const MAX_SCRIPT: usize = 65_536;
+pub const MAX_SCRIPT: usize = 131_072;
 /// The most bytes that a line may say.
 pub const SPACE: usize = 16_384;
 
