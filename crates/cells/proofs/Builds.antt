@@ -1,7 +1,7 @@
 -- Building: the elements on the stack, the two loops, and the whole.
 use mathlib.Core.Path.{◌≡◌, refl, sym, ap, ◌∙◌, subst}
 use mathlib.Core.Bool.{Bool, true, false}
-use mathlib.Core.List.{List, [], ◌∷◌, ◌++◌, map, append_assoc}
+use mathlib.Core.List.{List, [], ◌∷◌, ◌++◌, map, reverse_aux, append_assoc}
 use Prim.Native.Nat.{ℕ, zero, suc, ◌+◌, ◌-◌, ◌*◌, ◌/◌, ◌<◌, ◌≤◌, max}
 use native.Mathlib.Omega.{arith}
 use borrow.Author.Tests.{lt-ltb, le-ltb}
@@ -14,7 +14,7 @@ use Rattle.model.specs.declared.Value.{Value}
 use Rattle.model.specs.declared.Value.TheVariants as v
 use Rattle.model.specs.declared.Header.{Header}
 use Rattle.model.specs.declared.Fault.TheVariants as f
-use Rattle.model.specs.Values.{value_of, kind_at, payload_at, value_at, put_words, places, vals}
+use Rattle.model.specs.Values.{kind_at, payload_at, value_at, put_words, places, vals}
 use Rattle.model.specs.Heap as heap
 use Rattle.model.specs.Heap.{Cell, item, head, header_of, cell_kind, cell_payload, heap_of, depth_in, deepest, list_elements, struct_fields, block_of, build_of, placed_below, exact_cell, exact_cells}
 use Rattle.value.specs.Links.{Written}
@@ -22,7 +22,7 @@ use Rattle.value.proofs.Coding.{and_left, and_right, cell_exact}
 use Rattle.value.proofs.Stores.{length_vals, vals_at, vals_upward, get_d_values, kind_same, kind_other, payload_same, payload_other, stored_words, written_length, taken}
 use Rattle.cells.specs.declared.Built.TheVariants.{Taken, Bad}
 use Rattle.cells.specs.Links.{elements_of, Held, TopPre, Besides, CopyPost, BuildPost}
-use Rattle.cells.proofs.Order.{and_both, Whole, list_of, struct_of}
+use Rattle.cells.proofs.Order.{and_both, Every, nil, cons, every_at, Whole, list_of, struct_of}
 use Rattle.cells.proofs.Stands.{length_heap, header_is, header_room}
 
 -- ---- the elements
@@ -49,6 +49,27 @@ module _ (list : Bool) (sp n : ℕ) (s : List ℕ) (l : n ≤ sp) where
     element_down e =
         let z : sp - suc i ≡ sp - 1 - i = omega arith in
         rw e (sym (get_or-take n (vals sp s) i _ h ∙ (rw z at (vals_at sp s i (v.Boolean false) (omega arith)))))
+
+-- what holds of the values of a stack holds of the elements
+module _ (P : Value → Type 0) where
+  every_vals : (sp : ℕ) (s : List ℕ) → ((i : ℕ) → i < sp → P (value_at s i)) → Every P (vals sp s)
+  unfolding vals
+  every_vals zero s f = nil
+  every_vals (suc sp) s f = cons (f sp (omega arith)) (every_vals sp s (λ i h. f i (omega arith)))
+
+  every_take : (n : ℕ) {us : List Value} → Every P us → Every P (take n us)
+  every_take zero e = nil
+  every_take (suc n) nil = nil
+  every_take (suc n) (cons p ps) = cons p (every_take n ps)
+
+  every_onto : {us ws : List Value} → Every P us → Every P ws → Every P (reverse_aux us ws)
+  every_onto nil q = q
+  every_onto (cons p ps) q = every_onto ps (cons p q)
+
+  pub every_element : (list : Bool) (sp n : ℕ) (s : List ℕ) → ((i : ℕ) → i < sp → P (value_at s i)) → Every P (elements_of list n (vals sp s))
+  unfolding elements_of list_elements struct_fields
+  every_element true sp n s f = every_onto (every_take n (every_vals sp s f)) nil
+  every_element false sp n s f = every_take n (every_vals sp s f)
 
 -- ---- the depth of a value
 
@@ -82,19 +103,6 @@ plain_depth (v.FunctionReference o n) H h = refl
 plain_depth (v.List p) H h = absurd (miss (0 ∷ 1 ∷ 2 ∷ 3 ∷ []) 4 tt h)
 plain_depth (v.StructInstance p) H h = absurd (miss (0 ∷ 1 ∷ 2 ∷ 3 ∷ []) 5 tt h)
 
--- a kind below 4 is of no depth
-flat_kind : (H : List Cell) (k a : ℕ) → k < 4 → 0 ≡ depth_in H (value_of k a)
-unfolding value_of depth_in
-flat_kind H zero a h = refl
-flat_kind H (suc zero) a h = refl
-flat_kind H (suc (suc zero)) a h = refl
-flat_kind H (suc (suc (suc zero))) a h = refl
-flat_kind H (suc (suc (suc (suc k)))) a h = absurd (let z : ⊥ = omega arith in z)
-
-pub flat_at : (H : List Cell) (s : List ℕ) (i : ℕ) → kind_at s i < 4 → 0 ≡ depth_in H (value_at s i)
-unfolding value_at
-flat_at H s i h = flat_kind H (kind_at s i) (payload_at s i) h
-
 -- ---- the deepest element: d is the deepest of the first i
 
 pub record Depth (H : List Cell) (us : List Value) (n d i : ℕ) : Type 0 where
@@ -127,6 +135,11 @@ module _ (H : List Cell) (us : List Value) (n : ℕ) where
 
       pub depth_same : x ≤ d → (d' : ℕ) → d' ≡ d → Depth H us n d' (i + 1)
       depth_same l d' q = record { inside = omega arith; means = let m = depth_next in let y = deepest H (drop (i + 1) us) in omega arith }
+
+pub held_at : (list : Bool) (s : List ℕ) (sp n : ℕ) (w : List ℕ) (used : ℕ) → TopPre s sp n w used → (i : ℕ) → i < n
+    → (u : Value) → u ≡ get_or (elements_of list n (vals sp s)) i (v.Boolean false) → Held (heap_of used w) used u
+held_at list s sp n w used pre i h u e =
+    rw e (every_at (every_element (Held (heap_of used w) used) list sp n s pre.held) i (let y = length_elements list sp n s pre.enough in omega arith))
 
 -- ---- the room
 

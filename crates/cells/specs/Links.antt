@@ -3,7 +3,7 @@ use Rattle.std.specs.Prelude.{◌≡◌, Bool, true, false, List, ◌++◌, map,
 use Rattle.model.specs.declared.Value.{Value}
 use Rattle.model.specs.declared.Value.TheVariants as v
 use Rattle.model.specs.Basics.{if◌then◌else◌}
-use Rattle.model.specs.Values.{places, kind_at, payload_at, value_at, exact_value, vals}
+use Rattle.model.specs.Values.{places, value_at, vals}
 use Rattle.model.specs.Heap as heap
 use Rattle.model.specs.Heap.{Cell, item, heap_of, list_elements, struct_fields, build_of, placed_below, heap_ok, exact_cells}
 use Rattle.model.specs.Equality.{Same, same, said, same_pair}
@@ -26,18 +26,13 @@ pub record Held (H : List Cell) (b : ℕ) (u : Value) : Type 0 where
   pub texts : ℕ
   pub placed : placed_below texts H b u ≡ true
 
--- the sp values of the stack s stand in their exact words
-abbrev pub ExactTop : (s : List ℕ) → (sp : ℕ) → Type 0
-ExactTop s sp = (i : ℕ) → i < sp → exact_value (kind_at s i) (payload_at s i) ≡ true
-
--- the stack s of sp values has n that a header can count, and its values are placed in the heap, and in exact words
+-- the stack s of sp values has n that a header can count, and its values are placed in the heap
 pub record TopPre (s : List ℕ) (sp n : ℕ) (w : List ℕ) (used : ℕ) : Type 0 where
   pub enough : n ≤ sp
   pub stack : 2 * sp ≤ length s
   pub count : n < 0x1_0000
   pub cells : 2 * used ≤ length w
   pub held : (i : ℕ) → i < sp → Held (heap_of used w) used (value_at s i)
-  pub exact : ExactTop s sp
 
 -- the words of w' that are none of the cells from i to j - 1 are those of w
 abbrev pub Besides : ℕ → ℕ → List ℕ → List ℕ → Type 0

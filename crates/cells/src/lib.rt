@@ -1,11 +1,10 @@
 // Lists and structs in a store of cells: building them, reading a field, equality, and the test of good order.
-ghost use Rattle.std.specs.Prelude.{◌≡◌, true, false, ◌&&◌, List, ℕ, ◌+◌, ◌*◌, ◌<◌, ◌≤◌, length, get_or};
+ghost use Rattle.std.specs.Prelude.{◌≡◌, false, ◌&&◌, ◌+◌, ◌*◌, ◌<◌, ◌≤◌, length, get_or};
 ghost use Rattle.std.specs.Bool.{beq};
-ghost use Rattle.model.specs.Values.{kind_at, payload_at, value_at, exact_value, vals, text_at};
-ghost use Rattle.model.specs.Heap.{item, heap_of, depth_in, deepest, field_of, whole_below, placed_below, block_ok, heap_ok, exact_cells};
+ghost use Rattle.model.specs.Values.{vals, text_at};
+ghost use Rattle.model.specs.Heap.{heap_of, depth_in, deepest, field_of, whole_below, placed_below, block_ok, heap_ok, exact_cells};
 ghost use Rattle.model.specs.Equality.{same_bytes, same_of};
-ghost use Rattle.value.specs.Links.{Written};
-ghost use Rattle.cells.specs.Links.{elements_of, Held, ExactTop, TopPre, CopyPost, BuildPost, FieldPre, verdict, EqualPre, Inside, Compared};
+ghost use Rattle.cells.specs.Links.{elements_of, Held, TopPre, CopyPost, BuildPost, FieldPre, verdict, EqualPre, Inside, Compared};
 
 use layout::reads::{room, same_bytes};
 use model::{DEPTH_LIMIT, Fault, Found, Header, Value};
@@ -18,15 +17,16 @@ pub enum Built {
     Bad(Fault),
 }
 
-// The place on a stack of element i of the list, or of field i of the struct, that the n values on top make.
-fn slot(list: bool, sp: usize, n: usize, i: usize) -> usize
-    requires { (i < n) × (n ≤ sp) }
-    ensures { (result < sp) × ((s : List ℕ) → value_at s result ≡ get_or (elements_of list n (vals sp s)) i (Value.Boolean false)) }
+// Element i of the list, or field i of the struct, that the n values on top of a stack make.
+fn element(list: bool, stack: &[u64], sp: usize, n: usize, i: usize) -> Value
+    requires { (i < n) × (n ≤ sp) × (2 * sp ≤ length stack.now) }
+    ensures { result ≡ get_or (elements_of list n (vals sp stack.now)) i (Value.Boolean false) }
 {
     if list {
-        return sp - n + i;
+        words::read_value(stack, sp - n + i)
+    } else {
+        words::read_value(stack, sp - 1 - i)
     }
-    sp - 1 - i
 }
 
 // How deep v is.
@@ -47,19 +47,6 @@ fn depth(v: Value, cells: &[u64], used: usize) -> usize
     }
 }
 
-// How deep the value at a place of a stack is: its kind mostly tells that it is not.
-fn depth_at(stack: &[u64], i: usize, cells: &[u64], used: usize) -> usize
-    requires { (2 * i + 2 ≤ length stack.now) × (2 * used ≤ length cells.now) × Held (heap_of used cells.now) used (value_at stack.now i) }
-    ensures { result ≡ depth_in (heap_of used cells.now) (value_at stack.now i) }
-{
-    let kind = stack[2 * i];
-    if kind < 4 {
-        return 0;
-    }
-    let v = words::read_value(stack, i);
-    depth(v, cells, used)
-}
-
 // The depth of the deepest of the n values on top of a stack.
 fn deepest_of(list: bool, stack: &[u64], sp: usize, n: usize, cells: &[u64], used: usize) -> usize
     requires { TopPre stack.now sp n cells.now used }
@@ -68,8 +55,8 @@ fn deepest_of(list: bool, stack: &[u64], sp: usize, n: usize, cells: &[u64], use
     let mut d = 0;
     let mut i = 0;
     while i < n {
-        let place = slot(list, sp, n, i);
-        let e = depth_at(stack, place, cells, used);
+        let v = element(list, stack, sp, n, i);
+        let e = depth(v, cells, used);
         if d < e {
             d = e;
         }
@@ -78,26 +65,15 @@ fn deepest_of(list: bool, stack: &[u64], sp: usize, n: usize, cells: &[u64], use
     d
 }
 
-// Copies the exact words at place i of a stack to cell j.
-fn copy_words(stack: &[u64], i: usize, cells: &mut [u64], j: usize)
-    requires { (2 * i + 2 ≤ length stack.now) × (2 * j + 2 ≤ length cells.old) × (exact_value (kind_at stack.now i) (payload_at stack.now i) ≡ true) }
-    ensures { Written cells.old j (item (value_at stack.now i)) cells.new }
-{
-    let kind = stack[2 * i];
-    let payload = stack[2 * i + 1];
-    words::write_exact(cells, j, kind, payload);
-}
-
 // Copies the n values on top of a stack to the cells from place `from` on.
 fn copy(list: bool, stack: &[u64], sp: usize, n: usize, cells: &mut [u64], from: usize)
-    requires { (n ≤ sp) × (2 * sp ≤ length stack.now) × (2 * (from + n) ≤ length cells.old) × ExactTop stack.now sp }
+    requires { (n ≤ sp) × (2 * sp ≤ length stack.now) × (2 * (from + n) ≤ length cells.old) }
     ensures { CopyPost (elements_of list n (vals sp stack.now)) from n cells.old cells.new }
 {
     let mut i = 0;
     while i < n {
-        let place = slot(list, sp, n, i);
-        let to = from + i;
-        copy_words(stack, place, cells, to);
+        let v = element(list, stack, sp, n, i);
+        words::write_value(cells, from + i, v);
         i += 1;
     }
 }

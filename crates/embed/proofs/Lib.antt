@@ -2,5 +2,3 @@
 pub mod Own
 -- what the functions ensure
 pub mod Through
--- asking why
-pub mod Asks

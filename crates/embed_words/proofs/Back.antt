@@ -19,7 +19,7 @@ use Rattle.model.specs.Values.{kind, payload, exact_value, bit}
 use Rattle.value.specs.Links.{Fine, last_in, last_kind, last_payload}
 use Rattle.value.proofs.Coding.{words_exact}
 use Rattle.value.proofs.Lasts.{last_words}
-use Rattle.embed_words.specs.Coding.{run_in, vm_in, count_words, under_words, vm_words, FineLast, last_exact, record_ok, RecordOf}
+use Rattle.embed_words.specs.Coding.{run_in, vm_in, vm_words, FineLast, last_exact, record_ok, RecordOf}
 
 -- ---- the last result
 
@@ -57,7 +57,7 @@ bit_exact false = refl
 
 -- with whatever stands behind its seventeen words
 record_front : (m : Vm) (rest : List ℕ) → FineLast m.last → RecordOf m (vm_words m ++ rest)
-unfolding vm_words count_words under_words vm_in run_in record_ok
+unfolding vm_words vm_in run_in record_ok
 record_front m rest f = record {
   taken = rw (le-leb 17 (length (vm_words m ++ rest)) (omega arith), last_exact_lem m.last f, bit_exact m.run.on, bit_exact m.strict);
   machine = rw (last_back m.last f, bit_back m.run.on, bit_back m.strict);
@@ -65,5 +65,5 @@ record_front m rest f = record {
 
 -- what stood in the slice does not count: seventeen words or more are enough; a run that is under way comes back too
 pub record_back : (w : List ℕ) (m : Vm) → 17 ≤ length w → FineLast m.last → RecordOf m (written w 0 (vm_words m))
-unfolding written vm_words count_words under_words
+unfolding written vm_words
 record_back w m h f = rw (sets-eq (vm_words m) w 0 (omega arith)) (record_front m (drop 17 w) f)

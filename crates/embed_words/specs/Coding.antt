@@ -1,6 +1,6 @@
 -- What crosses to a host in C: a machine's record and the entries' answers, as words in slices that the host lends.
 -- Enums do not cross: a value is its kind and its payload, as in the stores; an entry returns 0, or the number of its refusal.
-use Rattle.std.specs.Prelude.{◌≡◌, Bool, true, false, ◌&&◌, ◌||◌, List, [], ◌∷◌, ◌++◌, ℕ, T, eqb, leb, length, get_or}
+use Rattle.std.specs.Prelude.{◌≡◌, Bool, true, false, ◌&&◌, ◌||◌, List, [], ◌∷◌, ℕ, T, eqb, leb, length, get_or}
 use Rattle.std.specs.Float.{binary64}
 use Rattle.std.specs.Float.Ieee.{fits}
 use Rattle.model.specs.declared.Counts.{Counts}
@@ -67,8 +67,9 @@ under_words x = bit x.on ∷ x.given ∷ x.spent ∷ x.returns ∷ x.mark ∷ x.
 
 unfoldable pub vm_words : Vm → List ℕ
 vm_words m =
-    count_words m.program ++ (m.stack ∷ m.frames ∷ m.cells ∷ last_kind m.last ∷ last_payload m.last ∷ [])
-    ++ under_words m.run ++ (bit m.strict ∷ [])
+    m.program.constants ∷ m.program.structs ∷ m.program.functions ∷ m.program.text ∷ m.program.current
+    ∷ m.stack ∷ m.frames ∷ m.cells ∷ last_kind m.last ∷ last_payload m.last
+    ∷ bit m.run.on ∷ m.run.given ∷ m.run.spent ∷ m.run.returns ∷ m.run.mark ∷ m.run.saved ∷ bit m.strict ∷ []
 
 -- a last result that the words of a store can hold: what the types of the code say of it, and, of texts and cells, good order too
 abbrev pub FineLast : Last → Type 0

@@ -2,7 +2,7 @@
 use mathlib.Core.Path.{◌≡◌, refl, sym, ap, ◌∙◌}
 use mathlib.Core.Bool.{Bool, true, false, not, ◌&&◌, ◌||◌, true≢false}
 use mathlib.Core.List.{List, [], ◌∷◌}
-use Prim.Native.Nat.{ℕ, zero, suc, ◌+◌, ◌-◌, ◌≤◌, ◌<◌}
+use Prim.Native.Nat.{ℕ, suc, ◌+◌, ◌-◌, ◌≤◌, ◌<◌}
 use native.Mathlib.Omega.{arith}
 use borrow.Author.Tests.{ltb-true, leb-true, eq-eqb, eqb-false, not-true}
 use lib.Dec.{ltb, leb, eqb}
@@ -52,10 +52,6 @@ call_row k a b e =
 leads_on_lem : (main : Bool) (code : List ℕ) (i : ℕ) → is_at jump code i ≡ false → (main || not (is_at return code i)) ≡ true → leads_on main code i ≡ true
 unfolding leads_on
 leads_on_lem main code i e h = rw e h
-
-above_zero : (n : ℕ) → (n ≡ 0 → ⊥) → 0 < n
-above_zero zero h = absurd (h refl)
-above_zero (suc n) h = omega arith
 
 -- the world's code is the program's
 pub same_code : (p : Program) (w : World) → Serves p w → (s : State) → steps.code_of w s ≡ code_of p s.frame.function
@@ -109,13 +105,6 @@ module _ (p : Program) (ok : Passed p) (w : World) (of : Serves p w) (s : State)
       let other = not (is_at call code (position s) && eqb first 0) in
       let z = and_left (not (is_at call_callable code (position s))) other (call_here p ok s.frame.function good.stands l) in
       eqb-false byte call_callable (not-true _ z) e
-
-  no_call_of_main : byte ≡ call → 0 < first
-  unfolding call_at
-  no_call_of_main e =
-      let other = not (is_at call_callable code (position s)) in
-      let z = and_right other (not (is_at call code (position s) && eqb first 0)) (call_here p ok s.frame.function good.stands l) in
-      above_zero first (eqb-false first 0 (not-true _ (rw (eq-eqb byte call e) at z)))
 
   -- ---- faults
 
@@ -174,14 +163,14 @@ module _ (p : Program) (ok : Passed p) (w : World) (of : Serves p w) (s : State)
         sum = omega arith;
         stands = rw up at (next_stands row.no_jump (or_right main _ (ap not row.no_return)));
       } in
-      good_at p t inn.frame inn.callers (no_call_of_main e, waits, good.waiting) (omega arith) (record { known = known; path = starts })
+      good_at p t inn.frame inn.callers (waits, good.waiting) (omega arith) (record { known = known; path = starts })
 
   outward_good : (t : State) (c : Frame) (cs : List Frame) → Outward byte first second c cs behind t → Good p t
   unfolding Waiting
   outward_good t c cs out =
       let all : Waiting p (c ∷ cs) s.frame.function s.frame.base = rw out.from at good.waiting in
-      let z = enough in let y = good.sum in let x = out.stack in let u = all.1.sum in
-      good_at p t out.frame out.callers all.2 (omega arith) all.1.stands
+      let z = enough in let y = good.sum in let x = out.stack in let u = all.0.sum in
+      good_at p t out.frame out.callers all.1 (omega arith) all.0.stands
 
   root_good : (t : State) → byte ≡ return → s.callers ≡ [] → Onward byte first second (position behind) behind t → Good p t
   unfolding Waiting

@@ -103,11 +103,8 @@ module _ (p : Program) (ok : Passed p) where
   unfolding Waiting Parts
   callers_fit [] g base h = tt
   callers_fit (c ∷ cs) g base h =
-      let call = h.1 in
-      let waits = call.sum in (
-        record { known = call.stands.known; begins = omega arith; fits = λ m top. let z = top.most call.stands.path in omega arith },
-        callers_fit cs c.function c.base h.2,
-      )
+      let waits = h.0.sum in
+      (record { known = h.0.stands.known; begins = omega arith; fits = λ m top. let z = top.most h.0.stands.path in omega arith }, callers_fit cs c.function c.base h.1)
 
   pub good_frames_fit : (s : State) → Good p s → Parts p (s.frame ∷ s.callers) (length s.stack)
   unfolding Parts
@@ -123,11 +120,6 @@ module _ (p : Program) (ok : Passed p) where
   unfolding Keeps
   stands_inside f here e = (ok r.Heights f here.known).inside here.path e
 
-  main_has_no_caller : (cs : List Frame) (base : ℕ) → Waiting p cs 0 base → cs ≡ []
-  unfolding Waiting
-  main_has_no_caller [] base h = refl
-  main_has_no_caller (c ∷ cs) base h = absurd (let z = h.0 in let y : ⊥ = omega (arith, z) in y)
-
   pub passed_ends_in_main : EndsInMain p
   unfolding over
   passed_ends_in_main w s c o = by (is_main s.frame.function) refl
@@ -135,10 +127,8 @@ module _ (p : Program) (ok : Passed p) where
       end : length (code_of p s.frame.function) ≤ position s
       end = subst (λ (code : List ℕ). length code ≤ position s) (same_code p w c.serves s) (leb-true (length (steps.code_of w s)) (position s) o)
 
-      by : (b : Bool) → is_main s.frame.function ≡ b → (s.frame.function ≡ 0) × (s.callers ≡ [])
-      by true e =
-          let main = eqb-true s.frame.function 0 e in
-          (main, main_has_no_caller s.callers _ (rw main at (comes_good c).waiting))
+      by : (b : Bool) → is_main s.frame.function ≡ b → s.frame.function ≡ 0
+      by true e = eqb-true s.frame.function 0 e
       by false e = absurd (let z = stands_inside s.frame.function (comes_good c).stands e in let y : ⊥ = omega (arith, z, end) in y)
 
   -- ---- whole runs

@@ -28,10 +28,10 @@ pub record Calls (p : Program) (c : Frame) (base : ℕ) : Type 0 where
   pub sum : c.base + waits ≡ base
   pub stands : Stands p c.function c.position (suc waits)
 
--- the callers of a frame of function f with that base, innermost first; the root is main, with base 0, and what is called is never main
+-- the callers of a frame of function f with that base, innermost first; the root is main, with base 0
 unfoldable pub Waiting : Program → List Frame → (f base : ℕ) → Type 0
 Waiting p [] f base = (f ≡ 0) × (base ≡ 0)
-Waiting p (c ∷ cs) f base = (0 < f) × Calls p c base × Waiting p cs c.function c.base
+Waiting p (c ∷ cs) f base = Calls p c base × Waiting p cs c.function c.base
 
 pub record Good (p : Program) (s : State) : Type 0 where
   pub waiting : Waiting p s.callers s.frame.function s.frame.base

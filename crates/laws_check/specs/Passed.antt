@@ -65,9 +65,9 @@ Parts p (r ∷ rs) end = Part p r end × Parts p rs r.base
 abbrev pub FramesWithin : Program → Type 0
 FramesWithin p = (w : World) (s : State) → Comes p w s → Parts p (s.frame ∷ s.callers) (length s.stack)
 
--- "no path reaches the end of a function other than main": a run that is over stands in main, and no caller waits there
+-- "no path reaches the end of a function other than main": a run that is over stands in main, so that no other function is left by its end
 abbrev pub EndsInMain : Program → Type 0
-EndsInMain p = (w : World) (s : State) → Comes p w s → over w s ≡ true → (s.frame.function ≡ 0) × (s.callers ≡ [])
+EndsInMain p = (w : World) (s : State) → Comes p w s → over w s ≡ true → s.frame.function ≡ 0
 
 -- ---- whatever a whole run answers, on a machine that is strict or not: the check asks nothing of the setting, and 26 is not ruled out
 

@@ -1,5 +1,5 @@
 -- What crosses: a host in C holds what a host in Rattle holds, and what comes back to it tells the entry's answer.
-use Rattle.std.specs.Prelude.{◌≡◌, Bool, true, List, [], ◌∷◌, ℕ, ◌≤◌, leb, length, set}
+use Rattle.std.specs.Prelude.{◌≡◌, Bool, true, List, [], ◌∷◌, ℕ, ◌≤◌, leb, length}
 use Rattle.std.proofs.Math.Option.{Option, none, some}
 use Rattle.model.specs.declared.Value.{Value}
 use Rattle.model.specs.declared.Vm.{Vm}
@@ -15,7 +15,7 @@ use Rattle.model.specs.declared.Shown.TheVariants as sh
 use Rattle.model.specs.declared.Headed.{Headed}
 use Rattle.model.specs.declared.Headed.TheVariants as h
 use Rattle.model.specs.Basics.{if◌then◌else◌, written}
-use Rattle.model.specs.Values.{value_of, kind, payload, exact_value, bit}
+use Rattle.model.specs.Values.{value_of, kind, payload, exact_value}
 use Rattle.model.specs.Runs.{Reply, value, continue, fault, ends, pauses}
 use Rattle.model.specs.Machines.{RunAnswer, ran as answered, refused}
 use Rattle.embed_words.specs.Coding.{vm_in, record_ok, at_entry, at_listing, crossed}
@@ -191,11 +191,10 @@ pub record MadeIn (q : Ask) (a : List ℕ) (g : CHeld) (d : CDone) : Type 0 wher
   pub taken : Taken (left_by d)
   pub order : InOrder (held_in (left_by d))
 
--- THE SETTING, changed from C: what the host then holds is what it held, but for that; of its words the last of the record alone is changed
+-- THE SETTING, changed from C: what the host then holds is what it held, but for that
 pub record SetIn (strict : Bool) (g : CHeld) (d : CDone) : Type 0 where
   pub held : held_in (left_by d) ≡ record { vm = strictly strict (held_in g).vm; stores = g.stores; lent = g.lent }
   pub taken : Taken (left_by d)
-  pub words : d.coded.vm ≡ set g.words 16 (bit strict)
 
 -- ---- DEMAND 1 of a call from C
 

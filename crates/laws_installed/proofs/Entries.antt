@@ -122,20 +122,12 @@ module _ (image : List ℕ) (s : Stores) (bytes : Bytes image) (p : Program) (j 
       subst (λ (v : Vm). Installed p v s' l) machine
       (subst (λ (t : Stores). Installed p (fresh (counts_for p)) t l) stores (laid_is_installed image p s bytes j w r l (rw frames)))
 
-  loaded_is_installed : (running : Bool) (fs : List Frame) {m : Vm} {s' : Stores} {fs' : List Frame}
-      → load_machine_of running image s fs ≡ record { answer = st.Done m; stores = s'; frames = fs' }
-      → (l : Lent) → l.frames ≡ fs' → Installed p m s' l
+  pub loaded_runs_so : (running : Bool) (fs : List Frame) {m : Vm} {s' : Stores} {fs' : List Frame} → load_machine_of running image s fs ≡ record { answer = st.Done m; stores = s'; frames = fs' }
+      → (l : Lent) → l.frames ≡ fs' → (g : ℕ) (x : RunResult) (l' : Lent) → Answers (by_entries s') m l g x l' → FaultsSo m s' l g l' x
   unfolding load_machine_of unless_running load_of load_judged
-  loaded_is_installed true fs e l f = absurd (not_done (ap (λ (y : StartRes). y.answer) e))
-  loaded_is_installed false fs e l f = loaded_is (within_limits p) (room_for p s) refl refl fs (rw j at e) l f
-
-  module _ (running : Bool) (fs : List Frame) {m : Vm} {s' : Stores} {fs' : List Frame}
-      (e : load_machine_of running image s fs ≡ record { answer = st.Done m; stores = s'; frames = fs' }) (l : Lent) (f : l.frames ≡ fs') where
-    pub loaded_runs_so : (g : ℕ) (x : RunResult) (l' : Lent) → Answers (by_entries s') m l g x l' → FaultsSo m s' l g l' x
-    loaded_runs_so g x l' answer = installed_runs_so m s' l ok (loaded_is_installed running fs e l f) x answer
-
-    pub loaded_stays_within : (hs : List ℕ) → Tells p hs → StaysWithin (by_entries s') m s' l hs
-    loaded_stays_within hs tells = installed_stays_within ok (loaded_is_installed running fs e l f) hs tells
+  loaded_runs_so true fs e l f g x l' answer = absurd (not_done (ap (λ (y : StartRes). y.answer) e))
+  loaded_runs_so false fs {m} {s'} e l f g x l' answer =
+      installed_runs_so m s' l ok (loaded_is (within_limits p) (room_for p s) refl refl fs (rw j at e) l f) x answer
 
 -- ---- the same for a host in C
 

@@ -244,7 +244,7 @@ module _ (p : Program) (hs : List ℕ) (tells : Tells p hs) where
   callers_sum : (cs : List Frame) (f base : ℕ) → Waiting p cs f base → PartsBelow hs cs base → base ≤ together hs cs
   unfolding Waiting PartsBelow together
   callers_sum [] f base w h = omega (arith, w.1)
-  callers_sum (c ∷ cs) f base w h = let rest = callers_sum cs c.function c.base w.2 h.1 in omega (arith, rest, h.0.1)
+  callers_sum (c ∷ cs) f base w h = let rest = callers_sum cs c.function c.base w.1 h.1 in omega (arith, rest, h.0.1)
 
   within_so : (t : State) → Good p t → Parts p (t.frame ∷ t.callers) (length t.stack) → Within hs t
   unfolding PartsBelow together

@@ -103,7 +103,7 @@ module _ (w : World) (s : State) (sane : Sane w s) where
   stops : (e u i : ℕ) (vs : List Value) (H : List Cell) → i - 1 < length (code_of w s) → Faults w s (with_stack vs (with_heap H (at i (dealing e u s))))
   unfolding code_of
   stops e u i vs H h = record {
-    frames = record { function = refl; base = refl; entered = refl; callers = refl };
+    frames = record { function = refl; base = refl; callers = refl };
     traced = trace_on w (at i s).frame s.callers h (callers_traced w s.callers sane.callers);
   }
 
@@ -210,14 +210,14 @@ module _ (w : World) (good : SaneWorld w) (s : State) (sane : Sane w s) (ready :
       rising = sane.rising;
     };
     last = refl;
-    frames = record { function = refl; base = refl; entered = refl; callers = refl };
+    frames = record { function = refl; base = refl; callers = refl };
   }
 
 -- ---- a step
 
 module _ (w : World) (good : SaneWorld w) (s : State) (sane : Sane w s) (l : position s < length (code_of w s)) where
   same_before : (i : ℕ) {t : State} → SameFrames (fetched_at i s) t → SameFrames s t
-  same_before i f = record { function = f.function; base = f.base; entered = f.entered; callers = f.callers }
+  same_before i f = record { function = f.function; base = f.base; callers = f.callers }
 
   kept_before : (i : ℕ) (x : Outcome) → Kept w (fetched_at i s) x → Kept w s x
   kept_before i (went t) k = k

@@ -77,7 +77,6 @@ pub record SaneMark (w : World) (m : Progress) : Type 0 where
 pub record SameFrames (s s' : State) : Type 0 where
   pub function : s'.frame.function ≡ s.frame.function
   pub base : s'.frame.base ≡ s.frame.base
-  pub entered : s'.frame.entered ≡ s.frame.entered
   pub callers : s'.callers ≡ s.callers
 
 pub record Returns (w : World) (s : State) (x : Value) (s' : State) : Type 0 where

@@ -21,7 +21,7 @@ fn place_part(places: &[u32], w: u64) -> &[u32]
 }
 
 // The places of function i: main's and the others' have separate stores.
-pub fn places_of<'a>(
+fn places_of<'a>(
     functions: &[u64],
     main_places: &'a [u32],
     other_places: &'a [u32],

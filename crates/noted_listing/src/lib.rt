@@ -1,6 +1,6 @@
 // The listing of a program with notes.
 mod lines; // lines.rt: the lines of one function's code
-pub mod functions; // functions.rt: one function, and all of them
+mod functions; // functions.rt: one function, and all of them
 
 ghost use Rattle.std.specs.Prelude.{◌≡◌};
 ghost use Rattle.notes.specs.Notes.{notes_of};

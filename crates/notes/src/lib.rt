@@ -45,7 +45,7 @@ fn put_part(kind: &[u8], word: u64, text: &[u8], out: &mut [u8], at: usize) -> u
 }
 
 // A constant, by its two words.
-pub fn put_constant(kind: u64, payload: u64, text: &[u8], out: &mut [u8], at: usize) -> usize
+fn put_constant(kind: u64, payload: u64, text: &[u8], out: &mut [u8], at: usize) -> usize
     requires { at + 35 < 2 ^ 64 }
     ensures { Put 35 (constant_text (constant_in text.now kind payload)) out.old at out.new result }
 {

@@ -37,14 +37,10 @@ use Rattle.demands.proofs.Orderly.{new_in_order, load_in_order, chain_kept, run_
 use Rattle.check_rules.proofs.One.{check_one}
 use Rattle.check_heights.proofs.Answers.{heights_one_answer, a_flaw_breaks}
 use Rattle.check_words.proofs.One.{check_through_one}
-use Rattle.laws_reasons.proofs.Follows.{why_tells_the_fault_of_the_run}
-use Rattle.laws_reasons.proofs.Truth.{a_run_with_origins_tells_true}
-use Rattle.laws_reasons.proofs.Right.{the_reason_is_right}
-use Rattle.laws_asked.proofs.Asked.{asking_changes_nothing_later}
 use Rattle.laws_check.proofs.Rows.{a_step_keeps_its_row, the_row_counts_the_values}
 use Rattle.laws_check.proofs.Theorems.{passed_never_faults_so, passed_asks_in_range, passed_runs_so, passed_runs_ask_in_range, passed_frames_fit, passed_ends_in_main}
 use Rattle.laws_installed.proofs.Running.{a_setting_keeps_what_is_installed, installed_runs_so, installed_stays_within}
-use Rattle.laws_installed.proofs.Entries.{checked_runs_so, loaded_runs_so, checked_stays_within, loaded_stays_within, host_runs_so, host_stays_within}
+use Rattle.laws_installed.proofs.Entries.{checked_runs_so, loaded_runs_so, checked_stays_within, host_runs_so, host_stays_within}
 use Rattle.noted_listing.proofs.Walking.{notes_show_the_walk}
 use Rattle.noted_report.proofs.Fits.{noter_fits}
 use Rattle.laws_code.proofs.Numbers.{listing_numbers}
@@ -176,15 +172,10 @@ kept = record {
   installed_stays_within = λ p ok m s e here hs tells. installed_stays_within ok here hs tells;
   a_setting_keeps_what_is_installed = λ p m k s e here strict set. a_setting_keeps_what_is_installed here strict set;
   checked_stays_within = λ image heights s s' k hs b p e f. checked_stays_within image heights s b p e f;
-  loaded_stays_within = λ running image p b j o s s' fs fs' m l e f hs tells. loaded_stays_within image s b p j o running fs l e f hs tells;
   notes_show_the_walk = notes_show_the_walk;
   noter_fits = noter_fits;
   host_runs_so = λ image w a heights s s' fs fs' x hs b p z e e' f g y q. host_runs_so image w a heights s fs b p z e f g y e' q;
   host_stays_within = λ image w a heights s s' fs fs' x hs b p z e f. host_stays_within image w a heights s fs b p z e f;
-  why_tells_the_fault_of_the_run = why_tells_the_fault_of_the_run;
-  the_reason_is_right = the_reason_is_right;
-  a_run_with_origins_tells_true = a_run_with_origins_tells_true;
-  asking_changes_nothing_later = asking_changes_nothing_later;
   record_back = λ h w o t n. record_back w h.vm n (order_fine h.vm h.stores h.lent o.machine t);
   crossing = λ a g ok c handed d p. crossing a g ok c handed p;
   c_refuses = λ c a g d ok exact p. c_refuses c a g d ok exact p;

@@ -50,14 +50,6 @@ use Rattle.laws_check.specs.Row.{Tied, calls_or_returns, Counted}
 use Rattle.laws_check.specs.Passed.{NeverFaultsSo, AsksInRange, RunsSo, RunsAskInRange, FramesWithin, EndsInMain}
 use Rattle.laws_checks.specs.Table.{checks_of, first_failed, Keeps}
 use Rattle.laws_code.specs.Walk.{shown_from, walked}
-use Rattle.reason_rules.specs.declared.Why.{Why}
-use Rattle.reason_rules.specs.Origins.{follow_from, untracked}
-use Rattle.reason_rules.specs.Reasons.{why_of}
-use Rattle.reason_rules.specs.Asking.{Asked}
-use Rattle.laws_reasons.specs.Replies.{Explains}
-use Rattle.laws_reasons.specs.Right.{Explained}
-use Rattle.laws_reasons.specs.Truth.{TellsTrue}
-use Rattle.laws_asked.specs.Asked.{UnchangedBy}
 use Rattle.laws_runs.specs.Sane.{SaneWorld, Sane}
 use Rattle.laws_runs.specs.Ordered.{CodeBytes}
 use Rattle.laws_runs.specs.Paths.{Steps, root_returns}
@@ -261,9 +253,6 @@ pub record Promises : Type 0 where
   -- that are being called, together
   pub checked_stays_within : (image heights : List ℕ) (s s' : Stores) (k : Counts) (hs : List ℕ) → Bytes image → CheckAs image heights s (c.Passed k) hs s'
       → (e : Lent) → innermost 1 e.frames ≡ root 0 → StaysWithin (by_entries s') (fresh k) s' e hs
-  pub loaded_stays_within : (running : Bool) (image : List ℕ) (p : Program) → Bytes image → judge image ≡ fine p → Passed p → (s s' : Stores) (fs fs' : List Frame) (m : Vm)
-      → load_machine_of running image s fs ≡ record { answer = st.Done m; stores = s'; frames = fs' }
-      → (e : Lent) → e.frames ≡ fs' → (hs : List ℕ) → Tells p hs → StaysWithin (by_entries s') m s' e hs
   -- the same of any machine over such a program that has not run, whatever its cells and its last result: one that was put back to the start of main, too
   pub installed_runs_so : (p : Program) → Passed p → (m : Vm) (s : Stores) (e e' : Lent) → Installed p m s e → (g : ℕ) (x : RunResult) → Answers (by_entries s) m e g x e'
       → FaultsSo m s e g e' x
@@ -275,16 +264,6 @@ pub record Promises : Type 0 where
 
   pub notes_show_the_walk : (p : Program) (t : List ℕ) → noted_listing p ≡ text t → t ≡ noted_walk (known_of p) 0 p.functions
   pub noter_fits : (image : List ℕ) → Bytes image → length (noter_text image) ≤ 1048576
-  -- ---- WHY A RUN FAILED: what is told is that of the written steps, and asking changes nothing
-
-  -- no fault exactly where a value or "continue" comes; else the number that the run replies, 13 where its units are spent
-  pub why_tells_the_fault_of_the_run : (w : World) (m : Machine) (u : ℕ) → Explains (run_of w m u).reply (why_of w m u)
-  -- the step told is the one behind the written steps that completed, and its reason is right in the state before it
-  pub the_reason_is_right : (w : World) (m : Machine) (u : ℕ) → Explained w (begin m u) (why_of w m u)
-  -- the run with origins is the run, and each origin is true: the step told pushed the value, where it stands since
-  pub a_run_with_origins_tells_true : (w : World) (s : State) (p : Progress) → TellsTrue w p s (follow_from w p (untracked s))
-  -- whatever calls come then, the machine that was asked answers as the one that was not
-  pub asking_changes_nothing_later : (u : ℕ) (m : Vm) (s : Stores) (x x' : Asked) (why : Why) → UnchangedBy u m s x why x'
   -- ---- A HOST IN C: it hands back the machine by handing back the record
 
   -- a record of seventeen words or more, in which a machine in good order was written, as calls leave it, is taken and read back as that machine
@@ -302,7 +281,7 @@ pub record Promises : Type 0 where
   pub c_load_made : (a : List ℕ) (g : CHeld) → 17 ≤ length g.words → 1 ≤ length a → (image : List ℕ) → Bytes image → (d : CDone) → Through (ask (load image)) a g d
       → d.coded.number ≡ 0 → MadeIn (load image) a g d
   pub c_run_in_order : (c : RunCall) (a : List ℕ) (g : CHeld) (d : CDone) → InOrder (held_in g) → Taken g → Called (run c) a g d → d.coded.number ≡ 19 → ⊥
-  -- where the setting was changed from C, the host holds the machine that it held, with that setting, and one word of its record is another
+  -- where the setting was changed from C, the host holds the machine that it held, with that setting
   pub c_set_strict : (a : List ℕ) (g : CHeld) → Taken g → (strict : Bool) (d : CDone) → Through (ask (set_strict strict)) a g d → d.coded.number ≡ 0 → SetIn strict g d
   -- calls from C are host calls; they keep good order, and machines that mean the same say the same to them
   pub c_chain_is_a_chain : (cs : List Call) (g k : CHeld) (ds : List CDone) → Taken g → CChain cs g ds k → HostChain cs g ds k

@@ -1,10 +1,9 @@
--- A record's two parts, an image and the text that is expected of it, its check's facts or why its run fails, and what becomes of it.
-use Rattle.std.specs.Prelude.{Bool, true, false, List, ◌≡◌, ℕ, ◌+◌, ◌-◌, ◌*◌, eqb, take, drop, get_or, replicate}
+-- A record's two parts, an image and the facts that are expected of its check, and what becomes of it.
+use Rattle.std.specs.Prelude.{Bool, true, false, List, ◌≡◌, ℕ, ◌+◌, ◌-◌, ◌*◌, take, drop, get_or, replicate}
 use Rattle.model.specs.Equality.{same_bytes}
 use Rattle.check_rules.specs.declared.Checked.{Checked}
 use Rattle.check_report.specs.Texts.{facts_text}
 use Rattle.check_report.specs.Links.{Answers}
-use Rattle.reason_words.specs.Texts.{image_why}
 use Rattle.recheck.specs.declared.Ends.{Ends}
 use Rattle.recheck.specs.declared.Turn.{Turn}
 use Rattle.recheck.specs.declared.Turn.TheVariants.{Same, Differs, Over, Cut}
@@ -13,21 +12,16 @@ use Rattle.recheck.specs.declared.Turn.TheVariants.{Same, Differs, Over, Cut}
 unfoldable pub size_at : List ℕ → ℕ → ℕ
 size_at h i = get_or h i 0 + 256 * get_or h (i + 1) 0 + 65536 * get_or h (i + 2) 0 + 16777216 * get_or h (i + 3) 0
 
--- where a record's parts end, by the two lengths in front of them, and its sort
+-- where a record's parts end, by the two lengths in front of them
 unfoldable pub ends_of : List ℕ → Ends
-ends_of h = record { image = size_at h 0; text = size_at h 0 + size_at h 4; sort = size_at h 8 }
+ends_of h = record { image = size_at h 0; text = size_at h 0 + size_at h 4 }
 
 -- r tells whether a text is the facts of what is answered of an image
-pub record FactsAgree (image want : List ℕ) (r : Bool) : Type 0 where
+pub record Agrees (image want : List ℕ) (r : Bool) : Type 0 where
   pub answer : Checked
   pub heights : List ℕ
   pub answers : Answers image (replicate 256 0) answer heights
   pub same : r ≡ same_bytes (facts_text answer heights) want
-
--- r tells whether a text of this sort is what is said of an image: of sort 2 why its run fails on a strict machine, of another but 0 on one that is not
-pub data Agrees (sort : ℕ) (image want : List ℕ) (r : Bool) : Type 0 where
-  facts : sort ≡ 0 → FactsAgree image want r → Agrees sort image want r
-  reason : r ≡ same_bytes (image_why (eqb sort 2) image) want → Agrees sort image want r
 
 unfoldable pub turn_if : Bool → Turn
 turn_if true = Same
@@ -36,7 +30,7 @@ turn_if false = Differs
 -- a record agrees if its text does
 pub record Judged (e : Ends) (body : List ℕ) (r : Turn) : Type 0 where
   pub verdict : Bool
-  pub agrees : Agrees e.sort (take e.image body) (take (e.text - e.image) (drop e.image body)) verdict
+  pub agrees : Agrees (take e.image body) (take (e.text - e.image) (drop e.image body)) verdict
   pub turn : r ≡ turn_if verdict
 
 -- a record was read: there is none, or the input ends inside it, or it came whole and was judged

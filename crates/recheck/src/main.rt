@@ -1,21 +1,16 @@
-// Reads the oracle's records of images from standard input, up to its end, and says where the check, or why a run fails, is answered otherwise.
+// Reads the oracle's records of checked images from standard input, up to its end, and says where the check answers something else.
 ghost use Rattle.std.specs.Prelude.{◌≡◌, ◌+◌, ◌*◌, ◌≤◌, length};
-ghost use Rattle.model.specs.Equality.{same_bytes};
-ghost use Rattle.reason_words.specs.Texts.{image_why};
-ghost use Rattle.recheck.specs.Turns.{ends_of, FactsAgree, Agrees, Judged, PartsRead, is_last, differences};
+ghost use Rattle.recheck.specs.Turns.{ends_of, Agrees, Judged, PartsRead, is_last, differences};
 
 use check_report::check_facts;
 use layout::reads::same_bytes;
 use libc::{STDIN_FILENO, STDOUT_FILENO};
-use reason_image::why_image;
 
-// Where each of a record's two parts ends, the text behind the image; and what the text is: 0 the check's facts, 2 why the run fails on a strict machine,
-// else why it fails on one that is not.
+// Where each of a record's two parts ends: the text stands behind the image.
 #[derive(Drop)]
 struct Ends {
     image: usize,
     text: usize,
-    sort: usize,
 }
 
 // What came of a record: it agrees, or not; or there is none; or the input ends inside it, or it is longer than any record of an image
@@ -36,55 +31,33 @@ fn size(a: u8, b: u8, c: u8, d: u8) -> usize
     a as usize + 256 * (b as usize) + 65536 * (c as usize) + 16777216 * (d as usize)
 }
 
-// The two lengths in front of a record, and its sort.
-fn ends_of(h: [u8; 12]) -> Ends
+// The two lengths in front of a record.
+fn ends_of(h: [u8; 8]) -> Ends
     ensures value { result ≡ ends_of h }
     ensures image_le_text { result.image ≤ result.text }
 {
     let image = size(h[0], h[1], h[2], h[3]);
     let text = image + size(h[4], h[5], h[6], h[7]);
-    let sort = size(h[8], h[9], h[10], h[11]);
     Ends {
         image: image,
         text: text,
-        sort: sort,
     }
 }
 
 // Whether these are the facts of an image's check, which always fit.
-fn facts_agree(image: &[u8], want: &[u8]) -> bool
-    ensures { FactsAgree image.now want.now result }
+fn agrees(image: &[u8], want: &[u8]) -> bool
+    ensures { Agrees image.now want.now result }
 {
     let mut out = [0u8; 16480];
     let n = check_facts(image, &mut out);
     same_bytes(&out[..n], want)
 }
 
-// Whether this is why the run of an image fails, which always fits.
-fn reason_agrees(strict: bool, image: &[u8], want: &[u8]) -> bool
-    ensures { result ≡ same_bytes (image_why strict image.now) want.now }
-{
-    let mut out = [0u8; 2304];
-    let n = why_image(strict, image, &mut out);
-    same_bytes(&out[..n], want)
-}
-
-// Whether a text of some sort is what is said of an image.
-fn agrees(sort: usize, image: &[u8], want: &[u8]) -> bool
-    ensures { Agrees sort image.now want.now result }
-{
-    if sort == 0 {
-        return facts_agree(image, want);
-    }
-    let strict = sort == 2;
-    reason_agrees(strict, image, want)
-}
-
 // Says that record `at` differs.
 fn say(at: u64) {
     io::write_all(STDOUT_FILENO, b"record ");
     io::print_decimal(STDOUT_FILENO, at);
-    io::write_all(STDOUT_FILENO, b" differs\n");
+    io::write_all(STDOUT_FILENO, b": the check differs\n");
 }
 
 // What comes of a record's parts.
@@ -94,7 +67,7 @@ fn judged(at: u64, body: &[u8], e: Ends) -> Turn
 {
     let image = e.image;
     let text = e.text;
-    if agrees(e.sort, &body[..image], &body[image..text]) {
+    if agrees(&body[..image], &body[image..text]) {
         return Turn::Same;
     }
     say(at);
@@ -117,15 +90,15 @@ fn read_parts(at: u64, e: Ends, body: &mut [u8]) -> Turn
     judged(at, body, e)
 }
 
-// Reads record `at`, the lengths and the sort into head and its parts into body, and judges it.
-fn next(at: u64, head: &mut [u8; 12], body: &mut [u8; 65536]) -> Turn
+// Reads record `at`, the two lengths into head and its parts into body, and judges it.
+fn next(at: u64, head: &mut [u8; 8], body: &mut [u8; 65536]) -> Turn
     ensures { PartsRead (ends_of head.new) body.new result }
 {
     let got = io::read_full(STDIN_FILENO, head);
     if got == 0 {
         return Turn::Over;
     }
-    if got < 12 {
+    if got < 8 {
         return Turn::Cut;
     }
     let e = ends_of(*head);
@@ -169,7 +142,7 @@ fn say_total(cases: u64, differences: u64) {
 }
 
 fn main() {
-    let mut head = [0u8; 12];
+    let mut head = [0u8; 8];
     let mut body = [0u8; 65536];
     let mut cases = 0u64;
     let mut differences = 0u64;

@@ -34,7 +34,7 @@ use Rattle.run_arms.specs.declared.Going.{Going}
 use Rattle.run_arms.specs.declared.Answer.{Answer}
 use Rattle.run_arms.specs.declared.Answer.TheVariants.{Went, Returned, Call, Back, Stopped, Short}
 use Rattle.run_arms.specs.Links.{Around, state_of, Within, Suits, Kept, Paid, Unwritten, ArmPost, CellsWithin, Blocks, BlockPost, verdict_by, built_by}
-use Rattle.run_arms.proofs.Keeping.{fewer, exact_at_lem}
+use Rattle.run_arms.proofs.Keeping.{fewer}
 use Rattle.run_arms.proofs.Rules.{no_top, top}
 use Rattle.run_arms.proofs.Posts.{with_count, One, refused, settled, one_none, one_wrong}
 
@@ -287,7 +287,6 @@ module _ {m : ℕ} {k : Fixed} {g : Going} {s x : List ℕ} (b : Blocks m k g s 
     count = c;
     cells = cells_room b;
     held = λ i h. record { texts = m; placed = b.placed i h };
-    exact = λ i h. exact_at_lem g.sp s b.stack.exact i h;
   }
 
   module _ {list : Bool} {j : ℕ} {d : Built} {y : List ℕ} (post : BuildPost list s g.sp n j x g.used d y) where

@@ -12,7 +12,7 @@ use run_arms::{Answer, Fixed, Going, pushes};
 use value::{pops, words};
 
 // The value of Equal from the verdict, or of NotEqual.
-pub fn told(not: bool, same: bool) -> bool
+fn told(not: bool, same: bool) -> bool
     ensures { result ≡ verdict_by not same }
 {
     if not { !same } else { same }

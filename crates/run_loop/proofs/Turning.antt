@@ -23,10 +23,9 @@ use Rattle.frames.proofs.Callers.{length_callers, callers_more, callers_first}
 use Rattle.run_arms.specs.declared.Fixed.{Fixed}
 use Rattle.run_arms.specs.declared.Going.{Going}
 use Rattle.run_arms.specs.Links.{Around, around, state_of, frame_in, entered}
-use Rattle.run_exec.specs.declared.Event.{Event}
-use Rattle.run_exec.specs.declared.Event.TheVariants.{Over, Call, Back, Stopped, Paused}
-use Rattle.run_steps.specs.Links.{Ready, answer_in, progress_in}
-use Rattle.run_exec.specs.Links.{back_in, after_event, SaneBack, going_at, ExecPost}
+use Rattle.run_steps.specs.declared.Event.{Event}
+use Rattle.run_steps.specs.declared.Event.TheVariants.{Over, Call, Back, Stopped, Paused}
+use Rattle.run_steps.specs.Links.{Ready, answer_in, progress_in, back_in, after_event, SaneBack, going_at, ExecPost}
 use Rattle.run_steps.proofs.Following.{lent_on}
 use Rattle.run_loop.specs.declared.Course.{Course}
 use Rattle.run_loop.specs.Links.{code_in, around_in, state_in, Under, Ends, TurnsPost, goes_on, goes_in, is_over, is_stopped, is_paused, in_frame}

@@ -3,15 +3,14 @@ ghost use Rattle.std.specs.Prelude.{◌≡◌, ◌+◌, ◌≤◌, ◌<◌, ◌^
 ghost use Rattle.model.specs.Values.{fault_number};
 ghost use Rattle.model.specs.Steps.{World};
 ghost use Rattle.run_arms.specs.Links.{Around, frame_in, entered};
-ghost use Rattle.run_steps.specs.Links.{Ready};
-ghost use Rattle.run_exec.specs.Links.{ExecPost};
+ghost use Rattle.run_steps.specs.Links.{Ready, ExecPost};
 ghost use Rattle.run_loop.specs.Links.{code_in, goes_on, goes_in, is_over, is_stopped, is_paused, Under, TurnsPost};
 
 use frames::{push_frame, read_frame};
 use layout::reads::{part, second};
 use model::{Fault, Frame};
 use run_arms::{Fixed, Going};
-use run_exec::Event;
+use run_steps::Event;
 
 // How far a run has come: the machine, when its current frame was entered, whether it goes on, and the number of the fault that has stopped it (0:
 // none). 13 is none of a step: the run is paused before an instruction that its units do not pay for.
@@ -24,7 +23,7 @@ pub struct Course {
 }
 
 // The number that a fault comes back as.
-pub fn fault_number(f: Fault) -> u8
+fn fault_number(f: Fault) -> u8
     ensures { result ≡ fault_number f }
 {
     match f {
@@ -78,10 +77,10 @@ fn advance(
     let taken = &text[..n];
     if i == 0 {
         let code = part(main, word);
-        return run_exec::exec(k, g, code, constants, functions, taken, stack, cells);
+        return run_steps::exec(k, g, code, constants, functions, taken, stack, cells);
     }
     let code = part(other, word);
-    run_exec::exec(k, g, code, constants, functions, taken, stack, cells)
+    run_steps::exec(k, g, code, constants, functions, taken, stack, cells)
 }
 
 // A run that starts, or goes on, at g.
@@ -97,7 +96,7 @@ fn begun(g: Going, entered: u64) -> Course
 }
 
 // A call: function i is entered, with base b, at the units that are spent now.
-pub fn called(g: Going, i: usize, b: usize) -> Course
+fn called(g: Going, i: usize, b: usize) -> Course
     requires { g.callers + 1 < 2 ^ 64 }
     ensures { result ≡ goes_in g (g.callers + 1) (entered i b g.spent) }
 {
@@ -112,7 +111,7 @@ pub fn called(g: Going, i: usize, b: usize) -> Course
 }
 
 // The current frame is dropped: where its caller stands, which is then the innermost.
-pub fn drop_frame(g: Going) -> usize
+fn drop_frame(g: Going) -> usize
     requires { 0 < g.callers }
     ensures { g.callers ≡ result + 1 }
 {
@@ -120,7 +119,7 @@ pub fn drop_frame(g: Going) -> usize
 }
 
 // A return: back in the caller f, which stood at i.
-pub fn resumed(g: Going, i: usize, f: Frame) -> Course
+fn resumed(g: Going, i: usize, f: Frame) -> Course
     ensures { result ≡ goes_in g i f }
 {
     let caller = Going {

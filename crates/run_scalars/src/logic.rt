@@ -9,7 +9,7 @@ use value::pops::Booleans;
 use value::{pops, words};
 
 // x and y, or x or y.
-pub fn joined(and: bool, x: bool, y: bool) -> bool
+fn joined(and: bool, x: bool, y: bool) -> bool
     ensures { result ≡ connective and x y }
 {
     if and {

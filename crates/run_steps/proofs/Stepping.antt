@@ -84,10 +84,10 @@ read_few byte e = rw e (few_at opcodes refl byte _ (omega arith))
 
 -- what is known at another position, with other units spent, is what was known
 module _ {g : Going} (i e : ℕ) where
-  pub still : {k : Fixed} {s : List ℕ} → Within k g s → Within k (placed_at i e g) s
+  still : {k : Fixed} {s : List ℕ} → Within k g s → Within k (placed_at i e g) s
   still h = record { count = h.count; room = h.room; exact = h.exact; callers = h.callers }
 
-  pub cells_still : {x : List ℕ} → CellsWithin g x → CellsWithin (placed_at i e g) x
+  cells_still : {x : List ℕ} → CellsWithin g x → CellsWithin (placed_at i e g) x
   cells_still h = record { count = h.count; exact = h.exact }
 
   -- the rule goes on from there as another

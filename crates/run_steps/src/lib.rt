@@ -1,14 +1,25 @@
-// A step of the machine, and what a completed root Return counts.
+// A step, and the steps inside one function: the run goes from call to return through `exec`.
 ghost use Rattle.std.specs.Prelude.{◌≡◌, true, false, ◌+◌, ◌*◌, ◌≤◌, ◌<◌, length, get_or};
 ghost use Rattle.model.specs.Programs.{word_at};
 ghost use Rattle.model.specs.Steps.{World, exec_of, step_of};
 ghost use Rattle.run_arms.specs.Links.{Around, Blocks, BlockPost};
-ghost use Rattle.run_steps.specs.Links.{Lent, Ready, CountedPost};
+ghost use Rattle.run_steps.specs.Links.{Lent, Ready, CountedPost, ExecPost};
 
 use model::{Decoded, Fault, Op};
 use run_arms::{Answer, Completed, Fixed, Going, frames, pushes};
 use run_scalars::{logic, scalars};
 use value::words;
+
+// What the steps inside one function come to: the end of its code, a call, a return to the caller, or a fault; or the machine before an instruction
+// that its units do not pay for.
+#[derive(Drop)]
+pub enum Event {
+    Over(Going),
+    Call(Going, usize, usize),
+    Back(Going),
+    Stopped(Going, Fault),
+    Paused(Going),
+}
 
 // The byte at i; 0 past the code.
 fn byte_at(code: &[u8], i: usize) -> u8
@@ -21,7 +32,7 @@ fn byte_at(code: &[u8], i: usize) -> u8
 }
 
 // The word of two bytes, low byte first.
-pub fn word(low: u8, high: u8) -> usize
+fn word(low: u8, high: u8) -> usize
     ensures { (result ≡ low + 256 * high) × (result < 0x1_0000) }
 {
     low as usize + 256 * (high as usize)
@@ -29,13 +40,13 @@ pub fn word(low: u8, high: u8) -> usize
 
 // The two words at a place of the code.
 #[derive(Drop)]
-pub struct Operands {
-    pub a: usize,
-    pub b: usize,
+struct Operands {
+    a: usize,
+    b: usize,
 }
 
 // The operands at i. Mostly both are there, and one test tells so.
-pub fn operands_at(code: &[u8], i: usize) -> Operands
+fn operands_at(code: &[u8], i: usize) -> Operands
     requires { i < 0x1_0000_0000 }
     ensures { ((result.a ≡ word_at code.now i) × (result.b ≡ word_at code.now (i + 2))) × ((result.a < 0x1_0000) × (result.b < 0x1_0000)) }
 {
@@ -105,7 +116,7 @@ fn execute(
 }
 
 // One step, where the position is inside the code.
-pub fn step(
+fn step(
     k: Fixed,
     g: Going,
     code: &[u8],
@@ -152,7 +163,7 @@ pub fn step(
 }
 
 // A completed root Return has counted: its value is the last result, and a fault goes back to here. It has spent a unit, as each before it had.
-pub fn counted(done: Completed) -> Going
+fn counted(done: Completed) -> Going
     requires { done.going.returns < done.going.spent }
     ensures { CountedPost done result }
 {
@@ -168,4 +179,44 @@ pub fn counted(done: Completed) -> Going
         returns,
         ..next
     }
+}
+
+// The steps inside the current function.
+pub fn exec(
+    k: Fixed,
+    start: Going,
+    code: &[u8],
+    constants: &[u64],
+    functions: &[u64],
+    text: &[u8],
+    stack: &mut [u64],
+    cells: &mut [u64],
+) -> Event
+    requires { (w : World) × (a : Around) × Ready w a k start code.now constants.now functions.now text.now stack.old cells.old }
+    ensures { (w : World) (a : Around) → Ready w a k start code.now constants.now functions.now text.now stack.old cells.old → ExecPost w a k start stack.old cells.old result stack.new cells.new }
+{
+    let mut g = start;
+    while g.position < code.len() {
+        match step(k, g, code, constants, functions, text, stack, cells) {
+            Answer::Went(next) => {
+                g = next;
+            }
+            Answer::Returned(done) => {
+                g = counted(done);
+            }
+            Answer::Call(next, i, base) => {
+                return Event::Call(next, i, base);
+            }
+            Answer::Back(next) => {
+                return Event::Back(next);
+            }
+            Answer::Stopped(next, fault) => {
+                return Event::Stopped(next, fault);
+            }
+            Answer::Short(unpaid) => {
+                return Event::Paused(g);
+            }
+        }
+    }
+    Event::Over(g)
 }

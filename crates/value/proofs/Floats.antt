@@ -28,7 +28,7 @@ no_nan nan e = let z : true ≡ false = sym nan_differs ∙ e in subst T z tt
 no_nan (inf s) e = tt
 no_nan (fin s m d) e = tt
 
-pub is_nan_lem : (x : Float) → is_nan x ≡ true → x ≡ nan
+is_nan_lem : (x : Float) → is_nan x ≡ true → x ≡ nan
 unfolding is_nan
 is_nan_lem nan e = refl
 is_nan_lem (inf s) e = cc

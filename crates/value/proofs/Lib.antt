@@ -1,7 +1,6 @@
 -- Values in words, in stores, and on a stack.
 pub mod Floats
 pub mod Coding
-pub mod Exact
 pub mod Lasts
 pub mod Stores
 pub mod Operands

@@ -1,5 +1,5 @@
 // A value, a header and the last result as two words, the kind and the payload; and the stores that hold two words to a place.
-ghost use Rattle.std.specs.Prelude.{◌≡◌, true, ◌+◌, ◌*◌, ◌<◌, ◌≤◌, eqb, length};
+ghost use Rattle.std.specs.Prelude.{◌≡◌, ◌+◌, ◌*◌, ◌<◌, ◌≤◌, eqb, length};
 ghost use Rattle.std.specs.Float.{binary64};
 ghost use Rattle.std.specs.Float.Ieee.{to_bits, of_bits};
 ghost use Rattle.model.specs.Values.{value_of, kind, kind_at, payload_at, value_at, put_words, exact_value};
@@ -24,17 +24,6 @@ pub fn of_word(b: u64) -> f64
     ensures { result ≡ of_bits binary64 b }
 {
     if 0x7FF0_0000_0000_0000 < b % 0x8000_0000_0000_0000 {
-        return 0.0 / 0.0;
-    }
-    f64::from_bits(b)
-}
-
-// The same of an exact word: one alone of these is a NaN's, and the compiler drops the test.
-pub fn of_exact(b: u64) -> f64
-    requires { exact_value 0 b ≡ true }
-    ensures { result ≡ of_bits binary64 b }
-{
-    if b == 0x7FF8_0000_0000_0000 {
         return 0.0 / 0.0;
     }
     f64::from_bits(b)
@@ -126,14 +115,6 @@ pub fn write_value(s: &mut [u64], i: usize, v: Value)
     ensures { Written s.old i (item v) s.new }
 {
     put_words(s, i, kind_of(v), payload_of(v));
-}
-
-// Puts the exact words of a value at place i.
-pub fn write_exact(s: &mut [u64], i: usize, kind: u64, payload: u64)
-    requires { (2 * i + 2 ≤ length s.old) × (exact_value kind payload ≡ true) }
-    ensures { Written s.old i (item (value_of kind payload)) s.new }
-{
-    put_words(s, i, kind, payload);
 }
 
 // Puts the header h at place i.

@@ -65,7 +65,6 @@ copy-requires c κs =
       room_copy _ _ _ _ _ _ _ at_start.requires.0 _ at-deepest-of.deepest-of.ensures at-if1.if1.false _
           (at_room.room.ensures at_start.args.cells.now refl) at-if2.if2.false _
           at-write-header.write-header.ensures,
-      at_start.requires.0.exact,
     )
 
 same-length-3 : tie.Need-same-length-3

@@ -17,18 +17,16 @@ decreases-loop list stack sp n cells₀ from i₀ cells i = n - i
 loop-holds : tie.Need-loop-init invariant-loop decreases-loop
 loop-holds c = copy_start _ _ _ _
 
-slot-requires : tie.Need-slot-requires invariant-loop decreases-loop
-slot-requires c κs = (c.loop-test.true, c.before.before.before.before.requires.0)
+element-requires : tie.Need-element-requires invariant-loop decreases-loop
+element-requires c κs =
+    let at_start = c.before.before.before.before in
+    (c.loop-test.true, at_start.requires.0, at_start.requires.1)
 
-add-to : tie.Need-overflow-add-to invariant-loop decreases-loop
-add-to c = search (copy_room_lem, length_elements, rules)
+add-write-value : tie.Need-overflow-add-write-value invariant-loop decreases-loop
+add-write-value c = search (copy_room_lem, length_elements, rules)
 
-copy-words-requires : tie.Need-copy-words-requires invariant-loop decreases-loop
-copy-words-requires c κs = (
-  omega (arith, c.before.slot.ensures.0, c.before.before.before.before.before.before.requires.1),
-  search (copy_room_lem, length_elements),
-  c.before.before.before.before.before.before.requires.3 _ c.before.slot.ensures.0,
-)
+write-value-requires : tie.Need-write-value-requires invariant-loop decreases-loop
+write-value-requires c κs = search (copy_room_lem, length_elements)
 
 add-i : tie.Need-overflow-add-i invariant-loop decreases-loop
 add-i c = search rules
@@ -37,12 +35,7 @@ loop-less : tie.Need-loop-smaller invariant-loop decreases-loop
 loop-less c = search rules
 
 loop-again : tie.Need-loop-preserved invariant-loop decreases-loop
-loop-again c =
-    let element =
-    let at_slot = c.before.before.before.before in
-    let at_start = at_slot.before.before.before.before.before in
-    at_slot.slot.ensures.1 at_start.args.stack.now in
-    search (copy_more, length_elements)
+loop-again c = search (copy_more, length_elements)
 
 same_length : tie.Need-same-length invariant-loop decreases-loop
 same_length c = c.before.loop.invariant.size
@@ -57,9 +50,9 @@ copy_spec =
     invariant-loop
     decreases-loop
     loop-holds
-    slot-requires
-    add-to
-    copy-words-requires
+    element-requires
+    add-write-value
+    write-value-requires
     add-i
     loop-less
     loop-again

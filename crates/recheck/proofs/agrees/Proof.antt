@@ -1,20 +1,35 @@
--- `agrees`: by the sort.
+-- `agrees`: the facts fit, and are compared.
 use borrow.Author.Rules.{rules}
-use Rattle.recheck.specs.Turns.{facts, reason}
+use native.Mathlib.Omega.{arith}
+use Rattle.recheck.proofs.Turns.{facts_length, facts_agree}
 use Rattle.recheck.proofs.agrees.Statement.{statement}
 use Rattle.recheck.proofs.agrees.Tie as tie
 
-facts-agree-requires : tie.Need-facts-agree-requires
-facts-agree-requires c κs = search rules
+slice-aggregate-check-facts : tie.Need-slice-aggregate-check-facts
+slice-aggregate-check-facts c = search rules
+
+check-facts-requires : tie.Need-check-facts-requires
+check-facts-requires c κs = search rules
+
+array-share-prefix-out : tie.Need-array-share-prefix-out
+array-share-prefix-out c = search rules
+
+slice-aggregate-same-bytes : tie.Need-slice-aggregate-same-bytes
+slice-aggregate-same-bytes c = facts_length c.before.before.check-facts.ensures (omega arith)
+
+same-bytes-requires : tie.Need-same-bytes-requires
+same-bytes-requires c κs = search rules
 
 returns : tie.Need-returns
-returns c = facts (search rules) c.facts_agree.ensures
-
-reason-agrees-requires : tie.Need-reason-agrees-requires
-reason-agrees-requires c κs = search rules
-
-returns-2 : tie.Need-returns-2
-returns-2 c = reason (search rules)
+returns c = facts_agree c.before.before.before.check-facts.ensures (omega arith) _ _ c.same_bytes.ensures
 
 pub agrees-spec : {M : Type 1} → statement M
-agrees-spec = tie.close (tie.spec facts-agree-requires returns reason-agrees-requires returns-2)
+agrees-spec =
+    tie.close
+    (tie.spec
+    slice-aggregate-check-facts
+    check-facts-requires
+    array-share-prefix-out
+    slice-aggregate-same-bytes
+    same-bytes-requires
+    returns)

@@ -1,4 +1,4 @@
--- `ends_of`: two lengths and a sort.
+-- `ends_of`: two lengths.
 use borrow.Author.Rules.{rules}
 use Rattle.recheck.specs.Turns.{size_at}
 use Rattle.recheck.proofs.Turns.{ends_read}
@@ -38,21 +38,6 @@ size-requires-2 c κs = search rules
 add-text : tie.Need-overflow-add-text
 add-text c = search rules
 
-array-read-size-9 : tie.Need-array-read-size-9
-array-read-size-9 c = search rules
-
-array-read-size-10 : tie.Need-array-read-size-10
-array-read-size-10 c = search rules
-
-array-read-size-11 : tie.Need-array-read-size-11
-array-read-size-11 c = search rules
-
-array-read-size-12 : tie.Need-array-read-size-12
-array-read-size-12 c = search rules
-
-size-requires-3 : tie.Need-size-requires-3
-size-requires-3 c κs = search rules
-
 returns : tie.Need-returns
 unfolding size_at
 returns c = (search ends_read, search rules)
@@ -72,9 +57,4 @@ ends-of-spec =
     array-read-size-8
     size-requires-2
     add-text
-    array-read-size-9
-    array-read-size-10
-    array-read-size-11
-    array-read-size-12
-    size-requires-3
     returns)

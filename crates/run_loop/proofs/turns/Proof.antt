@@ -23,10 +23,10 @@ use Rattle.run_arms.specs.contracts.Fixed as TF
 use Rattle.run_arms.proofs.Fixed.TheLaws as TF'
 use Rattle.run_arms.specs.contracts.Going as TG
 use Rattle.run_arms.proofs.Going.TheLaws as TG'
-use Rattle.run_exec.specs.declared.Event.{Event}
-use Rattle.run_exec.specs.declared.Event.TheVariants.{Over, Call, Back, Stopped, Paused}
-use Rattle.run_exec.specs.contracts.Event as TE
-use Rattle.run_exec.proofs.Event.TheLaws as TE'
+use Rattle.run_steps.specs.declared.Event.{Event}
+use Rattle.run_steps.specs.declared.Event.TheVariants.{Over, Call, Back, Stopped, Paused}
+use Rattle.run_steps.specs.contracts.Event as TE
+use Rattle.run_steps.proofs.Event.TheLaws as TE'
 use Rattle.run_steps.specs.Links.{Ready}
 use Rattle.frames.proofs.read_frame.Symbol as read-def
 use Rattle.frames.proofs.read_frame.Symbol.{name as #read}
