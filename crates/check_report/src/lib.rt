@@ -1,4 +1,5 @@
 // What the checker prints, as bytes in a lent store: the facts for a program to read, and behind a refusal a line in plain words.
+#![tactic(auto)]
 mod calls; // calls.rt: two Calls of one function
 mod details; // details.rt: the item or the function that breaks a rule
 mod items; // items.rt: the item that breaks a rule of the image

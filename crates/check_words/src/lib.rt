@@ -1,4 +1,5 @@
 // What the check of an image answers, as words in lent slices: what crosses to a host in C.
+#![tactic(auto)]
 ghost use Rattle.std.specs.Prelude.{◌≡◌, [], ◌∷◌, eqb, set};
 ghost use Rattle.model.specs.Basics.{if◌then◌else◌, written};
 ghost use Rattle.check_rules.specs.Rules.{rule_number};

@@ -1,4 +1,5 @@
 // Reads a rule image from standard input, and prints whether it passes the check before it is installed.
+#![tactic(auto)]
 ghost use Rattle.streams.specs.Reads.{ReadAs};
 ghost use Rattle.streams.specs.Answers.{Answered, Shown};
 ghost use Rattle.checker.specs.Says.{Says};

@@ -1,5 +1,6 @@
 // Makes host calls from a script on standard input, through the public entries, and prints each answer. The script's own comments say what its
 // commands are.
+#![tactic(auto)]
 mod say; // say.rt: what is printed
 mod reading; // reading.rt: the commands that read a machine
 mod commands; // commands.rt: what a line asks, and all that needs no frames

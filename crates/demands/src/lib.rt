@@ -1,1 +1,2 @@
 // The user's demands as theorems: no code.
+#![tactic(auto)]

@@ -1,1 +1,2 @@
 // The return trip: what is saved loads, and what is loaded saves. Laws, no code.
+#![tactic(auto)]

@@ -1,1 +1,2 @@
 // What a program that passed the check never does: laws, no code.
+#![tactic(auto)]

@@ -1,1 +1,2 @@
 // A host in C: what each of its calls does, and that the demands hold of what it holds: laws, no code.
+#![tactic(auto)]

@@ -1,1 +1,2 @@
 // Laws of machines that mean the same: no code.
+#![tactic(auto)]

@@ -1,1 +1,2 @@
 // Laws of the order of names: no code.
+#![tactic(auto)]

@@ -1,1 +1,2 @@
 // Laws of the rules: no code.
+#![tactic(auto)]

@@ -1,1 +1,2 @@
 // Laws of walks: how a function over slices of records is proved by hand, from its MIR. No code.
+#![tactic(auto)]

@@ -1,4 +1,5 @@
 // Reads a rule image from standard input, and prints the listing of each of its functions.
+#![tactic(auto)]
 ghost use Rattle.streams.specs.Reads.{ReadAs};
 ghost use Rattle.streams.specs.Answers.{Answered, Shown};
 ghost use Rattle.lister.specs.Says.{Says};

@@ -1,4 +1,5 @@
 // The machine's types. They hold no code: what they mean is in specs/, and the crates above work with them.
+#![tactic(auto)]
 
 // ---- [limits]
 

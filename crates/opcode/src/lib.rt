@@ -1,4 +1,5 @@
 // The opcodes: what a byte is, how many operands follow it, and its name.
+#![tactic(auto)]
 ghost use Rattle.std.specs.Prelude.{◌≡◌, ◌≤◌, ◌<◌, length, get_or};
 ghost use Rattle.model.specs.Opcodes.{operands, as_count, popped, opcode_at};
 ghost use Rattle.model.specs.declared.Names.TheVariants.{Nothing};

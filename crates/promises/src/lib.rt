@@ -1,1 +1,2 @@
 // All that is promised, on one page, and that it is kept. No code.
+#![tactic(auto)]

@@ -1,4 +1,5 @@
 // Reads the oracle's records of checked images from standard input, up to its end, and says where the check answers something else.
+#![tactic(auto)]
 ghost use Rattle.std.specs.Prelude.{◌≡◌, ◌+◌, ◌*◌, ◌≤◌, length};
 ghost use Rattle.recheck.specs.Turns.{ends_of, Agrees, Judged, PartsRead, is_last, differences};
 

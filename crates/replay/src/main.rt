@@ -1,4 +1,5 @@
 // Reads the oracle's records from standard input, up to its end, and says where the port answers something else.
+#![tactic(auto)]
 ghost use Rattle.std.specs.Prelude.{◌≡◌, ◌+◌, ◌*◌, ◌≤◌, length};
 ghost use Rattle.replay.specs.Turns.{ends_of, wanted, turn_of, PartsRead, RecordRead, is_last, differences};
 

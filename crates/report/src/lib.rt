@@ -1,4 +1,5 @@
 // What the runner and the lister print, as bytes in a lent store.
+#![tactic(auto)]
 mod playing; // playing.rt: one run on call frames of its own
 
 ghost use Rattle.std.specs.Prelude.{◌≡◌, true, replicate};

@@ -1,4 +1,5 @@
 // Equality, lists and structs.
+#![tactic(auto)]
 ghost use Rattle.std.specs.Prelude.{◌≡◌, List, ℕ, ◌≤◌, ◌<◌, length};
 ghost use Rattle.model.specs.Values.{places};
 ghost use Rattle.model.specs.Heap.{list_elements};

@@ -1,4 +1,5 @@
 // The run's loop: from function to function, over the call frames that the host lends.
+#![tactic(auto)]
 ghost use Rattle.std.specs.Prelude.{◌≡◌, ◌+◌, ◌≤◌, ◌<◌, ◌^◌, length, take};
 ghost use Rattle.model.specs.Values.{fault_number};
 ghost use Rattle.model.specs.Steps.{World};

@@ -1,4 +1,5 @@
 // Reads a rule image from standard input, runs it, and prints what came of it.
+#![tactic(auto)]
 ghost use Rattle.streams.specs.Reads.{ReadAs};
 ghost use Rattle.streams.specs.Answers.{Answered, Shown};
 ghost use Rattle.runner.specs.Says.{Says};

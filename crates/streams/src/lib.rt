@@ -1,5 +1,6 @@
 // Standard input to its end and standard output whole. Where that fails it is said on standard error, and nothing passes for an answer.
 // What a call of C's reads or writes no contract can say: that trouble is told from an end is tried by tests/run.
+#![tactic(auto)]
 ghost use Rattle.streams.specs.Reads.{ReadAs};
 
 use libc::{STDIN_FILENO, STDOUT_FILENO};
