@@ -12,7 +12,7 @@ use model::{DEPTH_LIMIT, Fault, Found, Header, Value};
 use value::words;
 
 // What a build gives: how many cells are taken then, or the fault.
-#[derive(Drop)]
+#[derive(Clone, Copy)]
 pub enum Built {
     Taken(usize),
     Bad(Fault),
@@ -126,14 +126,14 @@ pub fn field(cells: &[u64], used: usize, p: usize, a: usize) -> Found
 }
 
 // Two values by themselves: said at once, or two lists or two structs, by their headers.
-#[derive(Drop)]
+#[derive(Clone, Copy)]
 pub enum Pair {
     Said(bool),
     Blocks(u32, u32),
 }
 
 // Same or not, with the units left then; or that the units do not suffice.
-#[derive(Drop)]
+#[derive(Clone, Copy)]
 pub enum Verdict {
     Done(bool, u64),
     Out,

@@ -12,7 +12,7 @@ use check_code::{first_at, next_at, second_at};
 use opcode::{popped, pushes};
 
 // The greatest height of a function, or that it breaks the rule.
-#[derive(Drop)]
+#[derive(Clone, Copy)]
 pub enum Height {
     Greatest(u32),
     Broken,
@@ -20,7 +20,7 @@ pub enum Height {
 
 // What breaks the rule: an instruction at a position that is reached with a height that does not suffice; a position that is reached with two heights; or
 // the end of a function other than main, reached with a height.
-#[derive(Drop)]
+#[derive(Clone, Copy)]
 pub enum Flaw {
     Nothing,
     Lacks(usize, u32),
@@ -29,7 +29,7 @@ pub enum Flaw {
 }
 
 // The greatest height that was seen, or what breaks the rule.
-#[derive(Drop)]
+#[derive(Clone, Copy)]
 enum Seen {
     Greatest(u32),
     Flawed(Flaw),

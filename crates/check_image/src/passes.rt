@@ -11,7 +11,7 @@ use image_codes::code_at;
 use image_judge::Sizes;
 
 // The rules that every instruction keeps or breaks by itself.
-#[derive(Drop)]
+#[derive(Clone, Copy)]
 pub enum Pass {
     Instructions,
     Numbers,
@@ -118,7 +118,7 @@ fn measure(image: &[u8], z: Sizes, counts: &mut [u32], table: &mut [u32]) -> usi
 }
 
 // What the rules say of an image: the first that is broken and the lowest function that breaks it, or nothing.
-#[derive(Drop)]
+#[derive(Clone, Copy)]
 pub enum Finding {
     Nothing,
     Breaks(Rule, usize),

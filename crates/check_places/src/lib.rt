@@ -44,7 +44,7 @@ pub fn first_place(q: Rule, main: bool, code: &[u8], c: Counts, marks: &mut [u32
 // ---- rule 4: a Call, and where one stands
 
 // A Call that was looked for: the function it stands in, its position there, and how many arguments it passes.
-#[derive(Drop)]
+#[derive(Clone, Copy)]
 pub enum Called {
     At(usize, usize, usize),
     Nowhere,

@@ -6,7 +6,7 @@ ghost use Rattle.check_rules.specs.Rules.{rule_number};
 use model::Counts;
 
 // The six rules, in their order.
-#[derive(Drop)]
+#[derive(Clone, Copy)]
 pub enum Rule {
     Instructions,
     Numbers,
@@ -32,7 +32,7 @@ pub fn rule_number(q: Rule) -> usize
 
 // What the check answers: passed and loaded, with the counts; or a refusal. Broken is refusal 20 with the offset of the first item that breaks a
 // rule of the image, Breaks is refusal 40 with the first broken rule and the lowest function that breaks it.
-#[derive(Drop)]
+#[derive(Clone, Copy)]
 pub enum Checked {
     Passed(Counts),
     Broken(usize),

@@ -17,7 +17,7 @@ use layout::reads::same_bytes;
 use model::{Counts, Frame, Last, Run, Told, Vm};
 
 // How much a call over frames is lent: bytes of the space, which are its image, and places of the copy store and of the backtrace store.
-#[derive(Drop)]
+#[derive(Clone, Copy)]
 pub struct Lent {
     pub image: usize,
     pub copy: usize,
@@ -25,7 +25,7 @@ pub struct Lent {
 }
 
 // What a line asks: a call over frames, or something else.
-#[derive(Drop)]
+#[derive(Clone, Copy)]
 pub enum Asked {
     Frames(Call, Lent),
     Other,
@@ -157,7 +157,7 @@ pub fn ask(line: &[u8], space: &mut stores::Space) -> Asked
 }
 
 // The commands that need no frames, in groups.
-#[derive(Drop)]
+#[derive(Clone, Copy)]
 pub enum Group {
     Emit(Kind),
     Look,

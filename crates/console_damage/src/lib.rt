@@ -147,7 +147,7 @@ pub fn put_frame(words: &mut [u64], i: usize, f: Frame)
 // ---- damage
 
 // A number, or as it was, and whether it was understood.
-#[derive(Drop)]
+#[derive(Clone, Copy)]
 pub struct Changed {
     pub m: Vm,
     pub good: bool,

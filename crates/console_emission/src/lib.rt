@@ -305,7 +305,7 @@ fn emit_name(
 }
 
 // The commands that emit, in kinds.
-#[derive(Drop)]
+#[derive(Clone, Copy)]
 pub enum Kind {
     Code,
     Patch,

@@ -11,7 +11,7 @@ use frames::{push_frame, read_frame};
 use model::{Changed, Frame, RunResult, Started, Told, Vm};
 
 // From the last frame to the first: where the next one stands, and whether there is one.
-#[derive(Drop)]
+#[derive(Clone, Copy)]
 pub struct Left {
     pub at: usize,
     pub more: bool,
@@ -31,7 +31,7 @@ fn last_of(n: usize) -> Left
 }
 
 // The same with the frame that rests there.
-#[derive(Drop)]
+#[derive(Clone, Copy)]
 pub struct Resting {
     pub at: usize,
     pub more: bool,
@@ -84,7 +84,7 @@ pub fn keep(frames: &[Frame], words: &mut [u64])
 }
 
 // A call over frames. The image of Load is lent beside it.
-#[derive(Drop)]
+#[derive(Clone, Copy)]
 pub enum Call {
     New,
     Load,
@@ -96,7 +96,7 @@ pub enum Call {
 }
 
 // What a call answers.
-#[derive(Drop)]
+#[derive(Clone, Copy)]
 pub enum Answer {
     Made(Started),
     Ran(RunResult),

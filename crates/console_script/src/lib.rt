@@ -8,7 +8,7 @@ ghost use Rattle.console_script.specs.Words.{next_of, next_word, cut_of, first_l
 use layout::reads::lesser;
 
 // A line: where it starts and ends, its number, whether there is such a line, and how many more there can be.
-#[derive(Drop)]
+#[derive(Clone, Copy)]
 pub struct Line {
     pub start: usize,
     pub end: usize,
@@ -139,7 +139,7 @@ pub fn word(line: &[u8], k: usize) -> &[u8]
 }
 
 // A number that a word may say.
-#[derive(Drop)]
+#[derive(Clone, Copy)]
 pub struct Number {
     pub is: u64,
     pub good: bool,
@@ -250,7 +250,7 @@ pub fn hex(w: &[u8]) -> Number
 }
 
 // The numbers that a command of up to five numbers says, and whether it says them and nothing else, none above its most.
-#[derive(Drop)]
+#[derive(Clone, Copy)]
 pub struct Args {
     pub a: u64,
     pub b: u64,
@@ -261,7 +261,7 @@ pub struct Args {
 }
 
 // The most that each number may be.
-#[derive(Drop)]
+#[derive(Clone, Copy)]
 pub struct Most {
     pub a: u64,
     pub b: u64,
@@ -358,7 +358,7 @@ pub fn read_room(line: &[u8], k: usize) -> Number
 }
 
 // Bytes in hex as they are read: how many there are, the digit that waits for its second (16: none), and whether all is well.
-#[derive(Drop)]
+#[derive(Clone, Copy)]
 pub struct Bytes {
     pub size: usize,
     pub high: u64,

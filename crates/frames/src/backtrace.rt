@@ -9,7 +9,7 @@ use layout::reads::{second, start_of};
 use model::Frame;
 
 // The caller to go to next, if there is one.
-#[derive(Drop)]
+#[derive(Clone, Copy)]
 pub struct Left {
     pub at: usize,
     pub more: bool,

@@ -8,7 +8,7 @@ use layout::reads::{second, size_of};
 use model::{Frame, MOST_PLACES, POSITION_LIMIT};
 
 // A search for a frame that is not good: the place to look at, whether there is more to look at, and the verdict so far.
-#[derive(Drop)]
+#[derive(Clone, Copy)]
 pub struct Scan {
     pub at: usize,
     pub more: bool,

@@ -6,7 +6,7 @@ ghost use Rattle.image_codes.specs.Links.{CodePost};
 use image_judge::{Begun, Behind, check_runs, read_head};
 
 // The code of a function, and where the next function begins.
-#[derive(Drop)]
+#[derive(Clone, Copy)]
 pub struct Code {
     pub from: usize,
     pub size: usize,

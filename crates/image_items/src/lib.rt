@@ -7,7 +7,7 @@ use image_judge::{Behind, Item, Text, check_runs, read_constant, read_text, wide
 use number::{Num, read_number};
 
 // The three rows of an image, each behind its count.
-#[derive(Drop)]
+#[derive(Clone, Copy)]
 pub enum Row {
     Constants,
     Structs,
@@ -16,7 +16,7 @@ pub enum Row {
 
 // An item: a row's count; of a constant its kind or its value; a struct's name; of a function its name, its code's length, its code or its places; or what
 // stands behind the last function.
-#[derive(Drop)]
+#[derive(Clone, Copy)]
 pub enum Part {
     Count(Row),
     Kind(usize),
@@ -31,7 +31,7 @@ pub enum Part {
 }
 
 // The item that is looked for, or where the next one begins.
-#[derive(Drop)]
+#[derive(Clone, Copy)]
 pub enum Sought {
     Is(Part),
     On(usize),

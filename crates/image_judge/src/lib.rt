@@ -14,7 +14,7 @@ use number::Num;
 // ---- texts
 
 // A text: where its bytes begin and how many they are.
-#[derive(Drop)]
+#[derive(Clone, Copy)]
 pub enum Text {
     At(usize, usize),
     Broken,
@@ -45,7 +45,7 @@ pub fn read_text(image: &[u8], at: usize) -> Text
 // ---- constants
 
 // A constant of the image: its kind, the payload of one that has no text, where its text is, and where the next item begins.
-#[derive(Drop)]
+#[derive(Clone, Copy)]
 pub struct Entry {
     pub kind: u64,
     pub word: u64,
@@ -55,7 +55,7 @@ pub struct Entry {
 }
 
 // A constant, or where the item that breaks a rule begins.
-#[derive(Drop)]
+#[derive(Clone, Copy)]
 pub enum Item {
     Is(Entry),
     Broken(usize),
@@ -161,7 +161,7 @@ pub fn read_constant(image: &[u8], at: usize) -> Item
 // ---- judging: each item is read once, and no store is touched
 
 // A section that breaks no rule: where the next item begins, how many it holds, and how many bytes of text.
-#[derive(Drop)]
+#[derive(Clone, Copy)]
 pub struct Section {
     pub next: usize,
     pub count: usize,
@@ -169,7 +169,7 @@ pub struct Section {
 }
 
 // A section, or where it breaks a rule.
-#[derive(Drop)]
+#[derive(Clone, Copy)]
 pub enum Checked {
     Fine(Section),
     Broken(usize),
@@ -231,7 +231,7 @@ fn check_structs(image: &[u8], at: usize) -> Checked
 }
 
 // A run of code bytes with one place, and where the next item begins.
-#[derive(Drop)]
+#[derive(Clone, Copy)]
 pub struct Run {
     pub bytes: usize,
     pub place: u32,
@@ -239,7 +239,7 @@ pub struct Run {
 }
 
 // A run, or where it breaks a rule.
-#[derive(Drop)]
+#[derive(Clone, Copy)]
 pub enum NextRun {
     Is(Run),
     Broken(usize),
@@ -270,7 +270,7 @@ pub fn read_run(image: &[u8], at: usize, left: usize, before: usize) -> NextRun
 }
 
 // The place behind runs that break no rule.
-#[derive(Drop)]
+#[derive(Clone, Copy)]
 pub enum Behind {
     At(usize),
     Broken(usize),
@@ -300,7 +300,7 @@ pub fn check_runs(image: &[u8], at: usize, size: usize) -> Behind
 }
 
 // A function up to its runs: where its name and its code begin, and how long they are.
-#[derive(Drop)]
+#[derive(Clone, Copy)]
 pub struct Head {
     pub name: usize,
     pub len: usize,
@@ -309,7 +309,7 @@ pub struct Head {
 }
 
 // A head, or where it breaks a rule.
-#[derive(Drop)]
+#[derive(Clone, Copy)]
 pub enum Begun {
     Is(Head),
     Broken(usize),
@@ -353,7 +353,7 @@ pub fn read_head(image: &[u8], at: usize, first: bool) -> Begun
 }
 
 // A whole function: where the next item begins, and the lengths of its name and its code.
-#[derive(Drop)]
+#[derive(Clone, Copy)]
 pub struct Span {
     pub next: usize,
     pub name: usize,
@@ -361,7 +361,7 @@ pub struct Span {
 }
 
 // A function, or where it breaks a rule.
-#[derive(Drop)]
+#[derive(Clone, Copy)]
 pub enum Spanned {
     Is(Span),
     Broken(usize),
@@ -389,7 +389,7 @@ fn check_function(image: &[u8], at: usize, first: bool) -> Spanned
 }
 
 // Functions behind main: where the next item begins, the bytes of their names and of their code, and whether each code is within the limit.
-#[derive(Drop)]
+#[derive(Clone, Copy)]
 pub struct Others {
     pub next: usize,
     pub text: usize,
@@ -398,7 +398,7 @@ pub struct Others {
 }
 
 // The functions behind main, or where they break a rule.
-#[derive(Drop)]
+#[derive(Clone, Copy)]
 pub enum Rest {
     Fine(Others),
     Broken(usize),
@@ -438,7 +438,7 @@ fn check_others(image: &[u8], at: usize, n: usize) -> Rest
 
 // All functions: where main begins, where the image ends, how many they are, the bytes of their names, of main's code and of the others', and whether each code
 // is within the limit.
-#[derive(Drop)]
+#[derive(Clone, Copy)]
 pub struct Ended {
     pub first: usize,
     pub next: usize,
@@ -450,7 +450,7 @@ pub struct Ended {
 }
 
 // The functions, or where they break a rule.
-#[derive(Drop)]
+#[derive(Clone, Copy)]
 pub enum Coded {
     Fine(Ended),
     Broken(usize),
@@ -489,7 +489,7 @@ fn check_functions(image: &[u8], at: usize) -> Coded
 }
 
 // What an image needs of the stores, whether each code is within the limit, and where its first function begins.
-#[derive(Drop)]
+#[derive(Clone, Copy)]
 pub struct Sizes {
     pub constants: usize,
     pub structs: usize,
@@ -502,7 +502,7 @@ pub struct Sizes {
 }
 
 // What an image needs, or the offset of the first item that breaks a rule.
-#[derive(Drop)]
+#[derive(Clone, Copy)]
 pub enum Judgement {
     Fine(Sizes),
     Broken(usize),

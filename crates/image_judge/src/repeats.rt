@@ -26,7 +26,7 @@ pub fn rows(image: &[u8], at: usize, n: usize) -> usize
 }
 
 // The texts that a chunk took: how many, where the next one stands, and whether that one is there already.
-#[derive(Drop)]
+#[derive(Clone, Copy)]
 pub struct Taken {
     pub count: usize,
     pub next: usize,
@@ -103,7 +103,7 @@ fn look_in(image: &[u8], from: usize, n: usize, k: usize, at: usize, structs: &[
 }
 
 // A chunk: how many texts it took, where the next one stands, and the first text that is there again.
-#[derive(Drop)]
+#[derive(Clone, Copy)]
 pub struct Chunk {
     pub count: usize,
     pub next: usize,

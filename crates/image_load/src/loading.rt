@@ -13,7 +13,7 @@ use layout::writes::{put_bytes, put_places, put_words};
 use number::Num;
 
 // Where the next item begins, and where the next text goes.
-#[derive(Drop)]
+#[derive(Clone, Copy)]
 pub struct Filled {
     pub next: usize,
     pub text: usize,

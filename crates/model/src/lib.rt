@@ -23,7 +23,7 @@ pub const MOST_PLACES: usize = 0xFFFF_FFFF;
 pub const HALF: u64 = 0x1_0000_0000;
 
 // The four arithmetic opcodes, and the four orderings: families that share a rule.
-#[derive(Drop)]
+#[derive(Clone, Copy)]
 pub enum Arith {
     Add,
     Subtract,
@@ -31,7 +31,7 @@ pub enum Arith {
     Divide,
 }
 
-#[derive(Drop)]
+#[derive(Clone, Copy)]
 pub enum Order {
     LessThan,
     GreaterThan,
@@ -40,7 +40,7 @@ pub enum Order {
 }
 
 // The carried opcodes.
-#[derive(Drop)]
+#[derive(Clone, Copy)]
 pub enum Op {
     LoadConstant,
     GetLocal,
@@ -66,7 +66,7 @@ pub enum Op {
 
 // What an operand names. An offset leads a jump on; Nothing is an operand that the machine reads and does not use, or one of an opcode that is
 // not carried.
-#[derive(Drop)]
+#[derive(Clone, Copy)]
 pub enum Names {
     Constant,
     Slot,
@@ -79,7 +79,7 @@ pub enum Names {
 }
 
 // What an opcode byte is: carried, known but not carried, or unknown.
-#[derive(Drop)]
+#[derive(Clone, Copy)]
 pub enum Decoded {
     Carried(Op),
     NotCarried,
@@ -87,7 +87,7 @@ pub enum Decoded {
 }
 
 // A value. A string and a function reference name the offset and the length of their text, a list and a struct their header's cell.
-#[derive(Drop)]
+#[derive(Clone, Copy)]
 pub enum Value {
     Scalar(f64),
     Boolean(bool),
@@ -98,7 +98,7 @@ pub enum Value {
 }
 
 // The first cell of a list or a struct: how many elements follow, the struct's number (0 of a list), and the depth.
-#[derive(Drop)]
+#[derive(Clone, Copy)]
 pub struct Header {
     pub count: usize,
     pub number: usize,
@@ -106,14 +106,14 @@ pub struct Header {
 }
 
 // The last result.
-#[derive(Drop)]
+#[derive(Clone, Copy)]
 pub enum Last {
     Nothing,
     Is(Value),
 }
 
 // Why a step faults. WrongKind holds the popped value. Units that do not reach are no fault of a step: it pauses the run.
-#[derive(Drop)]
+#[derive(Clone, Copy)]
 pub enum Fault {
     UnknownOpcode,
     NotCarried,
@@ -132,7 +132,7 @@ pub enum Fault {
 }
 
 // A value that was popped, or read out of the constants or a struct; or the fault.
-#[derive(Drop)]
+#[derive(Clone, Copy)]
 pub enum Found {
     Got(Value),
     Bad(Fault),
@@ -141,7 +141,7 @@ pub enum Found {
 // A call frame; `entered` is how many units the run had spent when the frame was entered, the Call's own included. Its layout is C's, so that a host
 // in C can lend frames.
 #[repr(C)]
-#[derive(Drop)]
+#[derive(Clone, Copy)]
 pub struct Frame {
     pub function: usize,
     pub position: usize,
@@ -150,7 +150,7 @@ pub struct Frame {
 }
 
 // A constant as it is emitted. A string's or a reference's text is lent beside it. A scalar keeps its 64 bits.
-#[derive(Drop)]
+#[derive(Clone, Copy)]
 pub enum Constant {
     Scalar(u64),
     Boolean(bool),
@@ -159,7 +159,7 @@ pub enum Constant {
 }
 
 // How much of each program store is taken, and the function that is being emitted: function 0, main, or the newest.
-#[derive(Drop)]
+#[derive(Clone, Copy)]
 pub struct Counts {
     pub constants: usize,
     pub structs: usize,
@@ -169,14 +169,14 @@ pub struct Counts {
 }
 
 // What an emission entry answers: the counts as they then are with the number of what was added or found (0 where there is none), or a refusal.
-#[derive(Drop)]
+#[derive(Clone, Copy)]
 pub enum Emitted {
     Done(Counts, usize),
     Refused(u8),
 }
 
 // What loading answers: the counts, or a refusal; Broken is refusal 20 with the offset of the first item that breaks a rule.
-#[derive(Drop)]
+#[derive(Clone, Copy)]
 pub enum Loaded {
     Done(Counts),
     Broken(usize),
@@ -184,7 +184,7 @@ pub enum Loaded {
 }
 
 // What an entry that only looks answers: a number, or a refusal.
-#[derive(Drop)]
+#[derive(Clone, Copy)]
 pub enum Told {
     Number(usize),
     Refused(u8),
@@ -193,7 +193,7 @@ pub enum Told {
 // A run between its parts, if one is under way (`on`): the units that it was given in all and those that it has spent, the root Returns that it has
 // completed, how many cells were taken at the last of them, or at its start, and how many values stand in the copy of its starting stack. All zeros if
 // none is.
-#[derive(Drop)]
+#[derive(Clone, Copy)]
 pub struct Run {
     pub on: bool,
     pub given: u64,
@@ -205,7 +205,7 @@ pub struct Run {
 
 // A machine between calls: how much of each store is taken, the last result, the run that is under way, and whether it is strict: then arithmetic whose
 // operands are finite and whose result is not is a fault.
-#[derive(Drop)]
+#[derive(Clone, Copy)]
 pub struct Vm {
     pub program: Counts,
     pub stack: usize,
@@ -217,7 +217,7 @@ pub struct Vm {
 }
 
 // What a run did: the units that it spent, and how many root Returns it completed. 0 returns: nothing has counted.
-#[derive(Drop)]
+#[derive(Clone, Copy)]
 pub struct Tally {
     pub spent: u64,
     pub returns: u64,
@@ -225,7 +225,7 @@ pub struct Tally {
 
 // What a part of a run answers, with the machine as it then is. The run is over, and this is what it did: a value, or "continue", or a fault's number
 // and the length of its backtrace. Or it is paused, and under way in the machine. Or a refusal.
-#[derive(Drop)]
+#[derive(Clone, Copy)]
 pub enum RunResult {
     Value(Vm, Value, Tally),
     Continue(Vm, Tally),
@@ -235,7 +235,7 @@ pub enum RunResult {
 }
 
 // What making a machine answers: the machine, or a refusal; Broken is refusal 20 with the offset of the first item that breaks a rule.
-#[derive(Drop)]
+#[derive(Clone, Copy)]
 pub enum Started {
     Done(Vm),
     Broken(usize),
@@ -243,21 +243,21 @@ pub enum Started {
 }
 
 // What changing the setting answers: the machine, or a refusal.
-#[derive(Drop)]
+#[derive(Clone, Copy)]
 pub enum Changed {
     Done(Vm),
     Refused(u8),
 }
 
 // What a reader answers: the header of a list or struct, or a refusal.
-#[derive(Drop)]
+#[derive(Clone, Copy)]
 pub enum Headed {
     Is(Header),
     Refused(u8),
 }
 
 // What a reader answers: a value, or a refusal.
-#[derive(Drop)]
+#[derive(Clone, Copy)]
 pub enum Shown {
     Value(Value),
     Refused(u8),

@@ -5,7 +5,7 @@ ghost use Rattle.model.specs.Numbers.{digits};
 ghost use Rattle.number.specs.Links.{GroupsPost, NumPost, WritePost};
 
 // A number and the place behind it; or bytes that are no number in its shortest form.
-#[derive(Drop)]
+#[derive(Clone, Copy)]
 pub enum Num {
     Number(u32, usize),
     Broken,

@@ -8,7 +8,7 @@ use layout::reads::same_bytes;
 use libc::{STDIN_FILENO, STDOUT_FILENO};
 
 // Where each of a record's two parts ends: the text stands behind the image.
-#[derive(Drop)]
+#[derive(Clone, Copy)]
 struct Ends {
     image: usize,
     text: usize,
@@ -16,7 +16,7 @@ struct Ends {
 
 // What came of a record: it agrees, or not; or there is none; or the input ends inside it, or it is longer than any record of an image
 // that is read.
-#[derive(Drop)]
+#[derive(Clone, Copy)]
 enum Turn {
     Same,
     Differs,

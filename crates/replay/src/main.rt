@@ -7,7 +7,7 @@ use libc::{STDIN_FILENO, STDOUT_FILENO};
 use replay_judge::Verdict;
 
 // Where each of a record's four parts ends: they stand one behind the other.
-#[derive(Drop)]
+#[derive(Clone, Copy)]
 struct Ends {
     image: usize,
     loading: usize,
@@ -17,7 +17,7 @@ struct Ends {
 
 // What came of a record: it agrees, or not; or there is none; or the input ends inside it, or it is longer than any record of an image
 // that is read.
-#[derive(Drop)]
+#[derive(Clone, Copy)]
 enum Turn {
     Same,
     Differs,

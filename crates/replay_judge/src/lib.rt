@@ -15,7 +15,7 @@ use printing::{put_count, put_line};
 use report::{list_image, run_image};
 
 // Which answers agree.
-#[derive(Drop)]
+#[derive(Clone, Copy)]
 pub struct Verdict {
     pub loading: bool,
     pub saving: bool,
@@ -24,7 +24,7 @@ pub struct Verdict {
 }
 
 // Those of them that loading and saving give.
-#[derive(Drop)]
+#[derive(Clone, Copy)]
 struct Kept {
     loading: bool,
     saving: bool,

@@ -7,7 +7,7 @@ pub mod pushes; // pushes.rt: constants, slots, the last result
 pub mod frames; // frames.rt: calls and returns; the frames themselves are the run's
 
 // What no step changes: the counts of the program, the rooms of stack and frames, the units that the run was given in all, and whether it is strict.
-#[derive(Drop)]
+#[derive(Clone, Copy)]
 pub struct Fixed {
     pub constants: usize,
     pub structs: usize,
@@ -21,7 +21,7 @@ pub struct Fixed {
 // What a step changes, in plain words: the values on the stack, the current frame (but when it was entered, which the run has), how many callers it
 // has, the cells taken, the units that the run has spent, and the last result as a kind and a payload (kind 7: none). `mark` is how many cells were
 // taken at the run's last root Return, or at its start, and `returns` how many there were.
-#[derive(Drop)]
+#[derive(Clone, Copy)]
 pub struct Going {
     pub sp: usize,
     pub function: usize,
@@ -37,7 +37,7 @@ pub struct Going {
 }
 
 // A completed root Return: the machine after it, which has yet to take its value for the last result, and that value.
-#[derive(Drop)]
+#[derive(Clone, Copy)]
 pub struct Completed {
     pub going: Going,
     pub value: Value,
@@ -45,7 +45,7 @@ pub struct Completed {
 
 // What a step answers. Call: the function to enter and its base. Back: a Return to the caller, whose frame the run has. Short: the units that are
 // left do not pay for the step, which has written nothing.
-#[derive(Drop)]
+#[derive(Clone, Copy)]
 pub enum Answer {
     Went(Going),
     Returned(Completed),

@@ -15,7 +15,7 @@ use run_steps::Event;
 
 // How far a run has come: the machine, when its current frame was entered, whether it goes on, and the number of the fault that has stopped it (0:
 // none). 13 is none of a step: the run is paused before an instruction that its units do not pay for.
-#[derive(Drop)]
+#[derive(Clone, Copy)]
 pub struct Course {
     pub going: Going,
     pub entered: u64,

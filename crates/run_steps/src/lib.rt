@@ -13,7 +13,7 @@ use value::words;
 
 // What the steps inside one function come to: the end of its code, a call, a return to the caller, or a fault; or the machine before an instruction
 // that its units do not pay for.
-#[derive(Drop)]
+#[derive(Clone, Copy)]
 pub enum Event {
     Over(Going),
     Call(Going, usize, usize),
@@ -40,7 +40,7 @@ fn word(low: u8, high: u8) -> usize
 }
 
 // The two words at a place of the code.
-#[derive(Drop)]
+#[derive(Clone, Copy)]
 struct Operands {
     a: usize,
     b: usize,

@@ -6,7 +6,7 @@ ghost use Rattle.streams.specs.Reads.{ReadAs};
 use libc::{STDIN_FILENO, STDOUT_FILENO};
 
 // What came of reading: so many bytes of the store, or a read that failed.
-#[derive(Drop)]
+#[derive(Clone, Copy)]
 pub enum Input {
     Bytes(usize),
     Failed,

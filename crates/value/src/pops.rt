@@ -7,14 +7,14 @@ use crate::words;
 use model::{Fault, Found, Value};
 
 // Two popped scalars, the left one first, or the fault.
-#[derive(Drop)]
+#[derive(Clone, Copy)]
 pub enum Scalars {
     Two(f64, f64),
     Bad(Fault),
 }
 
 // Two popped booleans, the left one first, or the fault.
-#[derive(Drop)]
+#[derive(Clone, Copy)]
 pub enum Booleans {
     Two(bool, bool),
     Bad(Fault),
