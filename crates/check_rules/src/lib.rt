@@ -1,5 +1,6 @@
 // What a rule is checked for before it is installed: definitions, and laws of them.
 #![tactic(auto)]
+
 ghost use Rattle.std.specs.Prelude.{◌≡◌};
 ghost use Rattle.check_rules.specs.Rules.{rule_number};
 
