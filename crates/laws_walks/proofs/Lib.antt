@@ -1,12 +1,3 @@
-pub mod Locals
-pub mod Lends
-pub mod Slices
-pub mod Calls
-pub mod Lending
-pub mod Picks
-pub mod Elements
 pub mod Branches
 pub mod Loops
 pub mod Matches
-pub mod Closing
-pub mod Walk

@@ -52,4 +52,4 @@ module _ {M : Type 1} {𝓤 : Ura M} {𝓛 : Logic 𝓤} {K : Type 0} {𝓣 : Ta
 
   pub again : K → (l : Loop 𝓛 𝓣) (x y : l.State) → l.measure y < l.measure x → Seq K 𝓛 (l.inv y) (prop (post 𝓤 H (Turn l x) next))
   unfolding after_turn
-  again t l x y h = record { prf = (Run.again {K = K} {W = 𝓛} t (less l) l.inv x y h).prf }
+  again t l x y h = record { prf = (Run.again {𝓛 = 𝓛} {K = K} t (less l) l.inv x y h).prf }
