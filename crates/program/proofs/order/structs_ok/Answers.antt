@@ -1,0 +1,10 @@
+-- `program::order::structs_ok` meets its contract.
+use Rattle.laws_programs.proofs.Checks.{structs_is, structs_not}
+use Rattle.std.proofs.Common.{rules}
+use Rattle.program.proofs.order.structs_ok.Goals as goal
+
+pub returns-then-structs_inside : goal.returns-then-structs_inside
+returns-then-structs_inside c = search (rules, structs_is)
+
+pub returns : goal.returns
+returns c = search (rules, structs_not)
