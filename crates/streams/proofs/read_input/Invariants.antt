@@ -5,7 +5,7 @@ use lib.ListN.{length}
 use Rattle.streams.proofs.read_input.Given as goal
 
 abbrev pub invariant-loop-done : goal.invariant-loop-done
-invariant-loop-done l = (l.done ≤ length l.store) × (length l.store ≡ length l.initial.store)
+invariant-loop-done g l = (l.done ≤ length l.store) × (length l.store ≡ length l.initial.store)
 
 abbrev pub decreases-loop-done : goal.decreases-loop-done
-decreases-loop-done l = length l.store - l.done
+decreases-loop-done g l = length l.store - l.done
