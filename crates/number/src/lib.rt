@@ -1,5 +1,6 @@
 // The image's numbers: groups of seven bits, lowest first, the high bit set on all but the last.
 #![tactic(auto)]
+
 ghost use Rattle.std.specs.Prelude.{◌≡◌, ◌+◌, ◌≤◌, length};
 ghost use Rattle.model.specs.Numbers.{digits};
 ghost use Rattle.number.specs.Links.{GroupsPost, NumPost, WritePost};

@@ -16,7 +16,7 @@ pub returns-then-x-lt128 : goal.returns-then-x-lt128
 returns-then-x-lt128 t c = last _ _ _ c.if-src-at.false c.if-left-eq0.false c.if-x-lt128.true
 
 pub returns-in_default : goal.returns-in_default
-returns-in_default t c = 
+returns-in_default t c =
     broken _ _ _ c.if-src-at.false c.if-left-eq0.false c.if-x-lt128.false _ c.read_groups-others.ensures c.in_default.is
 
 -- a group in front of others, which the sum's bounds use too
