@@ -4,7 +4,7 @@ use Rattle.value.proofs.Lasts.{kind_none, kind_some}
 use Rattle.value.proofs.words.last_kind.Goals as goal
 
 pub returns-in-Nothing : goal.returns-in-Nothing
-returns-in-Nothing c = kind_none c.enum_told-1.given.1
+returns-in-Nothing c = kind_none c.in-Nothing.is
 
 pub returns-in-Is : goal.returns-in-Is
 returns-in-Is c = search (rules, kind_some)

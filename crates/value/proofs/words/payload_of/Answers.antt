@@ -8,7 +8,7 @@ pub returns-in-Scalar : goal.returns-in-Scalar
 returns-in-Scalar c = search (rules, payload_is, told)
 
 pub returns-in-Boolean : goal.returns-in-Boolean
-returns-in-Boolean c = payload_is c.v-in-Boolean-1.given.1 refl tt
+returns-in-Boolean c = payload_is c.in-Boolean.is refl tt
 
 pub returns-in-String : goal.returns-in-String
 returns-in-String c = search (rules, payload_is)

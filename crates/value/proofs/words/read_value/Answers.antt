@@ -4,4 +4,4 @@ use Rattle.value.proofs.words.read_value.Goals as goal
 
 pub returns : goal.returns
 unfolding kind_at payload_at value_at
-returns c = c.value_of_lem.ensures
+returns c = c.value_of.ensures
