@@ -1,5 +1,6 @@
 // A script's lines, their words, and the numbers and bytes that words say.
 #![tactic(auto)]
+
 pub mod stores; // stores.rt: how large each store is
 
 ghost use Rattle.std.specs.Prelude.{◌≡◌, ◌*◌, ◌/◌, ◌≤◌, min};

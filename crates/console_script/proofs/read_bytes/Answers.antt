@@ -10,8 +10,7 @@ pub loop-i-init : goal.loop-i-init
 loop-i-init c = (refl, refl)
 
 pub loop-i-preserved : goal.loop-i-preserved
-loop-i-preserved c =
-    (
+loop-i-preserved c = (
   search rules,
   along_on _ _ _ c.loop-i.invariant.1 c.loop-i-test.true c.with_byte-h.ensures,
 )

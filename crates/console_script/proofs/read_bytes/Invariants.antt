@@ -8,7 +8,7 @@ use Rattle.console_script.proofs.read_bytes.Given as goal
 abbrev pub invariant-loop-i : goal.invariant-loop-i
 invariant-loop-i l =
     (length l.out ≡ length l.initial.out) ×
-    (along with_byte (record { read = l.initial.h; l.out = l.initial.out }) l.words ≡ along with_byte (record { read = l.h; l.out = l.out }) (drop l.i l.words))
+    (along with_byte (record { read = l.initial.h; out = l.initial.out }) l.words ≡ along with_byte (record { read = l.h; out = l.out }) (drop l.i l.words))
 
 abbrev pub decreases-loop-i : goal.decreases-loop-i
 decreases-loop-i l = length l.words - l.i

@@ -3,7 +3,7 @@ use Rattle.console_script.proofs.Numbers.{no_digit, too_much, one_more}
 use Rattle.console_script.proofs.with_decimal.Goals as goal
 
 pub returns-then-d-ge10 : goal.returns-then-d-ge10
-returns-then-d-ge10 c = no_digit 10 _ _ c.digit-d.ensures c.if-d-ge10.true c.no_number_lem.ensures
+returns-then-d-ge10 c = no_digit 10 _ _ c.digit-d.ensures c.if-d-ge10.true c.no_number.ensures
 
 pub returns-then-d-is : goal.returns-then-d-is
 returns-then-d-is c =

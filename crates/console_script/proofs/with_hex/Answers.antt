@@ -3,7 +3,7 @@ use Rattle.console_script.proofs.Numbers.{no_digit, too_much, one_more}
 use Rattle.console_script.proofs.with_hex.Goals as goal
 
 pub returns-then-d-ge16 : goal.returns-then-d-ge16
-returns-then-d-ge16 c = no_digit 16 _ _ c.digit-d.ensures c.if-d-ge16.true c.no_number_lem.ensures
+returns-then-d-ge16 c = no_digit 16 _ _ c.digit-d.ensures c.if-d-ge16.true c.no_number.ensures
 
 pub returns-then-is-ge1152921504606846976 : goal.returns-then-is-ge1152921504606846976
 returns-then-is-ge1152921504606846976 c =

@@ -12,5 +12,5 @@ loop-left-preserved c =
 
 pub returns : goal.returns
 returns c =
-    words_end _ _ _ _ c.loop-left-test.false c.next_word_lem.ensures c.loop-left.invariant
+    words_end _ _ _ _ c.loop-left-test.false c.next_word-at.ensures c.loop-left.invariant
     c.cut.ensures
