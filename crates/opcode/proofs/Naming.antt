@@ -1,6 +1,6 @@
 -- What an arm of a `match` says that an operand names is what the model's table says: kinds compared as numbers.
 use mathlib.Core.Path.{◌≡◌, refl, ap, ◌∙◌}
-use mathlib.Core.List.{List, [], ◌∷◌}
+use mathlib.Core.List.{[], ◌∷◌}
 use Prim.Native.Nat.{ℕ}
 use lib.ListN.{get_or}
 use Rattle.model.specs.declared.Names.{Names}

@@ -1,5 +1,6 @@
 // The opcodes: what a byte is, how many operands follow it, and its name.
 #![tactic(auto)]
+
 ghost use Rattle.std.specs.Prelude.{◌≡◌, ◌≤◌, ◌<◌, length, get_or};
 ghost use Rattle.model.specs.Opcodes.{operands, as_count, popped, opcode_at};
 ghost use Rattle.model.specs.declared.Names.TheVariants.{Nothing};
@@ -7,6 +8,7 @@ ghost use Rattle.model.specs.declared.Names.TheVariants.{Nothing};
 use model::{Arith, Decoded, Names, Op, Order};
 
 // What an opcode byte is.
+#[tactic(auto, unfolding(model::specs::Basics::ascii, model::specs::Opcodes::opcodes, model::specs::Opcodes::opcode_at))]
 pub fn decode(b: u8) -> Decoded
     ensures { result ≡ (opcode_at b).what }
 {
@@ -43,6 +45,7 @@ pub fn decode(b: u8) -> Decoded
 }
 
 // How many operands follow an opcode.
+#[tactic(auto, unfolding(model::specs::Basics::ascii, model::specs::Opcodes::opcodes, model::specs::Opcodes::opcode_at, model::specs::Opcodes::operands))]
 pub fn operands(b: u8) -> usize
     ensures { result ≡ operands (opcode_at b) }
 {
@@ -55,6 +58,7 @@ pub fn operands(b: u8) -> usize
 }
 
 // What an opcode's first operand names; Nothing where it has none.
+#[tactic(auto, unfolding(model::specs::Basics::ascii, model::specs::Opcodes::opcodes, model::specs::Opcodes::opcode_at))]
 pub fn first_names(b: u8) -> Names
     ensures { result ≡ get_or (opcode_at b).names 0 Nothing }
 {
@@ -71,6 +75,7 @@ pub fn first_names(b: u8) -> Names
 }
 
 // What its second operand names.
+#[tactic(auto, unfolding(model::specs::Basics::ascii, model::specs::Opcodes::opcodes, model::specs::Opcodes::opcode_at))]
 pub fn second_names(b: u8) -> Names
     ensures { result ≡ get_or (opcode_at b).names 1 Nothing }
 {
@@ -81,6 +86,7 @@ pub fn second_names(b: u8) -> Names
 }
 
 // How many values an opcode pops, beside those that an operand counts.
+#[tactic(auto, unfolding(model::specs::Basics::ascii, model::specs::Opcodes::opcodes, model::specs::Opcodes::opcode_at))]
 pub fn pops(b: u8) -> usize
     ensures { (result ≡ (opcode_at b).pops) × (result ≤ 2) }
 {
@@ -92,6 +98,7 @@ pub fn pops(b: u8) -> usize
 }
 
 // How many values an opcode pushes.
+#[tactic(auto, unfolding(model::specs::Basics::ascii, model::specs::Opcodes::opcodes, model::specs::Opcodes::opcode_at))]
 pub fn pushes(b: u8) -> usize
     ensures { (result ≡ (opcode_at b).pushes) × (result ≤ 1) }
 {
@@ -102,6 +109,7 @@ pub fn pushes(b: u8) -> usize
 }
 
 // An operand as a count of values.
+#[tactic(auto, unfolding(model::specs::Opcodes::as_count))]
 fn as_count(kind: Names, x: usize) -> usize
     ensures { (result ≡ as_count kind x) × (result ≤ x) }
 {

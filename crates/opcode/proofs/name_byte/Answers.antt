@@ -12,4 +12,4 @@ returns-then-i-ge19 c = past_row _ _ c.if-i-ge19.true
 
 pub returns : goal.returns
 unfolding ascii opcodes
-returns c = letter _ _ _ c.if1.false c.if2.false
+returns c = letter _ _ _ c.if-number-ge38.false c.if-i-ge19.false

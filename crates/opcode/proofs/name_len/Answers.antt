@@ -1,5 +1,4 @@
 -- `name_len`: the name reaches every place that the loop comes to.
-use Prim.Native.Nat.{◌-◌}
 use borrow.Author.Rules.{rules}
 use Rattle.opcode.proofs.Names.{at_space, at_letter, full}
 use Rattle.opcode.proofs.name_len.Goals as goal
