@@ -1,0 +1,11 @@
+-- `image_judge::repeats::against_chunk` meets its contract.
+use Rattle.image_judge.proofs.Repeating.{chunk_again, chunk_looked}
+use Rattle.image_judge.proofs.repeats.against_chunk.Goals as goal
+
+pub returns-then-t : goal.returns-then-t
+returns-then-t c = chunk_again _ _ _ c.requires.0 _ _ _ c.take_in-t.ensures c.requires.1 c.if-t.true
+
+pub returns : goal.returns
+returns c =
+    let at_start = at-take-in.before.before.before.before in
+    chunk_looked _ _ _ at_start.requires.0 _ _ _ c.take_in.ensures at_start.requires.1 _ c.look_in-repeat.ensures
