@@ -34,10 +34,10 @@ does_more d e (field p i b h) = rw e
 does_more d e (back b h) = rw e
 does_more d e (home b h) = rw e
 
-stepped_more : {w : World} {s : State} {x y : Outcome} (d : ℕ) → Stepped w s (more d s) x y → More d x y
+stepped_more : (d : ℕ) {w : World} {s : State} {x y : Outcome} → Stepped w s (more d s) x y → More d x y
 stepped_more d (unpaid q x) = tt
-stepped_more {s = s} d (unread l n) = let z : s.units + d - 1 ≡ s.units - 1 + d = omega arith in rw z
-stepped_more {s = s} d (ran i a h l k q z) = does_more d (let e : s.units + d - 1 ≡ s.units - 1 + d = omega arith in rw e) z
+stepped_more d {s = s} (unread l n) = let z : s.units + d - 1 ≡ s.units - 1 + d = omega arith in rw z
+stepped_more d {s = s} (ran i a h l k q z) = does_more d (let e : s.units + d - 1 ≡ s.units - 1 + d = omega arith in rw e) z
 
 pub step_more : (w : World) (s : State) (d : ℕ) → More d (step_of w s) (step_of w (more d s))
 step_more w s d = stepped_more d (step_does w s (s.units + d) (omega arith))
