@@ -1,0 +1,66 @@
+-- `cells::block_ok` meets its contract.
+use borrow.Author.Rules.{rules}
+use mathlib.Core.Logic.{⊎_elim}
+use Prim.Native.Nat.{◌-◌}
+use native.Mathlib.Omega.{arith}
+use Rattle.cells.proofs.Scans.{whole_room, walk_start, not_whole, element_room, bad_head, bad_place, held, walk_deeper, walk_same, bad_64, bad_shallow, last_is}
+use Rattle.cells.proofs.block_ok.Goals as goal
+
+pub whole-requires : goal.whole-requires
+whole-requires c = c.requires.0
+
+pub returns-then-not-whole : goal.returns-then-not-whole
+returns-then-not-whole c = search (rules, not_whole)
+
+pub read_header-h-requires : goal.read_header-h-requires
+read_header-h-requires c = search (rules, whole_room)
+
+pub loop-i-init : goal.loop-i-init
+loop-i-init c = walk_start _ _ _ _
+
+pub overflow_add-at : goal.overflow_add-at
+overflow_add-at c = search (element_room, rules)
+
+pub overflow_add-at-in-loop-i : goal.overflow_add-at-in-loop-i
+overflow_add-at-in-loop-i c =
+    let r =
+    element_room c.args.texts c.args.cells.now c.args.used c.args.p _
+    c.whole.ensures c.if-not-whole.false _ c.read_header-h.ensures _ _ c.loop-i.invariant
+    c.loop-i-test.true c.requires.0 in
+    omega arith
+
+pub is_header-requires : goal.is_header-requires
+is_header-requires c = search (rules, element_room)
+
+pub returns-then-is_header : goal.returns-then-is_header
+returns-then-is_header c = search (rules, bad_head)
+
+pub read_value-v-requires : goal.read_value-v-requires
+read_value-v-requires c = search (rules, element_room)
+
+pub returns-then-not-placed : goal.returns-then-not-placed
+returns-then-not-placed c = search (rules, bad_place)
+
+pub depth-e-requires : goal.depth-e-requires
+depth-e-requires c =
+    (
+      (let a = c.requires.0 in
+          let b = c.requires.1 in
+          omega arith),
+      held c.args.texts c.args.cells.now c.args.used c.args.p _
+          c.whole.ensures c.if-not-whole.false _ c.read_header-h.ensures _ _ c.loop-i.invariant
+          c.loop-i-test.true _ c.is_header.ensures c.if-is_header.false _
+          c.read_value-v.ensures _ c.placed.ensures c.if-not-placed.false,
+    )
+
+pub loop-i-preserved : goal.loop-i-preserved
+loop-i-preserved c = ⊎_elim (λ x. search walk_deeper) (λ x. search walk_same) c.if-d-e.branch
+
+pub returns-then-told-gt-DEPTH_LIMIT : goal.returns-then-told-gt-DEPTH_LIMIT
+returns-then-told-gt-DEPTH_LIMIT c = search (rules, bad_64)
+
+pub returns-then-told-d : goal.returns-then-told-d
+returns-then-told-d c = search (rules, bad_shallow)
+
+pub returns : goal.returns
+returns c = search (rules, last_is)
