@@ -1,5 +1,6 @@
 // What a rule image says, item by item, and whether it breaks a rule. A place is an offset in the image.
 #![tactic(auto)]
+
 mod repeats; // repeats.rt: the first struct name that is there again
 
 ghost use Rattle.std.specs.Prelude.{◌≡◌, ◌+◌, ◌≤◌, ◌<◌, length};

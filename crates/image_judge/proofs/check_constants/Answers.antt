@@ -1,6 +1,5 @@
 -- `image_judge::check_constants` meets its contract.
 use native.Mathlib.Omega.{arith}
-use Prim.Native.Nat.{◌-◌}
 use Rattle.image_judge.proofs.Passes.{counted_at, constants_start, constants_none, constants_end, constants_bad, constants_fit, constants_step}
 use Rattle.std.proofs.Common.{rules}
 use Rattle.image_judge.proofs.check_constants.Goals as goal

@@ -1,6 +1,5 @@
 -- `image_judge::check_others` meets its contract.
 use native.Mathlib.Omega.{arith}
-use Prim.Native.Nat.{◌-◌}
 use Rattle.image_judge.proofs.Functions.{others_start, others_end, others_bad, others_fit, others_step}
 use Rattle.std.proofs.Common.{rules}
 use Rattle.image_judge.proofs.check_others.Goals as goal

@@ -1,6 +1,5 @@
 -- `image_judge::check_structs` meets its contract.
 use native.Mathlib.Omega.{arith}
-use Prim.Native.Nat.{◌-◌}
 use Rattle.image_judge.proofs.Passes.{counted_at, names_start, names_none, names_end, names_bad, names_in, names_seen, names_fit, names_step}
 use Rattle.std.proofs.Common.{rules}
 use Rattle.image_judge.proofs.check_structs.Goals as goal

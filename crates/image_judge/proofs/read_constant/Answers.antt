@@ -22,11 +22,10 @@ pub returns-then-kind-eq1 : goal.returns-then-kind-eq1
 returns-then-kind-eq1 c = search (rules, constant_read)
 
 pub read_letters-requires : goal.read_letters-requires
-read_letters-requires c =
-    (
-      constant_next _ _ c.requires _ c.read_number.ensures _ _ c.in-Number.is,
-      two_left _ c.if-kind-eq0.false c.if-kind-eq1.false c.if-kind-gt3.false,
-    )
+read_letters-requires c = (
+  constant_next _ _ c.requires _ c.read_number.ensures _ _ c.in-Number.is,
+  two_left _ c.if-kind-eq0.false c.if-kind-eq1.false c.if-kind-gt3.false,
+)
 
 pub returns : goal.returns
 returns c = search (rules, constant_read)

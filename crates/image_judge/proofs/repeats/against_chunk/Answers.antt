@@ -6,6 +6,4 @@ pub returns-then-t : goal.returns-then-t
 returns-then-t c = chunk_again _ _ _ c.requires.0 _ _ _ c.take_in-t.ensures c.requires.1 c.if-t.true
 
 pub returns : goal.returns
-returns c =
-    let at_start = at-take-in.before.before.before.before in
-    chunk_looked _ _ _ at_start.requires.0 _ _ _ c.take_in.ensures at_start.requires.1 _ c.look_in-repeat.ensures
+returns c = chunk_looked _ _ _ c.requires.0 _ _ _ c.take_in-t.ensures c.requires.1 _ c.look_in-repeat.ensures

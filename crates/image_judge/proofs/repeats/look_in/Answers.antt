@@ -1,5 +1,4 @@
 -- `image_judge::repeats::look_in` meets its contract.
-use Prim.Native.Nat.{◌-◌}
 use native.Mathlib.Omega.{arith}
 use Rattle.image_judge.proofs.Repeating.{looking_start, looking_within, looking_end, looking_never, looking_in, looking_again, looking_next}
 use Rattle.image_judge.proofs.repeats.look_in.Goals as goal

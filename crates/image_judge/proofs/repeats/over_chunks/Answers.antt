@@ -1,5 +1,4 @@
 -- `image_judge::repeats::over_chunks` meets its contract.
-use Prim.Native.Nat.{◌-◌}
 use native.Mathlib.Omega.{arith}
 use mathlib.Core.Path.{refl}
 use Rattle.image_judge.proofs.Repeating.{repeating_start, repeating_end, repeating_rows, repeating_fits, repeating_next}
@@ -10,14 +9,13 @@ pub loop-done-init : goal.loop-done-init
 loop-done-init c = (refl, repeating_start _ _ _ c.requires.0)
 
 pub against_chunk-c-requires : goal.against_chunk-c-requires
-against_chunk-c-requires c =
-    (
-      repeating_rows _ _ _ c.requires.0 _ _ _ c.loop-done.invariant.1
-          c.loop-done-test.true,
-      let z = c.loop-done.invariant.0 in
-          let y = c.requires.1 in
-          omega arith,
-    )
+against_chunk-c-requires c = (
+  repeating_rows _ _ _ c.requires.0 _ _ _ c.loop-done.invariant.1
+      c.loop-done-test.true,
+  let z = c.loop-done.invariant.0 in
+      let y = c.requires.1 in
+      omega arith,
+)
 
 pub overflow_add-repeat : goal.overflow_add-repeat
 overflow_add-repeat c =
@@ -41,8 +39,7 @@ loop-done-smaller c =
     omega arith
 
 pub loop-done-preserved : goal.loop-done-preserved
-loop-done-preserved c =
-    (
+loop-done-preserved c = (
   search rules,
   repeating_next _ _ _ c.requires.0 _ _ _ c.loop-done.invariant.1 c.loop-done-test.true _
       c.against_chunk-c.ensures,

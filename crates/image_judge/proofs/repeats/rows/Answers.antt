@@ -1,5 +1,4 @@
 -- `image_judge::repeats::rows` meets its contract.
-use Prim.Native.Nat.{◌-◌}
 use native.Mathlib.Omega.{arith}
 use Rattle.image_judge.proofs.Repeating.{rowing_start, rowing_within, rowing_end, rowing_broken, rowing_in, rowing_next}
 use Rattle.std.proofs.Common.{rules}

@@ -1,5 +1,4 @@
 -- `image_judge::repeats::take_in` meets its contract.
-use Prim.Native.Nat.{◌-◌}
 use native.Mathlib.Omega.{arith}
 use Rattle.image_judge.proofs.Repeating.{taking_start, taking_within, taking_end, taking_never, taking_in, taking_ahead, taking_small, taking_far, taking_again, taking_fits, taking_next}
 use Rattle.std.proofs.Common.{rules}
@@ -28,63 +27,54 @@ overflow_add-behind c =
 
 pub slice_bounds-spot-count-in-loop-i : goal.slice_bounds-spot-count-in-loop-i
 slice_bounds-spot-count-in-loop-i c =
-    let at_start = c.before.before.before.before.before.before.before.before.before.before.before in
-    let w = at_start.requires.within in
+    let w = c.requires.within in
     omega arith
 
 pub slice_bounds-stands-count-in-loop-i : goal.slice_bounds-stands-count-in-loop-i
 slice_bounds-stands-count-in-loop-i c =
-    let at_start = c.before.before.before.before.before.before.before.before.before.before.before.before.before.before.before in
-    let w = at_start.requires.within in
+    let w = c.requires.within in
     omega arith
 
 pub shape_of-structs-then-stands : goal.shape_of-structs-then-stands
-shape_of-structs-then-stands c = c.loop.invariant.same
+shape_of-structs-then-stands c = c.loop-i.invariant.same
 
 pub returns-then-stands : goal.returns-then-stands
 returns-then-stands c =
-    let at_start = at-lesser.before.before.before in
-    taking_again _ _ _ at_start.requires at_start.args.structs.now _ c.lesser.ensures _ _ _ c.loop.invariant
-    c.loop-test.true _ c.read-text.ensures _ _ c.here.given.1 _ c.spot.ensures
+    taking_again _ _ _ c.requires c.args.structs.now _ c.lesser-most.ensures _ _ _ c.loop-i.invariant
+    c.loop-i-test.true _ c.read_text.ensures _ _ c.in-At.is _ c.spot-place.ensures
     _ c.stands.ensures c.if-stands.true
 
 pub overflow_sub-start : goal.overflow_sub-start
 overflow_sub-start c =
-    let at_start = at-lesser.before.before.before in
-    taking_ahead _ _ _ at_start.requires at_start.args.structs.now _ c.lesser.ensures _ _ _ c.loop.invariant
-    c.loop-test.true _ c.read-text.ensures _ _ c.here.given.1
+    taking_ahead _ _ _ c.requires c.args.structs.now _ c.lesser-most.ensures _ _ _ c.loop-i.invariant
+    c.loop-i-test.true _ c.read_text.ensures _ _ c.in-At.is
 
 pub shape_of-structs-then-start-gt-MOST_PLACES : goal.shape_of-structs-then-start-gt-MOST_PLACES
-shape_of-structs-then-start-gt-MOST_PLACES c = c.loop.invariant.same
+shape_of-structs-then-start-gt-MOST_PLACES c = c.loop-i.invariant.same
 
 pub returns-then-start-gt-MOST_PLACES : goal.returns-then-start-gt-MOST_PLACES
 returns-then-start-gt-MOST_PLACES c =
-    let at_start = at-lesser.before.before.before in
-    taking_far _ _ _ at_start.requires at_start.args.structs.now _ c.lesser.ensures _ _ _ c.loop.invariant
-    c.loop-test.true _ c.read-text.ensures _ _ c.here.given.1 c.if-start-gt-MOST_PLACES.true
+    taking_far _ _ _ c.requires c.args.structs.now _ c.lesser-most.ensures _ _ _ c.loop-i.invariant
+    c.loop-i-test.true _ c.read_text.ensures _ _ c.in-At.is c.if-start-gt-MOST_PLACES.true
 
 pub pack-word-requires : goal.pack-word-requires
-pack-word-requires c =
-    (
+pack-word-requires c = (
   let z = c.if-start-gt-MOST_PLACES.false in
       omega arith,
-  let at_start = at-lesser.before.before.before in
-      taking_small _ _ _ at_start.requires at_start.args.structs.now _ c.lesser.ensures _ _ _ c.loop.invariant
-      c.loop-test.true _ c.read-text.ensures _ _ c.here.given.1,
+  taking_small _ _ _ c.requires c.args.structs.now _ c.lesser-most.ensures _ _ _ c.loop-i.invariant
+      c.loop-i-test.true _ c.read_text.ensures _ _ c.in-At.is,
 )
 
 pub put_struct-requires : goal.put_struct-requires
 put_struct-requires c =
-    let at_start = at-lesser.before.before.before in
-    taking_fits _ _ _ at_start.requires at_start.args.structs.now _ c.lesser.ensures _ _ _ c.loop.invariant
-    c.loop-test.true _ c.read-text.ensures _ _ c.here.given.1 _ c.spot.ensures
+    taking_fits _ _ _ c.requires c.args.structs.now _ c.lesser-most.ensures _ _ _ c.loop-i.invariant
+    c.loop-i-test.true _ c.read_text.ensures _ _ c.in-At.is _ c.spot-place.ensures
     _ c.stands.ensures
 
 pub loop-i-preserved : goal.loop-i-preserved
 loop-i-preserved c =
-    let at_start = at-lesser.before.before.before in
-    taking_next _ _ _ at_start.requires at_start.args.structs.now _ c.lesser.ensures _ _ _ c.loop.invariant
-    c.loop-test.true _ c.read-text.ensures _ _ c.here.given.1 _ c.spot.ensures
+    taking_next _ _ _ c.requires c.args.structs.now _ c.lesser-most.ensures _ _ _ c.loop-i.invariant
+    c.loop-i-test.true _ c.read_text.ensures _ _ c.in-At.is _ c.spot-place.ensures
     _ c.stands.ensures c.if-stands.false c.if-start-gt-MOST_PLACES.false _ c.pack-word.ensures _
     c.put_struct.ensures
 
