@@ -1,7 +1,3 @@
--- a frame in a slice
-pub mod Frames
-pub mod FrameCalls
-pub mod Scans
 -- what the definitions say to the code
 pub mod Orders
 pub mod Traces

@@ -1,14 +1,13 @@
 -- What the definitions of good order say to the code that decides them: each test that fails, and all that pass.
 -- Assumes nothing.
 use mathlib.Core.Path.{◌≡◌, refl, sym, ◌∙◌}
-use mathlib.Core.Bool.{Bool, true, false, not, ◌&&◌, false≢true}
+use mathlib.Core.Bool.{Bool, true, false, ◌&&◌, false≢true}
 use mathlib.Mathlib.Data.Bool.Basic.{and_elim_left}
 use mathlib.Core.List.{List}
-use Prim.Native.Nat.{ℕ, suc, ◌+◌, ◌-◌, ◌*◌, ◌/◌, ◌<◌, ◌≤◌, min}
+use Prim.Native.Nat.{ℕ, suc, ◌+◌, ◌-◌, ◌<◌, ◌≤◌, min}
 use native.Mathlib.Numerals.{add-one}
 use native.Mathlib.Omega.{arith}
-use lib.Dec.{T, ltb, leb, eqb}
-pub use lib.Ieee.Bits.{is_true, is_false}
+use lib.Dec.{ltb, leb, eqb}
 use lib.ListN.{get_or}
 use borrow.Author.Tests.{ltb-true, ltb-false, leb-true, lt-ltb, le-ltb, le-leb, lt-leb, eq-eqb, ne_eqb}
 use Rattle.model.specs.declared.Frame.{Frame}
@@ -182,16 +181,16 @@ module _ (test : ℕ → Bool) (n : ℕ) where
   begins room = record { same = by_room room (leb 1 n) (leb n (min room most_places)) refl refl; inside = in_room room (leb 1 n) (leb n (min room most_places)) refl refl }
 
   module _ {goal : Bool} {room : ℕ} {s : Scan} (g : Going goal room s) where
-    pub in_reach : T s.more → (s.at < n) × (s.at < room)
-    in_reach h = let i : (s.at < n) × (n ≤ room) = g.inside (is_true s.more h) in (i.0, omega arith)
+    pub in_reach : s.more ≡ true → (s.at < n) × (s.at < room)
+    in_reach h = let i : (s.at < n) × (n ≤ room) = g.inside h in (i.0, omega arith)
 
-    pub goes_on_lem : T s.more → Going goal room (looked (test s.at) n s.at)
+    pub goes_on_lem : s.more ≡ true → Going goal room (looked (test s.at) n s.at)
     goes_on_lem h =
-        let t : Turned s.at (looked (test s.at) n s.at) = turned s.at (g.inside (is_true s.more h)).0 in
-        record { same = t.same ∙ rw (is_true s.more h) at g.same; inside = λ e. (t.inside e, (g.inside (is_true s.more h)).1) }
+        let t : Turned s.at (looked (test s.at) n s.at) = turned s.at (g.inside h).0 in
+        record { same = t.same ∙ rw h at g.same; inside = λ e. (t.inside e, (g.inside h).1) }
 
-    pub falls : T s.more → to_go (looked (test s.at) n s.at) < to_go s
-    falls h = rw (is_true s.more h) (turned s.at (g.inside (is_true s.more h)).0).less
+    pub falls : s.more ≡ true → to_go (looked (test s.at) n s.at) < to_go s
+    falls h = rw h (turned s.at (g.inside h).0).less
 
-    pub stops : T (not s.more) → s.good ≡ goal
-    stops h = rw (is_false s.more h) at g.same
+    pub stops : s.more ≡ false → s.good ≡ goal
+    stops h = rw h at g.same

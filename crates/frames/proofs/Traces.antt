@@ -1,12 +1,12 @@
 -- What the definitions of a backtrace say to the code that writes one, and to the loops over the callers.
 -- Assumes nothing.
 use mathlib.Core.Path.{◌≡◌, refl, sym, ap, ◌∙◌}
-use mathlib.Core.Bool.{Bool, true, false, not, ◌&&◌, false≢true}
+use mathlib.Core.Bool.{Bool, true, false, ◌&&◌, false≢true}
 use mathlib.Core.List.{List, ◌∷◌}
-use Prim.Native.Nat.{ℕ, zero, suc, ◌+◌, ◌-◌, ◌*◌, ◌/◌, ◌%◌, ◌<◌, ◌≤◌}
+use Prim.Native.Nat.{ℕ, zero, suc, ◌+◌, ◌-◌, ◌*◌, ◌/◌, ◌<◌, ◌≤◌}
 use native.Mathlib.Numerals.{add-one}
 use native.Mathlib.Omega.{arith}
-use lib.Dec.{T, ltb}
+use lib.Dec.{ltb}
 use lib.ListN.{length, get_or, set, get_or-eq_default}
 use borrow.Author.Tests.{le-ltb, eq-eqb, ne_eqb}
 use Rattle.model.specs.declared.Frame.{Frame}
@@ -16,7 +16,6 @@ use Rattle.model.specs.Stores.{start, size, code_word}
 use Rattle.frames.specs.declared.order.Scan.{Scan}
 use Rattle.frames.specs.declared.backtrace.Left.{Left}
 use Rattle.frames.specs.Links.{no_frame, scan, callers_of, places_of, place_at, place_of, trace_words, written, inside_good, trace_good, Readable, left_of, inside_of, Put}
-use Rattle.frames.proofs.Orders.{is_true, is_false}
 
 pub code_start_lem : (words : List ℕ) (i : ℕ) {w n : ℕ} → w ≡ payload_at words i → n ≡ start w → n ≡ start (code_word words i)
 unfolding code_word
@@ -127,25 +126,25 @@ module _ (words : List ℕ) (frames : List Frame) where
   unfolding trace_good
   judges inner callers = record { same = after (inside_good words inner) callers; inside = below (inside_good words inner) callers }
 
-  module _ {goal : Bool} {callers : ℕ} {s : Scan} (g : Judging goal callers s) (h : T s.more) where
+  module _ {goal : Bool} {callers : ℕ} {s : Scan} (g : Judging goal callers s) (h : s.more ≡ true) where
     abbrev next : Scan
     next = inside_of (inside_good words (get_or frames s.at no_frame)) s.at
 
     pub judges_at : s.at < callers
-    judges_at = g.inside (is_true s.more h)
+    judges_at = g.inside h
 
     pub judges_on : Judging goal callers next
     unfolding callers_of trace_good
     judges_on = record {
-      same = after (inside_good words (get_or frames s.at no_frame)) s.at ∙ rw (is_true s.more h) at g.same;
+      same = after (inside_good words (get_or frames s.at no_frame)) s.at ∙ rw h at g.same;
       inside = λ e. let l : next.at < s.at = below (inside_good words (get_or frames s.at no_frame)) s.at e in omega (arith, judges_at);
     }
 
     pub judges_less : to_judge next < to_judge s
-    judges_less = rw (is_true s.more h) (shorter (inside_good words (get_or frames s.at no_frame)) s.at)
+    judges_less = rw h (shorter (inside_good words (get_or frames s.at no_frame)) s.at)
 
-  pub judged_all : {goal : Bool} {callers : ℕ} {s : Scan} → Judging goal callers s → T (not s.more) → s.good ≡ goal
-  judged_all {s = s} g h = rw (is_false s.more h) at g.same
+  pub judged_all : {goal : Bool} {callers : ℕ} {s : Scan} → Judging goal callers s → s.more ≡ false → s.good ≡ goal
+  judged_all {s = s} g h = rw h at g.same
 
 -- ---- the loop that writes: what is ahead of it is the whole backtrace, and falls
 
@@ -195,20 +194,20 @@ module _ (words main other : List ℕ) (callers : ℕ) (frames : List Frame) whe
     inside = λ e. rw p.goes (next_below callers (rw p.goes at e));
   }
 
-  module _ {goal out : List ℕ} {s : Left} (g : Writing goal out s) (h : T s.more) where
+  module _ {goal out : List ℕ} {s : Left} (g : Writing goal out s) (h : s.more ≡ true) where
     pub writes_at : s.at < callers
-    writes_at = g.inside (is_true s.more h)
+    writes_at = g.inside h
 
     module _ (out' : List ℕ) (t : Left) (p : Puts s.at (get_or frames s.at no_frame) out out' t) where
       pub writes_on : Writing goal out' t
       unfolding callers_of
       writes_on = record {
-        same = wrote s.at (get_or frames s.at no_frame) out out' t (omega (arith, writes_at)) p ∙ rw (is_true s.more h) at g.same;
+        same = wrote s.at (get_or frames s.at no_frame) out out' t (omega (arith, writes_at)) p ∙ rw h at g.same;
         inside = λ e. let l : (left_of s.at).at < s.at = next_below s.at (rw p.goes at e) in rw p.goes (omega (arith, writes_at));
       }
 
       pub writes_less : to_write t < to_write s
-      writes_less = rw (p.goes, is_true s.more h) (next_less s.at)
+      writes_less = rw (p.goes, h) (next_less s.at)
 
-  pub wrote_all : {goal out : List ℕ} {s : Left} → Writing goal out s → T (not s.more) → out ≡ goal
-  wrote_all {s = s} g h = rw (is_false s.more h) at g.same
+  pub wrote_all : {goal out : List ℕ} {s : Left} → Writing goal out s → s.more ≡ false → out ≡ goal
+  wrote_all {s = s} g h = rw h at g.same

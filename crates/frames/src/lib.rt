@@ -1,5 +1,6 @@
 // Call frames: records in a slice that the host lends.
 #![tactic(auto)]
+
 pub mod backtrace; // backtrace.rt: the frames in numbers, innermost first
 pub mod order; // order.rt: whether the frames are in good order
 

@@ -3,4 +3,4 @@ use Rattle.frames.proofs.Traces.{code_start_lem}
 use Rattle.frames.proofs.backtrace.code_start.Goals as goal
 
 pub returns : goal.returns
-returns c = code_start_lem _ _ c.second.ensures c.start_of_lem.ensures.0
+returns c = code_start_lem _ _ c.second.ensures c.start_of.ensures.0

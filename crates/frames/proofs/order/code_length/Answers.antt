@@ -3,4 +3,4 @@ use Rattle.frames.proofs.Orders.{code_length}
 use Rattle.frames.proofs.order.code_length.Goals as goal
 
 pub returns : goal.returns
-returns c = code_length _ _ c.second.ensures c.type_size.ensures.0
+returns c = code_length _ _ c.second.ensures c.size_of.ensures.0
