@@ -1,5 +1,5 @@
 -- What the tally of the Calls tells: laws for whoever reads an entry.
-use mathlib.Core.Path.{◌≡◌, refl, sym, ◌∙◌}
+use mathlib.Core.Path.{◌≡◌, refl, sym, subst, ◌∙◌}
 use mathlib.Core.Logic.{◌↔◌}
 use mathlib.Core.Bool.{Bool, true, false, true≢false, not, ◌&&◌, ◌||◌}
 use mathlib.Core.List.{List, [], ◌∷◌, ◌++◌}
@@ -68,8 +68,13 @@ module _ (f : ℕ) where
 
   one_more : (c : Site) (cs : List Site) → Means cs → (b : Bool) → eqb c.function f ≡ b → Means (c ∷ cs)
   unfolding tallied entered_at entered passes count_in is_named
-  one_more c cs h true e = rw (e, eq-eqb c.count c.count refl) (tallied_from_count f c.count cs)
-  one_more c cs h false e = rw e h
+  one_more c cs h true e =
+      let k : c.count ≡ count_in f (c ∷ cs) = rw e in
+      rw (e, eq-eqb c.count c.count refl)
+      (subst (λ (m : ℕ). tallied f (c.count + 2) cs ≡ (if passes f m cs then c.count + 2 else 1)) k (tallied_from_count f c.count cs))
+  one_more c cs h false e =
+      let k : count_in f cs ≡ count_in f (c ∷ cs) = rw e in
+      rw e (subst (λ (m : ℕ). tallied f 0 cs ≡ entry_of (is_named f cs) (passes f m cs) (count_in f cs)) k h)
 
   -- THE LAW: it is 0 where no Call names f, 1 where two Calls differ, else the count and two more
   pub tally_means : (cs : List Site) → tallied f 0 cs ≡ entry_of (is_named f cs) (passes f (count_in f cs) cs) (count_in f cs)

@@ -1,5 +1,6 @@
 // The check of a rule before it is installed: rules 1 to 5, over one function's code. Each is a pass over its instructions.
 #![tactic(auto)]
+
 ghost use Rattle.std.specs.Prelude.{◌≡◌, ◌||◌, [], ◌∷◌, ◌+◌, ◌≤◌, ◌<◌, ◌^◌, eqb, length, get_or};
 ghost use Rattle.model.specs.Opcodes.{opcode_at};
 ghost use Rattle.model.specs.Programs.{word_at, next_in, stands};

@@ -1,5 +1,4 @@
 -- `clear`: a mark a turn.
-use Prim.Native.Nat.{◌-◌}
 use native.Mathlib.Omega.{arith}
 use borrow.Author.Rules.{rules}
 use Rattle.check_code.proofs.Marks.{none_cleared, one_cleared, all_cleared}

@@ -1,5 +1,4 @@
 -- `jumps`: an instruction a turn, over the marks.
-use Prim.Native.Nat.{◌-◌}
 use native.Mathlib.Omega.{arith}
 use Rattle.check_code.proofs.Instructions.{nearer}
 use Rattle.check_code.proofs.Turns.{none_tested, all_pass, one_fails, one_passes}

@@ -1,5 +1,4 @@
 -- `mark`: an instruction a turn.
-use Prim.Native.Nat.{◌-◌}
 use native.Mathlib.Omega.{arith}
 use borrow.Author.Rules.{rules}
 use Rattle.check_code.proofs.Instructions.{nearer}

@@ -1,5 +1,4 @@
 -- `numbers`: an instruction a turn.
-use Prim.Native.Nat.{◌-◌}
 use Rattle.check_code.proofs.Instructions.{nearer}
 use Rattle.check_code.proofs.Turns.{none_numbered, all_in_range, one_out_of_range, one_in_range}
 use Rattle.std.proofs.Common.{rules}

@@ -1,5 +1,4 @@
 -- `tally`: an instruction a turn.
-use Prim.Native.Nat.{◌-◌}
 use Rattle.check_code.proofs.Instructions.{nearer}
 use Rattle.check_code.proofs.Entries.{none_entered, all_entered, one_entered}
 use Rattle.std.proofs.Common.{rules}

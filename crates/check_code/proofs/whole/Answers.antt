@@ -1,5 +1,4 @@
 -- `whole`: an instruction a turn.
-use Prim.Native.Nat.{◌-◌}
 use Rattle.check_code.proofs.Instructions.{nearer}
 use Rattle.check_code.proofs.Turns.{none_tested, all_pass, one_fails, one_passes}
 use Rattle.std.proofs.Common.{rules}
