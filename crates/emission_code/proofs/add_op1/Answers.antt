@@ -1,0 +1,7 @@
+-- `emission_code::add_op1` meets its contract.
+use Rattle.model.specs.Emission.{add_op1_of, u16}
+use Rattle.emission_code.proofs.add_op1.Goals as goal
+
+pub returns : goal.returns
+unfolding add_op1_of u16
+returns c = c.emit.ensures
