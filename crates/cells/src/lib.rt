@@ -1,5 +1,6 @@
 // Lists and structs in a store of cells: building them, reading a field, equality, and the test of good order.
 #![tactic(auto)]
+
 ghost use Rattle.std.specs.Prelude.{◌≡◌, false, ◌&&◌, ◌+◌, ◌*◌, ◌<◌, ◌≤◌, length, get_or};
 ghost use Rattle.std.specs.Bool.{beq};
 ghost use Rattle.model.specs.Values.{vals, text_at};

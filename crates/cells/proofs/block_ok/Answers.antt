@@ -1,10 +1,10 @@
 -- `cells::block_ok` meets its contract.
 use borrow.Author.Rules.{rules}
-use mathlib.Core.Logic.{⊎_elim}
 use Prim.Native.Nat.{◌-◌}
 use native.Mathlib.Omega.{arith}
 use Rattle.cells.proofs.Scans.{whole_room, walk_start, not_whole, element_room, bad_head, bad_place, held, walk_deeper, walk_same, bad_64, bad_shallow, last_is}
 use Rattle.cells.proofs.block_ok.Goals as goal
+use Rattle.cells.proofs.block_ok.Goals.{then-d-e, else-d-e}
 
 pub whole-requires : goal.whole-requires
 whole-requires c = c.requires.0
@@ -22,12 +22,7 @@ pub overflow_add-at : goal.overflow_add-at
 overflow_add-at c = search (element_room, rules)
 
 pub overflow_add-at-in-loop-i : goal.overflow_add-at-in-loop-i
-overflow_add-at-in-loop-i c =
-    let r =
-    element_room c.args.texts c.args.cells.now c.args.used c.args.p _
-    c.whole.ensures c.if-not-whole.false _ c.read_header-h.ensures _ _ c.loop-i.invariant
-    c.loop-i-test.true c.requires.0 in
-    omega arith
+overflow_add-at-in-loop-i c = search (element_room, rules)
 
 pub is_header-requires : goal.is_header-requires
 is_header-requires c = search (rules, element_room)
@@ -42,19 +37,14 @@ pub returns-then-not-placed : goal.returns-then-not-placed
 returns-then-not-placed c = search (rules, bad_place)
 
 pub depth-e-requires : goal.depth-e-requires
-depth-e-requires c =
-    (
-      (let a = c.requires.0 in
-          let b = c.requires.1 in
-          omega arith),
-      held c.args.texts c.args.cells.now c.args.used c.args.p _
-          c.whole.ensures c.if-not-whole.false _ c.read_header-h.ensures _ _ c.loop-i.invariant
-          c.loop-i-test.true _ c.is_header.ensures c.if-is_header.false _
-          c.read_value-v.ensures _ c.placed.ensures c.if-not-placed.false,
-    )
+depth-e-requires c = (omega arith, search (rules, held))
 
 pub loop-i-preserved : goal.loop-i-preserved
-loop-i-preserved c = ⊎_elim (λ x. search walk_deeper) (λ x. search walk_same) c.if-d-e.branch
+loop-i-preserved c =
+    elim c.if-d-e.branch [
+      | then-d-e w ↦ search (rules, walk_deeper)
+      | else-d-e w ↦ search (rules, walk_same)
+    ]
 
 pub returns-then-told-gt-DEPTH_LIMIT : goal.returns-then-told-gt-DEPTH_LIMIT
 returns-then-told-gt-DEPTH_LIMIT c = search (rules, bad_64)

@@ -10,33 +10,29 @@ returns-then-d-ge-DEPTH_LIMIT c = search (rules, too_deep)
 
 pub returns-then-all-end : goal.returns-then-all-end
 returns-then-all-end c =
-    let at_start = at_room.before.before.before.before.before.before in
-    let room_is = c.room-all.ensures at_start.args.cells.now refl in
+    let room_is = c.room-all.ensures c.args.cells.now refl in
     search cells_full
 
 pub write_header-requires : goal.write_header-requires
 write_header-requires c =
-    let at_start = at_room.before.before.before.before.before.before in
-    let room_is = c.room-all.ensures at_start.args.cells.now refl in (
+    let room_is = c.room-all.ensures c.args.cells.now refl in (
       search room_head,
-      at_start.requires.0.count,
-      at_start.requires.1,
+      c.requires.0.count,
+      c.requires.1,
       let l = c.if-d-ge-DEPTH_LIMIT.false in
           omega arith,
     )
 
 pub copy-requires : goal.copy-requires
-copy-requires c =
-    let at_start = at-deepest-of.before.before.before.before in (
-      at_start.requires.0.enough,
-      at_start.requires.0.stack,
-      room_copy _ _ _ _ _ _ _ at_start.requires.0 _ c.deepest_of-d.ensures c.if-d-ge-DEPTH_LIMIT.false _
-          (c.room-all.ensures at_start.args.cells.now refl) c.if-all-end.false _
-          c.write_header.ensures,
-    )
+copy-requires c = (
+  c.requires.0.enough,
+  c.requires.0.stack,
+  room_copy _ _ _ _ _ _ _ c.requires.0 _ c.deepest_of-d.ensures c.if-d-ge-DEPTH_LIMIT.false _
+      (c.room-all.ensures c.args.cells.now refl) c.if-all-end.false _
+      c.write_header.ensures,
+)
 
 pub returns : goal.returns
 returns c =
-    let at_start = at_room.before.before.before.before.before.before in
-    let room_is = c.room-all.ensures at_start.args.cells.now refl in
+    let room_is = c.room-all.ensures c.args.cells.now refl in
     search built_is

@@ -25,9 +25,9 @@ overflow_add-p c = search (block_ends, rules)
 
 pub overflow_add-p-in-loop-p : goal.overflow_add-p-in-loop-p
 overflow_add-p-in-loop-p c =
-    let r =
+    let ends =
     block_ends _ _ _ _ c.loop-p.invariant c.loop-p-test.true _ c.block_ok.ensures
-    c.if-not-block_ok.false _ c.read_header-h.ensures in
+    (search rules) _ c.read_header-h.ensures in
     omega arith
 
 pub loop-p-smaller : goal.loop-p-smaller
