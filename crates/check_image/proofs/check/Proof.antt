@@ -26,8 +26,8 @@ returns c =
     let at_start = at-judge.before.before.before.before.before.before.before.before.before.before.before in
     too_few_places at_start.args.image.now at_start.args.heights.now
     (lent at_start.args.constants.now at_start.args.structs.now at_start.args.functions.now
-    at_start.args.text.now at_start.args.main.now at_start.args.main_places_lem.now at_start.args.other.now
-    at_start.args.other_places_lem.now) at-judge.judge.ensures at-z.z.given.1
+    at_start.args.text.now at_start.args.main.now at_start.args.main_places.now at_start.args.other.now
+    at_start.args.other_places.now) at-judge.judge.ensures at-z.z.given.1
     (c.before.room.ensures at_start.args.heights.now refl) c.if1.true
 
 within-limits-requires : tie.Need-within-limits-requires
@@ -41,8 +41,8 @@ returns-2 c =
     let at_start = at-judge.before.before.before.before.before.before.before.before.before.before.before in
     too_large at_start.args.image.now at_start.args.heights.now
     (lent at_start.args.constants.now at_start.args.structs.now at_start.args.functions.now
-    at_start.args.text.now at_start.args.main.now at_start.args.main_places_lem.now at_start.args.other.now
-    at_start.args.other_places_lem.now) at-judge.judge.ensures at-z.z.given.1
+    at_start.args.text.now at_start.args.main.now at_start.args.main_places.now at_start.args.other.now
+    at_start.args.other_places.now) at-judge.judge.ensures at-z.z.given.1
     (at_room.room.ensures at_start.args.heights.now refl) c.before.before.if1.false
     c.before.within-limits.ensures c.if2.true
 
@@ -84,8 +84,8 @@ returns-3 c =
     let at_start = at-judge.before.before.before.before.before.before.before.before.before.before.before in
     too_little_room at_start.args.image.now at_start.args.heights.now
     (lent at_start.args.constants.now at_start.args.structs.now at_start.args.functions.now
-    at_start.args.text.now at_start.args.main.now at_start.args.main_places_lem.now at_start.args.other.now
-    at_start.args.other_places_lem.now) at-judge.judge.ensures at-z.z.given.1
+    at_start.args.text.now at_start.args.main.now at_start.args.main_places.now at_start.args.other.now
+    at_start.args.other_places.now) at-judge.judge.ensures at-z.z.given.1
     (at_room.room.ensures at_start.args.heights.now refl) at-if1.if1.false at-within-limits.within-limits.ensures
     at-if2.if2.false c.before.has_room_lem.ensures c.if3.true
 
@@ -100,14 +100,14 @@ judge-rules-requires c κs =
     let at_start = at-judge.before.before.before.before.before.before.before.before.before.before.before in (
       ready at_start.args.image.now at_start.args.heights.now
           (lent at_start.args.constants.now at_start.args.structs.now at_start.args.functions.now
-          at_start.args.text.now at_start.args.main.now at_start.args.main_places_lem.now at_start.args.other.now
-          at_start.args.other_places_lem.now) at-judge.judge.ensures at-z.z.given.1
+          at_start.args.text.now at_start.args.main.now at_start.args.main_places.now at_start.args.other.now
+          at_start.args.other_places.now) at-judge.judge.ensures at-z.z.given.1
           (at_room.room.ensures at_start.args.heights.now refl) at-if1.if1.false
           at-within-limits.within-limits.ensures at-if2.if2.false,
       places_within at_start.args.image.now at_start.args.heights.now
           (lent at_start.args.constants.now at_start.args.structs.now at_start.args.functions.now
-          at_start.args.text.now at_start.args.main.now at_start.args.main_places_lem.now at_start.args.other.now
-          at_start.args.other_places_lem.now) at-judge.judge.ensures at-z.z.given.1
+          at_start.args.text.now at_start.args.main.now at_start.args.main_places.now at_start.args.other.now
+          at_start.args.other_places.now) at-judge.judge.ensures at-z.z.given.1
           (at_room.room.ensures at_start.args.heights.now refl) at-if1.if1.false,
     )
 
@@ -155,8 +155,8 @@ returns-4 c =
     let at_start = at-judge.before.before.before.before.before.before.before.before.before.before.before in
     a_rule_is_broken at_start.args.image.now at_start.args.heights.now
     (lent at_start.args.constants.now at_start.args.structs.now at_start.args.functions.now
-    at_start.args.text.now at_start.args.main.now at_start.args.main_places_lem.now at_start.args.other.now
-    at_start.args.other_places_lem.now) at-judge.judge.ensures at-z.z.given.1
+    at_start.args.text.now at_start.args.main.now at_start.args.main_places.now at_start.args.other.now
+    at_start.args.other_places.now) at-judge.judge.ensures at-z.z.given.1
     (at_room.room.ensures at_start.args.heights.now refl) at-if1.if1.false at-within-limits.within-limits.ensures
     at-if2.if2.false at-has-room.has_room_lem.ensures at-if3.if3.false at-judge-rules.judge-rules.ensures
     c.before.q.given.1
@@ -176,8 +176,8 @@ returns-5 c =
     let at_start = at-judge.before.before.before.before.before.before.before.before.before.before.before in
     is_no_image at_start.args.image.now at_start.args.heights.now
     (lent at_start.args.constants.now at_start.args.structs.now at_start.args.functions.now
-    at_start.args.text.now at_start.args.main.now at_start.args.main_places_lem.now at_start.args.other.now
-    at_start.args.other_places_lem.now) at-judge.judge.ensures c.before.o.given.1
+    at_start.args.text.now at_start.args.main.now at_start.args.main_places.now at_start.args.other.now
+    at_start.args.other_places.now) at-judge.judge.ensures c.before.o.given.1
 
 same-length-18 : tie.Need-same-length-18
 same-length-18 c = search
@@ -222,8 +222,8 @@ returns-6 c =
     let at_start = at-judge.before.before.before.before.before.before.before.before.before.before.before in
     all_is_passed at_start.args.image.now at_start.args.heights.now
     (lent at_start.args.constants.now at_start.args.structs.now at_start.args.functions.now
-    at_start.args.text.now at_start.args.main.now at_start.args.main_places_lem.now at_start.args.other.now
-    at_start.args.other_places_lem.now) at-judge.judge.ensures at-z.z.given.1
+    at_start.args.text.now at_start.args.main.now at_start.args.main_places.now at_start.args.other.now
+    at_start.args.other_places.now) at-judge.judge.ensures at-z.z.given.1
     (at_room.room.ensures at_start.args.heights.now refl) at-if1.if1.left at-within-limits.within-limits.ensures
     at-if2.if2.left at-has-room.has_room_lem.ensures at-if3.if3.left at-judge-rules.judge-rules.ensures
     at-enum-told.enum_told.given.1 at_load.load.ensures c.as-checked.ensures
