@@ -1,5 +1,6 @@
 // A rule image is loaded into lent stores.
 #![tactic(auto)]
+
 mod loading; // loading.rt: the writing pass
 
 ghost use Rattle.std.specs.Prelude.{◌≡◌};

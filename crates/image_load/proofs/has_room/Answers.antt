@@ -9,5 +9,5 @@ returns c =
     room_by p _ _ _ _ _ _ _ _ _ _ h (c.room.ensures a.constants.now refl)
     (c.room-2.ensures a.structs.now refl) (c.room-3.ensures a.functions.now refl)
     (c.room-4.ensures a.text.now refl) (c.room-5.ensures a.main.now refl)
-    (c.room-6.ensures a.main_places_lem.now refl) (c.room-7.ensures a.other.now refl)
-    (c.room-8.ensures a.other_places_lem.now refl)
+    (c.room-6.ensures a.main_places.now refl) (c.room-7.ensures a.other.now refl)
+    (c.room-8.ensures a.other_places.now refl)

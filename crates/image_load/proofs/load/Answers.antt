@@ -11,16 +11,16 @@ pub returns-then-not-fits : goal.returns-then-not-fits
 returns-then-not-fits c =
     load_21 c.args.image.now
     (lent c.args.constants.now c.args.structs.now c.args.functions.now
-    c.args.text.now c.args.main.now c.args.main_places_lem.now c.args.other.now
-    c.args.other_places_lem.now) _ c.judge.ensures _ c.in-Fine.is _
+    c.args.text.now c.args.main.now c.args.main_places.now c.args.other.now
+    c.args.other_places.now) _ c.judge.ensures _ c.in-Fine.is _
     c.within_limits.ensures (search rules) _ c.has_room-fits.ensures (search rules)
 
 pub load_all-requires : goal.load_all-requires
 load_all-requires c =
     load_fits c.args.image.now
     (lent c.args.constants.now c.args.structs.now c.args.functions.now
-    c.args.text.now c.args.main.now c.args.main_places_lem.now c.args.other.now
-    c.args.other_places_lem.now) _ c.judge.ensures _ c.in-Fine.is _
+    c.args.text.now c.args.main.now c.args.main_places.now c.args.other.now
+    c.args.other_places.now) _ c.judge.ensures _ c.in-Fine.is _
     c.within_limits.ensures (search rules) _ c.has_room-fits.ensures (search rules)
 
 pub returns-in-Broken : goal.returns-in-Broken
@@ -30,7 +30,7 @@ pub returns-else-not-fits : goal.returns-else-not-fits
 returns-else-not-fits c =
     load_done c.args.image.now
     (lent c.args.constants.now c.args.structs.now c.args.functions.now
-    c.args.text.now c.args.main.now c.args.main_places_lem.now c.args.other.now
-    c.args.other_places_lem.now) _ c.judge.ensures _ c.in-Fine.is _
-    c.within_limits.ensures c.if-not-within_limits.left _ c.has_room-fits.ensures c.if-not-fits.left _
+    c.args.text.now c.args.main.now c.args.main_places.now c.args.other.now
+    c.args.other_places.now) _ c.judge.ensures _ c.in-Fine.is _
+    c.within_limits.ensures (search rules) _ c.has_room-fits.ensures (search rules) _
     c.load_all.ensures

@@ -1,7 +1,6 @@
 -- `image_load::loading::load_constants` meets its contract.
 use borrow.Author.Rules.{rules}
 use native.Mathlib.Omega.{arith}
-use Prim.Native.Nat.{◌-◌}
 use Rattle.image_judge.proofs.Passes.{counted_at}
 use Rattle.image_load.proofs.Filling.{constants_no_count, constants_begin, constants_same, constants_filled, constants_never, constants_room, entry_inside, entry_small, slice_length, constants_next}
 use Rattle.image_load.proofs.loading.load_constants.Goals as goal
@@ -31,8 +30,7 @@ pub returns-in_default-read_constant : goal.returns-in_default-read_constant
 returns-in_default-read_constant c = search (rules, constants_never, counted_at)
 
 pub payload-word-requires : goal.payload-word-requires
-payload-word-requires c =
-    (
+payload-word-requires c = (
   let z =
       (constants_room _ _ _ _ c.requires _ _
       (counted_at _ _ _ c.read_number.ensures _ _ _ c.in-Number.is c.wide-count.ensures) _ _ _ _ _

@@ -1,6 +1,5 @@
 -- `image_load::loading::load_others` meets its contract.
 use native.Mathlib.Omega.{arith}
-use Prim.Native.Nat.{◌-◌}
 use Rattle.image_load.proofs.Placing.{others_begin, others_same, others_filled, others_fit, others_small, others_next}
 use Rattle.std.proofs.Common.{rules}
 use Rattle.image_load.proofs.loading.load_others.Goals as goal

@@ -1,7 +1,6 @@
 -- `image_load::loading::load_structs` meets its contract.
 use borrow.Author.Rules.{rules}
 use native.Mathlib.Omega.{arith}
-use Prim.Native.Nat.{◌-◌}
 use Rattle.image_judge.proofs.Passes.{counted_at}
 use Rattle.image_load.proofs.Filling.{structs_no_count, structs_begin, structs_same, structs_filled, structs_never, name_inside, name_small, name_length, structs_room, structs_next}
 use Rattle.image_load.proofs.loading.load_structs.Goals as goal
@@ -55,8 +54,7 @@ put_bytes-requires c =
     omega arith
 
 pub pack-word-requires : goal.pack-word-requires
-pack-word-requires c =
-    (
+pack-word-requires c = (
   let z =
       (structs_room _ _ _ _ _ c.requires _ _
       (counted_at _ _ _ c.read_number.ensures _ _ _ c.in-Number.is c.wide-count.ensures) _ _ _ _ _
@@ -69,20 +67,19 @@ pack-word-requires c =
 )
 
 pub put_struct-requires : goal.put_struct-requires
-put_struct-requires c =
-    (
-      c.spot-place.ensures.most,
-      let z =
-          (structs_room _ _ _ _ _ c.requires _ _
-          (counted_at _ _ _ c.read_number.ensures _ _ _ c.in-Number.is c.wide-count.ensures) _ _ _ _ _
-          c.loop-i.invariant c.loop-i-test.true _ c.read_text.ensures _ _
-          c.in-At.is).1.1 in
-          let y =
-          (structs_same _ _ _ _ _ c.requires _ _
-          (counted_at _ _ _ c.read_number.ensures _ _ _ c.in-Number.is c.wide-count.ensures) _ _ _ _ _
-          c.loop-i.invariant).0 in
-          omega arith,
-    )
+put_struct-requires c = (
+  c.spot-place.ensures.most,
+  let z =
+      (structs_room _ _ _ _ _ c.requires _ _
+      (counted_at _ _ _ c.read_number.ensures _ _ _ c.in-Number.is c.wide-count.ensures) _ _ _ _ _
+      c.loop-i.invariant c.loop-i-test.true _ c.read_text.ensures _ _
+      c.in-At.is).1.1 in
+      let y =
+      (structs_same _ _ _ _ _ c.requires _ _
+      (counted_at _ _ _ c.read_number.ensures _ _ _ c.in-Number.is c.wide-count.ensures) _ _ _ _ _
+      c.loop-i.invariant).0 in
+      omega arith,
+)
 
 pub overflow_add-t : goal.overflow_add-t
 overflow_add-t c =
