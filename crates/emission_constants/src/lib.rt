@@ -1,6 +1,7 @@
 // Emission of constants: one behind the other; a text is copied into the text store. `running`: a run is under way on the machine whose program this is,
 // and the program stays as it is (25).
 #![tactic(auto)]
+
 ghost use Rattle.std.specs.Prelude.{◌≡◌, List, ℕ, ◌+◌, ◌*◌, ◌≤◌, length};
 ghost use Rattle.model.specs.Stores.{Stores};
 ghost use Rattle.model.specs.Emission.{constant_order, with_constant, with_text_constant, add_constant_of};

@@ -1,5 +1,6 @@
 // Emission of functions by their names. `running`: a run is under way on the machine whose program this is, and the program stays as it is (25).
 #![tactic(auto)]
+
 ghost use Rattle.std.specs.Prelude.{◌≡◌};
 ghost use Rattle.model.specs.Stores.{Stores};
 ghost use Rattle.model.specs.Emission.{new_of, function_order, begin_function_of, end_function_of, function_idx_of};

@@ -1,5 +1,6 @@
 // Emission of struct names, all different. `running`: a run is under way on the machine whose program this is, and the program stays as it is (25).
 #![tactic(auto)]
+
 ghost use Rattle.std.specs.Prelude.{◌≡◌};
 ghost use Rattle.model.specs.Stores.{Stores};
 ghost use Rattle.model.specs.Emission.{struct_order, struct_added, add_struct_of};

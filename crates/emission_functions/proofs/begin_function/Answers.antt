@@ -8,18 +8,18 @@ use borrow.Author.Rules.{rules}
 use Rattle.emission_functions.proofs.begin_function.Goals as goal
 
 pub returns-then-not-ok : goal.returns-then-not-ok
-returns-then-not-ok c = λ rest. begin_19 _ _ _ _ _ (c.function_order-ok.ensures rest) c.if-not-ok.true
+returns-then-not-ok c = λ rest. begin_19 _ _ _ _ _ (c.function_order-ok.ensures rest) (search rules)
 
 pub returns-then-running : goal.returns-then-running
-returns-then-running c = λ rest. begin_25 _ _ _ _ _ (c.function_order-ok.ensures rest) c.if-not-ok.false c.if-running.true
+returns-then-running c = λ rest. begin_25 _ _ _ _ _ (c.function_order-ok.ensures rest) (search rules) c.if-running.true
 
 pub returns-then-n-ge-NAME_LIMIT : goal.returns-then-n-ge-NAME_LIMIT
-returns-then-n-ge-NAME_LIMIT c = λ rest. begin_22 _ _ _ _ _ (c.function_order-ok.ensures rest) c.if-not-ok.false c.if-running.false c.if-n-ge-NAME_LIMIT.true
+returns-then-n-ge-NAME_LIMIT c = λ rest. begin_22 _ _ _ _ _ (c.function_order-ok.ensures rest) (search rules) c.if-running.false c.if-n-ge-NAME_LIMIT.true
 
 pub returns-then-room-n : goal.returns-then-room-n
 unfolding names_lent
 returns-then-room-n c =
-    λ rest. begin_21 _ _ _ _ _ (c.function_order-ok.ensures rest) c.if-not-ok.false c.if-running.false
+    λ rest. begin_21 _ _ _ _ _ (c.function_order-ok.ensures rest) (search rules) c.if-running.false
     c.if-n-ge-NAME_LIMIT.false _ (c.room.ensures _ refl) c.if-room-n.true
 
 pub overflow_add-end : goal.overflow_add-end
@@ -35,9 +35,8 @@ pack-requires c =
     (omega arith, omega arith)
 
 pub pack-requires-then-text_room : goal.pack-requires-then-text_room
-pack-requires-then-text_room c =
-    (
-  behind_fits _ _ _ _ c.function_order-ok.ensures c.if-not-ok.false _ c.code_start-behind.ensures,
+pack-requires-then-text_room c = (
+  behind_fits _ _ _ _ c.function_order-ok.ensures (search rules) _ c.code_start-behind.ensures,
   search rules,
 )
 
@@ -47,7 +46,7 @@ put_words-requires c = pair_fits _ _ c.args.functions.now (c.room.ensures _ refl
 pub returns-then-text_room : goal.returns-then-text_room
 unfolding names_lent
 returns-then-text_room c =
-    λ rest. begin_done _ _ _ _ _ (c.function_order-ok.ensures rest) c.if-not-ok.false c.if-running.false
+    λ rest. begin_done _ _ _ _ _ (c.function_order-ok.ensures rest) (search rules) c.if-running.false
     c.if-n-ge-NAME_LIMIT.false _ (c.room.ensures _ refl) c.if-room-n.false _ (c.text_room.ensures _ refl) c.if-text_room.true _ _ _ _ _
     c.code_start-behind.ensures c.put_bytes.ensures c.pack.ensures c.pack-then-text_room.ensures
     c.put_words.ensures
@@ -55,5 +54,5 @@ returns-then-text_room c =
 pub returns : goal.returns
 unfolding names_lent
 returns c =
-    λ rest. begin_text_21 _ _ _ _ _ (c.function_order-ok.ensures rest) c.if-not-ok.false c.if-running.false
+    λ rest. begin_text_21 _ _ _ _ _ (c.function_order-ok.ensures rest) (search rules) c.if-running.false
     c.if-n-ge-NAME_LIMIT.false _ (c.room.ensures _ refl) c.if-room-n.false _ (c.text_room.ensures _ refl) c.if-text_room.false
