@@ -1,6 +1,7 @@
 // Code is emitted at the end of the current function, and patched inside it.
 // `running`: a run is under way on the machine whose program this is, and the program stays as it is (25).
 #![tactic(auto)]
+
 ghost use Rattle.std.specs.Prelude.{◌≡◌, List, ℕ};
 ghost use Rattle.model.specs.Stores.{Stores};
 ghost use Rattle.model.specs.Emission.{code_order, patch_order, code_room, emit_of, add_op_of, add_op1_of, add_op2_of, add_op3_of, current_offset_of, patch_of};

@@ -15,26 +15,26 @@ returns-then-running c = λ rest. emit_25 _ _ _ _ _ _ _ (c.code_order-ok.ensures
 pub overflow_sub-size : goal.overflow_sub-size
 overflow_sub-size c =
     size_short _ _ (lent_known _ _ _ _ _ _ _ c.code_order-ok.ensures (search rules)) _ _
-    c.second-word.ensures c.type_size.ensures.0
+    c.second-word.ensures c.size_of-size.ensures.0
 
 pub returns-then-size-n : goal.returns-then-size-n
 unfolding code_lent
 returns-then-size-n c =
     λ rest. emit_22 _ _ _ _ _ _ _ (c.code_order-ok.ensures rest) (search rules) c.if-running.false _ _ _ c.second-word.ensures
-    c.start_of-start.ensures.0 c.type_size.ensures.0 c.if-size-n.true
+    c.start_of-start.ensures.0 c.size_of-size.ensures.0 c.if-size-n.true
 
 pub returns-then-room-end : goal.returns-then-room-end
 unfolding code_lent
 returns-then-room-end c =
     λ rest. emit_21 _ _ _ _ _ _ _ (c.code_order-ok.ensures rest) (search rules) c.if-running.false _ _ _ c.second-word.ensures
-    c.start_of-start.ensures.0 c.type_size.ensures.0 c.if-size-n.false _
+    c.start_of-start.ensures.0 c.size_of-size.ensures.0 c.if-size-n.false _
     (c.code_room-room.ensures rest _) c.if-room-end.true
 
 pub returns-then-op-ge38 : goal.returns-then-op-ge38
 unfolding code_lent
 returns-then-op-ge38 c =
     λ rest. emit_1 _ _ _ _ _ _ _ (c.code_order-ok.ensures rest) (search rules) c.if-running.false _ _ _ c.second-word.ensures
-    c.start_of-start.ensures.0 c.type_size.ensures.0 c.if-size-n.false _
+    c.start_of-start.ensures.0 c.size_of-size.ensures.0 c.if-size-n.false _
     (c.code_room-room.ensures rest _) c.if-room-end.false c.if-op-ge38.true
 
 pub overflow_mul-functions : goal.overflow_mul-functions
@@ -68,7 +68,7 @@ pub returns-then-current-eq0 : goal.returns-then-current-eq0
 unfolding code_lent
 returns-then-current-eq0 c =
     λ rest. emitted_main _ _ _ _ _ _ _ (c.code_order-ok.ensures rest) (search rules) c.if-running.false _ _ _
-    c.second-word.ensures c.start_of-start.ensures.0 c.type_size.ensures.0 c.if-size-n.false _
+    c.second-word.ensures c.start_of-start.ensures.0 c.size_of-size.ensures.0 c.if-size-n.false _
     (c.code_room-room.ensures rest _) c.if-room-end.false c.if-op-ge38.false _ c.pack.ensures _ _ _ refl
     c.if-current-eq0.true c.put_code.ensures.0 c.put_code.ensures.1
 
@@ -79,6 +79,6 @@ pub returns : goal.returns
 unfolding code_lent
 returns c =
     λ rest. emitted_other _ _ _ _ _ _ _ (c.code_order-ok.ensures rest) (search rules) c.if-running.false _ _ _
-    c.second-word.ensures c.start_of-start.ensures.0 c.type_size.ensures.0 c.if-size-n.false _
+    c.second-word.ensures c.start_of-start.ensures.0 c.size_of-size.ensures.0 c.if-size-n.false _
     (c.code_room-room.ensures rest _) c.if-room-end.false c.if-op-ge38.false _ c.pack.ensures _ _ _ refl
     c.if-current-eq0.false c.put_code-2.ensures.0 c.put_code-2.ensures.1

@@ -15,30 +15,30 @@ pub returns-then-size-at : goal.returns-then-size-at
 unfolding code_lent bytes_lent
 returns-then-size-at c =
     λ rest. patch_23 _ _ _ _ _ _ (c.patch_order-ok.ensures rest) (search rules) c.if-running.false _ _ _ c.second-word.ensures
-    c.start_of-start.ensures.0 c.type_size.ensures.0 c.if-size-at.true
+    c.start_of-start.ensures.0 c.size_of-size.ensures.0 c.if-size-at.true
 
 pub put_bytes-requires : goal.put_bytes-requires
 put_bytes-requires c =
     patch_in_main _ _ _ _ _ c.patch_order-ok.ensures (search rules) _ _ _ _
-    c.second-word.ensures c.start_of-start.ensures.0 c.type_size.ensures.0 c.if-size-at.false
+    c.second-word.ensures c.start_of-start.ensures.0 c.size_of-size.ensures.0 c.if-size-at.false
     c.if-current-eq0.true
 
 pub returns-then-current-eq0 : goal.returns-then-current-eq0
 unfolding code_lent bytes_lent u16
 returns-then-current-eq0 c =
     λ rest. patched_main _ _ _ _ _ _ (c.patch_order-ok.ensures rest) (search rules) c.if-running.false _ _ _ c.second-word.ensures
-    c.start_of-start.ensures.0 c.type_size.ensures.0 c.if-size-at.false _ c.if-current-eq0.true
+    c.start_of-start.ensures.0 c.size_of-size.ensures.0 c.if-size-at.false _ c.if-current-eq0.true
     c.put_bytes.ensures
 
 pub put_bytes-requires-2 : goal.put_bytes-requires-2
 put_bytes-requires-2 c =
     patch_in_other _ _ _ _ _ c.patch_order-ok.ensures (search rules) _ _ _ _
-    c.second-word.ensures c.start_of-start.ensures.0 c.type_size.ensures.0 c.if-size-at.false
+    c.second-word.ensures c.start_of-start.ensures.0 c.size_of-size.ensures.0 c.if-size-at.false
     c.if-current-eq0.false
 
 pub returns : goal.returns
 unfolding code_lent bytes_lent u16
 returns c =
     λ rest. patched_other _ _ _ _ _ _ (c.patch_order-ok.ensures rest) (search rules) c.if-running.false _ _ _ c.second-word.ensures
-    c.start_of-start.ensures.0 c.type_size.ensures.0 c.if-size-at.false _ c.if-current-eq0.false
+    c.start_of-start.ensures.0 c.size_of-size.ensures.0 c.if-size-at.false _ c.if-current-eq0.false
     c.put_bytes-2.ensures
