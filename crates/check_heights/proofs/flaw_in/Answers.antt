@@ -1,0 +1,16 @@
+-- `flaw_in`: what the pass came upon.
+use Rattle.check_heights.proofs.Answers.{part_length, part-ready, no-flaw, flaw-told}
+use borrow.Author.Rules.{rules}
+use Rattle.check_heights.proofs.flaw_in.Goals as goal
+
+pub slice_bounds-pass-end-2 : goal.slice_bounds-pass-end-2
+slice_bounds-pass-end-2 c = search (rules, part_length)
+
+pub pass-requires : goal.pass-requires
+pass-requires c = search (rules, part-ready)
+
+pub returns-in-Greatest : goal.returns-in-Greatest
+returns-in-Greatest c = search (rules, no-flaw)
+
+pub returns-in-Flawed : goal.returns-in-Flawed
+returns-in-Flawed c = search (rules, flaw-told)
