@@ -1,5 +1,6 @@
 // A program is saved as a rule image.
 #![tactic(auto)]
+
 mod saving; // saving.rt: the image, piece by piece
 
 ghost use Rattle.std.specs.Prelude.{◌≡◌};

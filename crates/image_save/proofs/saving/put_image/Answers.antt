@@ -12,8 +12,8 @@ put_structs-b-requires c = search (rules, structs_puts)
 pub put_functions-requires : goal.put_functions-requires
 put_functions-requires c =
     functions_puts _ c.args.constants.now c.args.structs.now c.args.functions.now
-    c.args.text.now c.args.main.now c.args.main_places_lem.now c.args.other.now
-    c.args.other_places_lem.now c.requires _ _ _ c.put_constants-a.ensures _ _
+    c.args.text.now c.args.main.now c.args.main_places.now c.args.other.now
+    c.args.other_places.now c.requires _ _ _ c.put_constants-a.ensures _ _
     c.put_structs-b.ensures
 
 pub returns : goal.returns
