@@ -1,6 +1,7 @@
 // Bytes, texts and numbers put into a lent store, each from place at on. What falls past the store's end is not written; the answer is the
 // place behind all the same.
 #![tactic(auto)]
+
 ghost use Rattle.std.specs.Prelude.{◌≡◌, [], ◌∷◌, ◌++◌, ◌+◌, ◌<◌, ◌^◌, length};
 ghost use Rattle.model.specs.Basics.{ascii};
 ghost use Rattle.model.specs.Listings.{decimal, digits_or_more};

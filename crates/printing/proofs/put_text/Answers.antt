@@ -1,6 +1,5 @@
 -- `put_text`: a byte a turn.
 use mathlib.Core.Path.{refl}
-use Prim.Native.Nat.{◌-◌}
 use Rattle.printing.proofs.Puts.{at_first, another, whole, kept}
 use Rattle.printing.proofs.put_text.Goals as goal
 
