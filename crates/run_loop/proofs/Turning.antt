@@ -6,7 +6,6 @@ use mathlib.Core.List.{List, [], ◌∷◌}
 use Prim.Native.Nat.{ℕ, suc, ◌+◌, ◌-◌, ◌≤◌, ◌<◌}
 use native.Mathlib.Numerals.{add-one}
 use native.Mathlib.Omega.{arith}
-use lib.Dec.{T}
 use lib.ListN.{length, take, get_or, set, length-take, length-set}
 use borrow.Author.Tests.{eq-eqb, ne_eqb}
 use Rattle.model.specs.declared.Fault.{Fault}
@@ -18,7 +17,6 @@ use Rattle.model.specs.Runs.{Ended, ended, stopped, paused, over, end_from, trac
 use Rattle.model.specs.Stores.{part, code_word}
 use Rattle.laws_runs.specs.Sane.{Sane}
 use Rattle.frames.specs.Links.{no_frame, callers_of}
-use Rattle.frames.proofs.Orders.{is_true, is_false}
 use Rattle.frames.proofs.Callers.{length_callers, callers_more, callers_first}
 use Rattle.run_arms.specs.declared.Fixed.{Fixed}
 use Rattle.run_arms.specs.declared.Going.{Going}
@@ -82,17 +80,17 @@ abbrev pub weight : Fixed → Course → ℕ
 weight k c = weight_of c.on (k.given - c.going.spent)
 
 module _ (k : Fixed) (c : Course) where
-  weight_on : T c.on → weight k c ≡ suc (k.given - c.going.spent)
-  weight_on on = ap (λ (b : Bool). weight_of b (k.given - c.going.spent)) (is_true c.on on)
+  weight_on : c.on ≡ true → weight k c ≡ suc (k.given - c.going.spent)
+  weight_on on = ap (λ (b : Bool). weight_of b (k.given - c.going.spent)) on
 
   module _ {r : Course} {m : Going} {e : ℕ} where
-    pub over_less : r ≡ is_over m e → T c.on → weight k r < weight k c
+    pub over_less : r ≡ is_over m e → c.on ≡ true → weight k r < weight k c
     over_less is on = let a = ap (weight k) is in let b = weight_on on in omega arith
 
-    pub stopped_less : (f : Fault) → r ≡ is_stopped m e f → T c.on → weight k r < weight k c
+    pub stopped_less : (f : Fault) → r ≡ is_stopped m e f → c.on ≡ true → weight k r < weight k c
     stopped_less f is on = let a = ap (weight k) is in let b = weight_on on in omega arith
 
-    pub paused_less : r ≡ is_paused m e → T c.on → weight k r < weight k c
+    pub paused_less : r ≡ is_paused m e → c.on ≡ true → weight k r < weight k c
     paused_less is on = let a = ap (weight k) is in let b = weight_on on in omega arith
 
 module _ (k : Fixed) (n : ℕ) (constants functions text main other : List ℕ) where
@@ -252,11 +250,11 @@ module _ (k : Fixed) (n : ℕ) (constants functions text main other : List ℕ) 
 
   module _ {g₀ : Going} {e₀ : ℕ} {s₀ x₀ : List ℕ} {frames₀ : List Frame} (c : Course) {s x : List ℕ} {frames : List Frame} where
     -- the loop's test
-    pub goes : Ways c.on g₀ e₀ s₀ x₀ frames₀ c s x frames → T c.on → Ways true g₀ e₀ s₀ x₀ frames₀ c s x frames
-    goes ways on = subst (λ (b : Bool). Ways b g₀ e₀ s₀ x₀ frames₀ c s x frames) (is_true c.on on) ways
+    pub goes : Ways c.on g₀ e₀ s₀ x₀ frames₀ c s x frames → c.on ≡ true → Ways true g₀ e₀ s₀ x₀ frames₀ c s x frames
+    goes ways on = subst (λ (b : Bool). Ways b g₀ e₀ s₀ x₀ frames₀ c s x frames) on ways
 
-    pub ends_so : Ways c.on g₀ e₀ s₀ x₀ frames₀ c s x frames → T (not c.on) → Ways false g₀ e₀ s₀ x₀ frames₀ c s x frames
-    ends_so ways off = subst (λ (b : Bool). Ways b g₀ e₀ s₀ x₀ frames₀ c s x frames) (is_false c.on off) ways
+    pub ends_so : Ways c.on g₀ e₀ s₀ x₀ frames₀ c s x frames → c.on ≡ false → Ways false g₀ e₀ s₀ x₀ frames₀ c s x frames
+    ends_so ways off = subst (λ (b : Bool). Ways b g₀ e₀ s₀ x₀ frames₀ c s x frames) off ways
 
     module _ (ways : Ways true g₀ e₀ s₀ x₀ frames₀ c s x frames) where
       -- what the steps inside the function lean on
@@ -307,12 +305,12 @@ module _ (k : Fixed) (n : ℕ) (constants functions text main other : List ℕ) 
             let a = length_callers c.going.callers frames in let b = p.callers in omega arith
 
         pub call_less : {m : Going} {i b : ℕ} {r : Course} → Said c.going s x (Call m i b) s' x' → r ≡ goes_in m (m.callers + 1) (entered i b m.spent)
-            → T c.on → weight k r < weight k c
+            → c.on ≡ true → weight k r < weight k c
         call_less said is on =
             let p = said w _ (ready (ways w at).under) in
             let l = p.sane.0 in let h = p.fits.spent in let a = ap (weight k) is in let b = weight_on k c on in omega arith
 
-        pub back_less : {m : Going} {j : ℕ} {f : Frame} {r : Course} → Said c.going s x (Back m) s' x' → r ≡ goes_in m j f → T c.on → weight k r < weight k c
+        pub back_less : {m : Going} {j : ℕ} {f : Frame} {r : Course} → Said c.going s x (Back m) s' x' → r ≡ goes_in m j f → c.on ≡ true → weight k r < weight k c
         back_less said is on =
             let p = said w _ (ready (ways w at).under) in
             let l = p.sane.0 in let h = p.fits.spent in let a = ap (weight k) is in let b = weight_on k c on in omega arith

@@ -1,5 +1,6 @@
 // The run's loop: from function to function, over the call frames that the host lends.
 #![tactic(auto)]
+
 ghost use Rattle.std.specs.Prelude.{◌≡◌, ◌+◌, ◌≤◌, ◌<◌, ◌^◌, length, take};
 ghost use Rattle.model.specs.Values.{fault_number};
 ghost use Rattle.model.specs.Steps.{World};
@@ -24,6 +25,7 @@ pub struct Course {
 }
 
 // The number that a fault comes back as.
+#[tactic(auto, unfolding(model::specs::Values::fault_number))]
 fn fault_number(f: Fault) -> u8
     ensures { result ≡ fault_number f }
 {
