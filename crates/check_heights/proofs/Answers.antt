@@ -120,6 +120,7 @@ a_flaw_breaks (differs p q d) hs = d (hs.one p q)
 a_flaw_breaks (Reaches-end m p) hs = let y = hs.inside p m in omega arith
 
 told_of : {main : Bool} {count : ℕ} {code : List ℕ} (x : Flaw) → BreaksAt main count code x → FlawPost main count code x
+told_of {main = main} {count = count} {code = code} w.Nothing b = elim b [ ]
 told_of (w.Lacks i h) b = record { means = b }
 told_of (w.Differs i h k) b = record { means = b }
 told_of (w.Ends h) b = record { means = b }

@@ -1,8 +1,8 @@
 -- What the code reads of an instruction is what the rules say of it.
-use mathlib.Core.Path.{◌≡◌, ap, ◌∙◌}
+use mathlib.Core.Path.{◌≡◌, ◌∙◌}
 use mathlib.Core.Bool.{Bool, true, not, ◌&&◌, ◌||◌}
 use mathlib.Core.List.{List, [], ◌∷◌}
-use Prim.Native.Nat.{ℕ, zero, suc, ◌+◌, ◌-◌, ◌*◌, ◌≤◌}
+use Prim.Native.Nat.{ℕ, zero, suc, ◌+◌, ◌-◌, ◌≤◌}
 use native.Mathlib.Omega.{arith}
 use borrow.Author.Tests.{leb-true}
 use lib.Dec.{T, leb, ltb, leb→le}
@@ -10,9 +10,9 @@ use lib.Ieee.Fits.{and_l, and_r}
 use lib.ListN.{get_or}
 use Rattle.model.specs.Basics.{ascii}
 use Rattle.model.specs.Opcodes.{Opcode, operands, popped, opcodes, opcode_at}
-use Rattle.model.specs.Programs.{word_at, opcode_in, next_in}
+use Rattle.model.specs.Programs.{opcode_in, next_in}
 use Rattle.check_rules.specs.Rules.{get_local, is_at, first_at, second_at, target_at, suffices, height_after, Path, starts, goes, leaps}
-use Rattle.check_heights.specs.Links.{popped_at, height_limit, Whole, AfterPost}
+use Rattle.check_heights.specs.Links.{popped_at, height_limit, AfterPost}
 use Rattle.check_heights.proofs.Walks.{and_left, behind_is}
 
 -- ---- operands

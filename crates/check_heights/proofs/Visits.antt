@@ -14,7 +14,7 @@ use Rattle.check_heights.specs.declared.Flaw.TheVariants as w
 use Rattle.check_heights.specs.declared.Seen.TheVariants as s
 use Rattle.check_heights.specs.Answer.{Told}
 use Rattle.check_heights.specs.Links.{AfterPre, AfterPost, Sent, Clash, SendPre, SendPost, Entered, Barred, on_clash, jump_clash, EnterPre, EnterPost}
-use Rattle.check_heights.specs.Links.{lacks, barred, VisitPre, VisitPost, passes, sees, TurnPre, TurnPost}
+use Rattle.check_heights.specs.Links.{Stuck, lacks, barred, VisitPre, VisitPost, passes, sees, TurnPre, TurnPost}
 use Rattle.check_heights.specs.contracts.Flaw.{the_type}
 use Rattle.check_heights.proofs.Tables.{known_at}
 
@@ -48,7 +48,7 @@ module _ (main : Bool) (code : List ℕ) (i g : ℕ) (t : List ℕ) where
 
     -- another height was known at the next instruction
     pub clashes : OneOf (1 ∷ 2 ∷ 3 ∷ []) (tag_of the_type went) → {t' : List ℕ} → EnterPost main code i g t went t'
-    clashes n {t'} = record { means = told_flaw (Entered main code i g t t') (Barred main code i g t) went n (on_clash (flaw_of _ _ went n (went_on went refl))) }
+    clashes n {t'} = record { means = told_flaw (Entered main code i g t t') (Barred main code i g t) went n (on_clash (flaw_of _ (Clash (leads_on main code i) (next_in code i) g t) went n (went_on went refl))) }
 
     module _ {jumps : Bool} {target : ℕ} (ej : jumps ≡ is_jump code i) (et : target ≡ target_at code i) where
       pub jump_fits : EnterPre code i g t → length mid ≡ length t → SendPre jumps target g mid
@@ -59,7 +59,7 @@ module _ (main : Bool) (code : List ℕ) (i g : ℕ) (t : List ℕ) where
 
       pub enters : went ≡ w.Nothing → {x : Flaw} {t' : List ℕ} → SendPost jumps target g mid x t' → EnterPost main code i g t x t'
       enters e {x} {t'} q = record {
-        means = retold
+        means = retold {Q' = Barred main code i g t}
             (λ y. record { mid = mid; on = went_on w.Nothing e; jumps = y })
             (λ z y. jump_clash mid (went_on w.Nothing e) y) x (rw (← ej, ← et) q.means);
       }
@@ -75,7 +75,7 @@ module _ (main : Bool) (code : List ℕ) (i h : ℕ) (t : List ℕ) {enough : Bo
 
   pub visit_enters : enough ≡ true → {g : ℕ} → AfterPost code i h g → {x : Flaw} {t' : List ℕ} → EnterPost main code i g t x t' → VisitPost main code i h t x t'
   visit_enters q a {x} {t'} p = record {
-    means = retold (λ y. record { enough = sym e ∙ q; entered = y }) (λ z y. barred y) x (rw (← a.is) p.means);
+    means = retold {Q' = Stuck main code i h t} (λ y. record { enough = sym e ∙ q; entered = y }) (λ z y. barred y) x (rw (← a.is) p.means);
   }
 
 -- ---- a position
@@ -89,7 +89,7 @@ module _ (main : Bool) (code : List ℕ) (i top : ℕ) (t : List ℕ) where
     turn_sees e q = record { means = rw q (sees (known_at t i n) (rw e at v.means)) }
 
     pub turn_breaks : OneOf (1 ∷ 2 ∷ 3 ∷ []) (tag_of the_type x) → TurnPost main code i top t (s.Flawed x) t'
-    turn_breaks e = record { means = record { height = _; known = known_at t i n; stuck = flaw_of _ _ x e v.means } }
+    turn_breaks e = record { means = record { height = _; known = known_at t i n; stuck = flaw_of _ (Stuck main code i (get_or t i 0 - 1) t) x e v.means } }
 
 pub visit_ready : {code : List ℕ} {i : ℕ} {t : List ℕ} → TurnPre code i t → (get_or t i 0 ≡ 0 → ⊥) → VisitPre code i (get_or t i 0 - 1) t
 visit_ready {i = i} {t} pre n = pre.ready (known_at t i n)

@@ -1,6 +1,7 @@
 // Rule 6 of the check, for one function: each position that a path reaches has one height above the frame's base, and it suffices there.
 // A table has a word for each position of the code: 0 where no path is known to come, else the height and one more.
 #![tactic(auto)]
+
 ghost use Rattle.std.specs.Prelude.{◌≡◌, true, suc, ◌≤◌, ◌<◌, max, length, get_or, replicate};
 ghost use Rattle.model.specs.Programs.{next_in};
 ghost use Rattle.check_rules.specs.Rules.{suffices, leads_on, is_jump, target_at};

@@ -1,5 +1,4 @@
 -- `clear`: one word a turn.
-use Prim.Native.Nat.{◌-◌}
 use native.Mathlib.Omega.{arith}
 use borrow.Author.Rules.{rules}
 use Rattle.check_heights.proofs.Tables.{none_cleared, one_cleared, all_cleared}

@@ -1,5 +1,4 @@
 -- `scan`: a position a turn.
-use Prim.Native.Nat.{◌-◌}
 use borrow.Author.Rules.{rules}
 use Rattle.check_heights.proofs.Scans.{loop_starts, turn_ready, loop_goes, loop_breaks, loop_ends}
 use Rattle.check_heights.proofs.scan.Goals as goal
