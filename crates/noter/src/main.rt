@@ -1,13 +1,15 @@
 // Reads a rule image from standard input, and prints the listing of each of its functions with notes.
 #![tactic(auto)]
+
 ghost use Rattle.streams.specs.Reads.{ReadAs};
 ghost use Rattle.streams.specs.Answers.{Answered, Shown};
 ghost use Rattle.noter.specs.Says.{Says, SaysAll};
 
+use std::io;
 use streams::Input;
 
 // Prints the listing with notes of an image that was read; of one that could not be read, nothing.
-fn answer(input: Input, image: &[u8], out: &mut [u8])
+fn answer(rt: &(impl Print + Eprint), input: Input, image: &[u8], out: &mut [u8])
     requires { ReadAs input image.now }
     ensures { Answered Says input image.now out.old out.new }
 {
@@ -15,28 +17,28 @@ fn answer(input: Input, image: &[u8], out: &mut [u8])
         return;
     };
     let len = noted_report::note_image(&image[..n], out);
-    streams::write_output(&out[..len]);
+    streams::write_output(rt, &out[..len]);
 }
 
 // Reads an image and prints its listing with notes.
-fn show(image: &mut [u8], out: &mut [u8])
+fn show(rt: &(impl io::Input + Print + Eprint), image: &mut [u8], out: &mut [u8])
     ensures { Shown Says image.new out.old out.new }
 {
-    let input = streams::read_input(image);
-    answer(input, image, out);
+    let input = streams::read_input(rt, image);
+    answer(rt, input, image, out);
 }
 
 // The same with a store that every text fits, which so is never lost. The store's length is told by its type: that of the array in main would
 // be counted byte by byte.
-fn show_all(image: &mut [u8], out: &mut [u8; 1048576])
+fn show_all(rt: &(impl io::Input + Print + Eprint), image: &mut [u8], out: &mut [u8; 1048576])
     ensures { Shown SaysAll image.new out.old out.new }
 {
-    show(image, out);
+    show(rt, image, out);
 }
 
 // One byte more than an image may have is read, so that a longer one is seen to be longer.
-fn main() {
+fn main(rt: HostRuntime) {
     let mut image = [0u8; 16385];
     let mut out = [0u8; 1048576];
-    show_all(&mut image, &mut out);
+    show_all(&rt, &mut image, &mut out);
 }
