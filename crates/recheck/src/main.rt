@@ -1,11 +1,12 @@
 // Reads the oracle's records of checked images from standard input, up to its end, and says where the check answers something else.
 #![tactic(auto)]
+
 ghost use Rattle.std.specs.Prelude.{◌≡◌, ◌+◌, ◌*◌, ◌≤◌, length};
 ghost use Rattle.recheck.specs.Turns.{ends_of, Agrees, Judged, PartsRead, is_last, differences};
 
 use check_report::check_facts;
 use layout::reads::same_bytes;
-use libc::{STDIN_FILENO, STDOUT_FILENO};
+use std::io;
 
 // Where each of a record's two parts ends: the text stands behind the image.
 #[derive(Clone, Copy)]
@@ -55,14 +56,12 @@ fn agrees(image: &[u8], want: &[u8]) -> bool
 }
 
 // Says that record `at` differs.
-fn say(at: u64) {
-    io::write_all(STDOUT_FILENO, b"record ");
-    io::print_decimal(STDOUT_FILENO, at);
-    io::write_all(STDOUT_FILENO, b": the check differs\n");
+fn say(rt: &impl Print, at: u64) {
+    let _ = println!(rt; "record {at}: the check differs");
 }
 
 // What comes of a record's parts.
-fn judged(at: u64, body: &[u8], e: Ends) -> Turn
+fn judged(rt: &impl Print, at: u64, body: &[u8], e: Ends) -> Turn
     requires { (e.image ≤ e.text) × (e.text ≤ length body.now) }
     ensures { Judged e body.now result }
 {
@@ -71,12 +70,12 @@ fn judged(at: u64, body: &[u8], e: Ends) -> Turn
     if agrees(&body[..image], &body[image..text]) {
         return Turn::Same;
     }
-    say(at);
+    say(rt, at);
     Turn::Differs
 }
 
 // Reads the parts of record `at` into body, and judges them.
-fn read_parts(at: u64, e: Ends, body: &mut [u8]) -> Turn
+fn read_parts(rt: &(impl io::Input + Print), at: u64, e: Ends, body: &mut [u8]) -> Turn
     requires { e.image ≤ e.text }
     ensures { PartsRead e body.new result }
 {
@@ -84,18 +83,18 @@ fn read_parts(at: u64, e: Ends, body: &mut [u8]) -> Turn
     if body.len() < end {
         return Turn::Cut;
     }
-    let had = io::read_full(STDIN_FILENO, &mut body[..end]);
+    let had = streams::read_full(&mut rt.reader(), &mut body[..end]);
     if had < end {
         return Turn::Cut;
     }
-    judged(at, body, e)
+    judged(rt, at, body, e)
 }
 
 // Reads record `at`, the two lengths into head and its parts into body, and judges it.
-fn next(at: u64, head: &mut [u8; 8], body: &mut [u8; 65536]) -> Turn
+fn next(rt: &(impl io::Input + Print), at: u64, head: &mut [u8; 8], body: &mut [u8; 65536]) -> Turn
     ensures { PartsRead (ends_of head.new) body.new result }
 {
-    let got = io::read_full(STDIN_FILENO, head);
+    let got = streams::read_full(&mut rt.reader(), head);
     if got == 0 {
         return Turn::Over;
     }
@@ -103,11 +102,12 @@ fn next(at: u64, head: &mut [u8; 8], body: &mut [u8; 65536]) -> Turn
         return Turn::Cut;
     }
     let e = ends_of(*head);
-    read_parts(at, e, body)
+    read_parts(rt, at, e, body)
 }
 
 // Whether there is no record to go on with.
-fn is_last(t: Turn) -> bool
+#[tactic(auto, unfolding(crate::specs::Turns::is_last))]
+fn is_last(rt: &impl Print, t: Turn) -> bool
     ensures { result ≡ is_last t }
 {
     match t {
@@ -115,13 +115,14 @@ fn is_last(t: Turn) -> bool
         Turn::Differs => false,
         Turn::Over => true,
         Turn::Cut => {
-            io::write_all(STDOUT_FILENO, b"a record is cut short\n");
+            let _ = println!(rt; "a record is cut short");
             true
         }
     }
 }
 
 // How many differing records this is.
+#[tactic(auto, unfolding(crate::specs::Turns::differences))]
 fn differing(t: Turn) -> u64
     ensures value { result ≡ differences t }
     ensures upper_bound { result ≤ 1 }
@@ -135,25 +136,22 @@ fn differing(t: Turn) -> u64
 }
 
 // Says how many records were read and how many of them differ.
-fn say_total(cases: u64, differences: u64) {
-    io::print_decimal(STDOUT_FILENO, cases);
-    io::write_all(STDOUT_FILENO, b" cases, ");
-    io::print_decimal(STDOUT_FILENO, differences);
-    io::write_all(STDOUT_FILENO, b" differences\n");
+fn say_total(rt: &impl Print, cases: u64, differences: u64) {
+    let _ = println!(rt; "{cases} cases, {differences} differences");
 }
 
-fn main() {
+fn main(rt: HostRuntime) {
     let mut head = [0u8; 8];
     let mut body = [0u8; 65536];
     let mut cases = 0u64;
     let mut differences = 0u64;
     while cases < u64::MAX {
-        let t = next(cases, &mut head, &mut body);
-        if is_last(t) {
+        let t = next(&rt, cases, &mut head, &mut body);
+        if is_last(&rt, t) {
             break;
         }
         differences += differing(t);
         cases += 1;
     }
-    say_total(cases, differences);
+    say_total(&rt, cases, differences);
 }

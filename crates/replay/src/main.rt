@@ -1,10 +1,11 @@
 // Reads the oracle's records from standard input, up to its end, and says where the port answers something else.
 #![tactic(auto)]
+
 ghost use Rattle.std.specs.Prelude.{◌≡◌, ◌+◌, ◌*◌, ◌≤◌, length};
 ghost use Rattle.replay.specs.Turns.{ends_of, wanted, turn_of, PartsRead, RecordRead, is_last, differences};
 
-use libc::{STDIN_FILENO, STDOUT_FILENO};
 use replay_judge::Verdict;
+use std::io;
 
 // Where each of a record's four parts ends: they stand one behind the other.
 #[derive(Clone, Copy)]
@@ -51,6 +52,7 @@ fn ends_of(h: [u8; 16]) -> Ends
 }
 
 // The verdict on a record's parts.
+#[tactic(auto, unfolding(crate::specs::Turns::wanted))]
 fn judged(body: &[u8], e: Ends) -> Verdict
     requires { (e.image ≤ e.loading) × (e.loading ≤ e.running) × (e.running ≤ e.listing) × (e.listing ≤ length body.now) }
     ensures { result ≡ wanted body.now e }
@@ -68,14 +70,12 @@ fn judged(body: &[u8], e: Ends) -> Verdict
 }
 
 // Says that a record differs.
-fn say(at: u64, what: &[u8]) {
-    io::write_all(STDOUT_FILENO, b"record ");
-    io::print_decimal(STDOUT_FILENO, at);
-    io::write_all(STDOUT_FILENO, what);
+fn say(rt: &impl Print, at: u64, what: &str) {
+    let _ = println!(rt; "record {at}: {what} differs");
 }
 
 // Says what differs in record `at`.
-fn report(at: u64, v: Verdict) -> Turn
+fn report(rt: &impl Print, at: u64, v: Verdict) -> Turn
     ensures { result ≡ turn_of v }
 {
     let all = v.loading & v.saving & v.running & v.listing;
@@ -83,22 +83,22 @@ fn report(at: u64, v: Verdict) -> Turn
         return Turn::Same;
     }
     if !v.loading {
-        say(at, b": loading differs\n");
+        say(rt, at, "loading");
     }
     if !v.saving {
-        say(at, b": saving differs\n");
+        say(rt, at, "saving");
     }
     if !v.running {
-        say(at, b": running differs\n");
+        say(rt, at, "running");
     }
     if !v.listing {
-        say(at, b": listing differs\n");
+        say(rt, at, "listing");
     }
     Turn::Differs
 }
 
 // Reads the parts of record `at` into body, and judges them.
-fn read_parts(at: u64, e: Ends, body: &mut [u8]) -> Turn
+fn read_parts(rt: &(impl io::Input + Print), at: u64, e: Ends, body: &mut [u8]) -> Turn
     requires { (e.image ≤ e.loading) × (e.loading ≤ e.running) × (e.running ≤ e.listing) }
     ensures { PartsRead e body.old body.new result }
 {
@@ -106,19 +106,24 @@ fn read_parts(at: u64, e: Ends, body: &mut [u8]) -> Turn
     if body.len() < end {
         return Turn::Cut;
     }
-    let had = io::read_full(STDIN_FILENO, &mut body[..end]);
+    let had = streams::read_full(&mut rt.reader(), &mut body[..end]);
     if had < end {
         return Turn::Cut;
     }
     let v = judged(body, e);
-    report(at, v)
+    report(rt, at, v)
 }
 
 // Reads record `at`, the four lengths into head and its parts into body, and judges it.
-fn next(at: u64, head: &mut [u8; 16], body: &mut [u8; 524288]) -> Turn
+fn next(
+    rt: &(impl io::Input + Print),
+    at: u64,
+    head: &mut [u8; 16],
+    body: &mut [u8; 524288],
+) -> Turn
     ensures { RecordRead head.new body.old body.new result }
 {
-    let got = io::read_full(STDIN_FILENO, head);
+    let got = streams::read_full(&mut rt.reader(), head);
     if got == 0 {
         return Turn::Over;
     }
@@ -126,11 +131,12 @@ fn next(at: u64, head: &mut [u8; 16], body: &mut [u8; 524288]) -> Turn
         return Turn::Cut;
     }
     let e = ends_of(*head);
-    read_parts(at, e, body)
+    read_parts(rt, at, e, body)
 }
 
 // Whether there is no record to go on with.
-fn is_last(t: Turn) -> bool
+#[tactic(auto, unfolding(crate::specs::Turns::is_last))]
+fn is_last(rt: &impl Print, t: Turn) -> bool
     ensures { result ≡ is_last t }
 {
     match t {
@@ -138,13 +144,14 @@ fn is_last(t: Turn) -> bool
         Turn::Differs => false,
         Turn::Over => true,
         Turn::Cut => {
-            io::write_all(STDOUT_FILENO, b"a record is cut short\n");
+            let _ = println!(rt; "a record is cut short");
             true
         }
     }
 }
 
 // How many differing records this is.
+#[tactic(auto, unfolding(crate::specs::Turns::differences))]
 fn differing(t: Turn) -> u64
     ensures value { result ≡ differences t }
     ensures upper_bound { result ≤ 1 }
@@ -158,25 +165,22 @@ fn differing(t: Turn) -> u64
 }
 
 // Says how many records were read and how many of them differ.
-fn say_total(cases: u64, differences: u64) {
-    io::print_decimal(STDOUT_FILENO, cases);
-    io::write_all(STDOUT_FILENO, b" cases, ");
-    io::print_decimal(STDOUT_FILENO, differences);
-    io::write_all(STDOUT_FILENO, b" differences\n");
+fn say_total(rt: &impl Print, cases: u64, differences: u64) {
+    let _ = println!(rt; "{cases} cases, {differences} differences");
 }
 
-fn main() {
+fn main(rt: HostRuntime) {
     let mut head = [0u8; 16];
     let mut body = [0u8; 524288];
     let mut cases = 0u64;
     let mut differences = 0u64;
     while cases < u64::MAX {
-        let t = next(cases, &mut head, &mut body);
-        if is_last(t) {
+        let t = next(&rt, cases, &mut head, &mut body);
+        if is_last(&rt, t) {
             break;
         }
         differences += differing(t);
         cases += 1;
     }
-    say_total(cases, differences);
+    say_total(&rt, cases, differences);
 }
