@@ -1,5 +1,6 @@
 // Where a function's code breaks a rule of the check.
 #![tactic(auto)]
+
 ghost use Rattle.std.specs.Prelude.{◌≡◌, ◌≤◌, ◌<◌, length};
 ghost use Rattle.check_code.specs.Links.{Marked};
 ghost use Rattle.check_places.specs.Places.{KeepsOne, PlacePost};
