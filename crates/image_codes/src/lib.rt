@@ -1,5 +1,6 @@
 // Where the code of each function stands in an image that was judged.
 #![tactic(auto)]
+
 ghost use Rattle.std.specs.Prelude.{◌≤◌, length};
 ghost use Rattle.image_codes.specs.Links.{CodePost};
 
