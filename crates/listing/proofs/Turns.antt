@@ -1,13 +1,10 @@
 -- The loop over the instructions of a code, whatever is shown as the line of an instruction.
 use mathlib.Core.Path.{◌≡◌, refl, ap, ◌∙◌}
-use mathlib.Core.List.{List, [], ◌∷◌}
+use mathlib.Core.List.{List, []}
 use Prim.Native.Nat.{ℕ, zero, suc, ◌+◌, ◌-◌, ◌*◌, ◌/◌, ◌≤◌, ◌<◌}
 use native.Mathlib.Omega.{arith}
 use native.Mathlib.Nat.{mul-zero, mul-add}
 use lib.ListN.{length}
-use denote.Enum.Declared.{tag_of}
-use types.Run.{OneOf, miss}
-use Rattle.model.specs.contracts.Decoded.{the_type}
 use borrow.Author.Tests.{lt-ltb, le-ltb, le-leb, lt-leb}
 use Rattle.model.specs.declared.Decoded.{Decoded}
 use Rattle.model.specs.declared.Decoded.TheVariants.{Carried, NotCarried, Unknown}
@@ -47,7 +44,7 @@ first_turn line w code s at =
 
 -- known, whether carried or not
 abbrev Known : Decoded → Type 0
-Known d = OneOf (0 ∷ 1 ∷ []) (tag_of the_type d)
+Known d = d ≡ Unknown → ⊥
 
 module _ (line : ℕ → List ℕ) (code : List ℕ) (i : ℕ) where
   -- nothing is left at the end
@@ -65,7 +62,7 @@ module _ (line : ℕ → List ℕ) (code : List ℕ) (i : ℕ) where
   unfolding opcode_then
   known_then_lem k (Carried o) h = refl
   known_then_lem k NotCarried h = refl
-  known_then_lem k Unknown h = absurd (miss (0 ∷ 1 ∷ []) 2 tt h)
+  known_then_lem k Unknown h = absurd (h refl)
 
 module _ {line : ℕ → List ℕ} {w : ℕ} {code s : List ℕ} {at : ℕ} {s' : List ℕ} {i r : ℕ} (h : Turn line w code s at s' i r) where
   pub last_turn : length code ≤ i → Listing (w * length code) (lines_for line (length code) code 0) s at s' (Number r)

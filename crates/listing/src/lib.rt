@@ -1,5 +1,6 @@
 // The listing of a program: the `.CODE` part of disassemble.
 #![tactic(auto)]
+
 pub mod lines; // lines.rt: the lines of one function's code
 
 ghost use Rattle.std.specs.Prelude.{◌≡◌, List, ℕ, ◌+◌, ◌*◌, ◌≤◌, ◌<◌, ◌^◌, length};

@@ -26,7 +26,7 @@ pub returns-then-room-n : goal.returns-then-room-n
 returns-then-room-n c =
     no_room _ _ _ _ _ c.list_order-ok.ensures _
     (search rules) (search rules)
-    c.decreases.given.1
+    c.in-Number.is
     c.write_all-measured.ensures _ (c.room.ensures _ refl)
     c.if-room-n.true
 

@@ -1,5 +1,4 @@
 -- `write_all`: a function a turn.
-use Prim.Native.Nat.{◌-◌}
 use native.Mathlib.Omega.{arith}
 use borrow.Author.Rules.{rules}
 use Rattle.model.specs.Listings.{listing_of}

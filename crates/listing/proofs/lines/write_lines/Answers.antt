@@ -1,5 +1,4 @@
 -- `write_lines`: an instruction a turn.
-use Prim.Native.Nat.{◌-◌}
 use native.Mathlib.Omega.{arith}
 use borrow.Author.Rules.{rules}
 use Rattle.printing.proofs.Puts.{kept}
@@ -8,9 +7,6 @@ use Rattle.listing.proofs.lines.write_lines.Goals as goal
 
 pub loop-i-init : goal.loop-i-init
 loop-i-init c = first_turn _ _ _ _ _
-
-pub enum_told-1 : goal.enum_told-1
-enum_told-1 c = c.in-Unknown.in-Unknown-own.keys1
 
 pub shape_of-out-in-Unknown : goal.shape_of-out-in-Unknown
 shape_of-out-in-Unknown c = search (rules, kept)
@@ -22,7 +18,7 @@ pub shape_of-out-then-left-n : goal.shape_of-out-then-left-n
 shape_of-out-then-left-n c = search (rules, kept)
 
 pub returns-then-left-n : goal.returns-then-left-n
-returns-then-left-n c = search (rules, cut_short)
+returns-then-left-n c = cut_short c.loop-i.invariant c.loop-i-test.true _ c.decode.ensures c.in_default.not-Unknown _ c.operands-n.ensures c.if-left-n.true
 
 pub write_line-next-requires : goal.write_line-next-requires
 write_line-next-requires c =
@@ -32,7 +28,7 @@ write_line-next-requires c =
 
 pub loop-i-preserved : goal.loop-i-preserved
 loop-i-preserved c =
-    next_turn c.loop-i.invariant c.loop-i-test.true _ c.decode.ensures c.in_default.in_default-own.keys2 _
+    next_turn c.loop-i.invariant c.loop-i-test.true _ c.decode.ensures c.in_default.not-Unknown _
     c.operands-n.ensures c.if-left-n.false c.write_line-next.ensures
     (line_takes _ _ c.operands-n.ensures)
 

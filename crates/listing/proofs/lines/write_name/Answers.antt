@@ -1,6 +1,5 @@
 -- `write_name`: a letter or a space a turn.
 use mathlib.Core.Path.{sym, ◌∙◌}
-use Prim.Native.Nat.{◌-◌}
 use native.Mathlib.Omega.{arith}
 use borrow.Author.Rules.{rules}
 use Rattle.model.specs.Opcodes.{opcode_at}
