@@ -1,5 +1,6 @@
 // Constants and names as a note shows them.
 #![tactic(auto)]
+
 ghost use Rattle.std.specs.Prelude.{◌≡◌, ◌++◌, ◌+◌, ◌<◌, ◌^◌, length};
 ghost use Rattle.model.specs.Stores.{part, constant_in, constants_from, structs_from};
 ghost use Rattle.printing.specs.Links.{Put};

@@ -1,5 +1,4 @@
 -- `put_shown`: a byte a turn, and two dots where there are more.
-use Prim.Native.Nat.{◌-◌}
 use borrow.Author.Rules.{rules}
 use Rattle.model.specs.Basics.{ascii}
 use Rattle.printing.proofs.Puts.{kept}
