@@ -1,5 +1,6 @@
 // A machine's record as words in a lent slice: what crosses to a host in C. The definitions are those of all that crosses.
 #![tactic(auto)]
+
 ghost use Rattle.std.specs.Prelude.{◌≡◌, get_or, set};
 ghost use Rattle.model.specs.Basics.{written};
 ghost use Rattle.model.specs.declared.Vm.{Vm};
