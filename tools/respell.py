@@ -17,7 +17,7 @@ NAME = r"[^\s(){}.;,@\"«»\[\]\\:=]+"
 TOKEN = re.compile(r"--[^\n]*|//[^\n]*|\"(?:[^\"\\]|\\.)*\"|«[^»]*»|" + NAME)
 USE = re.compile(r"\buse (Rattle\.[^\s;{]+|[A-Za-z][^\s;{]*?)\.?(?:\{([^}]*)\})?(?: as (\S+))?[ \t]*;?[ \t]*(?=\n|$)")
 # What falls together with a parameter, a local or another name, and so gets a name of its own.
-OTHERWISE = {"is-nan": "is_nan_lem", "at-start": "at_start"}
+OTHERWISE = {"is-nan": "is_nan_lem", "at-start": "at_start", "copy-room": "copy_room_lem", "lent-all": "lent_all_lem"}
 
 
 def files(*ends):
