@@ -1,6 +1,7 @@
 // The arms: one function for each family of opcodes, over plain words and lent slices. What they share, and those that push a value or change the frame;
 // scalars and booleans are run_scalars, lists and structs run_blocks.
 #![tactic(auto)]
+
 use model::{Fault, Value};
 
 pub mod pushes; // pushes.rt: constants, slots, the last result

@@ -14,7 +14,7 @@ returns-in_default c =
 pub returns-in_default-v : goal.returns-in_default-v
 returns-in_default-v c =
     λ u rest d e. one_wrong c.requires c.pop.ensures (calls_named u _) c.in-Got.is
-    (λ j d. no_reference _ c.in_default-v.in_default-v-own.keys2 _ d)
+    (λ j d. no_reference c.in-Got.v (search rules) _ d)
 
 pub returns-in_default-newest_function : goal.returns-in_default-newest_function
 returns-in_default-newest_function c =
