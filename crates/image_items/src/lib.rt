@@ -1,5 +1,6 @@
 // Which item of an image begins at an offset, for whoever is told where an image breaks a rule.
 #![tactic(auto)]
+
 ghost use Rattle.std.specs.Prelude.{◌≡◌, ◌≤◌, length};
 ghost use Rattle.image_items.specs.Parts.{part_at, constant_part, struct_part, code_part, function_part, entry_part, row_part, section_part, SoughtPost};
 
