@@ -1,6 +1,6 @@
 -- Rule 4: the Calls of all functions entered into the tally, and what its entries then say.
 use mathlib.Core.Path.{◌≡◌, refl, sym, ap, subst, ◌∙◌}
-use mathlib.Core.Bool.{Bool, true, false, true≢false}
+use mathlib.Core.Bool.{true≢false}
 use mathlib.Core.List.{List, [], ◌∷◌, ◌++◌, append_assoc, append-nil}
 use mathlib.Core.Logic.{⊎_elim}
 use Prim.Native.Nat.{ℕ, zero, suc, ◌+◌, ◌-◌, ◌≤◌, ◌<◌}
@@ -10,17 +10,16 @@ use lib.Dec.{eqb}
 use lib.ListN.{length, get_or, take, drop, replicate}
 use lib.Seq.{take-length}
 use Rattle.model.specs.Programs.{Function, Program, function_at, stands}
-use Rattle.model.specs.Images.{fine, judge}
 use Rattle.image_judge.specs.declared.Sizes.{Sizes}
 use Rattle.image_codes.specs.declared.Code.{Code}
 use Rattle.image_codes.specs.Links.{CodePost, Ready}
 use Rattle.image_load.proofs.Loads.{fine_one}
 use Rattle.check_rules.specs.declared.Rule.TheVariants as r
-use Rattle.check_rules.specs.Rules.{Site, calls_at, calls_in, count_in, count_of, passes, code_of, Keeps}
+use Rattle.check_rules.specs.Rules.{Site, calls_at, calls_in, count_of, code_of, Keeps}
 use Rattle.check_code.specs.Tallies.{tallied}
 use Rattle.check_code.specs.Links.{Enters}
 use Rattle.check_code.proofs.Counting.{tallied_behind, one_exactly, other_keeps}
-use Rattle.check_image.specs.Links.{Lowest, Tallied, TalliedPost, CountsPost}
+use Rattle.check_image.specs.Links.{Tallied, TalliedPost, CountsPost}
 use Rattle.check_image.proofs.Judged.{Sofar, program_of, none_yet, inside, its_code, one_more}
 
 -- the Calls of one function more

@@ -1,17 +1,16 @@
 -- The entry: refused in the order of the refusals, or passed and loaded.
 use mathlib.Core.Path.{◌≡◌, refl, sym, ap, subst, ◌∙◌}
 use mathlib.Core.Bool.{Bool, true, false, not}
-use mathlib.Core.List.{List, [], ◌∷◌}
+use mathlib.Core.List.{List}
 use Prim.Native.Nat.{ℕ, ◌≤◌, ◌<◌}
 use native.Mathlib.Omega.{arith}
-use lib.ListN.{length, get_or, take, replicate, length-replicate}
+use lib.ListN.{length, take, replicate, length-replicate}
 use lib.Seq.{length-take-le, get_or-take}
 use borrow.Author.Tests.{not-true, not-false}
 use Rattle.model.specs.declared.Loaded.{Loaded}
 use Rattle.model.specs.declared.Loaded.TheVariants as l
 use Rattle.model.specs.Values.{places}
 use Rattle.model.specs.Programs.{Program, within_limits}
-use Rattle.model.specs.Images.{fine, judge}
 use Rattle.model.specs.Stores.{Stores}
 use Rattle.model.specs.Emission.{written}
 use Rattle.model.specs.Loading.{laid, counts_for, room_for, LoadRes, load_judged, load_of}

@@ -1,19 +1,18 @@
 -- The rules in their order: the first that is broken.
-use mathlib.Core.Path.{◌≡◌, refl, sym, ap, subst, ◌∙◌}
-use mathlib.Core.List.{List, [], ◌∷◌}
+use mathlib.Core.Path.{◌≡◌, refl, sym, subst, ◌∙◌}
+use mathlib.Core.List.{List}
 use mathlib.Core.Logic.{⊎_elim}
 use Prim.Native.Nat.{ℕ, suc, ◌≤◌, ◌<◌}
 use native.Mathlib.Omega.{arith}
 use native.Mathlib.Nat.{eq-or-lt_of_le}
 use lib.ListN.{length, get_or}
 use Rattle.model.specs.Programs.{Program}
-use Rattle.model.specs.Images.{fine, judge}
 use Rattle.image_judge.specs.declared.Sizes.{Sizes}
 use Rattle.image_codes.specs.Links.{Ready}
 use Rattle.image_load.proofs.Loads.{fine_one}
 use Rattle.check_rules.specs.declared.Rule.{Rule}
 use Rattle.check_rules.specs.declared.Rule.TheVariants as r
-use Rattle.check_rules.specs.Rules.{Keeps, rule_number, KeptByAll, Passed, Broken}
+use Rattle.check_rules.specs.Rules.{Keeps, rule_number, KeptByAll, Broken}
 use Rattle.check_rules.proofs.One.{one_number}
 use Rattle.check_image.specs.declared.passes.Pass.{Pass}
 use Rattle.check_image.specs.declared.passes.Pass.TheVariants as w

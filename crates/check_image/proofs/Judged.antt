@@ -1,5 +1,5 @@
 -- One rule: over one function, and over all functions of an image until one breaks it.
-use mathlib.Core.Path.{◌≡◌, refl, sym, ap, subst, ◌∙◌}
+use mathlib.Core.Path.{◌≡◌, refl, sym, subst, ◌∙◌}
 use mathlib.Core.Bool.{Bool, true, false, ◌&&◌, true≢false}
 use mathlib.Core.List.{List, [], ◌∷◌}
 use mathlib.Core.Logic.{⊎_elim}
@@ -7,20 +7,17 @@ use Prim.Native.Nat.{ℕ, zero, suc, ◌+◌, ◌-◌, ◌≤◌, ◌<◌}
 use native.Mathlib.Omega.{arith}
 use native.Mathlib.Nat.{eq-or-lt_of_le}
 use lib.Dec.{eqb, leb}
-use lib.ListN.{length, get_or, take, drop}
+use lib.ListN.{length, take, drop}
 use borrow.Author.Tests.{leb-true}
 use Rattle.layout.proofs.Bools.{both_true}
 use Rattle.model.specs.Programs.{Function, Program, function_at, stands, codes_within, within_limits}
-use Rattle.model.specs.Images.{fine, judge}
 use Rattle.image_judge.specs.declared.Sizes.{Sizes}
-use Rattle.image_judge.specs.Links.{part_of, SizesOf}
 use Rattle.image_judge.proofs.Items.{part_slice}
 use Rattle.image_codes.specs.declared.Code.{Code}
 use Rattle.image_codes.specs.Links.{CodePost, Ready, From}
 use Rattle.image_codes.proofs.Along.{Next, first_function, next_function}
 use Rattle.image_load.proofs.Loads.{fine_one}
-use Rattle.check_rules.specs.declared.Rule.TheVariants as r
-use Rattle.check_rules.specs.Rules.{whole_at, numbers_at, call_at, jump_at, every, code_of, is_main, Keeps}
+use Rattle.check_rules.specs.Rules.{whole_at, call_at, jump_at, every, code_of, Keeps}
 use Rattle.check_code.specs.Links.{Sized, NumbersAll}
 use Rattle.check_image.specs.declared.passes.Pass.{Pass}
 use Rattle.check_image.specs.declared.passes.Pass.TheVariants as w

@@ -1,28 +1,26 @@
 -- Rule 6: each function's greatest height put in the place of its entry of the tally.
 use mathlib.Core.Path.{◌≡◌, refl, sym, ap, subst, ◌∙◌}
-use mathlib.Core.Bool.{Bool, true, false}
-use mathlib.Core.List.{List, [], ◌∷◌}
+use mathlib.Core.Bool.{true}
+use mathlib.Core.List.{List}
 use mathlib.Core.Logic.{⊎_elim}
-use Prim.Native.Nat.{ℕ, zero, suc, ◌+◌, ◌-◌, ◌≤◌, ◌<◌}
+use Prim.Native.Nat.{ℕ, ◌+◌, ◌-◌, ◌≤◌, ◌<◌}
 use native.Mathlib.Omega.{arith}
 use native.Mathlib.Nat.{eq-or-lt_of_le}
 use lib.Dec.{eqb}
 use lib.ListN.{length, get_or, take, drop, set, length-set}
 use lib.Seq.{get_or-set_same, get_or-set_other}
 use Rattle.model.specs.Programs.{Program, stands}
-use Rattle.model.specs.Images.{fine, judge}
 use Rattle.image_judge.specs.declared.Sizes.{Sizes}
 use Rattle.image_codes.specs.declared.Code.{Code}
 use Rattle.image_codes.specs.Links.{CodePost}
 use Rattle.image_load.proofs.Loads.{fine_one}
 use Rattle.check_rules.specs.declared.Rule.TheVariants as r
-use Rattle.check_rules.specs.Rules.{whole_at, jump_at, calls_in, count_in, count_of, every, code_of, is_main, Heights, Greatest, Keeps}
-use Rattle.check_code.specs.Tallies.{tallied}
+use Rattle.check_rules.specs.Rules.{whole_at, jump_at, calls_in, count_of, every, code_of, is_main, Heights, Greatest, Keeps}
 use Rattle.check_code.proofs.Counting.{other_counts}
 use Rattle.check_heights.specs.declared.Height.{Height}
 use Rattle.check_heights.specs.declared.Height.TheVariants as a
 use Rattle.check_heights.specs.Answer.{HeightsPre, HeightsMeans, HeightsPost}
-use Rattle.check_image.specs.Links.{Lowest, Tallied, Measurable, GreatestBelow, Measured, MeasuredPost}
+use Rattle.check_image.specs.Links.{Lowest, Measurable, GreatestBelow, Measured, MeasuredPost}
 use Rattle.check_image.proofs.Judged.{few_functions, Sofar, none_yet, inside, its_code, its_size, one_breaks, one_more, all_looked_at}
 
 -- below f the greatest heights stand, from f on the tally's entries

@@ -1,5 +1,6 @@
 // A rule image is checked before it is installed: what keeps all six rules is loaded, anything else is refused and nothing is written.
 #![tactic(auto)]
+
 pub mod flaws; // flaws.rt: what breaks the rule of heights
 mod passes; // passes.rt: the rules, one after the other
 

@@ -32,20 +32,19 @@ returns-then-not-fits c =
     (search rules) c.has_room-fits.ensures (search rules)
 
 pub judge_rules-requires : goal.judge_rules-requires
-judge_rules-requires c =
-    (
-      ready c.args.image.now c.args.heights.now
-          (lent c.args.constants.now c.args.structs.now c.args.functions.now
-          c.args.text.now c.args.main.now c.args.main_places.now c.args.other.now
-          c.args.other_places.now) c.judge.ensures c.in-Fine.is
-          (c.room.ensures c.args.heights.now refl) c.if-room-n.false
-          c.within_limits.ensures (search rules),
-      places_within c.args.image.now c.args.heights.now
-          (lent c.args.constants.now c.args.structs.now c.args.functions.now
-          c.args.text.now c.args.main.now c.args.main_places.now c.args.other.now
-          c.args.other_places.now) c.judge.ensures c.in-Fine.is
-          (c.room.ensures c.args.heights.now refl) c.if-room-n.false,
-    )
+judge_rules-requires c = (
+  ready c.args.image.now c.args.heights.now
+      (lent c.args.constants.now c.args.structs.now c.args.functions.now
+      c.args.text.now c.args.main.now c.args.main_places.now c.args.other.now
+      c.args.other_places.now) c.judge.ensures c.in-Fine.is
+      (c.room.ensures c.args.heights.now refl) c.if-room-n.false
+      c.within_limits.ensures (search rules),
+  places_within c.args.image.now c.args.heights.now
+      (lent c.args.constants.now c.args.structs.now c.args.functions.now
+      c.args.text.now c.args.main.now c.args.main_places.now c.args.other.now
+      c.args.other_places.now) c.judge.ensures c.in-Fine.is
+      (c.room.ensures c.args.heights.now refl) c.if-room-n.false,
+)
 
 pub returns-in-Breaks : goal.returns-in-Breaks
 returns-in-Breaks c =
@@ -70,6 +69,6 @@ returns-in_default c =
     (lent c.args.constants.now c.args.structs.now c.args.functions.now
     c.args.text.now c.args.main.now c.args.main_places.now c.args.other.now
     c.args.other_places.now) c.judge.ensures c.in-Fine.is
-    (c.room.ensures c.args.heights.now refl) c.if-room-n.left c.within_limits.ensures
-    c.if-not-within_limits.left c.has_room-fits.ensures c.if-not-fits.left c.judge_rules.ensures
+    (c.room.ensures c.args.heights.now refl) c.if-room-n.false c.within_limits.ensures
+    (search rules) c.has_room-fits.ensures (search rules) c.judge_rules.ensures
     c.in_default.is c.load-loaded.ensures c.as_checked.ensures

@@ -1,5 +1,4 @@
 -- `put_heights`: a word a turn.
-use Prim.Native.Nat.{◌-◌}
 use borrow.Author.Rules.{rules}
 use Rattle.layout.proofs.Writing.{nothing_yet, whole}
 use Rattle.check_image.proofs.Putting.{next_word_lem}

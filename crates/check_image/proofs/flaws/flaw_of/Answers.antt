@@ -17,7 +17,7 @@ pub flaw_in-requires : goal.flaw_in-requires
 flaw_in-requires c =
     may_be_asked c.args.table.now _ c.whole.ensures (search rules) c.jumps.ensures
     (search rules) c.requires.0 c.requires.1 c.requires.2 c.taken_with.ensures
-    c.jumps.auto.1.1.0
+    c.jumps.auto.marks
 
 pub returns : goal.returns
 returns c = it_answers c.if-entry-eq1.false c.taken_with.ensures c.flaw_in.ensures

@@ -1,6 +1,5 @@
 -- `seek`: a function a turn.
 use mathlib.Core.Path.{◌∙◌}
-use Prim.Native.Nat.{◌-◌}
 use borrow.Author.Rules.{rules}
 use Rattle.check_image.proofs.Seeking.{seek_starts, seek_inside, entry_inside, flaw_asked, flaw_there, seek_on, not_there}
 use Rattle.check_image.proofs.flaws.seek.Goals as goal
@@ -31,7 +30,7 @@ flaw_of-requires c =
     c.requires.3
 
 pub shape_of-table-then-g-f : goal.shape_of-table-then-g-f
-shape_of-table-then-g-f c = c.flaw_of.auto.1.1.1.0 ∙ c.loop-g.invariant.same
+shape_of-table-then-g-f c = c.flaw_of.auto.table ∙ c.loop-g.invariant.same
 
 pub returns-then-g-f : goal.returns-then-g-f
 returns-then-g-f c =

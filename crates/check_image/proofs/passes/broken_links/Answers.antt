@@ -11,7 +11,7 @@ use Rattle.check_image.proofs.passes.broken_links.Goals as goal
 pub lowest_count-differing-requires : goal.lowest_count-differing-requires
 lowest_count-differing-requires c =
     let few = few_functions c.requires.0 in
-    let room = c.tally_all.auto.1.1.0 ∙ ap length c.requires.2 ∙ length-replicate {A = ℕ} 65536 0 in
+    let room = c.tally_all.auto.counts ∙ ap length c.requires.2 ∙ length-replicate {A = ℕ} 65536 0 in
     omega arith
 
 pub returns-then-differing-n : goal.returns-then-differing-n
@@ -24,4 +24,4 @@ pub returns : goal.returns
 returns c =
     links_kept _ _ c.requires.0 c.requires.1 c.tally_all.ensures
     c.lowest_count-differing.ensures c.if-differing-n.false c.lowest-leaping.ensures c.if-leaping-n.false
-    (c.tally_all.auto.1.1.0 ∙ ap length c.requires.2 ∙ length-replicate {A = ℕ} 65536 0)
+    (c.tally_all.auto.counts ∙ ap length c.requires.2 ∙ length-replicate {A = ℕ} 65536 0)

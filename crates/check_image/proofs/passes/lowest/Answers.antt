@@ -1,5 +1,4 @@
 -- `lowest`: a function a turn.
-use Prim.Native.Nat.{◌-◌}
 use borrow.Author.Rules.{rules}
 use Rattle.check_image.proofs.Judged.{first_look, look_inside, code_fits, broken_by_one, kept_by_one, kept_by_all}
 use Rattle.check_image.proofs.passes.lowest.Goals as goal

@@ -1,5 +1,4 @@
 -- `lowest_count`: an entry a turn.
-use Prim.Native.Nat.{◌-◌}
 use borrow.Author.Rules.{rules}
 use Rattle.check_image.proofs.Counting.{none_differs_yet, one_differs, one_is_same, all_are_same}
 use Rattle.check_image.proofs.passes.lowest_count.Goals as goal

@@ -1,6 +1,5 @@
 -- `measure`: a function a turn.
 use mathlib.Core.Path.{◌∙◌}
-use Prim.Native.Nat.{◌-◌}
 use borrow.Author.Rules.{rules}
 use Rattle.check_image.proofs.Measures.{none_measured, place_inside, entry_inside, heights_may_be_asked, one_is_uneven, one_is_even, all_even}
 use Rattle.check_image.proofs.passes.measure.Goals as goal
@@ -29,7 +28,7 @@ heights-requires c =
     c.taken_with-count.ensures c.requires.0 c.requires.1
 
 pub shape_of-table-in_default : goal.shape_of-table-in_default
-shape_of-table-in_default c = c.heights.auto.1.1.1.0 ∙ c.loop-f.invariant.same
+shape_of-table-in_default c = c.heights.auto.table ∙ c.loop-f.invariant.same
 
 pub returns-in_default : goal.returns-in_default
 returns-in_default c =

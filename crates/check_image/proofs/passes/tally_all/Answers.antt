@@ -1,6 +1,6 @@
 -- `tally_all`: a function a turn.
 use mathlib.Core.Path.{◌≡◌, ap, ◌∙◌}
-use Prim.Native.Nat.{ℕ, ◌-◌}
+use Prim.Native.Nat.{ℕ}
 use native.Mathlib.Omega.{arith}
 use lib.ListN.{length, length-replicate}
 use Rattle.check_image.proofs.Counting.{no_calls_yet, tally_inside, calls_entered, all_calls_entered}
