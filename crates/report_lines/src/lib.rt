@@ -1,5 +1,6 @@
 // What the runner prints of a run, and a refusal, as bytes in a lent store.
 #![tactic(auto)]
+
 mod values; // values.rt: a value's line
 mod runs; // runs.rt: a run's lines
 
