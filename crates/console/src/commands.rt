@@ -267,15 +267,16 @@ fn group_of(what: &[u8]) -> Group
 }
 
 // A comment that begins with `#!` is echoed.
-fn echo(line: &[u8]) {
+fn echo(rt: &impl Print, line: &[u8]) {
     if same_bytes(word(line, 0), b"#!") {
-        say::say(console_script::words_from(line, 1));
-        say::say(b"\n");
+        say::say(rt, console_script::words_from(line, 1));
+        say::say(rt, b"\n");
     }
 }
 
 // `save`: the image, in hex, from so much room.
 fn save(
+    rt: &impl Print,
     c: Counts,
     room: usize,
     number: u64,
@@ -304,16 +305,17 @@ fn save(
     );
     match told {
         Told::Number(size) => {
-            say::say_count(b"image ", size);
-            say::say(b" ");
-            say::say_bytes(console_script::front(&space, size));
+            say::say_count(rt, b"image ", size);
+            say::say(rt, b" ");
+            say::say_bytes(rt, console_script::front(&space, size));
         }
-        Told::Refused(no) => say::say_refused(no, number),
+        Told::Refused(no) => say::say_refused(rt, no, number),
     }
 }
 
 // `list`: the listing, from so much room.
 fn list<'a>(
+    rt: &impl Print,
     c: Counts,
     room: usize,
     number: u64,
@@ -326,25 +328,26 @@ fn list<'a>(
     let n = console_script::at_most(room, space.len());
     let told = listing::disassemble(c, functions, text, main, other, &mut space[..n]);
     match told {
-        Told::Number(size) => say::say(console_script::front(&space, size)),
-        Told::Refused(no) => say::say_refused(no, number),
+        Told::Number(size) => say::say(rt, console_script::front(&space, size)),
+        Told::Refused(no) => say::say_refused(rt, no, number),
     }
 }
 
 // `find HEX`.
-fn find(c: Counts, line: &[u8], number: u64, functions: &[u64], text: &[u8]) {
+fn find(rt: &impl Print, c: Counts, line: &[u8], number: u64, functions: &[u64], text: &[u8]) {
     let mut space = [0u8; 16384];
     let b = console_script::read_bytes(console_script::words_from(line, 1), &mut space);
     if b.good {
         let name = console_script::front(&space, b.size);
-        say::say_told(get_function_idx(c, name, functions, text), number);
+        say::say_told(rt, get_function_idx(c, name, functions, text), number);
         return;
     }
-    say::say_unknown(number);
+    say::say_unknown(rt, number);
 }
 
 // `offset`, `find HEX`, `save`, `list`, the last two with the ROOM of the space that they are lent.
 fn look<'a>(
+    rt: &impl Print,
     c: Counts,
     line: &[u8],
     number: u64,
@@ -359,20 +362,21 @@ fn look<'a>(
 ) {
     let what = word(line, 0);
     if same_bytes(what, b"offset") {
-        say::say_told(current_offset(c, functions), number);
+        say::say_told(rt, current_offset(c, functions), number);
         return;
     }
     if same_bytes(what, b"find") {
-        find(c, line, number, functions, text);
+        find(rt, c, line, number, functions, text);
         return;
     }
     let room = console_script::read_room(line, 1);
     if !room.good {
-        say::say_unknown(number);
+        say::say_unknown(rt, number);
         return;
     }
     if same_bytes(what, b"save") {
         save(
+            rt,
             c,
             room.is as usize,
             number,
@@ -387,23 +391,32 @@ fn look<'a>(
         );
         return;
     }
-    list(c, room.is as usize, number, functions, text, main, other);
+    list(
+        rt,
+        c,
+        room.is as usize,
+        number,
+        functions,
+        text,
+        main,
+        other,
+    );
 }
 
 // Damage is not answered, unless it is not understood.
-fn damaged(m: Vm, d: console_damage::Changed, number: u64) -> Vm
+fn damaged(rt: &impl Print, m: Vm, d: console_damage::Changed, number: u64) -> Vm
     ensures { result ≡ after_damage m d }
 {
     if d.good {
         return d.m;
     }
-    say::say_unknown(number);
+    say::say_unknown(rt, number);
     m
 }
 
-fn poked(good: bool, number: u64) {
+fn poked(rt: &impl Print, good: bool, number: u64) {
     if !good {
-        say::say_unknown(number);
+        say::say_unknown(rt, number);
     }
 }
 
@@ -427,12 +440,12 @@ fn frame_args(line: &[u8], end: usize) -> Args
 }
 
 // `frame I` shows a frame, `frame I FUNCTION POSITION BASE ENTERED` puts one.
-fn frame(line: &[u8], number: u64, frames: &mut [u64])
+fn frame(rt: &impl Print, line: &[u8], number: u64, frames: &mut [u64])
     ensures { frames.new ≡ frame_asked line.now frames.old }
 {
     let one = frame_args(line, 2);
     if one.good {
-        say::say_frame(console_damage::frame_in(frames, one.a as usize));
+        say::say_frame(rt, console_damage::frame_in(frames, one.a as usize));
         return;
     }
     let all = frame_args(line, 6);
@@ -446,7 +459,7 @@ fn frame(line: &[u8], number: u64, frames: &mut [u64])
         console_damage::put_frame(frames, all.a as usize, f);
         return;
     }
-    say::say_unknown(number);
+    say::say_unknown(rt, number);
 }
 
 // The checksum of the counts, the last result, the run that is under way and all stores.
@@ -486,6 +499,7 @@ fn sum(
 
 // What a line tells of a machine and its stores.
 fn tell<'a>(
+    rt: &impl Print,
     m: Vm,
     group: Group,
     line: &[u8],
@@ -506,6 +520,7 @@ fn tell<'a>(
 ) {
     match group {
         Group::Look => look(
+            rt,
             m.program,
             line,
             number,
@@ -518,7 +533,7 @@ fn tell<'a>(
             other,
             other_places,
         ),
-        Group::Read => reading::read(m, line, number, text, stack, cells),
+        Group::Read => reading::read(rt, m, line, number, text, stack, cells),
         Group::Sum => {
             let h = sum(
                 m,
@@ -536,15 +551,16 @@ fn tell<'a>(
                 trace,
                 frames,
             );
-            say::say_sum(h);
+            say::say_sum(rt, h);
         }
-        Group::Said => echo(line),
-        _ => say::say_unknown(number),
+        Group::Said => echo(rt, line),
+        _ => say::say_unknown(rt, number),
     }
 }
 
 // A line that needs no frames; the machine as it then is.
 pub fn obey(
+    rt: &impl Print,
     m: Vm,
     line: &[u8],
     number: u64,
@@ -581,10 +597,10 @@ pub fn obey(
                 other,
                 other_places,
             );
-            return say::say_emitted(m, e, number);
+            return say::say_emitted(rt, m, e, number);
         }
-        Group::Count => return damaged(m, console_damage::with_count(m, line), number),
-        Group::Result => return damaged(m, console_damage::with_result(m, line), number),
+        Group::Count => return damaged(rt, m, console_damage::with_count(m, line), number),
+        Group::Result => return damaged(rt, m, console_damage::with_result(m, line), number),
         Group::Poke => {
             let good = console_damage::poke(
                 line,
@@ -599,15 +615,16 @@ pub fn obey(
                 stack,
                 cells,
             );
-            poked(good, number);
+            poked(rt, good, number);
             return m;
         }
         Group::Frame => {
-            frame(line, number, frames);
+            frame(rt, line, number, frames);
             return m;
         }
         _ => {
             tell(
+                rt,
                 m,
                 group,
                 line,

@@ -1,6 +1,7 @@
 // Makes host calls from a script on standard input, through the public entries, and prints each answer. The script's own comments say what its
 // commands are.
 #![tactic(auto)]
+
 mod say; // say.rt: what is printed
 mod reading; // reading.rt: the commands that read a machine
 mod commands; // commands.rt: what a line asks, and all that needs no frames
@@ -21,6 +22,7 @@ use model::Vm;
 
 // A call over frames, lent its image and as much of the copy store and the backtrace store as it asks; the machine as it then is.
 fn over_frames(
+    rt: &impl Print,
     m: Vm,
     call: Call,
     lent: Lent,
@@ -64,11 +66,12 @@ fn over_frames(
         lent_trace,
         frames,
     );
-    say_answer(m, answer, cells, trace, number)
+    say_answer(rt, m, answer, cells, trace, number)
 }
 
 // One line; the machine as it then is.
 fn turn(
+    rt: &impl Print,
     m: Vm,
     l: Line,
     script: &[u8],
@@ -95,6 +98,7 @@ fn turn(
         Asked::Frames(call, lent) => {
             let image = front(&space, lent.image);
             return over_frames(
+                rt,
                 m,
                 call,
                 lent,
@@ -117,6 +121,7 @@ fn turn(
         }
         Asked::Other => {
             return obey(
+                rt,
                 m,
                 line,
                 l.number,
@@ -140,6 +145,7 @@ fn turn(
 
 // The script, line by line.
 fn play(
+    rt: &impl Print,
     script: &[u8],
     constants: &mut stores::Constants,
     structs: &mut stores::Structs,
@@ -161,6 +167,7 @@ fn play(
     let mut l = first_line(script);
     while l.on {
         m = turn(
+            rt,
             m,
             l,
             script,
@@ -182,9 +189,9 @@ fn play(
     }
 }
 
-fn main() {
+fn main(rt: HostRuntime) {
     let mut input = [0u8; 131072];
-    let n = io::read_full(0, &mut input);
+    let n = streams::read_full(&mut rt.reader(), &mut input);
     let mut constants = [0u64; 512];
     let mut structs = [0u64; 512];
     let mut functions = [0u64; 512];
@@ -199,6 +206,7 @@ fn main() {
     let mut trace = [0u64; 768];
     let mut frames = [0u64; 1024];
     play(
+        &rt,
         cut(&input, 0, n),
         &mut constants,
         &mut structs,

@@ -43,6 +43,7 @@ fn text_of(m: Vm, s: Shown, room: usize, text: &[u8], out: &mut [u8]) -> Told
 
 // `last`, `stack I`, `header I`, `element I J`, `text I`, `text I ROOM`.
 pub fn read(
+    rt: &impl Print,
     m: Vm,
     line: &[u8],
     number: u64,
@@ -53,38 +54,43 @@ pub fn read(
     let what = word(line, 0);
     let rest = console_script::words_from(line, 1);
     if same_bytes(what, b"last") & (rest.len() == 0) {
-        say::say_shown(last_result(m), cells, number);
+        say::say_shown(rt, last_result(m), cells, number);
         return;
     }
     let i = console_script::decimal(word(line, 1));
     let j = console_script::read_room(line, 2);
     if !i.good | !j.good {
-        say::say_unknown(number);
+        say::say_unknown(rt, number);
         return;
     }
     let shown = stack_value(m, i.is as usize, stack);
     if same_bytes(what, b"text") {
         let mut space = [0u8; 16384];
         let told = text_of(m, shown, j.is as usize, text, &mut space);
-        say::say_text(told, &space, number);
+        say::say_text(rt, told, &space, number);
         return;
     }
     let more = console_script::words_from(line, 2);
     if same_bytes(what, b"element") & (more.len() > 0) {
-        say::say_shown(element_of(m, shown, j.is as usize, cells), cells, number);
+        say::say_shown(
+            rt,
+            element_of(m, shown, j.is as usize, cells),
+            cells,
+            number,
+        );
         return;
     }
     if more.len() > 0 {
-        say::say_unknown(number);
+        say::say_unknown(rt, number);
         return;
     }
     if same_bytes(what, b"header") {
-        say::say_headed(header_of(m, shown, cells), number);
+        say::say_headed(rt, header_of(m, shown, cells), number);
         return;
     }
     if same_bytes(what, b"stack") {
-        say::say_shown(shown, cells, number);
+        say::say_shown(rt, shown, cells, number);
         return;
     }
-    say::say_unknown(number);
+    say::say_unknown(rt, number);
 }

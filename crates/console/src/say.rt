@@ -9,72 +9,72 @@ use model::{
 };
 use value::words;
 
-pub fn say(text: &[u8]) {
-    io::write_all(1, text);
+pub fn say(rt: &impl Print, text: &[u8]) {
+    let _ = rt.write_all(text);
 }
 
-pub fn say_number(n: u64) {
-    io::print_decimal(1, n);
+pub fn say_number(rt: &impl Print, n: u64) {
+    let _ = print!(rt; "{n}");
 }
 
-fn say_digit(d: u64) {
+fn say_digit(rt: &impl Print, d: u64) {
     let n = d % 16;
     if n < 10 {
-        say(&[(48 + n) as u8]);
+        say(rt, &[(48 + n) as u8]);
         return;
     }
-    say(&[(55 + n) as u8]);
+    say(rt, &[(55 + n) as u8]);
 }
 
 // The digits of w from that of unit, a power of 16, on.
-fn say_hex(w: u64, unit: u64) {
+fn say_hex(rt: &impl Print, w: u64, unit: u64) {
     let mut u = unit;
     while u > 0 {
-        say_digit(w / u);
+        say_digit(rt, w / u);
         u /= 16;
     }
 }
 
-pub fn say_word(w: u64) {
-    say_hex(w, 0x1000_0000_0000_0000);
+pub fn say_word(rt: &impl Print, w: u64) {
+    say_hex(rt, w, 0x1000_0000_0000_0000);
 }
 
-pub fn say_byte(b: u8) {
-    say_hex(b as u64, 16);
+pub fn say_byte(rt: &impl Print, b: u8) {
+    say_hex(rt, b as u64, 16);
 }
 
 // Bytes in hex, and the end of the line.
-pub fn say_bytes(s: &[u8]) {
+pub fn say_bytes(rt: &impl Print, s: &[u8]) {
     let mut i = 0;
     while i < s.len() {
-        say_byte(s[i]);
+        say_byte(rt, s[i]);
         i += 1;
     }
-    say(b"\n");
+    say(rt, b"\n");
 }
 
 // A text, and a number behind it.
-pub fn say_count(text: &[u8], n: usize) {
-    say(text);
-    say_number(n as u64);
+pub fn say_count(rt: &impl Print, text: &[u8], n: usize) {
+    say(rt, text);
+    say_number(rt, n as u64);
 }
 
 // A line that is not understood.
-pub fn say_unknown(number: u64) {
-    say(b"? ");
-    say_number(number);
-    say(b"\n");
+pub fn say_unknown(rt: &impl Print, number: u64) {
+    say(rt, b"? ");
+    say_number(rt, number);
+    say(rt, b"\n");
 }
 
 // A refusal; 0, which is no number of the rules, is a line that is not understood.
-pub fn say_refused(n: u8, number: u64) {
+pub fn say_refused(rt: &impl Print, n: u8, number: u64) {
     if n == 0 {
-        say_unknown(number);
+        say_unknown(rt, number);
         return;
     }
-    say(b"refused ");
-    say_number(n as u64);
-    say(b"\n");
+    say(rt, b"refused ");
+    say_number(rt, n as u64);
+    say(rt, b"\n");
 }
 
 // The header at cell p; one of no elements where there is no such cell.
@@ -91,59 +91,59 @@ fn header_at(cells: &[u64], p: usize) -> Header
     }
 }
 
-pub fn say_value(v: Value, cells: &[u64]) {
+pub fn say_value(rt: &impl Print, v: Value, cells: &[u64]) {
     match v {
         Value::Scalar(x) => {
-            say(b"scalar ");
-            say_word(words::to_word(x));
+            say(rt, b"scalar ");
+            say_word(rt, words::to_word(x));
         }
         Value::Boolean(b) => {
             if b {
-                say(b"true");
+                say(rt, b"true");
             } else {
-                say(b"false");
+                say(rt, b"false");
             }
         }
-        Value::String(_, n) => say_count(b"string ", n as usize),
-        Value::FunctionReference(_, n) => say_count(b"function ", n as usize),
+        Value::String(_, n) => say_count(rt, b"string ", n as usize),
+        Value::FunctionReference(_, n) => say_count(rt, b"function ", n as usize),
         Value::List(p) => {
             let h = header_at(cells, p as usize);
-            say_count(b"list ", h.count);
+            say_count(rt, b"list ", h.count);
         }
         Value::StructInstance(p) => {
             let h = header_at(cells, p as usize);
-            say_count(b"struct ", h.number);
-            say_count(b" ", h.count);
+            say_count(rt, b"struct ", h.number);
+            say_count(rt, b" ", h.count);
         }
     }
 }
 
 // What a run leaves besides its answer.
-fn say_left(m: Vm, did: Tally) {
-    say(b", spent ");
-    say_number(did.spent);
-    say(b", returns ");
-    say_number(did.returns);
-    say_count(b", stack ", m.stack);
-    say_count(b", frames ", m.frames);
-    say(b"\n");
+fn say_left(rt: &impl Print, m: Vm, did: Tally) {
+    say(rt, b", spent ");
+    say_number(rt, did.spent);
+    say(rt, b", returns ");
+    say_number(rt, did.returns);
+    say_count(rt, b", stack ", m.stack);
+    say_count(rt, b", frames ", m.frames);
+    say(rt, b"\n");
 }
 
 // Entry i of a backtrace.
-fn say_entry(i: usize, trace: &[u64]) {
+fn say_entry(rt: &impl Print, i: usize, trace: &[u64]) {
     if i < trace.len() / 3 {
         let at = 3 * i;
-        say_count(b"at ", trace[at] as usize);
-        say_count(b" ", trace[at + 1] as usize);
-        say_count(b" ", trace[at + 2] as usize);
-        say(b"\n");
+        say_count(rt, b"at ", trace[at] as usize);
+        say_count(rt, b" ", trace[at + 1] as usize);
+        say_count(rt, b" ", trace[at + 2] as usize);
+        say(rt, b"\n");
     }
 }
 
-fn say_entries(n: usize, trace: &[u64]) {
+fn say_entries(rt: &impl Print, n: usize, trace: &[u64]) {
     let mut i = 0;
     while i < n {
-        say_entry(i, trace);
+        say_entry(rt, i, trace);
         i += 1;
     }
 }
@@ -160,175 +160,182 @@ fn so_far(m: Vm) -> Tally
 }
 
 // What a call of a run answers; the machine is then as it says, or as it was.
-fn say_run(m: Vm, r: RunResult, cells: &[u64], trace: &[u64], number: u64) -> Vm
+fn say_run(rt: &impl Print, m: Vm, r: RunResult, cells: &[u64], trace: &[u64], number: u64) -> Vm
     ensures { result ≡ after_run m r }
 {
     match r {
         RunResult::Value(left, v, did) => {
-            say(b"value ");
-            say_value(v, cells);
-            say_left(left, did);
+            say(rt, b"value ");
+            say_value(rt, v, cells);
+            say_left(rt, left, did);
             left
         }
         RunResult::Continue(left, did) => {
-            say(b"continue");
-            say_left(left, did);
+            say(rt, b"continue");
+            say_left(rt, left, did);
             left
         }
         RunResult::Fault(left, n, did, entries) => {
-            say(b"fault ");
-            say_number(n as u64);
-            say_left(left, did);
-            say_entries(entries, trace);
+            say(rt, b"fault ");
+            say_number(rt, n as u64);
+            say_left(rt, left, did);
+            say_entries(rt, entries, trace);
             left
         }
         RunResult::Paused(left) => {
-            say(b"paused");
-            say_left(left, so_far(left));
+            say(rt, b"paused");
+            say_left(rt, left, so_far(left));
             left
         }
         RunResult::Refused(n) => {
-            say_refused(n, number);
+            say_refused(rt, n, number);
             m
         }
     }
 }
 
 // A machine that is made, or the one that was.
-fn say_started(m: Vm, s: Started, number: u64) -> Vm
+fn say_started(rt: &impl Print, m: Vm, s: Started, number: u64) -> Vm
     ensures { result ≡ after_started m s }
 {
     match s {
         Started::Done(made) => {
-            say(b"done\n");
+            say(rt, b"done\n");
             made
         }
         Started::Broken(at) => {
-            say_count(b"broken ", at);
-            say(b"\n");
+            say_count(rt, b"broken ", at);
+            say(rt, b"\n");
             m
         }
         Started::Refused(n) => {
-            say_refused(n, number);
+            say_refused(rt, n, number);
             m
         }
     }
 }
 
 // A machine with another setting, or the one that was.
-fn say_set(m: Vm, x: Changed, number: u64) -> Vm
+fn say_set(rt: &impl Print, m: Vm, x: Changed, number: u64) -> Vm
     ensures { result ≡ after_set m x }
 {
     match x {
         Changed::Done(set) => {
-            say(b"done\n");
+            say(rt, b"done\n");
             set
         }
         Changed::Refused(n) => {
-            say_refused(n, number);
+            say_refused(rt, n, number);
             m
         }
     }
 }
 
 // What emission answers.
-pub fn say_emitted(m: Vm, e: Emitted, number: u64) -> Vm
+pub fn say_emitted(rt: &impl Print, m: Vm, e: Emitted, number: u64) -> Vm
     ensures { result ≡ after_emitted m e }
 {
     match e {
         Emitted::Done(c, n) => {
-            say_count(b"done ", n);
-            say(b"\n");
+            say_count(rt, b"done ", n);
+            say(rt, b"\n");
             Vm { program: c, ..m }
         }
         Emitted::Refused(n) => {
-            say_refused(n, number);
+            say_refused(rt, n, number);
             m
         }
     }
 }
 
 // What an entry that only looks answers.
-pub fn say_told(t: Told, number: u64) {
+pub fn say_told(rt: &impl Print, t: Told, number: u64) {
     match t {
         Told::Number(n) => {
-            say_count(b"number ", n);
-            say(b"\n");
+            say_count(rt, b"number ", n);
+            say(rt, b"\n");
         }
-        Told::Refused(n) => say_refused(n, number),
+        Told::Refused(n) => say_refused(rt, n, number),
     }
 }
 
 // What a reader answers: a value,
-pub fn say_shown(s: Shown, cells: &[u64], number: u64) {
+pub fn say_shown(rt: &impl Print, s: Shown, cells: &[u64], number: u64) {
     match s {
         Shown::Value(v) => {
-            say(b"shown ");
-            say_value(v, cells);
-            say(b"\n");
+            say(rt, b"shown ");
+            say_value(rt, v, cells);
+            say(rt, b"\n");
         }
-        Shown::Refused(n) => say_refused(n, number),
+        Shown::Refused(n) => say_refused(rt, n, number),
     }
 }
 
 // a header,
-pub fn say_headed(h: Headed, number: u64) {
+pub fn say_headed(rt: &impl Print, h: Headed, number: u64) {
     match h {
         Headed::Is(h) => {
-            say_count(b"header ", h.count);
-            say_count(b" ", h.number);
-            say_count(b" ", h.depth);
-            say(b"\n");
+            say_count(rt, b"header ", h.count);
+            say_count(rt, b" ", h.number);
+            say_count(rt, b" ", h.depth);
+            say(rt, b"\n");
         }
-        Headed::Refused(n) => say_refused(n, number),
+        Headed::Refused(n) => say_refused(rt, n, number),
     }
 }
 
 // or the bytes of a text, which lie at the front of space.
-pub fn say_text(t: Told, space: &stores::Space, number: u64) {
+pub fn say_text(rt: &impl Print, t: Told, space: &stores::Space, number: u64) {
     match t {
         Told::Number(n) => {
-            say_count(b"text ", n);
-            say(b" ");
-            say_bytes(front(space, n));
+            say_count(rt, b"text ", n);
+            say(rt, b" ");
+            say_bytes(rt, front(space, n));
         }
-        Told::Refused(n) => say_refused(n, number),
+        Told::Refused(n) => say_refused(rt, n, number),
     }
 }
 
 // A backtrace, or its refusal; the machine is as it was.
-fn say_trace(m: Vm, t: Told, trace: &[u64], number: u64) -> Vm
+fn say_trace(rt: &impl Print, m: Vm, t: Told, trace: &[u64], number: u64) -> Vm
     ensures { result ≡ m }
 {
     match t {
-        Told::Number(n) => say_entries(n, trace),
-        Told::Refused(n) => say_refused(n, number),
+        Told::Number(n) => say_entries(rt, n, trace),
+        Told::Refused(n) => say_refused(rt, n, number),
     }
     m
 }
 
-pub fn say_frame(f: Frame) {
-    say_count(b"frame ", f.function);
-    say_count(b" ", f.position);
-    say_count(b" ", f.base);
-    say_count(b" ", f.entered as usize);
-    say(b"\n");
+pub fn say_frame(rt: &impl Print, f: Frame) {
+    say_count(rt, b"frame ", f.function);
+    say_count(rt, b" ", f.position);
+    say_count(rt, b" ", f.base);
+    say_count(rt, b" ", f.entered as usize);
+    say(rt, b"\n");
 }
 
-pub fn say_sum(h: u64) {
-    say(b"sum ");
-    say_word(h);
-    say(b"\n");
+pub fn say_sum(rt: &impl Print, h: u64) {
+    say(rt, b"sum ");
+    say_word(rt, h);
+    say(rt, b"\n");
 }
 
 // What a call over frames answers; the machine as it then is.
-pub fn say_answer(m: Vm, a: Answer, cells: &[u64], trace: &[u64], number: u64) -> Vm
+pub fn say_answer(
+    rt: &impl Print,
+    m: Vm,
+    a: Answer,
+    cells: &[u64],
+    trace: &[u64],
+    number: u64,
+) -> Vm
     ensures { result ≡ after_answer m a }
 {
     match a {
-        Answer::Made(s) => say_started(m, s, number),
-        Answer::Ran(r) => say_run(m, r, cells, trace, number),
-        Answer::Traced(t) => say_trace(m, t, trace, number),
-        Answer::Set(x) => say_set(m, x, number),
+        Answer::Made(s) => say_started(rt, m, s, number),
+        Answer::Ran(r) => say_run(rt, m, r, cells, trace, number),
+        Answer::Traced(t) => say_trace(rt, m, t, trace, number),
+        Answer::Set(x) => say_set(rt, m, x, number),
     }
 }
