@@ -10,7 +10,8 @@ pub returns-in_default : goal.returns-in_default
 returns-in_default c = search (rules, one_none, denies)
 
 pub returns-in_default-v : goal.returns-in_default-v
-returns-in_default-v c = search (rules, one_wrong, denies, no_boolean)
+returns-in_default-v c =
+    one_wrong c.requires c.pop.ensures denies c.in-Got.is (λ j d. no_boolean c.in-Got.v (search rules) j d)
 
 pub overflow_sub-sp : goal.overflow_sub-sp
 overflow_sub-sp c = search (got_some, rules)

@@ -11,7 +11,8 @@ pub returns-in_default : goal.returns-in_default
 returns-in_default c = search (rules, one_none, negates)
 
 pub returns-in_default-v : goal.returns-in_default-v
-returns-in_default-v c = search (rules, one_wrong, negates, no_scalar)
+returns-in_default-v c =
+    one_wrong c.requires c.pop.ensures negates c.in-Got.is (λ j d. no_scalar c.in-Got.v (search rules) j d)
 
 pub overflow_sub-sp : goal.overflow_sub-sp
 overflow_sub-sp c = search (got_some, rules)
