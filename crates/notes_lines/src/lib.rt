@@ -1,5 +1,6 @@
 // A line of the listing with notes: what its operands name, and its place.
 #![tactic(auto)]
+
 mod operands; // operands.rt: the notes of the operands
 
 ghost use Rattle.std.specs.Prelude.{◌≡◌, ◌+◌, ◌≤◌, ◌<◌, ◌^◌, length, get_or};
