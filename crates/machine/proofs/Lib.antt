@@ -1,6 +1,5 @@
--- tests, records and answers in a walk
+-- tests
 pub mod Tests
-pub mod Rows
 -- a call of a run: refused or granted, and in what order
 pub mod Granted
 pub mod Refusals

@@ -1,5 +1,6 @@
 // A machine over lent stores: the public entries.
 #![tactic(auto)]
+
 pub mod running; // running.rt: a run's judging, its going on, its end, and recovery
 pub mod starting; // starting.rt: making a machine, all but its frame
 pub mod tracing; // tracing.rt: judging and writing a backtrace
