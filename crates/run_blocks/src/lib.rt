@@ -1,5 +1,6 @@
 // Equality, lists and structs.
 #![tactic(auto)]
+
 ghost use Rattle.std.specs.Prelude.{◌≡◌, List, ℕ, ◌≤◌, ◌<◌, length};
 ghost use Rattle.model.specs.Values.{places};
 ghost use Rattle.model.specs.Heap.{list_elements};

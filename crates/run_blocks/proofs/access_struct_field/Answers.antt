@@ -10,7 +10,8 @@ pub returns-in_default : goal.returns-in_default
 returns-in_default c = search (rules, field_none)
 
 pub returns-in_default-v : goal.returns-in_default-v
-returns-in_default-v c = search (rules, field_wrong, no_struct)
+returns-in_default-v c =
+    field_wrong c.requires.1 c.pop.ensures c.args.a c.in-Got.is (λ j d. no_struct c.in-Got.v (search rules) j d)
 
 pub field-requires : goal.field-requires
 field-requires c = search (rules, field_pre)
