@@ -1,5 +1,6 @@
 // What the lister prints of a program that was loaded, as bytes in a lent store.
 #![tactic(auto)]
+
 ghost use Rattle.std.specs.Prelude.{◌≡◌, true};
 ghost use Rattle.model.specs.Listings.{listing_of};
 ghost use Rattle.model.specs.Stores.{Stores, program_in};
