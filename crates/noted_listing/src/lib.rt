@@ -1,5 +1,6 @@
 // The listing of a program with notes.
 #![tactic(auto)]
+
 mod lines; // lines.rt: the lines of one function's code
 mod functions; // functions.rt: one function, and all of them
 

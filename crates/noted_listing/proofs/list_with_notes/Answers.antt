@@ -27,5 +27,5 @@ write_noted_all-requires c = few _ _ _ _ _ _ _ _ _ c.program_ok-ok.ensures (sear
 pub returns : goal.returns
 returns c =
     room_for _ _ _ _ _ _ _ _ _ c.program_ok-ok.ensures _ (search rules) (search rules)
-    c.decreases.given.1 c.write_noted_all-measured.ensures _ (c.room.ensures _ refl) c.if-room-n.false
+    c.in-Number.is c.write_noted_all-measured.ensures _ (c.room.ensures _ refl) c.if-room-n.false
     c.write_noted_all.ensures

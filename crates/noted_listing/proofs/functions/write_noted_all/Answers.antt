@@ -1,5 +1,4 @@
 -- `write_noted_all`: a function a turn.
-use Prim.Native.Nat.{◌-◌}
 use Rattle.noted_listing.proofs.Passing.{none_yet, all_passed, one_stops, one_more, same_room}
 use borrow.Author.Rules.{rules}
 use Rattle.noted_listing.proofs.functions.write_noted_all.Goals as goal

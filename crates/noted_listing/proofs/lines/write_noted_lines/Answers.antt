@@ -1,5 +1,4 @@
 -- `write_noted_lines`: an instruction a turn.
-use Prim.Native.Nat.{◌-◌}
 use native.Mathlib.Omega.{arith}
 use borrow.Author.Rules.{rules}
 use Rattle.printing.proofs.Puts.{kept}
