@@ -1,5 +1,6 @@
 // What a host reads of a machine. Each entry judges what it reads, and costs the same whatever the stores hold.
 #![tactic(auto)]
+
 ghost use Rattle.std.specs.Prelude.{◌≡◌, ◌+◌, ◌*◌, ◌≤◌, length};
 ghost use Rattle.model.specs.Readers.{last_result_of, value_shown, stack_value_of, block_header_of, element_of, text_bytes_of};
 ghost use Rattle.readers.specs.Links.{block_at, text_put};

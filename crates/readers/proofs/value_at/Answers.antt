@@ -1,0 +1,12 @@
+use borrow.Author.Rules.{rules}
+use Rattle.readers.proofs.Shows.{exact_shown, not_exact}
+use Rattle.model.specs.Values.{kind_at, payload_at}
+use Rattle.readers.proofs.value_at.Goals as goal
+
+pub returns-then-exact : goal.returns-then-exact
+unfolding kind_at payload_at
+returns-then-exact c = search (rules, exact_shown)
+
+pub returns : goal.returns
+unfolding kind_at payload_at
+returns c = search (rules, not_exact)
