@@ -1,5 +1,6 @@
 // The commands that damage a machine, and the checksum that tells whether anything has changed.
 #![tactic(auto)]
+
 ghost use Rattle.std.specs.Prelude.{◌≡◌, ◌&&◌, ◌||◌, ◌%◌, ltb, length};
 ghost use Rattle.console_damage.specs.Sums.{half_mixed, mixed_with, mixed_all, mixed_last, mixed_run, mixed_counts};
 ghost use Rattle.console_damage.specs.Damage.{program_with, run_with, count_with, count_asked, result_asked, put_at, poked_words, poked_bytes, poked_places, words_asked, bytes_asked, places_asked, frame_in, frame_at};
