@@ -1,6 +1,6 @@
 # What bench/cost, bench/speed and bench/entry share, read with `.`: a program in C is built against the library, and its instructions are counted. The
-# library is for x86-64. There valgrind's callgrind counts; on another processor a plugin of Debian's qemu-user does, which emulates the program (the
-# kit's own emulator takes no plugins). Both count each instruction of the program that is carried out, and the same figures come out each time.
+# library is for x86-64. There valgrind's callgrind counts; on another processor a plugin of Debian's qemu-user does, which emulates the program. Both
+# count each instruction of the program that is carried out, and the same figures come out each time.
 # shellcheck shell=sh
 
 trouble() { # WORDS..
@@ -45,8 +45,8 @@ host() { # NAME FLAG..
     name=$1
     shift
     # the library is proved each time that it is built: as examples/embed/host has it, once is enough where several commands are run
-    [ -n "${CHAFFWHEEL_BUILT:-}" ] || rt staticlib embed >target/staticlib.log || trouble 'the library cannot be built: target/staticlib.log'
-    $cc -std=gnu99 -O2 -Wall -Wextra -Wl,-z,now -Iinclude -Iexamples/embed "bench/$name.c" target/staticlib/libembed.a "$@" -o "target/$name" ||
+    [ -n "${CHAFFWHEEL_BUILT:-}" ] || (cd crates/embed && rt lib) >target/lib.log 2>&1 || trouble 'the library cannot be built: target/lib.log'
+    $cc -std=gnu99 -O2 -Wall -Wextra -Wl,-z,now -Iinclude -Iexamples/embed "bench/$name.c" crates/embed/out/libembed.a "$@" -o "target/$name" ||
         trouble "bench/$name.c cannot be built"
 }
 
