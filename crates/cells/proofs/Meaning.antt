@@ -1,4 +1,5 @@
 -- What values mean: equality of values is equality of their trees, cells added above change no meaning, and what a build and a field mean.
+use Rattle.std.specs.Prelude.{if◌then◌else◌}
 use mathlib.Core.Path.{◌≡◌, refl, sym, ap, ◌∙◌}
 use mathlib.Core.Bool.{Bool, true, false, ◌&&◌}
 use mathlib.Core.List.{List, [], ◌∷◌, ◌++◌}
@@ -13,7 +14,6 @@ use Rattle.model.specs.declared.Header.{Header}
 use Rattle.model.specs.declared.Fault.{Fault}
 use Rattle.model.specs.declared.Fault.TheVariants as f
 use Rattle.model.specs.declared.Found.TheVariants as g
-use Rattle.model.specs.Basics.{if◌then◌else◌}
 use Rattle.model.specs.Values.{if_scalar, if_boolean, if_string, if_reference, if_list, if_struct}
 use Rattle.model.specs.Heap.{Cell, item_in, head_in, items, elements_in, field_of, depth_in, block_of, built, build_of, heap_ok}
 use Rattle.model.specs.Equality.{Same, said, same_elements, same_blocks, same_pair, same_to, same_of}

@@ -1,4 +1,5 @@
 -- What the test of good order says of a heap: the facts that the code and the theorems lean on.
+use Rattle.std.specs.Prelude.{if◌then◌else◌}
 use mathlib.Core.Path.{◌≡◌, refl, sym, ap, ◌∙◌, subst}
 use mathlib.Core.Bool.{Bool, true, false, ◌&&◌, true≢false}
 use mathlib.Core.Logic.{◌⊎◌, inl, inr, ⊎_elim}
@@ -12,7 +13,6 @@ use lib.ListN.{length, get_or, get_or-eq_default}
 use Rattle.value.proofs.Coding.{and_left, and_right}
 use Rattle.model.specs.declared.Value.{Value}
 use Rattle.model.specs.declared.Value.TheVariants as v
-use Rattle.model.specs.Basics.{if◌then◌else◌}
 use Rattle.model.specs.Heap.{Cell, item, head, is_head, item_of, cell_in, item_in, head_in, items, elements_in, depth_in, deepest, whole_below, placed_below, element_below, elements_below, block_ok, blocks_from, heap_ok}
 
 -- ---- tests

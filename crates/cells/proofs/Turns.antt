@@ -1,4 +1,5 @@
 -- Equality of two lists or two structs: the loop over the elements and its laws.
+use Rattle.std.specs.Prelude.{if◌then◌else◌}
 use mathlib.Core.Path.{◌≡◌, refl, sym, ap, ◌∙◌}
 use mathlib.Core.Bool.{Bool, true, false, ◌&&◌}
 use mathlib.Core.List.{List}
@@ -10,7 +11,6 @@ use lib.ListN.{length}
 use Rattle.model.specs.declared.Value.{Value}
 use Rattle.model.specs.declared.Value.TheVariants as v
 use Rattle.model.specs.declared.Header.{Header}
-use Rattle.model.specs.Basics.{if◌then◌else◌}
 use Rattle.model.specs.Values.{payload_at, value_at, if_list, if_struct}
 use Rattle.model.specs.Heap.{Cell, header_of, heap_of, item_in, head_in, items, elements_in}
 use Rattle.model.specs.Equality.{Same, same, said, and_next, same_elements, same_blocks, same_pair, same_of}

@@ -1,8 +1,7 @@
 -- What the answers of the code stand for, and what the code asks.
-use Rattle.std.specs.Prelude.{◌≡◌, Bool, true, false, List, ◌++◌, map, ℕ, ◌+◌, ◌-◌, ◌*◌, ◌<◌, ◌≤◌, leb, length, get_or}
+use Rattle.std.specs.Prelude.{◌≡◌, Bool, true, false, List, ◌++◌, map, ℕ, ◌+◌, ◌-◌, ◌*◌, ◌<◌, ◌≤◌, leb, length, get_or, if◌then◌else◌}
 use Rattle.model.specs.declared.Value.{Value}
 use Rattle.model.specs.declared.Value.TheVariants as v
-use Rattle.model.specs.Basics.{if◌then◌else◌}
 use Rattle.model.specs.Values.{places, value_at, vals}
 use Rattle.model.specs.Heap as heap
 use Rattle.model.specs.Heap.{Cell, item, heap_of, list_elements, struct_fields, build_of, placed_below, heap_ok, exact_cells}

@@ -1,4 +1,5 @@
 -- What the tally of the Calls tells: laws for whoever reads an entry.
+use Rattle.std.specs.Prelude.{if◌then◌else◌}
 use mathlib.Core.Path.{◌≡◌, refl, sym, subst, ◌∙◌}
 use mathlib.Core.Logic.{◌↔◌}
 use mathlib.Core.Bool.{Bool, true, false, true≢false, not, ◌&&◌, ◌||◌}
@@ -8,7 +9,6 @@ use native.Mathlib.Omega.{arith}
 use native.Mathlib.Decide.{ℕ_discrete}
 use lib.Dec.{eqb}
 use borrow.Author.Tests.{eq-eqb, ne_eqb}
-use Rattle.model.specs.Basics.{if◌then◌else◌}
 use Rattle.check_rules.specs.Rules.{Site, count_in, passes}
 use Rattle.check_code.specs.Tallies.{entered, entered_at, tallied, is_named}
 

@@ -1,4 +1,5 @@
 -- The tally of the Calls, as the code writes it.
+use Rattle.std.specs.Prelude.{if◌then◌else◌}
 use mathlib.Core.Path.{◌≡◌, refl, sym, ap, ◌∙◌}
 use mathlib.Core.Bool.{Bool, true, false}
 use mathlib.Core.List.{List, [], ◌∷◌, ◌++◌}
@@ -9,7 +10,6 @@ use lib.Dec.{eqb}
 use lib.ListN.{length, get_or, set}
 use lib.Seq.{get_or-set_same, get_or-set_other}
 use borrow.Author.Tests.{eq-eqb, ne_eqb, eqb-true}
-use Rattle.model.specs.Basics.{if◌then◌else◌}
 use Rattle.model.specs.Programs.{next_in, stands}
 use Rattle.check_rules.specs.Rules.{Site, call, is_at, first_at, second_at, calls_at}
 use Rattle.check_code.specs.Tallies.{entered, entered_at, tallied}

@@ -1,6 +1,5 @@
 -- The tally of the Calls: an entry for each function, which is 0 where no Call names it, 1 where two Calls differ, else the count and two more.
-use Rattle.std.specs.Prelude.{Bool, false, ◌||◌, List, [], ◌∷◌, ℕ, ◌+◌, eqb}
-use Rattle.model.specs.Basics.{if◌then◌else◌}
+use Rattle.std.specs.Prelude.{Bool, false, ◌||◌, List, [], ◌∷◌, ℕ, ◌+◌, eqb, if◌then◌else◌}
 use Rattle.check_rules.specs.Rules.{Site}
 
 -- an entry v after a Call that passes k

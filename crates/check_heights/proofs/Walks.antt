@@ -1,4 +1,5 @@
 -- Where a path comes: to an instruction of the walk or to the code's end, if rules 1 and 5 hold of the code.
+use Rattle.std.specs.Prelude.{if◌then◌else◌}
 use mathlib.Core.Path.{◌≡◌, refl, sym, ap, ◌∙◌}
 use mathlib.Core.Bool.{Bool, true, false, not, ◌&&◌, ◌||◌}
 use mathlib.Core.List.{List, [], ◌∷◌}
@@ -9,7 +10,6 @@ use native.Mathlib.Omega.{arith}
 use borrow.Author.Tests.{lt-ltb, ltb-true, leb-true, eqb-true}
 use lib.Dec.{ltb, eqb}
 use lib.ListN.{length}
-use Rattle.model.specs.Basics.{if◌then◌else◌}
 use Rattle.model.specs.Opcodes.{operands}
 use Rattle.model.specs.Programs.{behind, opcode_in, next_in, stands_for, stands}
 use Rattle.check_rules.specs.Rules.{is_carried, whole_at, jump_at, is_jump, target_at, is_in, lands, every, Path, starts, goes, leaps}

@@ -1,4 +1,5 @@
 -- What is said of the function that breaks a rule, put piece by piece.
+use Rattle.std.specs.Prelude.{if◌then◌else◌}
 use mathlib.Core.Path.{◌≡◌, refl, sym, ap, subst, ◌∙◌}
 use mathlib.Core.Bool.{Bool, true, false}
 use mathlib.Core.List.{List, [], ◌∷◌, ◌++◌, append_assoc}
@@ -14,7 +15,7 @@ use borrow.Author.Tests.{eq-eqb, ne_eqb, lt-ltb, le-ltb}
 use Rattle.model.specs.declared.Counts.{Counts}
 use Rattle.model.specs.declared.Loaded.{Loaded}
 use Rattle.model.specs.declared.Loaded.TheVariants as l
-use Rattle.model.specs.Basics.{if◌then◌else◌, ascii}
+use Rattle.model.specs.Basics.{ascii}
 use Rattle.model.specs.Values.{text_at}
 use Rattle.model.specs.Opcodes.{popped, opcode_at}
 use Rattle.model.specs.Programs.{Function, Program, function_at}

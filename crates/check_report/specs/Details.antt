@@ -1,9 +1,9 @@
 -- [checker] What is said of bytes that are no image: which item breaks a rule, and what is asked of it. And of the function that breaks a rule: its name as
 -- a note shows it, and the first instruction that breaks it: its offset, its byte, and behind rule 1 its operand. Rules 4 and 6 are not broken by an instruction alone: of rule 4 two Calls are told, of rule 6 what the heights came upon.
-use Rattle.std.specs.Prelude.{List, [], ◌++◌, ℕ, eqb, ltb, length, get_or}
+use Rattle.std.specs.Prelude.{List, [], ◌++◌, ℕ, eqb, ltb, length, get_or, if◌then◌else◌}
 use Rattle.model.specs.declared.Loaded.{Loaded}
 use Rattle.model.specs.declared.Loaded.TheVariants as l
-use Rattle.model.specs.Basics.{if◌then◌else◌, ascii}
+use Rattle.model.specs.Basics.{ascii}
 use Rattle.model.specs.Opcodes.{popped}
 use Rattle.model.specs.Programs.{Program, opcode_in}
 use Rattle.model.specs.Listings.{decimal}

@@ -1,6 +1,6 @@
 -- [check] What the checker prints: facts, a line each, that a program can read; and behind a refusal one line in plain words.
-use Rattle.std.specs.Prelude.{List, [], ◌++◌, ℕ, zero, suc, eqb, get_or}
-use Rattle.model.specs.Basics.{if◌then◌else◌, ascii}
+use Rattle.std.specs.Prelude.{List, [], ◌++◌, ℕ, zero, suc, eqb, get_or, if◌then◌else◌}
+use Rattle.model.specs.Basics.{ascii}
 use Rattle.model.specs.Listings.{decimal}
 use Rattle.model.specs.Reports.{refused_line}
 use Rattle.check_rules.specs.declared.Rule.{Rule}

@@ -1,5 +1,6 @@
 -- No second answer fits: of one image and one set of slices the entry says one thing, and leaves one thing. Each of its answers is one of the check
 -- itself, of what it is lent: no place for a height where the record or the answer is too short, no function where no frame has a place.
+use Rattle.std.specs.Prelude.{if◌then◌else◌}
 use mathlib.Core.Path.{◌≡◌, refl, sym, ap, ◌∙◌}
 use mathlib.Core.Bool.{Bool, true, false, ◌&&◌, true≢false}
 use mathlib.Core.List.{List, []}
@@ -10,7 +11,6 @@ use lib.Dec.{eqb, leb}
 use lib.ListN.{length, set}
 use borrow.Author.Tests.{leb-true, leb-false}
 use Rattle.model.specs.declared.Frame.{Frame}
-use Rattle.model.specs.Basics.{if◌then◌else◌}
 use Rattle.model.specs.Values.{places}
 use Rattle.model.specs.Programs.{Program, within_limits}
 use Rattle.model.specs.Images.{fine, judge}

@@ -1,9 +1,9 @@
 -- [check] The check of an image as an entry for a host in C: what it answers, in words, and what then stands in every slice that the host lent.
 -- "Refusals: 40 with the first broken rule in the order given and the lowest function that breaks it .., after 20, 17, 22 and 21"; what passes is loaded, and
 -- so "25 first"
-use Rattle.std.specs.Prelude.{◌≡◌, Bool, true, false, ◌&&◌, List, [], ◌∷◌, ℕ, eqb, leb, length, set}
+use Rattle.std.specs.Prelude.{◌≡◌, Bool, true, false, ◌&&◌, List, [], ◌∷◌, ℕ, eqb, leb, length, set, if◌then◌else◌}
 use Rattle.model.specs.declared.Frame.{Frame}
-use Rattle.model.specs.Basics.{if◌then◌else◌, written}
+use Rattle.model.specs.Basics.{written}
 use Rattle.model.specs.Values.{places}
 use Rattle.model.specs.Programs.{Program, within_limits}
 use Rattle.model.specs.Images.{fine, broken, judge}

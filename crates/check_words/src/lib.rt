@@ -1,7 +1,7 @@
 // What the check of an image answers, as words in lent slices: what crosses to a host in C.
 #![tactic(auto)]
-ghost use Rattle.std.specs.Prelude.{◌≡◌, [], ◌∷◌, eqb, set};
-ghost use Rattle.model.specs.Basics.{if◌then◌else◌, written};
+ghost use Rattle.std.specs.Prelude.{◌≡◌, [], ◌∷◌, eqb, set, if◌then◌else◌};
+ghost use Rattle.model.specs.Basics.{written};
 ghost use Rattle.check_rules.specs.Rules.{rule_number};
 ghost use Rattle.check_words.specs.Words.{checked_coded};
 

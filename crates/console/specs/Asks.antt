@@ -1,11 +1,11 @@
 -- What a line asks.
-use Rattle.std.specs.Prelude.{Bool, true, ◌&&◌, ◌||◌, List, ◌++◌, ℕ, min, eqb, length, get_or, take, drop}
+use Rattle.std.specs.Prelude.{Bool, true, ◌&&◌, ◌||◌, List, ◌++◌, ℕ, min, eqb, length, get_or, take, drop, if◌then◌else◌}
 use Rattle.model.specs.declared.Vm.{Vm}
 use Rattle.model.specs.declared.Shown.{Shown}
 use Rattle.model.specs.declared.Shown.TheVariants as w
 use Rattle.model.specs.declared.Headed.{Headed}
 use Rattle.model.specs.declared.Headed.TheVariants as h
-use Rattle.model.specs.Basics.{if◌then◌else◌, ascii}
+use Rattle.model.specs.Basics.{ascii}
 use Rattle.model.specs.Equality.{same_bytes}
 use Rattle.model.specs.declared.Told.TheVariants as t
 use Rattle.model.specs.Loading.{OutRes}

@@ -1,5 +1,5 @@
 -- What is said of a list or struct, and which machine there is behind an answer: the one that it tells, or the one that was.
-use Rattle.std.specs.Prelude.{false, List, ℕ, ◌/◌, ltb, length}
+use Rattle.std.specs.Prelude.{false, List, ℕ, ◌/◌, ltb, length, if◌then◌else◌}
 use Rattle.model.specs.declared.Header.{Header}
 use Rattle.model.specs.declared.Tally.{Tally}
 use Rattle.model.specs.declared.Vm.{Vm}
@@ -12,7 +12,6 @@ use Rattle.model.specs.declared.RunResult.TheVariants as x
 use Rattle.model.specs.declared.Changed as setting
 use Rattle.model.specs.declared.Changed.TheVariants as st
 use Rattle.model.specs.declared.Last.TheVariants.{Nothing}
-use Rattle.model.specs.Basics.{if◌then◌else◌}
 use Rattle.model.specs.Values.{payload_at}
 use Rattle.model.specs.Heap.{header_of}
 use Rattle.model.specs.Machines.{no_run}

@@ -1,12 +1,12 @@
 -- What is damaged: one count, or one number of the run that is under way, or the last result, and nothing else; one number of one store.
-use Rattle.std.specs.Prelude.{Bool, true, false, ◌&&◌, List, ℕ, ◌+◌, ◌*◌, ◌/◌, ◌%◌, ltb, length, get_or, set}
+use Rattle.std.specs.Prelude.{Bool, true, false, ◌&&◌, List, ℕ, ◌+◌, ◌*◌, ◌/◌, ◌%◌, ltb, length, get_or, set, if◌then◌else◌}
 use Rattle.model.specs.declared.Vm.{Vm}
 use Rattle.model.specs.declared.Counts.{Counts}
 use Rattle.model.specs.declared.Run.{Run}
 use Rattle.model.specs.declared.Frame.{Frame}
 use Rattle.model.specs.declared.Last.{Last}
 use Rattle.model.specs.declared.Last.TheVariants.{Is}
-use Rattle.model.specs.Basics.{if◌then◌else◌, ascii}
+use Rattle.model.specs.Basics.{ascii}
 use Rattle.model.specs.Equality.{same_bytes}
 use Rattle.model.specs.Values.{value_of}
 use Rattle.console_damage.specs.declared.Changed.{Changed}

@@ -1,8 +1,8 @@
 -- What a line that emits answers, and the stores then: those of the entry that it names, at the numbers that it says, with a run under way or not.
-use Rattle.std.specs.Prelude.{Bool, not, ◌||◌, List, [], ℕ, ◌%◌, ltb, eqb, length}
+use Rattle.std.specs.Prelude.{Bool, not, ◌||◌, List, [], ℕ, ◌%◌, ltb, eqb, length, if◌then◌else◌}
 use Rattle.model.specs.declared.Counts.{Counts}
 use Rattle.model.specs.declared.Constant.TheVariants as k
-use Rattle.model.specs.Basics.{if◌then◌else◌, ascii}
+use Rattle.model.specs.Basics.{ascii}
 use Rattle.model.specs.Equality.{same_bytes}
 use Rattle.model.specs.Stores.{Stores}
 use Rattle.model.specs.Emission.{Res, refuse, add_op_of, add_op1_of, add_op2_of, add_op3_of, patch_of, add_constant_of, add_struct_of, begin_function_of, end_function_of}

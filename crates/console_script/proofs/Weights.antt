@@ -1,4 +1,5 @@
 -- The lines of a script: the line behind a line, and that fewer are left.
+use Rattle.std.specs.Prelude.{if◌then◌else◌}
 use mathlib.Core.Bool.{Bool, true, false}
 use Prim.Native.Nat.{ℕ, ◌+◌, ◌-◌, ◌%◌, ◌<◌, ◌≤◌}
 use mathlib.Core.List.{List}
@@ -8,7 +9,6 @@ use lib.ListN.{length}
 use lib.Dec.{eqb, leb}
 use borrow.Author.Tests.{eq-eqb, ne_eqb, le-leb, lt-leb, eqb-false}
 use Rattle.layout.proofs.Bools.{either_way}
-use Rattle.model.specs.Basics.{if◌then◌else◌}
 use Rattle.console_script.specs.declared.Line.{Line}
 use Rattle.console_script.specs.Lines.{weight}
 use Rattle.console_script.specs.Words.{next_of, no_line, next_line}

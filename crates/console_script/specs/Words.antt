@@ -1,6 +1,5 @@
 -- A line's words, and the numbers that words say.
-use Rattle.std.specs.Prelude.{Bool, true, false, ◌&&◌, not, List, [], ◌∷◌, ℕ, zero, suc, ◌+◌, ◌*◌, ◌-◌, ◌%◌, ◌^◌, ltb, leb, eqb, length, take, drop, set, replicate}
-use Rattle.model.specs.Basics.{if◌then◌else◌}
+use Rattle.std.specs.Prelude.{Bool, true, false, ◌&&◌, not, List, [], ◌∷◌, ℕ, zero, suc, ◌+◌, ◌*◌, ◌-◌, ◌%◌, ◌^◌, ltb, leb, eqb, length, take, drop, set, replicate, if◌then◌else◌}
 use Rattle.console_script.specs.declared.Line.{Line}
 use Rattle.console_script.specs.declared.Number.{Number}
 use Rattle.console_script.specs.declared.Args.{Args}

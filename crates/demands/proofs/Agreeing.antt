@@ -1,11 +1,11 @@
 -- A call of a run judges and answers the same of lent stores that are the same below the counts.
+use Rattle.std.specs.Prelude.{if◌then◌else◌}
 use mathlib.Core.Path.{◌≡◌, refl}
 use mathlib.Core.Bool.{Bool, true, false}
 use Prim.Native.Nat.{ℕ, ◌+◌, ◌*◌, ◌≤◌}
 use native.Mathlib.Omega.{arith}
 use lib.Dec.{ltb}
 use Rattle.model.specs.declared.Vm.{Vm}
-use Rattle.model.specs.Basics.{if◌then◌else◌}
 use Rattle.model.specs.Values.{places}
 use Rattle.model.specs.Heap.{heap_of}
 use Rattle.model.specs.Runs.{ends, begin_of, continue_of, abandon_of}

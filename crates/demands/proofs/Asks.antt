@@ -1,4 +1,5 @@
 -- The entries whose contract is an equation: in states that agree they answer the same and leave states that agree.
+use Rattle.std.specs.Prelude.{if◌then◌else◌}
 use mathlib.Core.Path.{◌≡◌, refl, ap}
 use mathlib.Core.Bool.{Bool, true, false, ◌&&◌}
 use mathlib.Core.List.{List, [], ◌∷◌}
@@ -15,7 +16,6 @@ use Rattle.model.specs.declared.Emitted.{Emitted}
 use Rattle.model.specs.declared.Emitted.TheVariants as e
 use Rattle.model.specs.declared.Loaded.{Loaded}
 use Rattle.model.specs.declared.Loaded.TheVariants as ld
-use Rattle.model.specs.Basics.{if◌then◌else◌}
 use Rattle.model.specs.Values.{if_list, if_struct, places}
 use Rattle.model.specs.Heap.{heap_of, head_in, placed_below}
 use Rattle.model.specs.Stores.{Stores, functions_from}

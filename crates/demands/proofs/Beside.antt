@@ -1,4 +1,5 @@
 -- Two stores with one program, wherever its texts lie: emission answers the same and leaves such stores again.
+use Rattle.std.specs.Prelude.{if◌then◌else◌}
 use mathlib.Core.Path.{◌≡◌, refl, sym, ap, ◌∙◌}
 use mathlib.Core.Bool.{Bool, true, false}
 use mathlib.Core.List.{List, map}
@@ -13,7 +14,6 @@ use Rattle.model.specs.declared.Frame.{Frame}
 use Rattle.model.specs.declared.Constant.{Constant}
 use Rattle.model.specs.declared.Constant.TheVariants as k
 use Rattle.model.specs.declared.Emitted.TheVariants.{Done}
-use Rattle.model.specs.Basics.{if◌then◌else◌}
 use Rattle.model.specs.Values.{places, put_words}
 use Rattle.model.specs.Programs.{Program, Function, function_at, code_limit, constant_limit, name_limit}
 use Rattle.model.specs.Stores.{Stores, with_constants, with_structs, with_functions, with_text, size, code_word, code_end, code_here, places_here, with_code, structs_from, function_in, functions_from, program_in}

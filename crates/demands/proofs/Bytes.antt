@@ -1,4 +1,5 @@
 -- Code stays bytes, whatever calls come; so does good order (`fine_kept`).
+use Rattle.std.specs.Prelude.{if◌then◌else◌}
 use mathlib.Core.Path.{◌≡◌, refl, sym, subst}
 use mathlib.Core.Bool.{Bool, true, false, ◌&&◌}
 use mathlib.Core.List.{List, [], ◌∷◌, ◌++◌}
@@ -15,7 +16,6 @@ use Rattle.model.specs.declared.Constant.TheVariants as k
 use Rattle.model.specs.declared.Frame.{Frame}
 use Rattle.model.specs.declared.Loaded.{Loaded}
 use Rattle.model.specs.declared.Loaded.TheVariants as ld
-use Rattle.model.specs.Basics.{if◌then◌else◌}
 use Rattle.model.specs.Numbers.{Bytes, digits}
 use Rattle.model.specs.Values.{places}
 use Rattle.model.specs.Programs.{Program, Function, function_at, code_limit, constant_limit, name_limit, within_limits}

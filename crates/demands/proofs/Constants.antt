@@ -1,4 +1,5 @@
 -- One program, wherever its texts lie: its constants mean the same.
+use Rattle.std.specs.Prelude.{if◌then◌else◌}
 use mathlib.Core.Path.{◌≡◌, refl, sym, ap, ◌∙◌}
 use mathlib.Core.Bool.{Bool, true, false}
 use mathlib.Core.List.{List, []}
@@ -10,7 +11,6 @@ use lib.Ieee.{binary64, of_bits}
 use lib.ListN.{length, take, drop, take-append-drop}
 use lib.Seq.{length-take-le}
 use Rattle.model.specs.declared.Counts.{Counts}
-use Rattle.model.specs.Basics.{if◌then◌else◌}
 use Rattle.model.specs.Values.{text_at, value_of, kind_at, payload_at, value_at, values_from}
 use Rattle.model.specs.Trees.{Tree, scalar, boolean, string, reference, tree_of, meaning_to, meaning}
 use Rattle.model.specs.Programs.{Constant}

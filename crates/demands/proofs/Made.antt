@@ -1,4 +1,5 @@
 -- A program that is made anew, or loaded, in stores as long: the same answer, and the same program.
+use Rattle.std.specs.Prelude.{if◌then◌else◌}
 use mathlib.Core.Path.{◌≡◌, refl, sym, ap, ◌∙◌}
 use mathlib.Core.Bool.{Bool, true, false, ◌&&◌}
 use mathlib.Core.List.{List}
@@ -8,7 +9,6 @@ use lib.Dec.{leb}
 use Rattle.model.specs.declared.Counts.{Counts}
 use Rattle.model.specs.declared.Loaded.{Loaded}
 use Rattle.model.specs.declared.Loaded.TheVariants as ld
-use Rattle.model.specs.Basics.{if◌then◌else◌}
 use Rattle.model.specs.Numbers.{Bytes}
 use Rattle.model.specs.Values.{places}
 use Rattle.model.specs.Programs.{Program, within_limits}

@@ -1,4 +1,5 @@
 -- The other entries, of two machines that mean the same: they say the same, and leave such machines.
+use Rattle.std.specs.Prelude.{if◌then◌else◌}
 use mathlib.Core.Path.{◌≡◌, refl, sym, ap, subst, ◌∙◌}
 use mathlib.Core.Bool.{Bool, true, false}
 use mathlib.Core.List.{List, [], ◌∷◌, ◌++◌, reverse}
@@ -17,7 +18,6 @@ use Rattle.model.specs.declared.Emitted.TheVariants as em
 use Rattle.model.specs.declared.Loaded.{Loaded}
 use Rattle.model.specs.declared.Loaded.TheVariants as ld
 use Rattle.model.specs.declared.Shown.TheVariants as w
-use Rattle.model.specs.Basics.{if◌then◌else◌}
 use Rattle.model.specs.Values.{places, value_at, vals}
 use Rattle.model.specs.Heap.{Cell, cells_from, heap_of}
 use Rattle.model.specs.Trees.{meaning}

@@ -1,4 +1,5 @@
 -- Calls one after another: machines that mean the same say the same, whatever the calls.
+use Rattle.std.specs.Prelude.{if◌then◌else◌}
 use mathlib.Core.Path.{◌≡◌, refl}
 use mathlib.Core.Bool.{Bool, true, false, ◌||◌}
 use mathlib.Core.List.{List, [], ◌∷◌}
@@ -9,7 +10,6 @@ use Rattle.model.specs.declared.Vm.{Vm}
 use Rattle.model.specs.declared.Value.{Value}
 use Rattle.model.specs.declared.Last.{Last}
 use Rattle.model.specs.declared.Last.TheVariants.{Nothing, Is}
-use Rattle.model.specs.Basics.{if◌then◌else◌}
 use Rattle.model.specs.Heap.{Cell}
 use Rattle.model.specs.Steps.{World, State}
 use Rattle.model.specs.Runs.{Machine}

@@ -1,4 +1,5 @@
 -- A call of a run of two machines that mean the same says the same, and leaves such machines.
+use Rattle.std.specs.Prelude.{if◌then◌else◌}
 use mathlib.Core.Path.{◌≡◌, refl, sym, ap, subst, ◌∙◌}
 use mathlib.Core.Bool.{Bool, true, false}
 use Prim.Native.Nat.{ℕ, ◌+◌}
@@ -6,7 +7,6 @@ use native.Mathlib.Omega.{arith}
 use lib.Dec.{ltb}
 use Rattle.model.specs.declared.Counts.{Counts}
 use Rattle.model.specs.declared.Vm.{Vm}
-use Rattle.model.specs.Basics.{if◌then◌else◌}
 use Rattle.model.specs.Steps.{World}
 use Rattle.model.specs.Runs.{begin, machine_of as machineAt, Ran, Under, Part, ends, pauses, begin_of, continue_of, abandon_of}
 use Rattle.model.specs.Programs.{Program}

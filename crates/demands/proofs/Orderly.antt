@@ -1,4 +1,5 @@
 -- Every call keeps good order.
+use Rattle.std.specs.Prelude.{if◌then◌else◌}
 use mathlib.Core.Path.{◌≡◌, refl, sym, ap, subst, ◌∙◌}
 use mathlib.Core.Bool.{Bool, true, false}
 use mathlib.Core.List.{List, [], ◌∷◌}
@@ -14,7 +15,6 @@ use Rattle.model.specs.declared.Vm.{Vm}
 use Rattle.model.specs.declared.Started.TheVariants as st
 use Rattle.model.specs.declared.Loaded.{Loaded}
 use Rattle.model.specs.declared.Loaded.TheVariants as ld
-use Rattle.model.specs.Basics.{if◌then◌else◌}
 use Rattle.model.specs.Numbers.{Bytes}
 use Rattle.model.specs.Programs.{Program, within_limits}
 use Rattle.model.specs.Images.{Judged, fine, broken, judge, Sound}

@@ -1,4 +1,5 @@
 -- Demand 2: what each step costs, and that a run is its written steps.
+use Rattle.std.specs.Prelude.{if◌then◌else◌}
 use mathlib.Core.Path.{◌≡◌, refl, sym, subst}
 use mathlib.Core.Bool.{Bool, true, false, not, ◌&&◌}
 use mathlib.Core.List.{List, [], ◌∷◌, ◌++◌}
@@ -20,7 +21,6 @@ use Rattle.model.specs.declared.Fault.{Fault}
 use Rattle.model.specs.declared.Fault.TheVariants as f
 use Rattle.model.specs.declared.Found.{Found}
 use Rattle.model.specs.declared.Found.TheVariants as g
-use Rattle.model.specs.Basics.{if◌then◌else◌}
 use Rattle.model.specs.Values.{popping, popping_scalar, popping_boolean, fault_number}
 use Rattle.model.specs.Scalars.{zero_divisor, result_of}
 use Rattle.model.specs.Heap.{Cell, deepest, block_of, built, unbuilt, build_of, field_of}

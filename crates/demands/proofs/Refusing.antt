@@ -1,4 +1,5 @@
 -- Demand 1: the checks of each entry are those of its rule.
+use Rattle.std.specs.Prelude.{if◌then◌else◌}
 use mathlib.Core.Path.{◌≡◌, refl, sym, ap, ◌∙◌}
 use mathlib.Core.Bool.{Bool, true, false, not, ◌&&◌, ◌||◌}
 use mathlib.Core.List.{List, [], ◌∷◌}
@@ -24,7 +25,6 @@ use Rattle.model.specs.declared.Changed.TheVariants as ch
 use Rattle.model.specs.declared.Told.{Told}
 use Rattle.model.specs.declared.Shown.{Shown}
 use Rattle.model.specs.declared.Headed.{Headed}
-use Rattle.model.specs.Basics.{if◌then◌else◌}
 use Rattle.model.specs.Values.{if_string, if_reference, places, kind_at, payload_at, exact_value, text_at}
 use Rattle.model.specs.Heap.{Cell}
 use Rattle.model.specs.Programs.{Function, name_limit, within_limits}

@@ -1,4 +1,5 @@
 -- A machine in stores that are lent anew is in good order, and stands for the same program and the same machine; where they are as long, no answer says which.
+use Rattle.std.specs.Prelude.{if◌then◌else◌}
 use mathlib.Core.Path.{◌≡◌, refl, sym, ap, ◌∙◌}
 use mathlib.Core.Bool.{Bool, true, false, ◌&&◌}
 use mathlib.Core.List.{List, [], ◌∷◌}
@@ -10,7 +11,7 @@ use lib.ListN.{length, take, drop, length-take}
 use lib.Seq.{take-take}
 use Rattle.model.specs.declared.Counts.{Counts}
 use Rattle.model.specs.declared.Vm.{Vm}
-use Rattle.model.specs.Basics.{if◌then◌else◌, every_from}
+use Rattle.model.specs.Basics.{every_from}
 use Rattle.model.specs.Values.{places, kind_at, payload_at, value_at, values_from, exact_value, text_at}
 use Rattle.model.specs.Heap.{Cell, heap_of, heap_ok, exact_cells, placed_below}
 use Rattle.model.specs.Programs.{Function}

@@ -1,10 +1,10 @@
 -- Changing the setting: the machine is as it was but for that, and good order does not ask about it.
+use Rattle.std.specs.Prelude.{if◌then◌else◌}
 use mathlib.Core.Path.{◌≡◌, refl}
 use mathlib.Core.Bool.{Bool}
 use Rattle.model.specs.declared.Vm.{Vm}
 use Rattle.model.specs.declared.Changed.{Changed}
 use Rattle.model.specs.declared.Changed.TheVariants as ch
-use Rattle.model.specs.Basics.{if◌then◌else◌}
 use Rattle.model.specs.Stores.{Stores}
 use Rattle.model.specs.Machines.{Lent, machine_order, under_order, part_order, run_order, set_strict}
 

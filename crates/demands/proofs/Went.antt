@@ -1,9 +1,9 @@
 -- A call of a run that was not refused: what it comes to is what the rules say, and what is then held stands for that.
+use Rattle.std.specs.Prelude.{if◌then◌else◌}
 use mathlib.Core.Path.{◌≡◌, refl, sym, ap, subst, ◌∙◌}
 use mathlib.Core.Bool.{Bool, true, false}
 use Prim.Native.Nat.{ℕ, ◌+◌}
 use lib.Dec.{ltb}
-use Rattle.model.specs.Basics.{if◌then◌else◌}
 use Rattle.model.specs.Runs.{Part, ends, pauses, begin_of, continue_of, abandon_of}
 use Rattle.model.specs.Machines.{frame_room, machine_in, under_in, world_of, run_order, copy_short, trace_short, Unchanged, unchanged, refused, RunCall, begins, continues, abandons, begin_answer, continue_answer, abandon_answer, run_answer, ended_as}
 use Rattle.model.specs.Machines as m

@@ -1,4 +1,5 @@
 -- A machine in good order stays so where its program grows.
+use Rattle.std.specs.Prelude.{if◌then◌else◌}
 use mathlib.Core.Path.{◌≡◌, refl}
 use mathlib.Core.Bool.{Bool, true, false, ◌&&◌}
 use mathlib.Core.List.{List, [], ◌∷◌}
@@ -14,7 +15,6 @@ use Rattle.model.specs.declared.Value.TheVariants as v
 use Rattle.model.specs.declared.Last.{Last}
 use Rattle.model.specs.declared.Last.TheVariants.{Nothing, Is}
 use Rattle.model.specs.declared.Frame.{Frame}
-use Rattle.model.specs.Basics.{if◌then◌else◌}
 use Rattle.model.specs.Heap.{Cell, item, head, cell_in, head_in, elements_in, deepest, whole_below, placed_below, element_below, elements_below, block_ok, blocks_from, heap_ok}
 use Rattle.model.specs.Steps.{World, State}
 use Rattle.model.specs.Stores.{Stores, world_in}

@@ -1,5 +1,6 @@
 -- What an entry over call frames itself answers, as its judges know it: 19 where the order is not good, then 25 or 18, and no such number else. And what a
 -- short record does not change of loading.
+use Rattle.std.specs.Prelude.{if◌then◌else◌}
 use mathlib.Core.Path.{◌≡◌, refl, ◌∙◌}
 use mathlib.Core.Bool.{Bool, true, false}
 use mathlib.Core.List.{List, [], ◌∷◌}
@@ -13,7 +14,6 @@ use Rattle.model.specs.declared.Loaded.{Loaded}
 use Rattle.model.specs.declared.Loaded.TheVariants as l
 use Rattle.model.specs.declared.Started.{Started}
 use Rattle.model.specs.declared.Told.TheVariants as t
-use Rattle.model.specs.Basics.{if◌then◌else◌}
 use Rattle.model.specs.Answers.{toldNumber}
 use Rattle.model.specs.Values.{places}
 use Rattle.model.specs.Stores.{Stores, functions_from}

@@ -1,4 +1,5 @@
 -- The entries' answers in words.
+use Rattle.std.specs.Prelude.{if◌then◌else◌}
 use mathlib.Core.Path.{◌≡◌, refl}
 use mathlib.Core.List.{List, [], ◌∷◌}
 use Prim.Native.Nat.{ℕ}
@@ -24,7 +25,7 @@ use Rattle.model.specs.declared.Started.{Started}
 use Rattle.model.specs.declared.Started.TheVariants as st
 use Rattle.model.specs.declared.RunResult.{RunResult}
 use Rattle.model.specs.declared.RunResult.TheVariants as r
-use Rattle.model.specs.Basics.{if◌then◌else◌, written}
+use Rattle.model.specs.Basics.{written}
 use Rattle.model.specs.Answers.{toldNumber, shownNumber, headedNumber}
 use Rattle.model.specs.Values.{kind, payload}
 use Rattle.embed_words.specs.Coding.{count_words, vm_words, crossed}

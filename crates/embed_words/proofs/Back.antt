@@ -1,4 +1,5 @@
 -- A record that was written is read back as the machine: a host in C that hands the record back hands the machine back.
+use Rattle.std.specs.Prelude.{if◌then◌else◌}
 use mathlib.Core.Path.{◌≡◌, refl, ap}
 use mathlib.Core.Bool.{Bool, true, false, ◌&&◌}
 use mathlib.Core.List.{List, [], ◌∷◌, ◌++◌}
@@ -14,7 +15,7 @@ use Rattle.model.specs.declared.Value.{Value}
 use Rattle.model.specs.declared.Value.TheVariants as v
 use Rattle.model.specs.declared.Last.{Last}
 use Rattle.model.specs.declared.Last.TheVariants.{Nothing, Is}
-use Rattle.model.specs.Basics.{if◌then◌else◌, written}
+use Rattle.model.specs.Basics.{written}
 use Rattle.model.specs.Values.{kind, payload, exact_value, bit}
 use Rattle.value.specs.Links.{Fine, last_in, last_kind, last_payload}
 use Rattle.value.proofs.Coding.{words_exact}

@@ -1,6 +1,6 @@
 -- What crosses to a host in C: a machine's record and the entries' answers, as words in slices that the host lends.
 -- Enums do not cross: a value is its kind and its payload, as in the stores; an entry returns 0, or the number of its refusal.
-use Rattle.std.specs.Prelude.{◌≡◌, Bool, true, false, ◌&&◌, ◌||◌, List, [], ◌∷◌, ℕ, T, eqb, leb, length, get_or}
+use Rattle.std.specs.Prelude.{◌≡◌, Bool, true, false, ◌&&◌, ◌||◌, List, [], ◌∷◌, ℕ, T, eqb, leb, length, get_or, if◌then◌else◌}
 use Rattle.std.specs.Float.{binary64}
 use Rattle.std.specs.Float.Ieee.{fits}
 use Rattle.model.specs.declared.Counts.{Counts}
@@ -25,7 +25,7 @@ use Rattle.model.specs.declared.Started.{Started}
 use Rattle.model.specs.declared.Started.TheVariants as st
 use Rattle.model.specs.declared.RunResult.{RunResult}
 use Rattle.model.specs.declared.RunResult.TheVariants as r
-use Rattle.model.specs.Basics.{if◌then◌else◌, written}
+use Rattle.model.specs.Basics.{written}
 use Rattle.model.specs.Values.{kind, payload, exact_value, bit}
 use Rattle.model.specs.Answers.{runNumber, startedNumber, emittedNumber, toldNumber, shownNumber, headedNumber}
 use Rattle.model.specs.Stores.{Stores}

@@ -3,6 +3,7 @@
 --     trace-is-good        whether there can be a backtrace
 --     trace-is             the backtrace in numbers
 -- Assumes nothing.
+use Rattle.std.specs.Prelude.{if◌then◌else◌}
 use mathlib.Core.Path.{◌≡◌, refl, sym, ap, ◌∙◌}
 use mathlib.Core.Bool.{Bool, true, false, ◌&&◌, and-false}
 use mathlib.Mathlib.Data.Bool.Basic.{and_elim_left, and_elim_right}
@@ -14,7 +15,7 @@ use lib.ListN.{length, get_or, take, drop}
 use lib.Seq.{drop-cons, get_or-take, get_or-drop}
 use borrow.Author.Tests.{ltb-true, lt-ltb, le-ltb, le-leb, leb-true}
 use Rattle.model.specs.declared.Frame.{Frame}
-use Rattle.model.specs.Basics.{if◌then◌else◌, every_from}
+use Rattle.model.specs.Basics.{every_from}
 use Rattle.model.specs.Values.{most_places, text_at}
 use Rattle.model.specs.Programs.{Function, function_at}
 use Rattle.model.specs.Stores.{start, size, part, code_word}

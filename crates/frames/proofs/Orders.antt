@@ -1,5 +1,6 @@
 -- What the definitions of good order say to the code that decides them: each test that fails, and all that pass.
 -- Assumes nothing.
+use Rattle.std.specs.Prelude.{if◌then◌else◌}
 use mathlib.Core.Path.{◌≡◌, refl, sym, ◌∙◌}
 use mathlib.Core.Bool.{Bool, true, false, ◌&&◌, false≢true}
 use mathlib.Mathlib.Data.Bool.Basic.{and_elim_left}
@@ -11,7 +12,7 @@ use lib.Dec.{ltb, leb, eqb}
 use lib.ListN.{get_or}
 use borrow.Author.Tests.{ltb-true, ltb-false, leb-true, lt-ltb, le-ltb, le-leb, lt-leb, eq-eqb, ne_eqb}
 use Rattle.model.specs.declared.Frame.{Frame}
-use Rattle.model.specs.Basics.{if◌then◌else◌, every_from}
+use Rattle.model.specs.Basics.{every_from}
 use Rattle.model.specs.Values.{most_places, payload_at}
 use Rattle.model.specs.Stores.{size, code_word}
 use Rattle.frames.specs.Links.{no_frame, frame_good, entered_good, caller_good, place_good, caller_entered, begun, looked, scan}

@@ -1,7 +1,7 @@
 -- What the contracts cite beside the model: a frame store judged by the functions' words, and a backtrace in numbers.
-use Rattle.std.specs.Prelude.{Bool, true, false, ◌&&◌, ◌≡◌, List, [], ◌∷◌, ◌++◌, map, ℕ, zero, suc, ◌+◌, ◌-◌, ◌*◌, ◌<◌, ◌≤◌, min, ltb, leb, eqb, length, get_or, set, take, drop}
+use Rattle.std.specs.Prelude.{Bool, true, false, ◌&&◌, ◌≡◌, List, [], ◌∷◌, ◌++◌, map, ℕ, zero, suc, ◌+◌, ◌-◌, ◌*◌, ◌<◌, ◌≤◌, min, ltb, leb, eqb, length, get_or, set, take, drop, if◌then◌else◌}
 use Rattle.model.specs.declared.Frame.{Frame}
-use Rattle.model.specs.Basics.{if◌then◌else◌, every_from}
+use Rattle.model.specs.Basics.{every_from}
 use Rattle.model.specs.Values.{most_places}
 use Rattle.model.specs.Stores.{start, size, code_word}
 use Rattle.model.specs.Runs.{unentered}

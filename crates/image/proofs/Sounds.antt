@@ -1,4 +1,5 @@
 -- A program in good order is sound and within the limits, so that what is saved loads as the same program.
+use Rattle.std.specs.Prelude.{if◌then◌else◌}
 use mathlib.Core.Path.{◌≡◌, refl, sym, ap, ◌∙◌}
 use mathlib.Core.Bool.{Bool, true, false, not}
 use mathlib.Core.List.{List, [], ◌∷◌, ◌++◌}
@@ -8,7 +9,6 @@ use lib.Dec.{eqb}
 use lib.ListN.{length, take, drop, get_or, length-drop}
 use lib.Seq.{length-take-le}
 use borrow.Author.Tests.{ne_eqb, not-true, le-leb}
-use Rattle.model.specs.Basics.{if◌then◌else◌}
 use Rattle.model.specs.Values.{places, kind_at, payload_at, text_at}
 use Rattle.model.specs.Equality.{same_bytes}
 use Rattle.model.specs.Programs.{among, code_limit, constant_limit, name_limit, codes_within, within_limits}

@@ -1,4 +1,5 @@
 -- Which item begins at an offset: what the code reads is what the definitions read.
+use Rattle.std.specs.Prelude.{if◌then◌else◌}
 use mathlib.Core.Path.{◌≡◌, refl, sym, ap, ◌∙◌}
 use mathlib.Core.List.{List}
 use Prim.Native.Nat.{ℕ, zero, suc, ◌+◌, ◌-◌, ◌≤◌, ◌<◌}
@@ -6,7 +7,6 @@ use native.Mathlib.Omega.{arith}
 use lib.Dec.{eqb, ltb}
 use lib.ListN.{length, drop, length-drop}
 use borrow.Author.Tests.{eq-eqb, ne_eqb, lt-ltb, le-ltb}
-use Rattle.model.specs.Basics.{if◌then◌else◌}
 use Rattle.model.specs.Numbers.{Step, number}
 use Rattle.model.specs.Images.{takes, read_text, read_constant}
 use Rattle.number.specs.declared.Num.{Num}

@@ -1,6 +1,5 @@
 -- [checker] Which item of an image begins at offset o: what comes before it is read, and where the one ends the next begins.
-use Rattle.std.specs.Prelude.{◌≡◌, List, ℕ, zero, suc, ◌-◌, ◌≤◌, eqb, ltb, length, drop}
-use Rattle.model.specs.Basics.{if◌then◌else◌}
+use Rattle.std.specs.Prelude.{◌≡◌, List, ℕ, zero, suc, ◌-◌, ◌≤◌, eqb, ltb, length, drop, if◌then◌else◌}
 use Rattle.model.specs.Numbers.{Step, got, bad, number}
 use Rattle.model.specs.Images.{takes, read_text, read_constant}
 use Rattle.image_judge.specs.Links.{runs_for}

@@ -1,4 +1,5 @@
 -- The judging of a section: a count, and each with its text.
+use Rattle.std.specs.Prelude.{if◌then◌else◌}
 use mathlib.Core.Path.{◌≡◌, refl, sym, ap, subst, ◌∙◌}
 use mathlib.Core.Bool.{Bool, true, false, not}
 use mathlib.Core.List.{List, [], ◌∷◌, ◌++◌}
@@ -8,7 +9,6 @@ use native.Mathlib.Numerals.{lt_of_le_of_ne}
 use lib.Dec.{eqb, ltb}
 use lib.ListN.{length}
 use borrow.Author.Tests.{ltb-true, ltb-false, eqb-true, eqb-false}
-use Rattle.model.specs.Basics.{if◌then◌else◌}
 use Rattle.model.specs.Numbers.{Step, and_then, number}
 use Rattle.model.specs.Equality.{same_bytes}
 use Rattle.model.specs.Programs.{Constant, among}

@@ -1,6 +1,5 @@
 -- What the answers of the code stand for. `s` is the image, and a place is an offset in it.
-use Rattle.std.specs.Prelude.{◌≡◌, Bool, true, false, not, List, [], ◌∷◌, ℕ, zero, suc, ◌+◌, ◌-◌, ◌≤◌, ◌<◌, ◌^◌, ltb, eqb, length, take, drop}
-use Rattle.model.specs.Basics.{if◌then◌else◌}
+use Rattle.std.specs.Prelude.{◌≡◌, Bool, true, false, not, List, [], ◌∷◌, ℕ, zero, suc, ◌+◌, ◌-◌, ◌≤◌, ◌<◌, ◌^◌, ltb, eqb, length, take, drop, if◌then◌else◌}
 use Rattle.model.specs.Numbers.{Step, got, bad, and_then}
 use Rattle.model.specs.Programs.{Constant, scalar, boolean, string, reference, Function, Program, function_at, codes_within}
 use Rattle.model.specs.Images as i

@@ -1,4 +1,5 @@
 -- A program in good order has an image, and it is not too long to count.
+use Rattle.std.specs.Prelude.{if◌then◌else◌}
 use mathlib.Core.Path.{◌≡◌, refl, sym, ap, subst, ◌∙◌}
 use mathlib.Core.Bool.{Bool, true, false, not}
 use mathlib.Core.List.{List, [], ◌∷◌, ◌++◌, append_assoc}
@@ -8,7 +9,6 @@ use native.Mathlib.Nat.{min-le_left}
 use lib.Dec.{eqb, leb, ltb}
 use lib.ListN.{length, drop, length-append, length-take}
 use borrow.Author.Tests.{leb-true, ltb-true, ne_eqb, le-leb, lt-leb, not-true, not-false}
-use Rattle.model.specs.Basics.{if◌then◌else◌}
 use Rattle.model.specs.Numbers.{digits, groups_of}
 use Rattle.model.specs.Values.{places, kind_at, payload_at, text_at}
 use Rattle.model.specs.Programs.{Function, boolean}

@@ -1,4 +1,5 @@
 -- THE ROW IS TIED TO THE STEP: opcode by opcode, over the whole table.
+use Rattle.std.specs.Prelude.{if◌then◌else◌}
 use mathlib.Core.Path.{◌≡◌, refl}
 use mathlib.Core.Bool.{Bool, true, false, not, ◌||◌, ◌&&◌, true≢false}
 use mathlib.Core.List.{List, [], ◌∷◌}
@@ -25,7 +26,7 @@ use Rattle.model.specs.declared.Last.TheVariants.{Nothing, Is}
 use Rattle.model.specs.declared.Fault.TheVariants as f
 use Rattle.model.specs.declared.Found.TheVariants as g
 use Rattle.model.specs.declared.Frame.{Frame}
-use Rattle.model.specs.Basics.{if◌then◌else◌, ascii}
+use Rattle.model.specs.Basics.{ascii}
 use Rattle.model.specs.Opcodes.{Opcode, op, first_names, as_count, popped, opcodes, opcode_at}
 use Rattle.model.specs.Values.{popping, popping_scalar, popping_boolean}
 use Rattle.model.specs.Scalars.{zero_divisor, result_of}

@@ -1,4 +1,5 @@
 -- Where a program passed the earlier rules: paths come to instructions of the walk, and what holds of every instruction holds where they come.
+use Rattle.std.specs.Prelude.{if◌then◌else◌}
 use mathlib.Core.Path.{◌≡◌, refl, sym, ◌∙◌}
 use mathlib.Core.Bool.{Bool, true, false, not, ◌&&◌, ◌||◌, true≢false}
 use mathlib.Core.List.{List, [], ◌∷◌, ◌++◌}
@@ -7,7 +8,6 @@ use native.Mathlib.Omega.{arith}
 use borrow.Author.Tests.{lt-ltb, eqb-true, eqb-false, eq-eqb, not-true}
 use lib.Dec.{ltb, eqb}
 use lib.ListN.{length}
-use Rattle.model.specs.Basics.{if◌then◌else◌}
 use Rattle.model.specs.Programs.{Function, Program, function_at, behind, next_in, stands_for, stands}
 use Rattle.check_rules.specs.declared.Rule.TheVariants as r
 use Rattle.check_rules.specs.Rules.{every, is_in, lands, jump_at, is_jump, target_at, Path, starts, goes, leaps, Keeps, Passed, code_of, is_main, count_of, calls_in, calls_at, Site, count_in, passes, call_at, is_at, call, call_callable, first_at, second_at, whole_at, numbers_at, suffices, Heights}

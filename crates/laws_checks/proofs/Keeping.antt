@@ -1,4 +1,5 @@
 -- A step keeps the table: it faults exactly if a check of its opcode's row fails, and by the number of the first that does.
+use Rattle.std.specs.Prelude.{if◌then◌else◌}
 use mathlib.Core.Path.{◌≡◌, refl, sym, ap, subst, ◌∙◌}
 use mathlib.Core.Bool.{Bool, true, false, not, ◌&&◌, ◌||◌}
 use mathlib.Core.List.{List, [], ◌∷◌, reverse, reverse_aux}
@@ -22,7 +23,6 @@ use Rattle.model.specs.declared.Fault.{Fault}
 use Rattle.model.specs.declared.Fault.TheVariants as f
 use Rattle.model.specs.declared.Found.TheVariants as g
 use Rattle.model.specs.declared.Frame.{Frame}
-use Rattle.model.specs.Basics.{if◌then◌else◌}
 use Rattle.model.specs.Values.{if_scalar, if_boolean, if_reference, if_struct, fault_number, popping, popping_scalar, popping_boolean, text_at}
 use Rattle.model.specs.Scalars.{zero_divisor, result_of}
 use Rattle.model.specs.Heap.{Cell, built, unbuilt, head_in, deepest, depth_in, field_of, build_of, list_elements, struct_fields}

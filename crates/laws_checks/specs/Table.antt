@@ -1,6 +1,6 @@
 -- [step] What each opcode checks, in order, as a table. The checks of every opcode come first and stand in `step_of`: units, 1, 2, 3.
 -- "Number operands, pops from the top (4 before 5 at each), 7, field number, 14, argument count, zero divisor, 26, comparison units, 12, 11, frames, stack."
-use Rattle.std.specs.Prelude.{◌≡◌, Bool, true, false, not, ◌&&◌, List, [], ◌∷◌, ℕ, zero, suc, ◌+◌, ltb, leb, length, take, drop}
+use Rattle.std.specs.Prelude.{◌≡◌, Bool, true, false, not, ◌&&◌, List, [], ◌∷◌, ℕ, zero, suc, ◌+◌, ltb, leb, length, take, drop, if◌then◌else◌}
 use Rattle.std.proofs.Math.Option.{Option, none, some}
 use Rattle.model.specs.declared.Arith.{Arith}
 use Rattle.model.specs.declared.Op.{Op}
@@ -9,7 +9,6 @@ use Rattle.model.specs.declared.Value.{Value}
 use Rattle.model.specs.declared.Value.TheVariants as v
 use Rattle.model.specs.declared.Last.{Last}
 use Rattle.model.specs.declared.Last.TheVariants.{Nothing, Is}
-use Rattle.model.specs.Basics.{if◌then◌else◌}
 use Rattle.model.specs.Values.{if_scalar, if_boolean, if_reference, if_struct, fault_number, text_at}
 use Rattle.model.specs.Scalars.{zero_divisor, result_of}
 use Rattle.model.specs.Heap.{head_in, deepest}

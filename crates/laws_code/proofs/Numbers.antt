@@ -1,4 +1,5 @@
 -- A listing is refused by 1 or 3 and by no other number.
+use Rattle.std.specs.Prelude.{if◌then◌else◌}
 use mathlib.Core.Path.{◌≡◌, refl}
 use mathlib.Core.Bool.{Bool, true, false, ◌||◌}
 use mathlib.Core.List.{List, [], ◌∷◌}
@@ -7,7 +8,6 @@ use lib.Dec.{eqb, leb, ltb}
 use lib.ListN.{length}
 use Rattle.model.specs.declared.Decoded.{Decoded}
 use Rattle.model.specs.declared.Decoded.TheVariants as d
-use Rattle.model.specs.Basics.{if◌then◌else◌}
 use Rattle.model.specs.Programs.{Function, Program, opcode_in, next_in}
 use Rattle.model.specs.Listings.{line_of, Listed, text, unlisted, in_front, known_then, opcode_then, line_then, lines_for, and_listed, listing_from, listing_of}
 

@@ -1,4 +1,5 @@
 -- A listing shows one line for each position where the walk stands, and a step takes the same walk.
+use Rattle.std.specs.Prelude.{if◌then◌else◌}
 use mathlib.Core.Path.{◌≡◌, refl, sym, ap, ◌∙◌}
 use mathlib.Core.Bool.{Bool, true, false}
 use mathlib.Core.List.{List, [], ◌∷◌, ◌++◌}
@@ -9,7 +10,6 @@ use borrow.Author.Tests.{le-leb, ne_eqb}
 use Rattle.model.specs.declared.Op.{Op}
 use Rattle.model.specs.declared.Decoded.{Decoded}
 use Rattle.model.specs.declared.Decoded.TheVariants as d
-use Rattle.model.specs.Basics.{if◌then◌else◌}
 use Rattle.model.specs.Opcodes.{operands}
 use Rattle.model.specs.Images.{joined}
 use Rattle.model.specs.Programs.{Function, Program, word_at, behind, opcode_in, next_in, stands_for, stands}

@@ -1,4 +1,5 @@
 -- What an entry itself answers, as its judges know it: 19 where the order is not good, 25 where a run is under way, and no such number else.
+use Rattle.std.specs.Prelude.{if◌then◌else◌}
 use mathlib.Core.Path.{◌≡◌, refl}
 use mathlib.Core.Bool.{Bool, true, false}
 use mathlib.Core.List.{List}
@@ -10,7 +11,6 @@ use Rattle.model.specs.declared.Constant.{Constant}
 use Rattle.model.specs.declared.Constant.TheVariants as k
 use Rattle.model.specs.declared.Counts.{Counts}
 use Rattle.model.specs.declared.Emitted.TheVariants as e
-use Rattle.model.specs.Basics.{if◌then◌else◌}
 use Rattle.model.specs.Answers.{emittedNumber}
 use Rattle.model.specs.Values.{places}
 use Rattle.model.specs.Stores.{Stores}

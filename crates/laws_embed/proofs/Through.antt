@@ -1,4 +1,5 @@
 -- What the functions ensure, from what their callees did: each is refused by what crosses, or is the entry's own rule, with the answer in words.
+use Rattle.std.specs.Prelude.{if◌then◌else◌}
 use mathlib.Core.Path.{◌≡◌, refl, sym, ap, ◌∙◌}
 use mathlib.Core.Bool.{Bool, true, false}
 use mathlib.Core.List.{List, [], ◌++◌, append-nil}
@@ -13,7 +14,6 @@ use Rattle.model.specs.declared.Value.{Value}
 use Rattle.model.specs.declared.Told.{Told}
 use Rattle.model.specs.declared.Emitted.{Emitted}
 use Rattle.model.specs.declared.Emitted.TheVariants as em
-use Rattle.model.specs.Basics.{if◌then◌else◌}
 use Rattle.model.specs.Answers.{emittedNumber, toldNumber}
 use Rattle.model.specs.Stores.{Stores}
 use Rattle.model.specs.Emission.{Res}

@@ -1,4 +1,5 @@
 -- A call from C does what the entry does.
+use Rattle.std.specs.Prelude.{if◌then◌else◌}
 use mathlib.Core.Path.{◌≡◌, refl, sym, subst, ◌∙◌}
 use mathlib.Core.Bool.{Bool, true, false}
 use mathlib.Core.List.{List, [], ◌∷◌}
@@ -15,7 +16,6 @@ use Rattle.model.specs.declared.Started.{Started}
 use Rattle.model.specs.declared.Started.TheVariants as st
 use Rattle.model.specs.declared.Loaded.{Loaded}
 use Rattle.model.specs.declared.Loaded.TheVariants as ld
-use Rattle.model.specs.Basics.{if◌then◌else◌}
 use Rattle.model.specs.Values.{kind, payload}
 use Rattle.model.specs.Stores.{Stores}
 use Rattle.model.specs.Emission.{Res, new_of}

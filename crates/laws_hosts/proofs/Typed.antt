@@ -1,4 +1,5 @@
 -- A run keeps what the types of the code say of its values: a scalar is a float of 64 bits. So two words of a record can hold its last result.
+use Rattle.std.specs.Prelude.{if◌then◌else◌}
 use mathlib.Core.Path.{◌≡◌, refl, sym, subst}
 use mathlib.Core.Bool.{Bool, true, false, ◌&&◌}
 use mathlib.Core.List.{List, [], ◌∷◌, ◌++◌, map, reverse_aux}
@@ -27,7 +28,6 @@ use Rattle.model.specs.declared.Frame.{Frame}
 use Rattle.model.specs.declared.Vm.{Vm}
 use Rattle.model.specs.declared.RunResult.{RunResult}
 use Rattle.model.specs.declared.RunResult.TheVariants as r
-use Rattle.model.specs.Basics.{if◌then◌else◌}
 use Rattle.model.specs.Values.{popping, popping_scalar, popping_boolean, kind_at, payload_at, value_of, value_at, vals, values_from}
 use Rattle.model.specs.Scalars.{arith_of, zero_divisor, result_of}
 use Rattle.model.specs.Heap.{Cell, item, head, header_of, cell_of, cell_at, cells_from, heap_of, cell_in, item_in, head_in, field_of, list_elements, struct_fields, block_of, Built, built, unbuilt, build_of}

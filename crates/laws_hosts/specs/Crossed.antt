@@ -1,5 +1,5 @@
 -- What crosses: a host in C holds what a host in Rattle holds, and what comes back to it tells the entry's answer.
-use Rattle.std.specs.Prelude.{◌≡◌, Bool, true, List, [], ◌∷◌, ℕ, ◌≤◌, leb, length}
+use Rattle.std.specs.Prelude.{◌≡◌, Bool, true, List, [], ◌∷◌, ℕ, ◌≤◌, leb, length, if◌then◌else◌}
 use Rattle.std.proofs.Math.Option.{Option, none, some}
 use Rattle.model.specs.declared.Value.{Value}
 use Rattle.model.specs.declared.Vm.{Vm}
@@ -14,7 +14,7 @@ use Rattle.model.specs.declared.Shown.{Shown}
 use Rattle.model.specs.declared.Shown.TheVariants as sh
 use Rattle.model.specs.declared.Headed.{Headed}
 use Rattle.model.specs.declared.Headed.TheVariants as h
-use Rattle.model.specs.Basics.{if◌then◌else◌, written}
+use Rattle.model.specs.Basics.{written}
 use Rattle.model.specs.Values.{value_of, kind, payload, exact_value}
 use Rattle.model.specs.Runs.{Reply, value, continue, fault, ends, pauses}
 use Rattle.model.specs.Machines.{RunAnswer, ran as answered, refused}

@@ -1,4 +1,5 @@
 -- The stores of a loaded program hold that program.
+use Rattle.std.specs.Prelude.{if◌then◌else◌}
 use mathlib.Core.Path.{◌≡◌, refl, sym, ap, subst, ◌∙◌}
 use mathlib.Core.Bool.{true, false}
 use mathlib.Core.List.{List, [], ◌∷◌, ◌++◌, append_assoc}
@@ -8,7 +9,6 @@ use lib.Dec.{eqb}
 use lib.ListN.{length, drop, get_or, length-append}
 use lib.Seq.{sets-eq, take_at, drop_at, get_or_at}
 use borrow.Author.Tests.{ne_eqb}
-use Rattle.model.specs.Basics.{if◌then◌else◌}
 use Rattle.model.specs.Values.{bit, kind_at, payload_at, text_at}
 use Rattle.model.specs.Programs.{Constant, scalar, boolean, string, reference, Function}
 use Rattle.model.specs.Images.{joined}

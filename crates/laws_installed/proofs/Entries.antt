@@ -1,4 +1,5 @@
 -- Through the entries: what the check passed, and what was loaded of an image whose program passes, is installed; and so it runs.
+use Rattle.std.specs.Prelude.{if◌then◌else◌}
 use mathlib.Core.Path.{◌≡◌, refl, sym, ap, subst, ◌∙◌}
 use mathlib.Core.Bool.{Bool, true, false, ◌&&◌}
 use mathlib.Core.List.{List, [], ◌∷◌, ◌++◌}
@@ -25,7 +26,6 @@ use Rattle.model.specs.Stores.{Stores, program_in}
 use Rattle.model.specs.Emission.{written}
 use Rattle.model.specs.Loading.{laid, counts_for, room_for, LoadRes, load_judged, load_of}
 use Rattle.model.specs.Runs.{root}
-use Rattle.model.specs.Basics.{if◌then◌else◌}
 use Rattle.model.specs.Machines.{Lent, innermost, fresh, StartRes, start_with, unless_running, load_machine_of, RunCall, RunPost}
 use Rattle.layout.proofs.Parts.{room_1}
 use Rattle.laws_images.proofs.Held.{written_front}

@@ -1,4 +1,5 @@
 -- A program that passed the check, installed: what a run then answers, however its units are dealt out, and how high the stack grows.
+use Rattle.std.specs.Prelude.{if◌then◌else◌}
 use mathlib.Core.Path.{◌≡◌, refl, sym, ap, subst, ◌∙◌}
 use mathlib.Core.Bool.{Bool, true, false}
 use mathlib.Core.List.{List, [], ◌∷◌, reverse}
@@ -12,7 +13,6 @@ use Rattle.model.specs.declared.Vm.{Vm}
 use Rattle.model.specs.declared.Changed.TheVariants as ch
 use Rattle.model.specs.declared.RunResult.{RunResult}
 use Rattle.model.specs.declared.RunResult.TheVariants as r
-use Rattle.model.specs.Basics.{if◌then◌else◌}
 use Rattle.model.specs.Values.{places, vals, values_from}
 use Rattle.model.specs.Programs.{Program}
 use Rattle.model.specs.Stores.{Stores, constants_from, structs_from, program_in, world_in}

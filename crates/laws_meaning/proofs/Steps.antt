@@ -1,4 +1,5 @@
 -- A step of two machines that mean the same: the one induction over the opcodes.
+use Rattle.std.specs.Prelude.{if◌then◌else◌}
 use mathlib.Core.Path.{◌≡◌, refl, sym, ◌∙◌}
 use mathlib.Core.Bool.{Bool, true, false, ◌&&◌}
 use mathlib.Core.List.{List, [], ◌∷◌}
@@ -20,7 +21,6 @@ use Rattle.model.specs.declared.Fault.{Fault}
 use Rattle.model.specs.declared.Fault.TheVariants as f
 use Rattle.model.specs.declared.Found.{Found}
 use Rattle.model.specs.declared.Frame.{Frame}
-use Rattle.model.specs.Basics.{if◌then◌else◌}
 use Rattle.model.specs.Values.{fault_number, text_at, if_scalar, if_boolean, if_reference, if_struct, popping, popping_scalar, popping_boolean}
 use Rattle.model.specs.Scalars.{zero_divisor, result_of}
 use Rattle.model.specs.Heap.{Cell, Built, list_elements, struct_fields, field_of, placed_below, blocks_from, heap_ok}

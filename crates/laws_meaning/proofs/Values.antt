@@ -1,4 +1,5 @@
 -- Values that mean the same are of one kind, equally deep, compare alike, and their elements mean the same.
+use Rattle.std.specs.Prelude.{if◌then◌else◌}
 use mathlib.Core.Path.{◌≡◌, refl, sym, ap, ◌∙◌}
 use mathlib.Core.Bool.{Bool, true, false}
 use mathlib.Core.List.{List, [], ◌∷◌, reverse_aux}
@@ -15,7 +16,6 @@ use Rattle.model.specs.declared.Last.TheVariants.{Nothing, Is}
 use Rattle.model.specs.declared.Fault.{Fault}
 use Rattle.model.specs.declared.Found.{Found}
 use Rattle.model.specs.declared.Found.TheVariants as g
-use Rattle.model.specs.Basics.{if◌then◌else◌}
 use Rattle.model.specs.Values.{text_at}
 use Rattle.model.specs.Heap.{Cell, item_in, head_in, items, elements_in, field_of, depth_in, deepest, heap_ok}
 use Rattle.model.specs.Trees.{Tree, scalar, boolean, string, reference, list, struct, Trees, none, more, trees_of, tree_of, meaning}

@@ -1,11 +1,11 @@
 -- As many different numbers below n as there are numbers below n: each number below n is one of them.
+use Rattle.std.specs.Prelude.{if◌then◌else◌}
 use mathlib.Core.Path.{◌≡◌, sym, ◌∙◌}
 use Prim.Native.Nat.{ℕ, zero, suc, ◌<◌}
 use native.Mathlib.Omega.{arith}
 use native.Mathlib.Numerals.{lt_of_le_of_ne}
 use lib.Dec.{eqb}
 use borrow.Author.Tests.{eqb-true, eqb-false, eq-eqb, ne_eqb}
-use Rattle.model.specs.Basics.{if◌then◌else◌}
 use Rattle.laws_names.proofs.Before.{either_way}
 
 -- i is one of the first n numbers

@@ -1,4 +1,5 @@
 -- Names that stand in order: they are all different, a search by halves finds the number that a search from the first finds, and one more is put in.
+use Rattle.std.specs.Prelude.{if◌then◌else◌}
 use mathlib.Core.Path.{◌≡◌, refl, sym, ap, ◌∙◌}
 use mathlib.Core.Bool.{Bool, true, false}
 use mathlib.Core.List.{List, [], ◌∷◌, ◌++◌}
@@ -15,7 +16,6 @@ use Rattle.model.specs.Programs.{before, name_at, put_in, first_from, among}
 use Rattle.model.specs.Stores.{part, struct_word, order_word, structs_from, orders_from}
 use Rattle.model.specs.Orders.{name_in_order}
 use Rattle.model.specs.Emission.{put_orders}
-use Rattle.model.specs.Basics.{if◌then◌else◌}
 use Rattle.laws_names.specs.Sorted.{Ascending, Edge, Spot, InOrder, all_different, struct_put}
 use Rattle.laws_names.proofs.Before.{apart, either_way, same_means, same_itself, one_before}
 use Rattle.laws_names.proofs.Halves.{differ, found_not}

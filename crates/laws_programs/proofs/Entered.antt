@@ -1,4 +1,5 @@
 -- What each entry answers, way by way; and no second answer fits.
+use Rattle.std.specs.Prelude.{if◌then◌else◌}
 use mathlib.Core.Path.{◌≡◌, sym, ap, ◌∙◌}
 use mathlib.Core.Bool.{Bool, true, false, not, ◌&&◌}
 use mathlib.Core.List.{List, [], ◌∷◌}
@@ -15,7 +16,7 @@ use Rattle.model.specs.declared.Emitted.TheVariants.{Done, Refused}
 use Rattle.model.specs.declared.Told.TheVariants as t
 use Rattle.model.specs.Values.{places, payload_at, put_words}
 use Rattle.model.specs.Programs.{main_name}
-use Rattle.model.specs.Basics.{if◌then◌else◌, ascii}
+use Rattle.model.specs.Basics.{ascii}
 use Rattle.model.specs.Stores.{Stores, size, pack, code_word}
 use Rattle.model.specs.Orders.{counts_ok, functions_ok}
 use Rattle.model.specs.Emission.{Res, counts, written, new_of, end_function_of, current_offset_of}

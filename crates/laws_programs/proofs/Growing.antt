@@ -1,4 +1,5 @@
 -- Text that is appended changes no name below it. A constant more, a patch, a new function and the end of one keep good order.
+use Rattle.std.specs.Prelude.{if◌then◌else◌}
 use mathlib.Core.Path.{◌≡◌, refl, sym, ap, ◌∙◌}
 use mathlib.Core.Bool.{Bool, true, false, ◌||◌}
 use mathlib.Core.List.{List, ◌++◌, append_assoc}
@@ -14,7 +15,7 @@ use Rattle.model.specs.declared.Constant.{Constant}
 use Rattle.model.specs.declared.Constant.TheVariants as k
 use Rattle.model.specs.declared.Counts.{Counts}
 use Rattle.model.specs.declared.Emitted.TheVariants.{Done}
-use Rattle.model.specs.Basics.{if◌then◌else◌, every_from}
+use Rattle.model.specs.Basics.{every_from}
 use Rattle.model.specs.Values.{places, text_at, kind_at, payload_at, put_words}
 use Rattle.model.specs.Programs.{constant_limit}
 use Rattle.model.specs.Stores.{Stores, start, size, pack, part, struct_word, order_word, name_word, code_word, code_end, structs_from, code_here, places_here, with_code, with_constants, with_functions, with_text}

@@ -1,4 +1,5 @@
 -- A new program, a struct name more, a new function, and the end of one: good order is kept, and what the program then is.
+use Rattle.std.specs.Prelude.{if◌then◌else◌}
 use mathlib.Core.Path.{◌≡◌, refl, ap, ◌∙◌}
 use mathlib.Core.Bool.{Bool, true, false, ◌&&◌}
 use mathlib.Core.List.{List, [], ◌∷◌, ◌++◌}
@@ -11,7 +12,7 @@ use lib.ListN.{length}
 use borrow.Author.Tests.{le-leb, leb-true, leb-false, eqb-true, eqb-false}
 use Rattle.model.specs.declared.Counts.{Counts}
 use Rattle.model.specs.declared.Emitted.TheVariants.{Done}
-use Rattle.model.specs.Basics.{if◌then◌else◌, ascii, every_from}
+use Rattle.model.specs.Basics.{ascii, every_from}
 use Rattle.model.specs.Values.{places, text_at, kind_at, payload_at, put_words}
 use Rattle.model.specs.Equality.{same_bytes}
 use Rattle.model.specs.Programs.{Function, Program, main_name, first_from, among, name_limit}

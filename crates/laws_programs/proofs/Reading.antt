@@ -1,4 +1,5 @@
 -- What the program then is: the old one with the bytes appended to the current function's code or patched inside it, or with the constant appended.
+use Rattle.std.specs.Prelude.{if◌then◌else◌}
 use mathlib.Core.Path.{◌≡◌, refl, sym, ap, ◌∙◌}
 use mathlib.Core.Bool.{Bool, true, false, not}
 use mathlib.Core.List.{List, [], ◌∷◌, ◌++◌, append_assoc}
@@ -19,7 +20,6 @@ use Rattle.model.specs.Stores.{Stores, start, size, pack, part, name_word, code_
 use Rattle.model.specs.Orders.{inside_text, constant_ok, code_start, program_ok}
 use Rattle.model.specs.declared.Emitted.TheVariants.{Done}
 use Rattle.model.specs.Emission.{Res, refuse, one_constant, text_room, with_constant, with_text_constant, constant_added, constant_order, add_constant_of, code_order, emit_in, emit_of, written, size_here, end_here, code_room, longer, appended, u16, patch_order, patched, patch_of}
-use Rattle.model.specs.Basics.{if◌then◌else◌}
 use Rattle.layout.proofs.Bools.{apart, either_way}
 use Rattle.layout.proofs.Parts.{room_1, room_2, start_pack, size_pack}
 use Rattle.laws_programs.proofs.Known.{Limited, limited, function_known, ascending, constants_known, structs_known, text_inside, code_in_other}

@@ -1,4 +1,5 @@
 -- Searches by name.
+use Rattle.std.specs.Prelude.{if◌then◌else◌}
 use mathlib.Core.Path.{◌≡◌, refl, sym, ap, ◌∙◌}
 use mathlib.Core.Bool.{Bool, true, false, ◌&&◌}
 use mathlib.Core.List.{List, [], ◌∷◌, ◌++◌}
@@ -14,7 +15,6 @@ use Rattle.model.specs.Equality.{same_bytes}
 use Rattle.model.specs.Programs.{or_else, newest_from, first_from, among}
 use Rattle.model.specs.Stores.{Stores, part, name_word}
 use Rattle.model.specs.Emission.{names_from, told_name}
-use Rattle.model.specs.Basics.{if◌then◌else◌}
 use Rattle.layout.specs.Links.{names_lent}
 use Rattle.layout.proofs.Bools.{either_way}
 

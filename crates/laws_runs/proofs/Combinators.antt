@@ -1,5 +1,6 @@
 -- One law for each combinator of the rules: what holds of every arm holds of the whole.
 -- R relates two outcomes of the same combinator over the same values; a law of one outcome alone takes λ x y. Q x for it.
+use Rattle.std.specs.Prelude.{if◌then◌else◌}
 use mathlib.Core.Path.{◌≡◌, refl}
 use mathlib.Core.Bool.{Bool, true, false}
 use mathlib.Core.List.{List, [], ◌∷◌}
@@ -15,7 +16,6 @@ use Rattle.model.specs.declared.Fault.{Fault}
 use Rattle.model.specs.declared.Fault.TheVariants as f
 use Rattle.model.specs.declared.Found.{Found}
 use Rattle.model.specs.declared.Found.TheVariants as g
-use Rattle.model.specs.Basics.{if◌then◌else◌}
 use Rattle.model.specs.Values.{if_scalar, if_boolean, if_reference, if_struct, popping, popping_scalar, popping_boolean}
 use Rattle.model.specs.Heap.{Cell, Built, built, unbuilt}
 use Rattle.model.specs.Equality.{Same, same}

@@ -1,4 +1,5 @@
 -- A step keeps good order.
+use Rattle.std.specs.Prelude.{if◌then◌else◌}
 use mathlib.Core.Path.{◌≡◌, refl, ap, subst}
 use mathlib.Core.Bool.{Bool, true, false}
 use mathlib.Core.List.{List, [], ◌∷◌}
@@ -9,7 +10,6 @@ use lib.Dec.{eqb}
 use lib.ListN.{length, drop, length-drop}
 use Rattle.model.specs.declared.Value.{Value}
 use Rattle.model.specs.declared.Frame.{Frame}
-use Rattle.model.specs.Basics.{if◌then◌else◌}
 use Rattle.model.specs.Heap.{Cell}
 use Rattle.model.specs.Programs.{Function, function_at, word_at}
 use Rattle.model.specs.Steps.{World, State, Outcome, went, returned, faulted, short, with_stack, with_heap, at, position, code_of, cut, step_of}

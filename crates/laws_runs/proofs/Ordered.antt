@@ -1,4 +1,5 @@
 -- Good order as a run judges it, over counts and lent stores, and as the rules keep it, over worlds and machines: from each to the other.
+use Rattle.std.specs.Prelude.{if◌then◌else◌}
 use mathlib.Core.Path.{◌≡◌, refl}
 use mathlib.Core.Bool.{Bool, true, false, not, ◌&&◌, ◌||◌}
 use mathlib.Core.List.{List}
@@ -11,7 +12,7 @@ use Rattle.model.specs.declared.Vm.{Vm}
 use Rattle.model.specs.declared.Value.TheVariants as v
 use Rattle.model.specs.declared.Last.{Last}
 use Rattle.model.specs.declared.Last.TheVariants.{Nothing, Is}
-use Rattle.model.specs.Basics.{if◌then◌else◌, every_from}
+use Rattle.model.specs.Basics.{every_from}
 use Rattle.model.specs.Values.{places, kind_at, payload_at, value_at, vals, exact_value}
 use Rattle.model.specs.Heap.{Cell, cells_from, heap_of, blocks_from, heap_ok, exact_cells, placed_below}
 use Rattle.model.specs.Programs.{function_at}

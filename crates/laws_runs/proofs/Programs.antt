@@ -1,4 +1,5 @@
 -- A program in good order is a world in good order.
+use Rattle.std.specs.Prelude.{if◌then◌else◌}
 use mathlib.Core.Path.{◌≡◌, refl, sym, ap}
 use mathlib.Core.Bool.{Bool, true, false, ◌&&◌, ◌||◌, true≢false}
 use mathlib.Core.Logic.{◌⊎◌, inl, inr, ⊎_elim}
@@ -11,7 +12,7 @@ use lib.ListN.{length, get_or, take, drop, length-take, length-drop, get_or-eq_d
 use lib.Seq.{get_or-take, get_or-drop}
 use Rattle.model.specs.declared.Counts.{Counts}
 use Rattle.model.specs.declared.Value.{Value}
-use Rattle.model.specs.Basics.{if◌then◌else◌, every_from}
+use Rattle.model.specs.Basics.{every_from}
 use Rattle.model.specs.Values.{places, most_places, kind_at, payload_at, value_of, value_at, values_from, text_at}
 use Rattle.model.specs.Heap.{placed_below}
 use Rattle.model.specs.Programs.{Function, function_at, constant_limit, name_limit}

@@ -1,4 +1,5 @@
 -- A strict machine does as one that is not, unless it faults by 26.
+use Rattle.std.specs.Prelude.{if◌then◌else◌}
 use mathlib.Core.Path.{◌≡◌, refl, sym, subst, ◌∙◌}
 use mathlib.Core.Bool.{Bool, true, false, ◌&&◌}
 use mathlib.Core.List.{List, ◌∷◌}
@@ -13,7 +14,6 @@ use Rattle.model.specs.declared.Decoded.TheVariants as d
 use Rattle.model.specs.declared.Value.{Value}
 use Rattle.model.specs.declared.Tally.{Tally}
 use Rattle.model.specs.declared.Fault.TheVariants as f
-use Rattle.model.specs.Basics.{if◌then◌else◌}
 use Rattle.model.specs.Values.{fault_number}
 use Rattle.model.specs.Heap.{Built, built, unbuilt, build_of}
 use Rattle.model.specs.Scalars.{zero_divisor, result_of}

@@ -1,4 +1,5 @@
 -- Arms of the Rust, each of which does what the rules' step does from a state whose operands are read: values that are held, numbers, logic, jumps.
+use Rattle.std.specs.Prelude.{if◌then◌else◌}
 use mathlib.Core.Path.{◌≡◌, refl, sym, ap, ◌∙◌}
 use mathlib.Core.Bool.{Bool, true, false, not, ◌&&◌, ◌||◌}
 use mathlib.Core.List.{List, [], ◌∷◌, map, reverse}
@@ -20,7 +21,6 @@ use Rattle.model.specs.declared.Last.{Last}
 use Rattle.model.specs.declared.Last.TheVariants.{Nothing, Is}
 use Rattle.model.specs.declared.Fault.TheVariants as f
 use Rattle.model.specs.declared.Found.TheVariants as g
-use Rattle.model.specs.Basics.{if◌then◌else◌}
 use Rattle.model.specs.Values.{popping_scalar}
 use Rattle.model.specs.Scalars.{arith_of, finite, result_of, zero_divisor, order_of}
 use Rattle.model.specs.Heap.{heap_ok, blocks_from}

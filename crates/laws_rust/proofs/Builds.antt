@@ -1,4 +1,5 @@
 -- The arms that look into cells, of which the Rust knows nothing: `==`, a field, a struct and a list built.
+use Rattle.std.specs.Prelude.{if◌then◌else◌}
 use mathlib.Core.Path.{◌≡◌, refl, sym, ap, subst, ◌∙◌}
 use mathlib.Core.Bool.{Bool, true, false}
 use mathlib.Core.List.{List, [], ◌∷◌, ◌++◌, reverse}
@@ -11,7 +12,6 @@ use Rattle.model.specs.declared.Value.{Value}
 use Rattle.model.specs.declared.Value.TheVariants as v
 use Rattle.model.specs.declared.Fault.TheVariants as f
 use Rattle.model.specs.declared.Found.TheVariants as g
-use Rattle.model.specs.Basics.{if◌then◌else◌}
 use Rattle.model.specs.Heap.{Cell, built, unbuilt, build_of, block_of, deepest, head_in, elements_in, item_in, field_of, list_elements, struct_fields}
 use Rattle.model.specs.Equality.{Same}
 use Rattle.model.specs.Trees.{Tree, trees_of, tree_of, meaning_to, meaning, boolean, list, struct, none as end}

@@ -1,4 +1,5 @@
 -- Calls and returns: the Rust's frames are the rules', and a call of a function that is not there is a panic behind it.
+use Rattle.std.specs.Prelude.{if◌then◌else◌}
 use mathlib.Core.Path.{◌≡◌, refl, sym, ap, subst, ◌∙◌}
 use mathlib.Core.Bool.{Bool, true, false}
 use mathlib.Core.List.{List, [], ◌∷◌, map}
@@ -12,7 +13,6 @@ use lib.ListN.{length, length-map}
 use Rattle.model.specs.declared.Value.{Value}
 use Rattle.model.specs.declared.Fault.TheVariants as f
 use Rattle.model.specs.declared.Frame.{Frame}
-use Rattle.model.specs.Basics.{if◌then◌else◌}
 use Rattle.model.specs.Values.{popping}
 use Rattle.model.specs.Programs.{function_named}
 use Rattle.model.specs.Trees.{Tree, meaning}

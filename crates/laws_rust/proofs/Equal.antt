@@ -1,4 +1,5 @@
 -- Equality of trees, which the rules count pairs of, is the Rust's `==`.
+use Rattle.std.specs.Prelude.{if◌then◌else◌}
 use mathlib.Core.Path.{◌≡◌, refl, ap}
 use mathlib.Core.Bool.{Bool, true, false, ◌&&◌, and-false}
 use mathlib.Core.List.{List, [], ◌∷◌}
@@ -7,7 +8,6 @@ use native.Mathlib.Omega.{arith}
 use borrow.Author.Tests.{eqb-true, eqb-false}
 use lib.Dec.{eqb}
 use lib.Ieee.{Float}
-use Rattle.model.specs.Basics.{if◌then◌else◌}
 use Rattle.model.specs.Equality.{Same, same, said, same_bytes, and_next}
 use Rattle.model.specs.Trees.{Tree, Trees, scalar, boolean, string, reference, list, struct, none, more, size, by_tree, is_scalar, is_boolean, is_string, is_reference, is_list, is_struct}
 use Rattle.model.specs.Trees.{is_more, same_tree, same_trees}

@@ -1,4 +1,5 @@
 -- A search for a name: the rules' newest function is the one that the Rust finds from the last on.
+use Rattle.std.specs.Prelude.{if◌then◌else◌}
 use mathlib.Core.Path.{◌≡◌, refl, sym, ap, subst, ◌∙◌}
 use mathlib.Core.Bool.{Bool, true, false}
 use mathlib.Core.List.{List, [], ◌∷◌, map, reverse, reverse_aux}
@@ -9,7 +10,6 @@ use native.Mathlib.Omega.{arith}
 use borrow.Author.Tests.{lt-ltb, le-ltb, le-leb, eqb-true, eqb-false, eq-eqb, ne_eqb}
 use lib.Dec.{leb, eqb}
 use lib.ListN.{length, length-map}
-use Rattle.model.specs.Basics.{if◌then◌else◌}
 use Rattle.model.specs.Equality.{same_bytes}
 use Rattle.model.specs.Programs.{Function, or_else, newest_from, function_named}
 use Rattle.cells.proofs.Order.{same_test}

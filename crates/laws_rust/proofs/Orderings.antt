@@ -1,4 +1,5 @@
 -- The Rust asks how two numbers compare and then what the opcode makes of it; the rules ask binary64 at once. They answer the same.
+use Rattle.std.specs.Prelude.{if◌then◌else◌}
 use mathlib.Core.Path.{◌≡◌, refl}
 use mathlib.Core.Bool.{Bool, true, false, ◌&&◌, ◌||◌, and-false}
 use mathlib.Core.Logic.{⊎_elim}
@@ -7,7 +8,6 @@ use native.Mathlib.Omega.{arith}
 use borrow.Author.Tests.{lt-ltb, le-ltb, eq-eqb, ne_eqb}
 use lib.Dec.{eqb, ltb}
 use lib.Ieee.{Float, nan, inf, fin, up, down, below, level, lt, eq, is_nan}
-use Rattle.model.specs.Basics.{if◌then◌else◌}
 use Rattle.cells.proofs.Order.{by_less}
 
 -- how x and y compare: one is a NaN; x < y, x = y, y < x, y = x

@@ -1,4 +1,5 @@
 -- What the Rust reads of its code is what the rules read of it; past the code's end it panics.
+use Rattle.std.specs.Prelude.{if◌then◌else◌}
 use mathlib.Core.Path.{◌≡◌, refl, ap, subst, sym, ◌∙◌}
 use mathlib.Core.Bool.{Bool, true, false}
 use mathlib.Core.List.{List, [], ◌∷◌, map}
@@ -11,7 +12,6 @@ use lib.Dec.{leb}
 use lib.ListN.{length, get_or, length-map, get_or-map}
 use Rattle.model.specs.declared.Op.{Op}
 use Rattle.model.specs.declared.Fault.TheVariants as f
-use Rattle.model.specs.Basics.{if◌then◌else◌}
 use Rattle.model.specs.Heap.{heap_ok}
 use Rattle.model.specs.Programs.{Function, function_at, word_at}
 use Rattle.model.specs.Steps.{World, State, Outcome, faulted, paid, at, position, code_of, exec_of, operands_then}

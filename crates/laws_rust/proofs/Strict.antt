@@ -1,4 +1,5 @@
 -- 26 COMES OF A STRICT MACHINE ALONE: so what is said of the Rust leaves nothing out for it on a machine that is not strict.
+use Rattle.std.specs.Prelude.{if◌then◌else◌}
 use mathlib.Core.Path.{◌≡◌, refl, sym, subst, ◌∙◌}
 use mathlib.Core.Bool.{Bool, true, false, ◌&&◌, true≢false}
 use mathlib.Core.List.{List, [], ◌∷◌}
@@ -20,7 +21,6 @@ use Rattle.model.specs.declared.Fault.TheVariants as f
 use Rattle.model.specs.declared.Found.TheVariants as g
 use Rattle.model.specs.declared.Frame.{Frame}
 use Rattle.model.specs.declared.Tally.{Tally}
-use Rattle.model.specs.Basics.{if◌then◌else◌}
 use Rattle.model.specs.Values.{fault_number, popping, popping_scalar, popping_boolean}
 use Rattle.model.specs.Scalars.{zero_divisor, result_of}
 use Rattle.model.specs.Heap.{Cell, built, unbuilt, build_of, field_of, head_in, deepest}

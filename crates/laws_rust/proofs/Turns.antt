@@ -1,4 +1,5 @@
 -- THE STEP: from a state in good order the rules' step and a turn of the Rust's loop do the same.
+use Rattle.std.specs.Prelude.{if◌then◌else◌}
 use mathlib.Core.Path.{◌≡◌, refl}
 use mathlib.Core.Bool.{Bool, true, false, not, ◌&&◌, ◌||◌}
 use mathlib.Core.List.{List, [], ◌∷◌}
@@ -14,7 +15,7 @@ use Rattle.model.specs.declared.Names.{Names}
 use Rattle.model.specs.declared.Names.TheVariants as n
 use Rattle.model.specs.declared.Decoded.TheVariants as d
 use Rattle.model.specs.declared.Fault.TheVariants as f
-use Rattle.model.specs.Basics.{if◌then◌else◌, ascii}
+use Rattle.model.specs.Basics.{ascii}
 use Rattle.model.specs.Opcodes.{Opcode, op, operands, opcodes, opcode_at}
 use Rattle.model.specs.Programs.{opcode_in}
 use Rattle.model.specs.Steps.{World, State, faulted, short, paid, at, position, code_of, exec_of, operands_then, decoded_then, fetched, step_of}

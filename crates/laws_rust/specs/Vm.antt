@@ -1,13 +1,12 @@
 -- [rust] numbat's vm.rs (source document 000), its carried part, arm by arm, in its order and names (a hyphen for an underscore). The numbers beside
 -- are lines of vm.rs. It knows no limits, units, cells or numbers of document 01, and no strict machine. A `Quantity` is an f64; overflow checks are on.
 -- Decided differences: the sign of a zero that Add or Subtract gives, and a list compared with itself (docs/DIFFERENCES.md, 1 and 2).
-use Rattle.std.specs.Prelude.{Bool, true, false, not, ◌&&◌, ◌||◌, List, [], ◌∷◌, reverse, ℕ, zero, suc, ◌+◌, ◌-◌, ◌*◌, eqb, ltb, leb, length, Float, pos}
+use Rattle.std.specs.Prelude.{Bool, true, false, not, ◌&&◌, ◌||◌, List, [], ◌∷◌, reverse, ℕ, zero, suc, ◌+◌, ◌-◌, ◌*◌, eqb, ltb, leb, length, Float, pos, if◌then◌else◌}
 use Rattle.std.specs.Bool.{beq}
 use Rattle.std.proofs.Math.Option.{Option, none, some, map}
 use Rattle.std.specs.Float.Ieee as f64
 use Rattle.std.specs.Float.{binary64, fin}
 use Rattle.std.specs.Float.Ieee.{is_nan}
-use Rattle.model.specs.Basics.{if◌then◌else◌}
 use Rattle.model.specs.Trees.{Tree, Trees, scalar, boolean, string, reference, list, struct, none as end, more}
 
 -- value.rs 35: `Value`, the kinds that the carried arms make. A struct's info is its number, since no two have one name

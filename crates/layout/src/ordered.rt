@@ -1,6 +1,5 @@
 // The order of names: a struct name is found by halves, and a new one is put in its place.
-ghost use Rattle.std.specs.Prelude.{◌≡◌, ◌&&◌, ◌+◌, ◌*◌, ◌≤◌, ltb, length};
-ghost use Rattle.model.specs.Basics.{if◌then◌else◌};
+ghost use Rattle.std.specs.Prelude.{◌≡◌, ◌&&◌, ◌+◌, ◌*◌, ◌≤◌, ltb, length, if◌then◌else◌};
 ghost use Rattle.model.specs.Equality.{same_bytes};
 ghost use Rattle.model.specs.Programs.{before};
 ghost use Rattle.model.specs.Stores.{struct_word, order_word};

@@ -6,6 +6,7 @@
 --     lengths-of, saved-of              the stack's words, the cells and the current frame are there; so are the copy's
 --     copy-long, trace-long             the copy and the backtrace store are long enough
 -- Assumes nothing.
+use Rattle.std.specs.Prelude.{if◌then◌else◌}
 use mathlib.Core.Path.{◌≡◌, refl, sym, ap, ◌∙◌}
 use mathlib.Core.Bool.{Bool, true, false, ◌&&◌}
 use mathlib.Core.List.{List}
@@ -18,7 +19,7 @@ use Rattle.model.specs.declared.Counts.{Counts}
 use Rattle.model.specs.declared.Vm.{Vm}
 use Rattle.model.specs.declared.Frame.{Frame}
 use Rattle.model.specs.declared.RunResult.TheVariants.{Refused}
-use Rattle.model.specs.Basics.{if◌then◌else◌, every_from}
+use Rattle.model.specs.Basics.{every_from}
 use Rattle.model.specs.Values.{places, most_places, kind_at, payload_at, value_at, exact_value}
 use Rattle.model.specs.Heap.{Cell, heap_of, heap_ok, exact_cells, placed_below}
 use Rattle.model.specs.Programs.{Function}

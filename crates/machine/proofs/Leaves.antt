@@ -5,6 +5,7 @@
 --     leaves-idle                a machine that no run is under way in is left in good order
 --     leaves-under               so is one with a run under way
 -- Assumes nothing.
+use Rattle.std.specs.Prelude.{if◌then◌else◌}
 use mathlib.Core.Path.{◌≡◌, refl}
 use mathlib.Core.Bool.{Bool, true, false}
 use mathlib.Core.List.{List}
@@ -14,7 +15,7 @@ use borrow.Author.Tests.{le-ltb}
 use lib.ListN.{take}
 use Rattle.model.specs.declared.Vm.{Vm}
 use Rattle.model.specs.declared.RunResult.{RunResult}
-use Rattle.model.specs.Basics.{if◌then◌else◌, written}
+use Rattle.model.specs.Basics.{written}
 use Rattle.model.specs.Values.{places}
 use Rattle.model.specs.Runs.{Part, ends, begin_of, continue_of, abandon_of}
 use Rattle.model.specs.Stores.{Stores, world_in}

@@ -4,6 +4,7 @@
 --     trace-told       the numbers are the backtrace's
 --     entries-told     and the backtrace is what they tell
 -- Assumes nothing.
+use Rattle.std.specs.Prelude.{if◌then◌else◌}
 use mathlib.Core.Path.{◌≡◌, refl, sym, ap, subst, ◌∙◌}
 use mathlib.Core.Bool.{true}
 use mathlib.Core.Logic.{⊎_elim}
@@ -16,7 +17,7 @@ use lib.Dec.{ltb, eqb}
 use lib.ListN.{length, get_or, drop, length-take, length-drop, get_or-eq_default}
 use Rattle.model.specs.declared.Counts.{Counts}
 use Rattle.model.specs.declared.Frame.{Frame}
-use Rattle.model.specs.Basics.{if◌then◌else◌, written}
+use Rattle.model.specs.Basics.{written}
 use Rattle.model.specs.Values.{places, text_at}
 use Rattle.model.specs.Programs.{Function, function_at}
 use Rattle.model.specs.Runs.{Entry, trace_of, traceable}

@@ -5,6 +5,7 @@
 --     trace-ready, trace-is             a backtrace that is not refused so can be written, and is the rules'
 --     trace-refused                     these refusals
 -- Assumes nothing.
+use Rattle.std.specs.Prelude.{if◌then◌else◌}
 use mathlib.Core.Path.{◌≡◌, refl, sym, ap, subst, ◌∙◌}
 use mathlib.Core.Bool.{Bool, true, false, ◌&&◌, ◌||◌, true≢false}
 use mathlib.Core.List.{List, [], ◌∷◌}
@@ -18,7 +19,7 @@ use Rattle.model.specs.declared.Vm.{Vm}
 use Rattle.model.specs.declared.Frame.{Frame}
 use Rattle.model.specs.declared.Told.{Told}
 use Rattle.model.specs.declared.Told.TheVariants as t
-use Rattle.model.specs.Basics.{if◌then◌else◌, every_from, written}
+use Rattle.model.specs.Basics.{every_from, written}
 use Rattle.model.specs.Values.{places, most_places}
 use Rattle.model.specs.Programs.{Function, function_at, constant_limit, name_limit}
 use Rattle.model.specs.Runs.{traceable, trace_of, backtrace_of}

@@ -1,12 +1,11 @@
 -- What a machine's entries are lent, and their contracts in parts.
-use Rattle.std.specs.Prelude.{◌≡◌, Bool, true, false, List, ◌∷◌, ℕ, ◌+◌, ◌-◌, ◌≤◌, ◌<◌, ◌^◌, ltb, length, get_or}
+use Rattle.std.specs.Prelude.{◌≡◌, Bool, true, false, List, ◌∷◌, ℕ, ◌+◌, ◌-◌, ◌≤◌, ◌<◌, ◌^◌, ltb, length, get_or, if◌then◌else◌}
 use Rattle.model.specs.declared.Counts.{Counts}
 use Rattle.model.specs.declared.Vm.{Vm}
 use Rattle.model.specs.declared.Frame.{Frame}
 use Rattle.model.specs.declared.Told.TheVariants as t
 use Rattle.model.specs.declared.Started.{Started}
 use Rattle.model.specs.declared.Started.TheVariants as st
-use Rattle.model.specs.Basics.{if◌then◌else◌}
 use Rattle.model.specs.Values.{places}
 use Rattle.model.specs.Stores.{Stores}
 use Rattle.model.specs.Orders.{traces, judged_by}

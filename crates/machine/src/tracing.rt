@@ -1,7 +1,6 @@
 // The backtrace of a machine's frames: judging what it is lent, and writing. Of the stack its room is looked at alone: bases lie within it.
-ghost use Rattle.std.specs.Prelude.{◌≡◌, ◌&&◌, List, ℕ, length};
+ghost use Rattle.std.specs.Prelude.{◌≡◌, ◌&&◌, List, ℕ, length, if◌then◌else◌};
 ghost use Rattle.model.specs.declared.Told.TheVariants as t;
-ghost use Rattle.model.specs.Basics.{if◌then◌else◌};
 ghost use Rattle.model.specs.Machines.{trace_order};
 ghost use Rattle.run_ends.specs.Links.{program_lent};
 ghost use Rattle.machine.specs.Links.{trace_program, trace_refusal, Traceable, trace_into};

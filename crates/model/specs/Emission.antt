@@ -1,6 +1,6 @@
 -- [emission] Each emission entry: its refusals in order (19, 25, 22, 21, then the rest), its answer, and what the stores then hold.
 -- `running`: a run is under way on the machine whose program this is, and the program stays as it is (25).
-use Rattle.std.specs.Prelude.{Bool, true, false, ◌&&◌, List, [], ◌∷◌, ◌++◌, ℕ, zero, suc, ◌+◌, ◌*◌, ◌/◌, ◌%◌, min, ltb, leb, eqb, length, replicate, set}
+use Rattle.std.specs.Prelude.{Bool, true, false, ◌&&◌, List, [], ◌∷◌, ◌++◌, ℕ, zero, suc, ◌+◌, ◌*◌, ◌/◌, ◌%◌, min, ltb, leb, eqb, length, replicate, set, if◌then◌else◌}
 use Rattle.std.proofs.Math.Option.{Option, none, some}
 use Rattle.model.specs.declared.Constant.{Constant}
 use Rattle.model.specs.declared.Constant.TheVariants as k
@@ -9,7 +9,6 @@ use Rattle.model.specs.declared.Emitted.{Emitted}
 use Rattle.model.specs.declared.Emitted.TheVariants.{Done, Refused}
 use Rattle.model.specs.declared.Told.{Told}
 use Rattle.model.specs.declared.Told.TheVariants as t
-use Rattle.model.specs.Basics.{if◌then◌else◌}
 unfoldable pub use Rattle.model.specs.Basics.{written}
 use Rattle.model.specs.Values.{places, put_words, bit}
 use Rattle.model.specs.Programs.{main_name, newest_from, first_from, put_in, code_limit, constant_limit, name_limit}

@@ -1,6 +1,5 @@
 -- [image] The rule image: the one image of a program, and the reading of bytes.
-use Rattle.std.specs.Prelude.{◌≡◌, Bool, true, false, not, ◌&&◌, List, [], ◌∷◌, ◌++◌, ℕ, zero, suc, ◌+◌, ◌-◌, ◌*◌, ◌/◌, ◌%◌, ◌<◌, ◌^◌, ltb, leb, eqb, length, take, drop, replicate}
-use Rattle.model.specs.Basics.{if◌then◌else◌}
+use Rattle.std.specs.Prelude.{◌≡◌, Bool, true, false, not, ◌&&◌, List, [], ◌∷◌, ◌++◌, ℕ, zero, suc, ◌+◌, ◌-◌, ◌*◌, ◌/◌, ◌%◌, ◌<◌, ◌^◌, ltb, leb, eqb, length, take, drop, replicate, if◌then◌else◌}
 use Rattle.model.specs.Numbers.{Step, got, bad, and_then, item, checked, digits, number}
 use Rattle.model.specs.Equality.{same_bytes}
 pub use Rattle.model.specs.Numbers.{Small}

@@ -1,11 +1,10 @@
 -- [loading] Loading an image, saving a program, and writing its listing: what comes back, and what the stores then hold.
-use Rattle.std.specs.Prelude.{Bool, true, false, ◌&&◌, List, [], ◌∷◌, ◌++◌, ℕ, zero, suc, ◌+◌, ◌*◌, ltb, leb, length, drop}
+use Rattle.std.specs.Prelude.{Bool, true, false, ◌&&◌, List, [], ◌∷◌, ◌++◌, ℕ, zero, suc, ◌+◌, ◌*◌, ltb, leb, length, drop, if◌then◌else◌}
 use Rattle.model.specs.declared.Counts.{Counts}
 use Rattle.model.specs.declared.Loaded.{Loaded}
 use Rattle.model.specs.declared.Loaded.TheVariants as l
 use Rattle.model.specs.declared.Told.{Told}
 use Rattle.model.specs.declared.Told.TheVariants as t
-use Rattle.model.specs.Basics.{if◌then◌else◌}
 use Rattle.model.specs.Values.{places, bit}
 use Rattle.model.specs.Programs.{Constant, scalar, boolean, string, reference, Function, Program, function_at, order_of, within_limits}
 use Rattle.model.specs.Images.{joined, image_of, Judged, fine, broken, judge}

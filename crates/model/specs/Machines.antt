@@ -1,5 +1,5 @@
 -- [parts] The entries of a machine, over what a host lends: a run in parts, the backtrace, and making a machine.
-use Rattle.std.specs.Prelude.{◌≡◌, Bool, true, false, ◌&&◌, ◌||◌, List, [], ◌∷◌, reverse, ℕ, zero, suc, ◌+◌, ◌-◌, ◌*◌, min, ltb, leb, eqb, length, get_or, take}
+use Rattle.std.specs.Prelude.{◌≡◌, Bool, true, false, ◌&&◌, ◌||◌, List, [], ◌∷◌, reverse, ℕ, zero, suc, ◌+◌, ◌-◌, ◌*◌, min, ltb, leb, eqb, length, get_or, take, if◌then◌else◌}
 use Rattle.model.specs.declared.Counts.{Counts}
 use Rattle.model.specs.declared.Run.{Run}
 use Rattle.model.specs.declared.Vm.{Vm}
@@ -17,7 +17,6 @@ use Rattle.model.specs.declared.Changed.{Changed}
 use Rattle.model.specs.declared.Changed.TheVariants as ch
 use Rattle.model.specs.declared.Started.{Started}
 use Rattle.model.specs.declared.Started.TheVariants as st
-use Rattle.model.specs.Basics.{if◌then◌else◌}
 use Rattle.model.specs.Values.{places, most_places, vals}
 use Rattle.model.specs.Heap.{heap_of}
 use Rattle.model.specs.Programs.{function_at}

@@ -1,6 +1,5 @@
 -- The image's numbers, and what reading an item off the front of the bytes finds.
-use Rattle.std.specs.Prelude.{◌≡◌, Bool, List, [], ◌∷◌, ◌++◌, ℕ, zero, suc, ◌+◌, ◌-◌, ◌*◌, ◌/◌, ◌%◌, ◌<◌, ◌^◌, ltb, length}
-use Rattle.model.specs.Basics.{if◌then◌else◌}
+use Rattle.std.specs.Prelude.{◌≡◌, Bool, List, [], ◌∷◌, ◌++◌, ℕ, zero, suc, ◌+◌, ◌-◌, ◌*◌, ◌/◌, ◌%◌, ◌<◌, ◌^◌, ltb, length, if◌then◌else◌}
 
 -- a value and the bytes behind it; or how many bytes were left where the item that breaks a rule begins
 pub data Step (A : Type 0) : Type 0 where

@@ -1,11 +1,11 @@
 -- [order] Good order, clause by clause, and which clauses each entry judges. A clause speaks of the counts and of the stores that it names.
-use Rattle.std.specs.Prelude.{Bool, true, false, ◌&&◌, ◌||◌, List, [], ◌∷◌, ℕ, zero, suc, ◌+◌, ◌-◌, min, ltb, leb, eqb, length, take}
+use Rattle.std.specs.Prelude.{Bool, true, false, ◌&&◌, ◌||◌, List, [], ◌∷◌, ℕ, zero, suc, ◌+◌, ◌-◌, min, ltb, leb, eqb, length, take, if◌then◌else◌}
 use Rattle.model.specs.declared.Counts.{Counts}
 use Rattle.model.specs.declared.Value.{Value}
 use Rattle.model.specs.declared.Last.{Last}
 use Rattle.model.specs.declared.Last.TheVariants.{Nothing, Is}
 use Rattle.model.specs.declared.Frame.{Frame}
-use Rattle.model.specs.Basics.{if◌then◌else◌, every_from}
+use Rattle.model.specs.Basics.{every_from}
 use Rattle.model.specs.Values.{places, most_places, kind_at, payload_at, value_at, exact_value}
 use Rattle.model.specs.Heap.{Cell, heap_of, heap_ok, exact_cells, placed_below}
 use Rattle.model.specs.Equality.{same_bytes}

@@ -1,7 +1,7 @@
 -- Programs.
-use Rattle.std.specs.Prelude.{Bool, true, false, ◌&&◌, List, [], ◌∷◌, map, ℕ, zero, suc, ◌+◌, ◌*◌, eqb, leb, ltb, length, get_or}
+use Rattle.std.specs.Prelude.{Bool, true, false, ◌&&◌, List, [], ◌∷◌, map, ℕ, zero, suc, ◌+◌, ◌*◌, eqb, leb, ltb, length, get_or, if◌then◌else◌}
 use Rattle.std.proofs.Math.Option.{Option, none, some}
-use Rattle.model.specs.Basics.{if◌then◌else◌, ascii}
+use Rattle.model.specs.Basics.{ascii}
 use Rattle.model.specs.Opcodes.{Opcode, operands, opcode_at}
 use Rattle.model.specs.Equality.{same_bytes}
 

@@ -1,6 +1,6 @@
 -- [readers] What a host reads of a machine: the last result, a value of the stack, the elements of a list or struct, a text.
 -- A reader judges what it reads (19) and nothing else, so that it costs the same whatever the stores hold.
-use Rattle.std.specs.Prelude.{Bool, true, ◌&&◌, List, ℕ, suc, ◌+◌, ltb, leb}
+use Rattle.std.specs.Prelude.{Bool, true, ◌&&◌, List, ℕ, suc, ◌+◌, ltb, leb, if◌then◌else◌}
 use Rattle.std.proofs.Math.Option.{Option, none, some}
 use Rattle.model.specs.declared.Vm.{Vm}
 use Rattle.model.specs.declared.Value.{Value}
@@ -11,7 +11,6 @@ use Rattle.model.specs.declared.Shown.{Shown}
 use Rattle.model.specs.declared.Shown.TheVariants as w
 use Rattle.model.specs.declared.Headed.{Headed}
 use Rattle.model.specs.declared.Headed.TheVariants as h
-use Rattle.model.specs.Basics.{if◌then◌else◌}
 use Rattle.model.specs.Values.{if_string, if_reference, if_list, if_struct, places, kind_at, payload_at, value_at, exact_value, text_at}
 use Rattle.model.specs.Heap.{Cell, heap_of, head_in, placed_below}
 use Rattle.model.specs.Orders.{text_ok}

@@ -1,6 +1,6 @@
 -- [step] One step for each carried opcode, in the order of checks:
 -- units, 1, 2, 3, number operands, pops from the top, 7, field number, 14, argument count, zero divisor, 26, comparison units, 12, 11, frames, stack.
-use Rattle.std.specs.Prelude.{Bool, true, false, not, ◌&&◌, ◌||◌, List, [], ◌∷◌, ℕ, zero, suc, ◌+◌, ◌-◌, ◌*◌, ltb, leb, eqb, length, get_or, drop}
+use Rattle.std.specs.Prelude.{Bool, true, false, not, ◌&&◌, ◌||◌, List, [], ◌∷◌, ℕ, zero, suc, ◌+◌, ◌-◌, ◌*◌, ltb, leb, eqb, length, get_or, drop, if◌then◌else◌}
 use Rattle.std.proofs.Math.Option.{Option, none, some}
 use Rattle.std.specs.Float.Ieee as Ieee
 use Rattle.model.specs.declared.Arith.{Arith}
@@ -18,7 +18,6 @@ use Rattle.model.specs.declared.Fault.TheVariants as f
 use Rattle.model.specs.declared.Found.{Found}
 use Rattle.model.specs.declared.Found.TheVariants as g
 use Rattle.model.specs.declared.Frame.{Frame}
-use Rattle.model.specs.Basics.{if◌then◌else◌}
 use Rattle.model.specs.Opcodes.{Opcode, operands}
 use Rattle.model.specs.Values.{if_reference, if_struct, popping, popping_scalar, popping_boolean, text_at}
 use Rattle.model.specs.Scalars.{result_of, zero_divisor, order_of}

@@ -1,5 +1,5 @@
 -- Values, the fault of a step, and how values stand in stores of numbers: two words to a place, the kind and the payload.
-use Rattle.std.specs.Prelude.{Bool, true, false, not, ◌&&◌, List, [], ◌∷◌, ℕ, zero, suc, ◌+◌, ◌*◌, ◌/◌, ◌%◌, min, eqb, length, get_or, set, take, drop, Float}
+use Rattle.std.specs.Prelude.{Bool, true, false, not, ◌&&◌, List, [], ◌∷◌, ℕ, zero, suc, ◌+◌, ◌*◌, ◌/◌, ◌%◌, min, eqb, length, get_or, set, take, drop, Float, if◌then◌else◌}
 use Rattle.std.specs.Float.{binary64}
 use Rattle.std.specs.Float.Ieee.{to_bits, of_bits}
 use Rattle.model.specs.declared.Value.{Value}
@@ -7,7 +7,6 @@ use Rattle.model.specs.declared.Value.TheVariants as v
 use Rattle.model.specs.declared.Header.{Header}
 use Rattle.model.specs.declared.Fault.{Fault}
 use Rattle.model.specs.declared.Fault.TheVariants as f
-use Rattle.model.specs.Basics.{if◌then◌else◌}
 
 -- ---- values by kind
 

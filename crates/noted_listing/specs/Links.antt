@@ -1,6 +1,5 @@
 -- One function of the listing with notes, and its places in their stores.
-use Rattle.std.specs.Prelude.{List, ℕ, eqb}
-use Rattle.model.specs.Basics.{if◌then◌else◌}
+use Rattle.std.specs.Prelude.{List, ℕ, eqb, if◌then◌else◌}
 use Rattle.model.specs.Programs.{Function}
 use Rattle.model.specs.Listings.{Listed, in_front, header_line}
 use Rattle.model.specs.Stores.{part, code_word}

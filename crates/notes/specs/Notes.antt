@@ -1,12 +1,12 @@
 -- [notes] The listing with notes: behind the operands of an instruction what they name, and its place.
-use Rattle.std.specs.Prelude.{◌&&◌, List, [], ◌∷◌, ◌++◌, map, ℕ, suc, ◌+◌, leb, ltb, length, get_or, take}
+use Rattle.std.specs.Prelude.{◌&&◌, List, [], ◌∷◌, ◌++◌, map, ℕ, suc, ◌+◌, leb, ltb, length, get_or, take, if◌then◌else◌}
 use Rattle.model.specs.declared.Counts.{Counts}
 use Rattle.model.specs.declared.Loaded.{Loaded}
 use Rattle.model.specs.declared.Loaded.TheVariants as l
 use Rattle.model.specs.declared.Names.{Names}
 use Rattle.model.specs.declared.Names.TheVariants as n
 use Rattle.model.specs.declared.Told.TheVariants as t
-use Rattle.model.specs.Basics.{if◌then◌else◌, ascii}
+use Rattle.model.specs.Basics.{ascii}
 use Rattle.model.specs.Answers.{loadedNumber}
 use Rattle.model.specs.Programs.{Constant, scalar, boolean, string, reference, Function, Program, word_at, opcode_in, next_in}
 use Rattle.model.specs.Listings.{decimal, digits_or_more, line_of, header_line, Listed, text, in_front, lines_for, and_listed}

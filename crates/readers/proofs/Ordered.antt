@@ -1,4 +1,5 @@
 -- In good order no reader refuses 19: it tells what the model has there.
+use Rattle.std.specs.Prelude.{if◌then◌else◌}
 use mathlib.Core.Path.{◌≡◌, ◌∙◌}
 use mathlib.Core.Bool.{Bool, true, false, ◌&&◌}
 use mathlib.Core.List.{List}
@@ -13,7 +14,7 @@ use Rattle.model.specs.declared.Value.{Value}
 use Rattle.model.specs.declared.Value.TheVariants as v
 use Rattle.model.specs.declared.Shown.TheVariants as w
 use Rattle.model.specs.declared.Headed.TheVariants as h
-use Rattle.model.specs.Basics.{if◌then◌else◌, every_from}
+use Rattle.model.specs.Basics.{every_from}
 use Rattle.model.specs.Values.{if_string, if_reference, places, kind_at, payload_at, value_at, exact_value, text_at}
 use Rattle.model.specs.Heap.{Cell, heap_of, item_in, head_in, placed_below, heap_ok, exact_cell, exact_cells}
 use Rattle.model.specs.Orders.{text_ok, cells_ok, stack_ok}

@@ -1,4 +1,5 @@
 -- What each reader answers, way by way.
+use Rattle.std.specs.Prelude.{if◌then◌else◌}
 use mathlib.Core.Path.{◌≡◌, refl, sym, ap, ◌∙◌}
 use mathlib.Core.Bool.{Bool, true, false, ◌&&◌}
 use mathlib.Core.List.{List, [], ◌∷◌}
@@ -20,7 +21,7 @@ use Rattle.model.specs.declared.Told.TheVariants as t
 use Rattle.model.specs.declared.Shown.{Shown}
 use Rattle.model.specs.declared.Shown.TheVariants as w
 use Rattle.model.specs.declared.Headed.TheVariants as h
-use Rattle.model.specs.Basics.{if◌then◌else◌, written}
+use Rattle.model.specs.Basics.{written}
 use Rattle.model.specs.Values.{if_string, if_reference, if_list, if_struct, places, kind_at, payload_at, value_at, exact_value, text_at}
 use Rattle.model.specs.Heap.{Cell, header_of, heap_of, head_in, placed_below}
 use Rattle.model.specs.Orders.{text_ok}

@@ -1,11 +1,10 @@
 -- What the answers of the inner functions stand for.
-use Rattle.std.specs.Prelude.{List, ℕ, ◌+◌, leb}
+use Rattle.std.specs.Prelude.{List, ℕ, ◌+◌, leb, if◌then◌else◌}
 use Rattle.std.proofs.Math.Option.{Option, none, some}
 use Rattle.model.specs.declared.Vm.{Vm}
 use Rattle.model.specs.declared.Value.{Value}
 use Rattle.model.specs.declared.Told.{Told}
 use Rattle.model.specs.declared.Told.TheVariants.{Number, Refused}
-use Rattle.model.specs.Basics.{if◌then◌else◌}
 use Rattle.model.specs.Values.{text_at}
 use Rattle.model.specs.Loading.{OutRes, put_out}
 use Rattle.model.specs.Readers.{reads, header_at}

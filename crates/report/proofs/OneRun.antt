@@ -1,4 +1,5 @@
 -- One run by the three calls: it comes to what one run comes to by the rules, or is refused as one run would be.
+use Rattle.std.specs.Prelude.{if◌then◌else◌}
 use mathlib.Core.Path.{◌≡◌, refl, sym, ap, subst, ◌∙◌}
 use mathlib.Core.Bool.{Bool, true, false, true≢false, ◌||◌}
 use mathlib.Core.List.{List, [], ◌∷◌}
@@ -11,7 +12,6 @@ use borrow.Author.Tests.{le-ltb}
 use Rattle.model.specs.declared.Vm.{Vm}
 use Rattle.model.specs.declared.RunResult.{RunResult}
 use Rattle.model.specs.declared.RunResult.TheVariants as r
-use Rattle.model.specs.Basics.{if◌then◌else◌}
 use Rattle.model.specs.Values.{places}
 use Rattle.model.specs.Steps.{World}
 use Rattle.model.specs.Runs.{Machine, Ended, ended, stopped, paused, begin, end_of, Ran, Under, Part, ends, pauses, part_of, begin_of, continue_of, abandon_of, dealt, given_up, run_of}

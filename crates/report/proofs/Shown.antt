@@ -1,4 +1,5 @@
 -- What a run left can be printed: a value's cells and a fault's backtrace lie inside their stores.
+use Rattle.std.specs.Prelude.{if◌then◌else◌}
 use mathlib.Core.Path.{◌≡◌, refl, sym, ap, ◌∙◌}
 use mathlib.Core.Bool.{Bool, true, false, true≢false, ◌&&◌}
 use mathlib.Core.List.{List, [], ◌∷◌}
@@ -13,7 +14,6 @@ use Rattle.model.specs.declared.Value.{Value}
 use Rattle.model.specs.declared.Tally.{Tally}
 use Rattle.model.specs.declared.RunResult.{RunResult}
 use Rattle.model.specs.declared.RunResult.TheVariants as r
-use Rattle.model.specs.Basics.{if◌then◌else◌}
 use Rattle.model.specs.Values.{places}
 use Rattle.model.specs.Heap.{heap_of, heap_ok, exact_cells}
 use Rattle.model.specs.Steps.{World}

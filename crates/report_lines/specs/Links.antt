@@ -1,8 +1,7 @@
 -- What a report reads, its lines, and what is printed of a text.
-use Rattle.std.specs.Prelude.{List, [], ℕ, ◌*◌, ◌≤◌, ◌<◌, ◌^◌, leb, length}
+use Rattle.std.specs.Prelude.{List, [], ℕ, ◌*◌, ◌≤◌, ◌<◌, ◌^◌, leb, length, if◌then◌else◌}
 use Rattle.model.specs.declared.RunResult.{RunResult}
 use Rattle.model.specs.declared.RunResult.TheVariants.{Value, Continue, Fault, Paused, Refused}
-use Rattle.model.specs.Basics.{if◌then◌else◌}
 use Rattle.model.specs.Values.{places}
 use Rattle.model.specs.Emission.{written}
 use Rattle.model.specs.Runs.{ends, pauses}

@@ -1,4 +1,5 @@
 -- What an arm ensures, for each way out of an arm.
+use Rattle.std.specs.Prelude.{if◌then◌else◌}
 use mathlib.Core.Path.{◌≡◌, refl, sym, ap, ◌∙◌}
 use mathlib.Core.Option.{Option, none, some}
 use mathlib.Core.Bool.{Bool, true, false, not, ◌&&◌}
@@ -24,7 +25,6 @@ use Rattle.value.specs.declared.pops.Booleans.TheVariants as bo
 use Rattle.model.specs.declared.Told.{Told}
 use Rattle.model.specs.declared.Told.TheVariants.{Number, Refused}
 use Rattle.model.specs.declared.Frame.{Frame}
-use Rattle.model.specs.Basics.{if◌then◌else◌}
 use Rattle.model.specs.Values.{kind, vals, popping, popping_scalar, popping_boolean, if_scalar, if_boolean, if_reference, text_at}
 use Rattle.model.specs.Scalars.{arith_of, finite, result_of, zero_divisor, order_of}
 use Rattle.model.specs.Heap.{item}

@@ -1,4 +1,5 @@
 -- What an arm ensures that is lent the cells, for each way out of an arm: equality, lists and structs.
+use Rattle.std.specs.Prelude.{if◌then◌else◌}
 use mathlib.Core.Path.{◌≡◌, refl, sym, ◌∙◌}
 use mathlib.Core.Bool.{Bool, true, false, not}
 use mathlib.Core.List.{List, ◌∷◌}
@@ -14,7 +15,6 @@ use Rattle.model.specs.declared.Fault.{Fault}
 use Rattle.model.specs.declared.Fault.TheVariants as f
 use Rattle.model.specs.declared.Found.{Found}
 use Rattle.model.specs.declared.Found.TheVariants.{Got, Bad}
-use Rattle.model.specs.Basics.{if◌then◌else◌}
 use Rattle.model.specs.Values.{places, vals, value_at, if_struct}
 use Rattle.model.specs.Heap.{item, heap_of, field_of, list_elements, placed_below}
 use Rattle.model.specs.Equality.{Same, same, same_of}

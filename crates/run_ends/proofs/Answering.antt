@@ -1,4 +1,5 @@
 -- What a run answers.
+use Rattle.std.specs.Prelude.{if◌then◌else◌}
 use mathlib.Core.Path.{◌≡◌, refl, sym}
 use mathlib.Core.Bool.{Bool, true, false, true≢false}
 use mathlib.Core.List.{List}
@@ -14,7 +15,6 @@ use Rattle.model.specs.declared.Tally.{Tally}
 use Rattle.model.specs.declared.Frame.{Frame}
 use Rattle.model.specs.declared.RunResult.{RunResult}
 use Rattle.model.specs.declared.RunResult.TheVariants as r
-use Rattle.model.specs.Basics.{if◌then◌else◌}
 use Rattle.model.specs.Values.{payload_at, value_of}
 use Rattle.model.specs.Stores.{size, code_word}
 use Rattle.model.specs.Runs.{root}

@@ -1,4 +1,5 @@
 -- Why a call of a run is refused: the numbers, by the tests.
+use Rattle.std.specs.Prelude.{if◌then◌else◌}
 use mathlib.Core.Path.{◌≡◌, refl}
 use mathlib.Core.Bool.{Bool, true, false}
 use Prim.Native.Nat.{ℕ, ◌+◌, ◌-◌, ◌≤◌, ◌<◌, ◌^◌}
@@ -7,7 +8,6 @@ use borrow.Author.Tests.{lt-ltb, le-ltb, ne_eqb}
 use lib.Dec.{ltb, eqb}
 use lib.ListN.{length}
 use Rattle.model.specs.declared.Vm.{Vm}
-use Rattle.model.specs.Basics.{if◌then◌else◌}
 use Rattle.model.specs.Runs.{Part}
 use Rattle.model.specs.Stores.{Stores}
 use Rattle.model.specs.Machines.{Unchanged, unchanged, Lent, run_order, copy_short, trace_short, ran, refused, begins, continues, abandons, run_answer, begin_answer, continue_answer, abandon_answer, refusal_of}

@@ -1,5 +1,5 @@
 -- What the ends of a part of a run ensure.
-use Rattle.std.specs.Prelude.{◌≡◌, Bool, true, ◌&&◌, ◌||◌, List, ℕ, suc, ◌-◌, ltb, leb, eqb, length}
+use Rattle.std.specs.Prelude.{◌≡◌, Bool, true, ◌&&◌, ◌||◌, List, ℕ, suc, ◌-◌, ltb, leb, eqb, length, if◌then◌else◌}
 use Rattle.model.specs.declared.Run.{Run}
 use Rattle.model.specs.declared.Vm.{Vm}
 use Rattle.model.specs.declared.Changed.{Changed}
@@ -10,7 +10,6 @@ use Rattle.model.specs.declared.Frame.{Frame}
 use Rattle.model.specs.declared.Tally.{Tally}
 use Rattle.model.specs.declared.RunResult.{RunResult}
 use Rattle.model.specs.declared.RunResult.TheVariants as r
-use Rattle.model.specs.Basics.{if◌then◌else◌}
 use Rattle.model.specs.Values.{places, kind}
 use Rattle.model.specs.Heap.{heap_of}
 use Rattle.model.specs.Stores.{Stores, size, code_word}

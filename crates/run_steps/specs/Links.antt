@@ -1,9 +1,8 @@
 -- What the code leans on while a run is under way, and what the steps inside one function ensure.
-use Rattle.std.specs.Prelude.{◌≡◌, true, false, List, [], ◌∷◌, ℕ, suc, ◌+◌, ◌*◌, ◌≤◌, ◌<◌, eqb, length}
+use Rattle.std.specs.Prelude.{◌≡◌, true, false, List, [], ◌∷◌, ℕ, suc, ◌+◌, ◌*◌, ◌≤◌, ◌<◌, eqb, length, if◌then◌else◌}
 use Rattle.model.specs.declared.Last.{Last}
 use Rattle.model.specs.declared.Last.TheVariants.{Nothing}
 use Rattle.model.specs.declared.Frame.{Frame}
-use Rattle.model.specs.Basics.{if◌then◌else◌}
 use Rattle.model.specs.Values.{places, kind, payload, values_from}
 use Rattle.model.specs.Heap.{heap_of}
 use Rattle.model.specs.Programs.{function_at}

@@ -1,4 +1,5 @@
 -- What a kind and a payload stand for, the words of a value and of a cell, and which words are exact.
+use Rattle.std.specs.Prelude.{if◌then◌else◌}
 use mathlib.Core.Path.{◌≡◌, refl, sym, ap, subst}
 use mathlib.Core.Bool.{Bool, true, false}
 pub use mathlib.Mathlib.Data.Bool.Basic.{and_elim_left as and_left, and_elim_right as and_right}
@@ -12,7 +13,6 @@ use lib.Ieee.Bits.{of_bits-to_bits}
 use Rattle.model.specs.declared.Value.{Value}
 use Rattle.model.specs.declared.Value.TheVariants as v
 use Rattle.model.specs.declared.Header.{Header}
-use Rattle.model.specs.Basics.{if◌then◌else◌}
 use Rattle.model.specs.Values.{value_of, kind, payload, exact_value}
 use Rattle.model.specs.Heap.{Cell, item, head, header_of, cell_of, cell_kind, cell_payload, exact_cell}
 use Rattle.value.specs.Links.{FineCell, PayloadOf, Fine}

@@ -1,5 +1,5 @@
 -- What the answers of the code stand for.
-use Rattle.std.specs.Prelude.{◌≡◌, Bool, List, [], ◌∷◌, ℕ, ◌<◌, ◌^◌, T, eqb, Float}
+use Rattle.std.specs.Prelude.{◌≡◌, Bool, List, [], ◌∷◌, ℕ, ◌<◌, ◌^◌, T, eqb, Float, if◌then◌else◌}
 use Rattle.std.specs.Float.{binary64}
 use Rattle.std.specs.Float.Ieee.{fits}
 use Rattle.model.specs.declared.Value.{Value}
@@ -14,7 +14,6 @@ use Rattle.value.specs.declared.pops.Scalars.{Scalars}
 use Rattle.value.specs.declared.pops.Scalars.TheVariants as s
 use Rattle.value.specs.declared.pops.Booleans.{Booleans}
 use Rattle.value.specs.declared.pops.Booleans.TheVariants as b
-use Rattle.model.specs.Basics.{if◌then◌else◌}
 use Rattle.model.specs.Values.{value_of, kind, payload, put_words, popping, popping_scalar, popping_boolean}
 use Rattle.model.specs.Heap.{Cell, item, head, put_cell}
 

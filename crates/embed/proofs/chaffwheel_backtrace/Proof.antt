@@ -1,5 +1,6 @@
 -- `chaffwheel_backtrace` meets its contract: a walk of its MIR, by hand. Its slices are judged, then the backtrace is written; or its order is judged alone.
 -- Assumes nothing.
+use Rattle.std.specs.Prelude.{if◌then◌else◌}
 use Rattle.laws_walks.proofs.Walk.{◌≡◌, refl, true, false, List, [], ◌∷◌, ℕ, length, Ura, w32, w64, Val, vint, SProp, ent, id⊢, Memory, Routine, Tables, WpFn, Lfts, Shares, Fun, tables, tables_of, FmC, fm_of}
 use Rattle.laws_walks.proofs.Walk.{‵, ⋆, ◌$◌, ◌∵◌, !, qed, by, keep, suffices, frame, done, agg, addr, of_opd, bin, Is, uint_Makes, u8, u32, u64, usize, now, Room, owned, on_entry, triple_of, Contract, Triple, cited, says, walk_of, ends_at}
 use Rattle.laws_walks.proofs.Walk.{of, ofs, behind, sets, lands_in, enters, leaves, Sl, sl, Arg, val, shr, mut, peek, Holds, Toks, Owns, lfts, shares, denots, valss, values, passing, lent, takes, gives, Rule, call_with, unasked, unneeded, calls_on, returns_if, Kind, number, shared, unique, stays, Passed, Known, closed}
@@ -12,7 +13,6 @@ use denote.Plain.{uint_Tells, bool_Makes}
 use native.Mathlib.Omega.{arith}
 use Rattle.frames.proofs.Frames.{R, tells}
 use Rattle.machine.proofs.Rows.{VmRow, vm_val, IsVm, vm_tells, vm_typed, vm_makes, ToldRow, told_val, IsTold, told_tells, told_typed, told_makes}
-use Rattle.model.specs.Basics.{if◌then◌else◌}
 use Rattle.model.specs.Machines.{trace_order, backtrace_in}
 use Rattle.run_ends.specs.Links.{program_lent}
 use Rattle.machine.proofs.Tests.{is_zero, not_zero}

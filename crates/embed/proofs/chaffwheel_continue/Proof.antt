@@ -1,5 +1,6 @@
 -- `chaffwheel_continue` meets its contract: a walk of its MIR, by hand. Its slices are judged, then the run of the machine of the record goes on; or the machine is judged alone.
 -- Assumes nothing.
+use Rattle.std.specs.Prelude.{if◌then◌else◌}
 use Rattle.laws_walks.proofs.Walk.{◌≡◌, refl, true, false, List, [], ◌∷◌, ℕ, length, Ura, w32, w64, Val, vint, SProp, ent, id⊢, Memory, Routine, Tables, WpFn, Lfts, Shares, Fun}
 use Rattle.laws_walks.proofs.Walk.{tables, tables_of, FmC, fm_of, Bool, vbool, Boolean, bool_Tells}
 use Rattle.laws_walks.proofs.Walk.{‵, ⋆, ◌$◌, ◌∵◌, !, qed, by, keep, suffices, frame, done, agg, addr, of_opd, bin, Is, uint_Makes, u8, u32, u64, usize, now, Room, owned, on_entry}
@@ -14,7 +15,6 @@ use denote.Plain.{uint_Tells, bool_Makes}
 use native.Mathlib.Omega.{arith}
 use Rattle.frames.proofs.Frames.{R}
 use Rattle.machine.proofs.Rows.{VmRow, vm_val, IsVm, vm_tells, vm_typed, vm_makes, ResultRow, result_val, IsResult, result_tells, result_typed, result_makes}
-use Rattle.model.specs.Basics.{if◌then◌else◌}
 use Rattle.model.specs.Stores.{Stores}
 use Rattle.model.specs.Machines.{Lent, run_order, continues, RunPost}
 use Rattle.run_ends.specs.Links.{program_lent}
