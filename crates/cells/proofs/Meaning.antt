@@ -12,7 +12,6 @@ use Rattle.model.specs.declared.Value.{Value}
 use Rattle.model.specs.declared.Value.TheVariants as v
 use Rattle.model.specs.declared.Header.{Header}
 use Rattle.model.specs.declared.Fault.{Fault}
-use Rattle.model.specs.declared.Fault.TheVariants as f
 use Rattle.model.specs.declared.Found.TheVariants as g
 use Rattle.model.specs.Values.{if_scalar, if_boolean, if_string, if_reference, if_list, if_struct}
 use Rattle.model.specs.Heap.{Cell, item_in, head_in, items, elements_in, field_of, depth_in, block_of, built, build_of, heap_ok}

@@ -3,7 +3,6 @@
 #![tactic(auto)]
 
 ghost use Rattle.std.specs.Prelude.{◌≡◌, true, suc, ◌≤◌, ◌<◌, max, length, get_or, replicate};
-ghost use Rattle.model.specs.Programs.{next_in};
 ghost use Rattle.check_rules.specs.Rules.{suffices, leads_on, is_jump, target_at};
 ghost use Rattle.check_heights.specs.Answer.{HeightsPre, HeightsPost, FlawPost};
 ghost use Rattle.check_heights.specs.Links.{Whole, popped_at, height_limit, AfterPre, AfterPost};

@@ -1,12 +1,12 @@
 -- A Call that is looked for: in one code, instruction by instruction; and in a program, where two Calls pass different counts.
-use mathlib.Core.Path.{◌≡◌, refl, sym, ◌∙◌}
+use mathlib.Core.Path.{◌≡◌, refl, sym}
 use mathlib.Core.Bool.{Bool, true, false, not, ◌&&◌, ◌||◌}
 use mathlib.Core.List.{List}
 use Prim.Native.Nat.{ℕ, ◌≤◌, ◌<◌}
 use lib.Dec.{eqb}
 use lib.ListN.{length, get_or}
 use borrow.Author.Tests.{eq-eqb, ne_eqb}
-use Rattle.model.specs.Programs.{next_in, stands}
+use Rattle.model.specs.Programs.{next_in}
 use Rattle.check_rules.specs.Rules.{call, first_at, second_at}
 use Rattle.check_code.proofs.Turns.{Turn, first_turn, last_turn, decides, next_turn}
 use Rattle.check_places.specs.Places.{first_not}

@@ -4,7 +4,7 @@ use mathlib.Core.Bool.{Bool, true, false}
 use mathlib.Core.List.{List}
 use Prim.Native.Nat.{ℕ, ◌≤◌, ◌<◌}
 use lib.ListN.{length}
-use Rattle.model.specs.Programs.{Program, next_in, stands}
+use Rattle.model.specs.Programs.{Program, next_in}
 use Rattle.check_rules.specs.declared.Rule.{Rule}
 use Rattle.check_code.specs.Links.{Sized}
 use Rattle.check_code.proofs.Turns.{Turn, first_turn, last_turn, decides, next_turn}

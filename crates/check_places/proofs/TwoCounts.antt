@@ -1,14 +1,13 @@
 -- What is told of the rule of counts is so: there are two Calls of the function, and they pass different counts.
 use Rattle.std.specs.Prelude.{if◌then◌else◌}
 use mathlib.Core.Path.{◌≡◌, refl, sym, ap, ◌∙◌}
-use mathlib.Core.Logic.{◌⊎◌, inl, inr, ⊎_elim}
 use mathlib.Core.Bool.{Bool, true, false, true≢false, not, ◌&&◌, ◌||◌}
 use mathlib.Core.List.{List, [], ◌∷◌, ◌++◌}
-use Prim.Native.Nat.{ℕ, zero, suc, ◌+◌, ◌≤◌, ◌<◌}
+use Prim.Native.Nat.{ℕ, suc, ◌+◌, ◌≤◌, ◌<◌}
 use native.Mathlib.Omega.{arith}
 use lib.Dec.{eqb, ltb}
 use lib.ListN.{length}
-use borrow.Author.Tests.{eq-eqb, ltb-true, ltb-false, eqb-true, eqb-false}
+use borrow.Author.Tests.{eq-eqb, ltb-true, ltb-false, eqb-true}
 use Rattle.model.specs.Programs.{Function, Program, function_at, stands}
 use Rattle.check_rules.specs.declared.Rule.TheVariants as r
 use Rattle.check_rules.specs.Rules.{Site, call, is_at, first_at, second_at, calls_at, calls_in, count_in, count_of, passes, is_in, every, code_of, Keeps}

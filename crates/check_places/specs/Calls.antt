@@ -1,6 +1,6 @@
 -- [checker] Which Calls break the rule of counts: the first Call of a function, by whose count it is taken, and the first that passes another.
 use Rattle.std.specs.Prelude.{Bool, true, false, not, ◌&&◌, ◌||◌, ◌≡◌, List, [], ◌∷◌, ℕ, suc, ◌<◌, eqb, ltb, length, if◌then◌else◌}
-use Rattle.model.specs.Programs.{Function, Program, function_at, stands}
+use Rattle.model.specs.Programs.{Function, Program, stands}
 use Rattle.check_rules.specs.Rules.{call, is_at, first_at, second_at, is_in, count_of, code_of}
 use Rattle.check_places.specs.declared.Called.{Called}
 use Rattle.check_places.specs.declared.Called.TheVariants as c

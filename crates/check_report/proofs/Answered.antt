@@ -1,11 +1,10 @@
 -- What is answered of an image can be printed, and its heights are as many as were lent.
 use mathlib.Core.Path.{◌≡◌, refl, ◌∙◌}
 use mathlib.Core.List.{List}
-use Prim.Native.Nat.{ℕ, ◌+◌, ◌*◌, ◌≤◌, ◌<◌, ◌^◌}
+use Prim.Native.Nat.{ℕ, ◌+◌, ◌*◌, ◌≤◌}
 use native.Mathlib.Omega.{arith}
 use lib.ListN.{length, take, replicate, length-replicate}
 use Rattle.model.specs.Stores.{Stores}
-use Rattle.model.specs.Emission.{written}
 use Rattle.model.specs.Loading.{counts_for}
 use Rattle.layout.proofs.Writing.{length_written}
 use Rattle.image_load.proofs.Loads.{one_word}

@@ -1,5 +1,5 @@
 -- A Call that is looked for in the stores of a program, function by function; and the two that are told of the rule of counts.
-use mathlib.Core.Path.{◌≡◌, refl, sym, ap, ◌∙◌}
+use mathlib.Core.Path.{◌≡◌, sym, ap, ◌∙◌}
 use mathlib.Core.Bool.{Bool, true, false}
 use mathlib.Core.List.{List, ◌++◌, append_assoc}
 use Prim.Native.Nat.{ℕ, suc, ◌+◌, ◌-◌, ◌≤◌, ◌<◌, ◌^◌}
@@ -9,7 +9,6 @@ use borrow.Author.Tests.{eq-eqb, ne_eqb, lt-ltb, le-ltb}
 use Rattle.model.specs.declared.Counts.{Counts}
 use Rattle.model.specs.Basics.{ascii}
 use Rattle.model.specs.Listings.{decimal}
-use Rattle.model.specs.Programs.{Function}
 use Rattle.model.specs.Stores.{Stores, function_in, functions_from, program_in}
 use Rattle.listing.specs.Links.{lent}
 use Rattle.printing.specs.Links.{Put}

@@ -1,12 +1,12 @@
 -- What is said of the function that breaks a rule, put piece by piece.
 use Rattle.std.specs.Prelude.{if◌then◌else◌}
-use mathlib.Core.Path.{◌≡◌, refl, sym, ap, subst, ◌∙◌}
+use mathlib.Core.Path.{◌≡◌, refl, sym, ap, ◌∙◌}
 use mathlib.Core.Bool.{Bool, true, false}
 use mathlib.Core.List.{List, [], ◌∷◌, ◌++◌, append_assoc}
 use Prim.Native.Nat.{ℕ, zero, suc, ◌+◌, ◌≤◌, ◌<◌, ◌^◌}
 use native.Mathlib.Nat.{min-le_right}
 use native.Mathlib.Omega.{arith}
-use lib.Dec.{eqb, ltb}
+use lib.Dec.{eqb}
 use lib.ListN.{length, get_or, take, drop, length-take, length-drop}
 use lib.Seq.{take_at}
 use denote.Enum.Declared.{tag_of}
@@ -18,10 +18,10 @@ use Rattle.model.specs.declared.Loaded.TheVariants as l
 use Rattle.model.specs.Basics.{ascii}
 use Rattle.model.specs.Values.{text_at}
 use Rattle.model.specs.Opcodes.{popped, opcode_at}
-use Rattle.model.specs.Programs.{Function, Program, function_at}
+use Rattle.model.specs.Programs.{Function}
 use Rattle.model.specs.Listings.{decimal}
-use Rattle.model.specs.Stores.{Stores, stores_of, start, size, part as partIn, code_word, constants_from, structs_from, function_in, functions_from, program_in}
-use Rattle.model.specs.Loading.{LoadRes, load_of}
+use Rattle.model.specs.Stores.{Stores, stores_of, start, size, part as partIn, code_word, constants_from, structs_from, function_in, program_in}
+use Rattle.model.specs.Loading.{load_of}
 use Rattle.model.specs.Reports.{empty_stores}
 use Rattle.laws_names.proofs.Standing.{length_structs}
 use Rattle.laws_images.proofs.Held.{written_front}

@@ -1,12 +1,13 @@
 // What the checker prints, as bytes in a lent store: the facts for a program to read, and behind a refusal a line in plain words.
 #![tactic(auto)]
+
 mod calls; // calls.rt: two Calls of one function
 mod details; // details.rt: the item or the function that breaks a rule
 mod items; // items.rt: the item that breaks a rule of the image
 mod facts; // facts.rt: the lines of facts
 mod words; // words.rt: the line in plain words
 
-ghost use Rattle.std.specs.Prelude.{◌≡◌, ◌+◌, ◌*◌, ◌≤◌, length, replicate};
+ghost use Rattle.std.specs.Prelude.{◌≡◌, ◌+◌, ◌*◌, ◌≤◌, length};
 ghost use Rattle.report_lines.specs.Links.{printed};
 ghost use Rattle.printing.specs.Links.{Put};
 ghost use Rattle.check_report.specs.Texts.{checked_text};

@@ -2,7 +2,6 @@
 use mathlib.Core.Path.{◌≡◌, refl, sym, ap, subst, ◌∙◌}
 use mathlib.Core.Bool.{Bool, true, false, true≢false}
 use mathlib.Core.List.{List, [], ◌∷◌}
-use mathlib.Core.Logic.{⊎_elim}
 use Prim.Native.Nat.{ℕ, zero, suc, ◌≤◌, ◌<◌}
 use native.Mathlib.Omega.{arith}
 use lib.ListN.{length, get_or}
@@ -17,7 +16,7 @@ use Rattle.check_rules.specs.declared.Rule.{Rule}
 use Rattle.check_rules.specs.declared.Rule.TheVariants as r
 use Rattle.check_rules.specs.declared.Checked.{Checked}
 use Rattle.check_rules.specs.declared.Checked.TheVariants as c
-use Rattle.check_rules.specs.Rules.{Greatest, Keeps, rule_number, Passed, Broken}
+use Rattle.check_rules.specs.Rules.{Greatest, rule_number, Passed, Broken}
 use Rattle.check_rules.specs.Checks.{HeightsOf, CheckAs, not_an_image, no_place_lem, past_a_limit, no_room, breaks, passes}
 
 -- ---- what is judged is one

@@ -1,5 +1,5 @@
 -- [check] What the check of an image answers, and what it leaves in the lent stores: "Refusals: 40 .., after 20, 17, 22 and 21".
-use Rattle.std.specs.Prelude.{◌≡◌, Bool, true, false, List, [], ◌∷◌, ℕ, ◌<◌, ◌≤◌, length, get_or}
+use Rattle.std.specs.Prelude.{◌≡◌, true, false, List, ℕ, ◌<◌, ◌≤◌, length, get_or}
 use Rattle.model.specs.Values.{places}
 use Rattle.model.specs.Programs.{Program, within_limits}
 use Rattle.model.specs.Images.{fine, broken, judge}

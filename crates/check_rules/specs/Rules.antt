@@ -1,13 +1,13 @@
 -- [check] What a program is checked for before it is installed: six rules, in the order of the request. A function is given by its number.
 -- "Code no path reaches needs only the earlier rules. .. The rules from the known height on count as one."
-use Rattle.std.specs.Prelude.{◌≡◌, Bool, true, false, not, ◌&&◌, ◌||◌, List, [], ◌∷◌, ◌++◌, ℕ, zero, suc, ◌+◌, ◌-◌, ◌≤◌, ◌<◌, ltb, leb, eqb, length, get_or, if◌then◌else◌}
+use Rattle.std.specs.Prelude.{◌≡◌, Bool, true, false, not, ◌&&◌, ◌||◌, List, [], ◌∷◌, ◌++◌, ℕ, suc, ◌+◌, ◌-◌, ◌≤◌, ◌<◌, ltb, leb, eqb, length, get_or, if◌then◌else◌}
 use Rattle.model.specs.declared.Decoded.{Decoded}
 use Rattle.model.specs.declared.Decoded.TheVariants as d
 use Rattle.model.specs.declared.Names.{Names}
 use Rattle.model.specs.declared.Names.TheVariants as n
 use Rattle.check_rules.specs.declared.Rule.{Rule}
 use Rattle.check_rules.specs.declared.Rule.TheVariants as r
-use Rattle.model.specs.Opcodes.{Opcode, first_names, second_names, popped}
+use Rattle.model.specs.Opcodes.{first_names, second_names, popped}
 use Rattle.model.specs.Programs.{Function, Program, function_at, word_at, opcode_in, next_in, stands}
 
 -- ---- an instruction, at position i of a code

@@ -8,7 +8,6 @@ use lib.ListN.{set}
 use borrow.Author.Tests.{eq-eqb, ne_eqb}
 use Rattle.model.specs.declared.Counts.{Counts}
 use Rattle.model.specs.declared.Vm.{Vm}
-use Rattle.model.specs.declared.Started.{Started}
 use Rattle.model.specs.declared.Started.TheVariants as st
 use Rattle.model.specs.Basics.{written}
 use Rattle.model.specs.Machines.{fresh}
@@ -16,7 +15,7 @@ use Rattle.check_rules.specs.declared.Rule.{Rule}
 use Rattle.check_rules.specs.declared.Checked.{Checked}
 use Rattle.check_rules.specs.declared.Checked.TheVariants as c
 use Rattle.check_rules.specs.Rules.{rule_number}
-use Rattle.embed_words.specs.Coding.{Coded, started_coded}
+use Rattle.embed_words.specs.Coding.{started_coded}
 use Rattle.check_words.specs.Words.{checked_coded}
 
 pub two_put : (a : List ℕ) (q : Rule) (f : ℕ) {n : ℕ} {b d : List ℕ} → n ≡ rule_number q → b ≡ set a 0 n → d ≡ set b 1 f → d ≡ written a 0 (rule_number q ∷ f ∷ [])

@@ -6,9 +6,9 @@
 --     check-crosses              the entry, all but its frame
 --     frame-placed, frame-laid, frame-not      and the frame
 use Rattle.std.specs.Prelude.{if◌then◌else◌}
-use mathlib.Core.Path.{◌≡◌, refl, sym, ap, subst, ◌∙◌}
-use mathlib.Core.Bool.{Bool, true, false, ◌&&◌, true≢false}
-use mathlib.Core.List.{List, [], ◌∷◌, ◌++◌, append-nil}
+use mathlib.Core.Path.{◌≡◌, refl, sym, ap, ◌∙◌}
+use mathlib.Core.Bool.{Bool, true, false, ◌&&◌}
+use mathlib.Core.List.{List, [], ◌++◌, append-nil}
 use Prim.Native.Nat.{ℕ, zero, suc, ◌≤◌, ◌<◌}
 use native.Mathlib.Omega.{arith}
 use lib.Dec.{eqb, leb}
@@ -17,12 +17,11 @@ use lib.Seq.{take-length, drop-length, length-take-le}
 use borrow.Author.Tests.{le-leb, lt-leb, leb-true, eq-eqb, ne_eqb}
 use mathlib.Mathlib.Data.Bool.Basic.{and_elim_right as and_right}
 use Rattle.model.specs.declared.Frame.{Frame}
-use Rattle.model.specs.Basics.{written}
 use Rattle.model.specs.Values.{places}
-use Rattle.model.specs.Programs.{Program, within_limits}
+use Rattle.model.specs.Programs.{Program}
 use Rattle.model.specs.Images.{fine, judge}
 use Rattle.model.specs.Stores.{Stores, with_functions}
-use Rattle.model.specs.Loading.{laid, room_for}
+use Rattle.model.specs.Loading.{room_for}
 use Rattle.model.specs.Runs.{root}
 use Rattle.image_load.proofs.Loads.{room_of_lem}
 use Rattle.check_rules.specs.declared.Checked.{Checked}

@@ -1,12 +1,12 @@
 -- An image that is one has a main.
-use mathlib.Core.Path.{◌≡◌, refl, sym, ap, subst}
+use mathlib.Core.Path.{◌≡◌, sym, subst}
 use mathlib.Core.Bool.{Bool, true, false, true≢false}
 use mathlib.Core.List.{List, [], ◌∷◌}
 use Prim.Native.Nat.{ℕ, zero, suc, ◌<◌}
 use native.Mathlib.Omega.{arith}
 use lib.Dec.{ltb}
 use lib.ListN.{length}
-use Rattle.model.specs.Numbers.{Step, got, and_then, item, checked, number}
+use Rattle.model.specs.Numbers.{got, item, checked, number}
 use Rattle.model.specs.Programs.{Function, Program}
 use Rattle.model.specs.Images.{series, read_function, read_constants, read_structs, read_functions, read_end, parse, fine, judge}
 use Rattle.number.proofs.Codes.{never, item_only}

@@ -2,17 +2,16 @@
 -- itself, of what it is lent: no place for a height where the record or the answer is too short, no function where no frame has a place.
 use Rattle.std.specs.Prelude.{if◌then◌else◌}
 use mathlib.Core.Path.{◌≡◌, refl, sym, ap, ◌∙◌}
-use mathlib.Core.Bool.{Bool, true, false, ◌&&◌, true≢false}
+use mathlib.Core.Bool.{Bool, true, false, true≢false}
 use mathlib.Core.List.{List, []}
 use mathlib.Mathlib.Data.Bool.Basic.{and_elim_left as and_left, and_elim_right as and_right}
 use Prim.Native.Nat.{ℕ, ◌≤◌, ◌<◌}
-use native.Mathlib.Omega.{arith}
-use lib.Dec.{eqb, leb}
-use lib.ListN.{length, set}
+use lib.Dec.{leb}
+use lib.ListN.{length}
 use borrow.Author.Tests.{leb-true, leb-false}
 use Rattle.model.specs.declared.Frame.{Frame}
 use Rattle.model.specs.Values.{places}
-use Rattle.model.specs.Programs.{Program, within_limits}
+use Rattle.model.specs.Programs.{Program}
 use Rattle.model.specs.Images.{fine, judge}
 use Rattle.model.specs.Stores.{Stores, with_functions}
 use Rattle.model.specs.Loading.{room_for}

@@ -1,5 +1,6 @@
 // What the check of an image answers, as words in lent slices: what crosses to a host in C.
 #![tactic(auto)]
+
 ghost use Rattle.std.specs.Prelude.{◌≡◌, [], ◌∷◌, eqb, set, if◌then◌else◌};
 ghost use Rattle.model.specs.Basics.{written};
 ghost use Rattle.check_rules.specs.Rules.{rule_number};

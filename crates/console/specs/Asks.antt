@@ -1,5 +1,5 @@
 -- What a line asks.
-use Rattle.std.specs.Prelude.{Bool, true, ◌&&◌, ◌||◌, List, ◌++◌, ℕ, min, eqb, length, get_or, take, drop, if◌then◌else◌}
+use Rattle.std.specs.Prelude.{Bool, true, ◌||◌, List, ◌++◌, ℕ, min, eqb, length, get_or, take, drop, if◌then◌else◌}
 use Rattle.model.specs.declared.Vm.{Vm}
 use Rattle.model.specs.declared.Shown.{Shown}
 use Rattle.model.specs.declared.Shown.TheVariants as w

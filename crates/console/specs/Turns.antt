@@ -9,7 +9,7 @@ use Rattle.console.specs.declared.commands.Asked.TheVariants as q
 use Rattle.console.specs.declared.commands.Group.{Group}
 use Rattle.console.specs.declared.commands.Group.TheVariants as g
 use Rattle.console_script.specs.Words.{word_of, cut_of, blank, line_of, next_line}
-use Rattle.console.specs.Asks.{Heard, ask_of, group_of}
+use Rattle.console.specs.Asks.{ask_of, group_of}
 use Rattle.console.specs.Said.{after_emitted, after_damage}
 use Rattle.console_emission.specs.Emits.{emit_asked}
 use Rattle.console_damage.specs.Damage.{count_asked, result_asked, frame_asked, words_asked, bytes_asked, places_asked}

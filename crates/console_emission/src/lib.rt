@@ -1,5 +1,6 @@
 // The commands that emit a program: each calls one entry of emission, and tells it whether a run is under way (`running`).
 #![tactic(auto)]
+
 ghost use Rattle.std.specs.Prelude.{◌≡◌, ◌%◌, ltb};
 ghost use Rattle.model.specs.declared.Emitted.TheVariants.{Refused};
 ghost use Rattle.model.specs.Stores.{Stores};

@@ -1,5 +1,6 @@
 // The calls over frames: for each the frames are laid into a slice of records, and kept in numbers after it.
 #![tactic(auto)]
+
 ghost use Rattle.std.specs.Prelude.{◌≡◌};
 ghost use Rattle.console_frames.specs.declared.Answer.TheVariants as a;
 ghost use Rattle.console_damage.specs.Damage.{frame_at};

@@ -1,5 +1,6 @@
 // The machine's entries for a host in C: numbers and slices alone. `include/chaffwheel.h` declares them, docs/EMBEDDING.md shows their use.
 #![tactic(auto)]
+
 pub mod checking; // checking.rt: an image is checked before it is installed
 pub mod emission; // emission.rt: a program is written
 pub mod reading; // reading.rt: a machine is read

@@ -1,10 +1,8 @@
 -- The entries' answers in words.
-use Rattle.std.specs.Prelude.{if◌then◌else◌}
 use mathlib.Core.Path.{◌≡◌, refl}
 use mathlib.Core.List.{List, [], ◌∷◌}
 use Prim.Native.Nat.{ℕ}
 use borrow.Author.Tests.{eq-eqb, ne_eqb}
-use lib.Dec.{eqb}
 use lib.ListN.{set}
 use Rattle.model.specs.declared.Value.{Value}
 use Rattle.model.specs.declared.Header.{Header}

@@ -1,5 +1,6 @@
 // The entries' answers as words in lent slices: what an entry tells a host in C.
 #![tactic(auto)]
+
 ghost use Rattle.std.specs.Prelude.{◌≡◌, List, [], ◌∷◌, ℕ, set};
 ghost use Rattle.model.specs.Basics.{written};
 ghost use Rattle.model.specs.Answers.{toldNumber, shownNumber, headedNumber};

@@ -1,5 +1,6 @@
 // What is read of a machine's record in words: what crosses is refused, or an entry's own rule makes the answer, in words too. A host in C calls it through `embed`.
 #![tactic(auto)]
+
 ghost use Rattle.std.specs.Prelude.{◌≡◌};
 ghost use Rattle.model.specs.declared.Vm.{Vm};
 ghost use Rattle.model.specs.Values.{value_of};

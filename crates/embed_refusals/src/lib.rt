@@ -1,5 +1,6 @@
 // Why what crosses to a host in C is refused, and how that is ordered with the entry's own refusals.
 #![tactic(auto)]
+
 ghost use Rattle.std.specs.Prelude.{◌≡◌, eqb, if◌then◌else◌};
 ghost use Rattle.embed_words.specs.Coding.{last_exact, record_ok, slices_refusal, value_refusal, under_way, out_refusal, at_entry, at_listing, crossed};
 

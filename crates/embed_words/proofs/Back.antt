@@ -1,23 +1,21 @@
 -- A record that was written is read back as the machine: a host in C that hands the record back hands the machine back.
-use Rattle.std.specs.Prelude.{if◌then◌else◌}
-use mathlib.Core.Path.{◌≡◌, refl, ap}
-use mathlib.Core.Bool.{Bool, true, false, ◌&&◌}
-use mathlib.Core.List.{List, [], ◌∷◌, ◌++◌}
+use mathlib.Core.Path.{◌≡◌, refl}
+use mathlib.Core.Bool.{Bool, true, false}
+use mathlib.Core.List.{List, ◌++◌}
 use Prim.Native.Nat.{ℕ, ◌+◌, ◌≤◌}
 use native.Mathlib.Omega.{arith}
-use borrow.Author.Tests.{le-leb, eq-eqb}
+use borrow.Author.Tests.{le-leb}
 use lib.Dec.{eqb, leb}
-use lib.ListN.{length, get_or, drop}
-use lib.Seq.{sets-eq, length-sets, get_or_at}
+use lib.ListN.{length, drop}
+use lib.Seq.{sets-eq}
 use Rattle.model.specs.declared.Vm.{Vm}
-use Rattle.model.specs.declared.Counts.{Counts}
 use Rattle.model.specs.declared.Value.{Value}
 use Rattle.model.specs.declared.Value.TheVariants as v
 use Rattle.model.specs.declared.Last.{Last}
 use Rattle.model.specs.declared.Last.TheVariants.{Nothing, Is}
 use Rattle.model.specs.Basics.{written}
 use Rattle.model.specs.Values.{kind, payload, exact_value, bit}
-use Rattle.value.specs.Links.{Fine, last_in, last_kind, last_payload}
+use Rattle.value.specs.Links.{last_in, last_kind, last_payload}
 use Rattle.value.proofs.Coding.{words_exact}
 use Rattle.value.proofs.Lasts.{last_words}
 use Rattle.embed_words.specs.Coding.{run_in, vm_in, vm_words, FineLast, last_exact, record_ok, RecordOf}

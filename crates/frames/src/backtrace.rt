@@ -1,7 +1,7 @@
 // A backtrace: three numbers to an entry, the function, the place and when it was entered, the innermost frame first.
 ghost use Rattle.std.specs.Prelude.{◌≡◌, ◌∷◌, ◌+◌, ◌-◌, ◌*◌, ◌<◌, ◌≤◌, length, get_or};
 ghost use Rattle.model.specs.Stores.{start, code_word};
-ghost use Rattle.frames.specs.Links.{callers_of, place_of, trace_words, written, inside_good, trace_good, Readable, TraceFits, left_of, inside_of, Put};
+ghost use Rattle.frames.specs.Links.{callers_of, place_of, trace_words, written, inside_good, trace_good, Readable, TraceFits, inside_of, Put};
 
 use crate::order::{Scan, code_length};
 use crate::read_frame;

@@ -3,7 +3,7 @@ use Rattle.std.specs.Prelude.{◌≡◌, true, List, ℕ, ◌<◌, get_or}
 use Rattle.model.specs.Programs.{Program}
 use Rattle.model.specs.Stores.{Stores, program_in}
 use Rattle.model.specs.Orders.{program_ok}
-use Rattle.model.specs.Loading.{laid, counts_for, LoadRes, load_of}
+use Rattle.model.specs.Loading.{laid, counts_for, load_of}
 use Rattle.model.specs.declared.Loaded.TheVariants as l
 
 -- in the stores y, `load` accepts these bytes, and the counts and the stores that it leaves are in good order and stand for p

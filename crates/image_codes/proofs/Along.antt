@@ -1,8 +1,8 @@
 -- From function to function: where the one ends the next begins.
-use mathlib.Core.Path.{◌≡◌, refl, sym, ap, subst, ◌∙◌}
+use mathlib.Core.Path.{◌≡◌, sym, ap, subst, ◌∙◌}
 use mathlib.Core.Bool.{Bool, true, false}
 use mathlib.Core.List.{List, [], ◌∷◌}
-use Prim.Native.Nat.{ℕ, zero, suc, ◌+◌, ◌-◌, ◌≤◌, ◌<◌}
+use Prim.Native.Nat.{ℕ, zero, suc, ◌-◌, ◌<◌}
 use native.Mathlib.Omega.{arith}
 use lib.Dec.{eqb}
 use borrow.Author.Tests.{ne_eqb}
@@ -12,7 +12,7 @@ use Rattle.model.specs.Programs.{Function, Program, function_at}
 use Rattle.model.specs.Images.{series, read_function}
 use Rattle.image_judge.specs.declared.Sizes.{Sizes}
 use Rattle.image_judge.specs.Links.{part_of, Good, Says, functions_for}
-use Rattle.laws_images.proofs.Codecs.{got_value, got_rest, then_only, made_only}
+use Rattle.laws_images.proofs.Codecs.{then_only, made_only}
 use Rattle.image_codes.specs.declared.Code.{Code}
 use Rattle.image_codes.specs.Links.{CodePost, functions_from, From}
 

@@ -13,7 +13,7 @@ use Rattle.image_judge.specs.declared.Behind.TheVariants as b
 use Rattle.image_judge.specs.declared.Head.{Head}
 use Rattle.image_judge.specs.declared.Begun.{Begun}
 use Rattle.image_judge.specs.declared.Begun.TheVariants as h
-use Rattle.image_judge.specs.Links.{Bad, HeadPost, RunsPost, runs_for, function_of}
+use Rattle.image_judge.specs.Links.{Bad, HeadPost, RunsPost, function_of}
 use Rattle.image_judge.proofs.Functions.{head_is, head_not, runs_is, runs_not}
 use Rattle.number.proofs.Codes.{never}
 use Rattle.laws_images.proofs.Codecs.{got_value, got_rest}

@@ -1,5 +1,5 @@
 -- Where the functions' codes stand in an image that was judged. `s` is the image, and a place is an offset in it.
-use Rattle.std.specs.Prelude.{◌≡◌, Bool, true, false, List, ℕ, ◌+◌, ◌-◌, ◌≤◌, ◌<◌, eqb, length, drop}
+use Rattle.std.specs.Prelude.{◌≡◌, Bool, true, false, List, ℕ, ◌+◌, ◌-◌, ◌≤◌, eqb, length, drop}
 use Rattle.model.specs.Numbers.{Step, got}
 use Rattle.model.specs.Programs.{Function, Program, within_limits}
 use Rattle.model.specs.Images.{series, read_function}

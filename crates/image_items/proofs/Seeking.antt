@@ -1,14 +1,14 @@
 -- Which item begins at an offset: what the code reads is what the definitions read.
 use Rattle.std.specs.Prelude.{if◌then◌else◌}
-use mathlib.Core.Path.{◌≡◌, refl, sym, ap, ◌∙◌}
+use mathlib.Core.Path.{◌≡◌, sym, ap, ◌∙◌}
 use mathlib.Core.List.{List}
-use Prim.Native.Nat.{ℕ, zero, suc, ◌+◌, ◌-◌, ◌≤◌, ◌<◌}
+use Prim.Native.Nat.{ℕ, suc, ◌+◌, ◌-◌, ◌≤◌, ◌<◌}
 use native.Mathlib.Omega.{arith}
-use lib.Dec.{eqb, ltb}
+use lib.Dec.{ltb}
 use lib.ListN.{length, drop, length-drop}
 use borrow.Author.Tests.{eq-eqb, ne_eqb, lt-ltb, le-ltb}
-use Rattle.model.specs.Numbers.{Step, number}
-use Rattle.model.specs.Images.{takes, read_text, read_constant}
+use Rattle.model.specs.Numbers.{Step}
+use Rattle.model.specs.Images.{read_constant}
 use Rattle.number.specs.declared.Num.{Num}
 use Rattle.number.specs.declared.Num.TheVariants as n
 use Rattle.number.specs.Links.{NumPost}

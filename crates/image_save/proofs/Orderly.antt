@@ -3,13 +3,13 @@ use Rattle.std.specs.Prelude.{if◌then◌else◌}
 use mathlib.Core.Path.{◌≡◌, refl, sym, ap, subst, ◌∙◌}
 use mathlib.Core.Bool.{Bool, true, false, not}
 use mathlib.Core.List.{List, [], ◌∷◌, ◌++◌, append_assoc}
-use Prim.Native.Nat.{ℕ, zero, suc, ◌+◌, ◌-◌, ◌*◌, ◌/◌, ◌<◌, ◌≤◌, ◌^◌, min}
+use Prim.Native.Nat.{ℕ, zero, suc, ◌+◌, ◌-◌, ◌*◌, ◌<◌, ◌≤◌, ◌^◌, min}
 use native.Mathlib.Omega.{arith}
 use native.Mathlib.Nat.{min-le_left}
-use lib.Dec.{eqb, leb, ltb}
+use lib.Dec.{eqb, leb}
 use lib.ListN.{length, drop, length-append, length-take}
 use borrow.Author.Tests.{leb-true, ltb-true, ne_eqb, le-leb, lt-leb, not-true, not-false}
-use Rattle.model.specs.Numbers.{digits, groups_of}
+use Rattle.model.specs.Numbers.{digits}
 use Rattle.model.specs.Values.{places, kind_at, payload_at, text_at}
 use Rattle.model.specs.Programs.{Function, boolean}
 use Rattle.model.specs.Images.{joined, counted, text_image, constant_image, Run, join_run, runs_of, run_image, function_image, image_of}

@@ -1,5 +1,5 @@
 -- THE THEOREMS over a program that passed the check: what its runs never meet, and how high its frames grow.
-use mathlib.Core.Path.{◌≡◌, refl, sym, ap, subst}
+use mathlib.Core.Path.{◌≡◌, refl, ap, subst}
 use mathlib.Core.Bool.{Bool, true, false}
 use mathlib.Core.List.{List, [], ◌∷◌, map}
 use Prim.Native.Nat.{ℕ, ◌≤◌, ◌<◌}
@@ -15,7 +15,7 @@ use Rattle.model.specs.Values.{fault_number}
 use Rattle.model.specs.Programs.{Program, opcode_in}
 use Rattle.model.specs.Steps.{World, State, faulted, position, step_of}
 use Rattle.model.specs.Steps as steps
-use Rattle.model.specs.Runs.{Machine, Progress, Entry, fault, unentered, begin, over}
+use Rattle.model.specs.Runs.{Machine, Progress, Entry, unentered, begin, over}
 use Rattle.laws_runs.specs.Paths.{Steps, none, on, ret}
 use Rattle.laws_runs.specs.Demand.{Cut, faulting, unpaid, Recovered}
 use Rattle.laws_runs.proofs.Demands.{run_recovered}

@@ -25,9 +25,9 @@ use Rattle.model.specs.declared.Found.TheVariants as g
 use Rattle.model.specs.declared.Frame.{Frame}
 use Rattle.model.specs.Values.{if_scalar, if_boolean, if_reference, if_struct, fault_number, popping, popping_scalar, popping_boolean, text_at}
 use Rattle.model.specs.Scalars.{zero_divisor, result_of}
-use Rattle.model.specs.Heap.{Cell, built, unbuilt, head_in, deepest, depth_in, field_of, build_of, list_elements, struct_fields}
+use Rattle.model.specs.Heap.{Cell, built, unbuilt, head_in, deepest, field_of, build_of, list_elements, struct_fields}
 use Rattle.model.specs.Equality.{Same, same, same_of}
-use Rattle.model.specs.Programs.{Function, function_named}
+use Rattle.model.specs.Programs.{function_named}
 use Rattle.model.specs.Steps.{World, State, Outcome, went, returned, faulted, short, pushing, on_found, constant_of, slot_of, last_of, load_step, slot_step, last_step, negate_step, arithmetic_step, ordering_step, on_same, equal_step, logic_step, not_step, jump_step, jump_if_false_step, enter, call_step, enter_named, call_callable_step, on_built, build_step, struct_step, field_step, return_to, return_step, exec_of}
 use Rattle.laws_checks.specs.Table.{Check, constant_known, slot_filled, function_known, struct_known, value_there, scalar_at, boolean_at, reference_at, struct_at, values_there, last_there, field_there, name_known, arguments_there, divisor_fine, result_finite, pairs_paid, depth_fine, cells_free, frame_free, place_free, number_of, checks_of, nth, is_there, is_found, pairs_of, passes, first_failed, Keeps}
 

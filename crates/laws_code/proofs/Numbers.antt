@@ -8,7 +8,7 @@ use lib.Dec.{eqb, leb, ltb}
 use lib.ListN.{length}
 use Rattle.model.specs.declared.Decoded.{Decoded}
 use Rattle.model.specs.declared.Decoded.TheVariants as d
-use Rattle.model.specs.Programs.{Function, Program, opcode_in, next_in}
+use Rattle.model.specs.Programs.{Function, Program, next_in}
 use Rattle.model.specs.Listings.{line_of, Listed, text, unlisted, in_front, known_then, opcode_then, line_then, lines_for, and_listed, listing_from, listing_of}
 
 unfoldable OneOrThree : Listed → Type 0

@@ -1,10 +1,10 @@
 -- A listing shows one line for each position where the walk stands, and a step takes the same walk.
 use Rattle.std.specs.Prelude.{if◌then◌else◌}
-use mathlib.Core.Path.{◌≡◌, refl, sym, ap, ◌∙◌}
+use mathlib.Core.Path.{◌≡◌, refl}
 use mathlib.Core.Bool.{Bool, true, false}
 use mathlib.Core.List.{List, [], ◌∷◌, ◌++◌}
-use Prim.Native.Nat.{ℕ, zero, suc, ◌+◌, ◌-◌, ◌*◌, ◌≤◌}
-use lib.Dec.{eqb, leb, ltb}
+use Prim.Native.Nat.{ℕ, zero, suc, ◌+◌, ◌-◌, ◌≤◌}
+use lib.Dec.{leb, ltb}
 use lib.ListN.{length}
 use borrow.Author.Tests.{le-leb, ne_eqb}
 use Rattle.model.specs.declared.Op.{Op}
@@ -12,7 +12,7 @@ use Rattle.model.specs.declared.Decoded.{Decoded}
 use Rattle.model.specs.declared.Decoded.TheVariants as d
 use Rattle.model.specs.Opcodes.{operands}
 use Rattle.model.specs.Images.{joined}
-use Rattle.model.specs.Programs.{Function, Program, word_at, behind, opcode_in, next_in, stands_for, stands}
+use Rattle.model.specs.Programs.{Function, Program, behind, opcode_in, next_in, stands_for, stands}
 use Rattle.model.specs.Listings.{Listed, text, unlisted, line_of, header_line, in_front, known_then, opcode_then, line_then, lines_for, code_lines, and_listed, listing_from, listing_of}
 use Rattle.model.specs.Steps.{World, State, position, code_of, operands_then, decoded_then, fetched, step_of}
 use Rattle.laws_code.specs.Walk.{shown_code, shown_from, walked}

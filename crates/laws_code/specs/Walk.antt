@@ -1,5 +1,5 @@
 -- [listing], [step] What a listing and a step say of the walk over instructions.
-use Rattle.std.specs.Prelude.{List, [], ◌∷◌, ◌++◌, ℕ, suc, ◌+◌, ◌-◌}
+use Rattle.std.specs.Prelude.{List, [], ◌∷◌, ◌++◌, ℕ, suc, ◌+◌}
 use Rattle.model.specs.declared.Op.{Op}
 use Rattle.model.specs.Images.{joined}
 use Rattle.model.specs.Programs.{Function, word_at, next_in, stands}

@@ -28,7 +28,7 @@ use Rattle.model.specs.Loading.{OutRes}
 use Rattle.model.specs.Machines.{Lent, under_in, progress_in, run_order, answer_in, Left}
 use Rattle.embed_words.specs.Coding.{vm_in, vm_words, record_ok, FineLast, TypedLast, Coded, run_words, run_coded, started_coded, changed_coded, emitted_coded, told_coded, shown_coded, headed_coded}
 use Rattle.embed_words.proofs.Back.{record_back}
-use Rattle.demands.specs.Host.{Done, counted, replaced, with_setting, vm_after, backtrace, run, Answer, ran, emitted, started, changed, told, put, shown, headed}
+use Rattle.demands.specs.Host.{Done, counted, replaced, with_setting, vm_after, backtrace, Answer, ran, emitted, started, changed, told, put, shown, headed}
 use Rattle.demands.specs.Refusals.{refused_by}
 use Rattle.demands.proofs.OneRun.{length_entries}
 use Rattle.laws_hosts.specs.Crossed.{number_of, answer_words}

@@ -10,7 +10,7 @@ use Rattle.model.specs.Machines.{run_order, set_strict as setStrictOf}
 use Rattle.demands.specs.Host.{Done, with_setting, changes, done, set_strict, ask}
 use Rattle.demands.specs.Refusals.{refused_changed, refused_by}
 use Rattle.demands.proofs.Setting.{set_by, set_is}
-use Rattle.laws_hosts.specs.Hosts.{CHeld, CDone, left_by, Through}
+use Rattle.laws_hosts.specs.Hosts.{CHeld, CDone, Through}
 use Rattle.laws_hosts.specs.Crossed.{held_in, Taken, Crossed, strictly, SetIn}
 use Rattle.laws_hosts.proofs.Crossing.{crossing}
 use Rattle.laws_hosts.proofs.Zero.{zero_is_done}

@@ -2,27 +2,25 @@
 use Rattle.std.specs.Prelude.{if◌then◌else◌}
 use mathlib.Core.Path.{◌≡◌, refl, sym, ap, subst, ◌∙◌}
 use mathlib.Core.Bool.{Bool, true, false, ◌&&◌}
-use mathlib.Core.List.{List, [], ◌∷◌, ◌++◌}
+use mathlib.Core.List.{List, [], ◌∷◌}
 use mathlib.Mathlib.Data.Bool.Basic.{and_elim_left as and_left, and_elim_right as and_right}
-use Prim.Native.Nat.{ℕ, zero, suc, ◌≤◌, ◌<◌}
+use Prim.Native.Nat.{ℕ, zero, suc, ◌≤◌}
 use native.Mathlib.Omega.{arith}
 use lib.Dec.{leb}
-use lib.ListN.{length, get_or, set, drop, get_or-append}
+use lib.ListN.{length, set, drop, get_or-append}
 use borrow.Author.Tests.{leb-true}
 use Rattle.model.specs.declared.Counts.{Counts}
 use Rattle.model.specs.declared.Frame.{Frame}
 use Rattle.model.specs.declared.Vm.{Vm}
 use Rattle.model.specs.declared.RunResult.{RunResult}
 use Rattle.model.specs.declared.RunResult.TheVariants as r
-use Rattle.model.specs.declared.Loaded.{Loaded}
 use Rattle.model.specs.declared.Loaded.TheVariants as l
-use Rattle.model.specs.declared.Started.{Started}
 use Rattle.model.specs.declared.Started.TheVariants as st
 use Rattle.model.specs.Numbers.{Bytes}
 use Rattle.model.specs.Values.{places}
 use Rattle.model.specs.Programs.{Program, within_limits}
 use Rattle.model.specs.Images.{fine, judge}
-use Rattle.model.specs.Stores.{Stores, program_in}
+use Rattle.model.specs.Stores.{Stores}
 use Rattle.model.specs.Emission.{written}
 use Rattle.model.specs.Loading.{laid, counts_for, room_for, LoadRes, load_judged, load_of}
 use Rattle.model.specs.Runs.{root}

@@ -2,13 +2,12 @@
 use Rattle.std.specs.Prelude.{if◌then◌else◌}
 use mathlib.Core.Path.{◌≡◌, refl, sym, ap, subst, ◌∙◌}
 use mathlib.Core.Bool.{Bool, true, false}
-use mathlib.Core.List.{List, [], ◌∷◌, reverse}
-use Prim.Native.Nat.{ℕ, zero, suc, ◌+◌, ◌≤◌, ◌<◌}
+use mathlib.Core.List.{List, [], ◌∷◌}
+use Prim.Native.Nat.{ℕ, zero, suc, ◌+◌, ◌≤◌}
 use native.Mathlib.Omega.{arith}
 use lib.Dec.{ltb}
 use lib.ListN.{length, get_or}
 use Rattle.model.specs.declared.Frame.{Frame}
-use Rattle.model.specs.declared.Tally.{Tally}
 use Rattle.model.specs.declared.Vm.{Vm}
 use Rattle.model.specs.declared.Changed.TheVariants as ch
 use Rattle.model.specs.declared.RunResult.{RunResult}
@@ -17,8 +16,8 @@ use Rattle.model.specs.Values.{places, vals, values_from}
 use Rattle.model.specs.Programs.{Program}
 use Rattle.model.specs.Stores.{Stores, constants_from, structs_from, program_in, world_in}
 use Rattle.model.specs.Steps.{World, State}
-use Rattle.model.specs.Runs.{Machine, fault, Ran, Progress, at_start, Ended, ended, stopped, paused, end_of, begin, root, Under, Part, ends, pauses, part_of, begin_of, continue_of, abandon_of, dealt, given_up, run_of}
-use Rattle.model.specs.Machines.{Lent, frame_room, innermost, callers_in, machine_in, under_in, world_of, run_order, copy_short, trace_short, Unchanged, unchanged, RunAnswer, ran, refused, begin_answer, continue_answer, abandon_answer, RunCall, begins, continues, abandons, run_answer, answer_in, entries_in, SameRooms, RunPost, set_strict}
+use Rattle.model.specs.Runs.{Machine, fault, Ran, at_start, Ended, ended, stopped, paused, end_of, begin, Under, Part, ends, pauses, part_of, begin_of, continue_of, abandon_of, dealt, given_up, run_of}
+use Rattle.model.specs.Machines.{Lent, frame_room, innermost, callers_in, machine_in, under_in, world_of, run_order, copy_short, trace_short, Unchanged, unchanged, RunAnswer, ran, refused, begin_answer, continue_answer, abandon_answer, RunCall, begins, continues, abandons, run_answer, answer_in, entries_in, SameRooms, set_strict}
 use Rattle.laws_runs.specs.Paths.{PausedBy, more}
 use Rattle.laws_runs.specs.Parts.{onward, sum_of}
 use Rattle.laws_runs.proofs.Ends.{end_of_lem}

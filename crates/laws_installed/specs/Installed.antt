@@ -6,8 +6,8 @@ use Rattle.model.specs.declared.RunResult.{RunResult}
 use Rattle.model.specs.declared.RunResult.TheVariants as r
 use Rattle.model.specs.Programs.{Program}
 use Rattle.model.specs.Stores.{Stores, program_in}
-use Rattle.model.specs.Steps.{World, State}
-use Rattle.model.specs.Runs.{Machine, Progress, begin, root}
+use Rattle.model.specs.Steps.{State}
+use Rattle.model.specs.Runs.{Progress, begin, root}
 use Rattle.model.specs.Machines.{Lent, innermost, machine_in, under_in, world_of, RunCall, begins, continues, abandons, entries_in, RunPost}
 use Rattle.laws_runs.specs.Paths.{Steps, more}
 use Rattle.embed_words.specs.Coding.{Coded, vm_in, RunThrough}

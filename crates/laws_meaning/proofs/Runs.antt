@@ -3,11 +3,9 @@ use mathlib.Core.Path.{◌≡◌, refl, sym, ap, subst, ◌∙◌}
 use mathlib.Core.Bool.{Bool, true, false}
 use mathlib.Core.List.{List, ◌∷◌, map}
 use Prim.Native.Nat.{ℕ, zero, suc, ◌+◌}
-use native.Mathlib.Omega.{arith}
 use lib.ListN.{length}
 use Rattle.model.specs.declared.Value.{Value}
 use Rattle.model.specs.declared.Last.{Last}
-use Rattle.model.specs.declared.Last.TheVariants.{Nothing}
 use Rattle.model.specs.declared.Fault.{Fault}
 use Rattle.model.specs.declared.Tally.{Tally}
 use Rattle.model.specs.Values.{fault_number}
@@ -22,7 +20,7 @@ use Rattle.laws_runs.proofs.Adds.{step_adds}
 use Rattle.laws_runs.proofs.Paths.{run_by, marked, mark_grows}
 use Rattle.laws_runs.proofs.Keeps.{step_keeps}
 use Rattle.laws_runs.proofs.Runs.{any_units, mark_sane, first_part_sane}
-use Rattle.laws_meaning.specs.Alike.{AlikeValue, AlikeValues, AlikeLast, nothing, is, Layout, laid_out, AlikeConstants, SameFree, AlikeMachine, AlikeState, AlikeMark, Answers, not_yet, latest, AlikeUnder, AlikeOutcome, goes, returns, faults, runs_short, Both}
+use Rattle.laws_meaning.specs.Alike.{AlikeValue, AlikeValues, AlikeLast, nothing, is, Layout, laid_out, AlikeConstants, AlikeMachine, AlikeState, AlikeMark, Answers, not_yet, latest, AlikeUnder, AlikeOutcome, goes, returns, faults, runs_short, Both}
 use Rattle.laws_meaning.specs.Answers.{meantIn, meant, AlikeRan, AlikePart, ends, pauses}
 use Rattle.laws_meaning.proofs.Values.{Boths, boths_of, values_on}
 use Rattle.laws_meaning.proofs.Steps.{step_alike}

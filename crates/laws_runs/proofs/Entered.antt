@@ -1,14 +1,13 @@
 -- The number in a frame is the units that were spent when the step that entered it had completed, however units are dealt out.
 use mathlib.Core.Path.{◌≡◌, refl, sym, ap, subst, ◌∙◌}
-use mathlib.Core.List.{List, [], ◌∷◌, map}
+use mathlib.Core.List.{List, ◌∷◌, map}
 use Prim.Native.Nat.{ℕ, suc, ◌-◌}
 use native.Mathlib.Omega.{arith}
 use borrow.Author.Tests.{lt-ltb, le-ltb}
-use lib.ListN.{length, drop}
+use lib.ListN.{length}
 use Rattle.model.specs.declared.Frame.{Frame}
-use Rattle.model.specs.declared.Value.{Value}
 use Rattle.model.specs.Steps.{World, State, Outcome, went, returned, faulted, short, step_of}
-use Rattle.model.specs.Runs.{Machine, begin, Progress, at_start, Ended, ended, stopped, paused, end_of, Under, Part, ends, pauses, part_of, begin_of, dealt}
+use Rattle.model.specs.Runs.{Machine, begin, Progress, at_start, Ended, ended, stopped, paused, end_of, Under, pauses, part_of, begin_of, dealt}
 use Rattle.laws_runs.specs.Paths.{Steps, none, on, ret, PausedBy}
 use Rattle.laws_runs.specs.Parts.{sum_of}
 use Rattle.laws_runs.specs.Entered.{entered_in, noted, noted_along, Watched}

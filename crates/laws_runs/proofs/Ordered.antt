@@ -17,7 +17,7 @@ use Rattle.model.specs.Values.{places, kind_at, payload_at, value_at, vals, exac
 use Rattle.model.specs.Heap.{Cell, cells_from, heap_of, blocks_from, heap_ok, exact_cells, placed_below}
 use Rattle.model.specs.Programs.{function_at}
 use Rattle.model.specs.Steps.{code_of}
-use Rattle.model.specs.Runs.{standing, begin, over, Under}
+use Rattle.model.specs.Runs.{standing, begin, over}
 use Rattle.model.specs.Stores.{Stores, functions_from, world_in}
 use Rattle.model.specs.Orders.{program_ok, cells_ok, stack_ok, last_ok, frame_store_ok}
 use Rattle.model.specs.Machines.{Lent, frame_room, innermost, callers_in, machine_in, progress_in, under_in, world_of, machine_order, some_last, under_order, idle, part_order, run_order, no_run}

@@ -19,7 +19,7 @@ use Rattle.model.specs.Programs.{Function, function_at, constant_limit, name_lim
 use Rattle.model.specs.Stores.{Stores, start, size, part, name_word, code_word, code_end, function_in, functions_from, world_in}
 use Rattle.model.specs.Orders.{counts_ok, text_ok, inside_text, constant_ok, constants_ok, structs_ok, program_ok, code_start, function_ok, functions_ok, main_ok, main_taken, other_taken, inside_codes}
 use Rattle.value.proofs.Coding.{and_left, and_right}
-use Rattle.cells.proofs.Order.{Placed, and_both, by_less}
+use Rattle.cells.proofs.Order.{Placed, by_less}
 use Rattle.laws_runs.specs.Sane.{AllPlaced, CodesFit, SaneWorld}
 use Rattle.laws_runs.specs.Ordered.{CodeBytes}
 use Rattle.laws_runs.proofs.Tests.{every_of}

@@ -1,5 +1,5 @@
 -- A run keeps good order, whether it ends or faults.
-use mathlib.Core.Path.{◌≡◌, refl, sym, subst, ◌∙◌}
+use mathlib.Core.Path.{◌≡◌, refl, subst, ◌∙◌}
 use mathlib.Core.Bool.{true, false}
 use mathlib.Core.List.{List, [], ◌∷◌, map}
 use Prim.Native.Nat.{ℕ, ◌+◌, ◌≤◌}
@@ -13,7 +13,6 @@ use Rattle.model.specs.Runs.{Machine, standing, unentered, begin, machine_of, Pr
 use Rattle.laws_runs.specs.Sane.{AllPlaced, SaneWorld, CallersFit, Rooted, Rising, Sane, SaneMark, Returns, Faults, Kept}
 use Rattle.laws_runs.specs.Paths.{Steps, none, on, ret, By, EndedBy, StoppedBy, PausedBy, Marked, AnswersReturns}
 use Rattle.laws_runs.specs.Parts.{SaneUnder, SaneMachine, SanePart}
-use Rattle.laws_runs.proofs.Ends.{end_of_lem}
 use Rattle.laws_runs.proofs.Paths.{run_by, run_path, path_balances, marked, mark_last, mark_grows, a_run_that_starts_has_no_value, a_run_has_a_value_exactly_behind_a_root_return}
 use Rattle.laws_runs.proofs.Placed.{all_grows}
 use Rattle.laws_runs.proofs.Keeps.{code_fits, cut_faults, step_keeps}

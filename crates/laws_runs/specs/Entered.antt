@@ -1,5 +1,5 @@
 -- [entered] When the frames of a run were entered: told by its written steps.
-use Rattle.std.specs.Prelude.{◌≡◌, List, [], ◌∷◌, map, ℕ, ◌-◌, ltb, length, drop, if◌then◌else◌}
+use Rattle.std.specs.Prelude.{◌≡◌, List, ◌∷◌, map, ℕ, ◌-◌, ltb, length, drop, if◌then◌else◌}
 use Rattle.model.specs.Steps.{World, State}
 use Rattle.model.specs.Runs.{Machine, begin, Progress, at_start}
 use Rattle.laws_runs.specs.Paths.{Steps, none, on, ret}

@@ -14,11 +14,10 @@ use Rattle.model.specs.declared.Op.TheVariants as o
 use Rattle.model.specs.declared.Names.{Names}
 use Rattle.model.specs.declared.Names.TheVariants as n
 use Rattle.model.specs.declared.Decoded.TheVariants as d
-use Rattle.model.specs.declared.Fault.TheVariants as f
 use Rattle.model.specs.Basics.{ascii}
 use Rattle.model.specs.Opcodes.{Opcode, op, operands, opcodes, opcode_at}
 use Rattle.model.specs.Programs.{opcode_in}
-use Rattle.model.specs.Steps.{World, State, faulted, short, paid, at, position, code_of, exec_of, operands_then, decoded_then, fetched, step_of}
+use Rattle.model.specs.Steps.{World, State, short, paid, at, position, code_of, exec_of, operands_then, decoded_then, fetched, step_of}
 use Rattle.model.specs.Runs.{over}
 use Rattle.laws_runs.specs.Sane.{SaneWorld, Sane}
 use Rattle.laws_rust.specs.Vm as rust

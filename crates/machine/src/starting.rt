@@ -1,5 +1,5 @@
 // Making a machine that has not run: all but its frame.
-ghost use Rattle.std.specs.Prelude.{◌≡◌, false, ℕ};
+ghost use Rattle.std.specs.Prelude.{◌≡◌, false};
 ghost use Rattle.model.specs.Runs.{root};
 ghost use Rattle.model.specs.Stores.{Stores};
 ghost use Rattle.model.specs.Machines.{load_machine_of, new_machine_of};

@@ -1,5 +1,5 @@
 -- [parts] The calls of a run as entries, over small stores: what each answers and leaves, and every refusal of it in its place. One table, one claim.
-use Rattle.std.specs.Prelude.{◌≡◌, refl, Bool, true, false, List, [], ◌∷◌, ◌++◌, map, ℕ, zero, suc, replicate}
+use Rattle.std.specs.Prelude.{◌≡◌, refl, Bool, true, false, List, [], ◌∷◌, ◌++◌, map, ℕ, replicate}
 use Rattle.std.specs.Int.Count.{count_trailing_zeros}
 use Rattle.std.specs.Float.Ieee as Ieee
 use Rattle.model.specs.declared.Value.{Value}
@@ -17,13 +17,13 @@ use Rattle.model.specs.declared.Changed.TheVariants as ch
 use Rattle.model.specs.declared.Started.{Started}
 use Rattle.model.specs.declared.Started.TheVariants as st
 use Rattle.model.specs.Programs.{Program}
-use Rattle.model.specs.Heap.{Cell, heap_of}
-use Rattle.model.specs.Runs.{Machine, root, Entry, entry, Reply, value, continue, fault, Ran, Under, Part, ends, pauses}
+use Rattle.model.specs.Heap.{heap_of}
+use Rattle.model.specs.Runs.{Machine, root, entry, value, continue, fault, Part, ends, pauses}
 use Rattle.model.specs.Stores.{Stores}
 use Rattle.model.specs.Loading.{laid, counts_for}
 use Rattle.model.specs.Emission.{add_op_of, patch_of, end_function_of}
 use Rattle.model.specs.Machines.{Lent, RunAnswer, ran, refused, RunCall, begins, continues, abandons, run_answer, copy_after, trace_after, set_strict, no_run, load_machine_of, new_machine_of}
-use Rattle.model.specs.Examples.{n42, n1, alone, product, p1_image, scalar_of}
+use Rattle.model.specs.Examples.{n42, n1, alone, product, p1_image}
 use Rattle.model.specs.Basics as basics
 use Rattle.model.specs.Opcodes as opcodes
 use Rattle.model.specs.Numbers as numbers

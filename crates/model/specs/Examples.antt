@@ -1,5 +1,5 @@
 -- [examples] The examples to hold, P1 to P9: one table, one claim.
-use Rattle.std.specs.Prelude.{◌≡◌, refl, Bool, true, false, List, [], ◌∷◌, map, ℕ, zero, suc, length, replicate}
+use Rattle.std.specs.Prelude.{◌≡◌, refl, Bool, true, false, List, [], ◌∷◌, map, ℕ, suc, replicate}
 use Rattle.std.specs.Int.Count.{count_trailing_zeros}
 use Rattle.std.specs.Float.Ieee as Ieee
 use Rattle.std.specs.Float.{binary64, inf}
@@ -11,12 +11,12 @@ use Rattle.model.specs.declared.Last.TheVariants.{Nothing, Is}
 use Rattle.model.specs.declared.Frame.{Frame}
 use Rattle.model.specs.declared.Tally.{Tally}
 use Rattle.model.specs.Basics.{ascii}
-use Rattle.model.specs.Numbers.{Step, got, bad, digits, number}
-use Rattle.model.specs.Programs.{Constant, scalar, boolean, Function, Program, main_name}
-use Rattle.model.specs.Images.{image_of, Judged, fine, broken, judge}
-use Rattle.model.specs.Listings.{Listed, text, unlisted, listing_of}
+use Rattle.model.specs.Numbers.{Step, bad, digits, number}
+use Rattle.model.specs.Programs.{scalar, boolean, Function, Program, main_name}
+use Rattle.model.specs.Images.{image_of, Judged, fine, judge}
+use Rattle.model.specs.Listings.{Listed, text, listing_of}
 use Rattle.model.specs.Steps.{World}
-use Rattle.model.specs.Runs.{Machine, Entry, entry, Traced, trace, untraced, backtrace_of, root, Reply, value, continue, fault, Ran, begin_of, dealt, given_up}
+use Rattle.model.specs.Runs.{Machine, entry, Traced, untraced, backtrace_of, root, Reply, value, continue, fault, Ran, begin_of, dealt, given_up}
 use Rattle.model.specs.Stores.{world_in}
 use Rattle.model.specs.Loading.{laid, counts_for}
 use Rattle.model.specs.Reports.{empty_stores, runner_text, lister_text}
@@ -34,7 +34,6 @@ use Rattle.model.specs.Steps as steps
 use Rattle.model.specs.Runs as runs
 use Rattle.model.specs.Stores as stores
 use Rattle.model.specs.Orders as orders
-use Rattle.model.specs.Emission as emission
 use Rattle.model.specs.Loading as loading
 use Rattle.model.specs.Machines as machines
 use Rattle.model.specs.Reports as reports

@@ -1,5 +1,5 @@
 -- [examples] Mistakes that invite themselves, and others: for each a program whose answer shows it. One table, one claim; the answers are the oracle's.
-use Rattle.std.specs.Prelude.{◌≡◌, refl, Bool, true, false, List, [], ◌∷◌, ◌++◌, map, ℕ, zero, suc}
+use Rattle.std.specs.Prelude.{◌≡◌, refl, true, false, List, [], ◌∷◌, ◌++◌, map, ℕ, zero, suc}
 use Rattle.std.specs.Int.Count.{count_trailing_zeros}
 use Rattle.std.specs.Float.Ieee as Ieee
 use Rattle.std.specs.Float.{binary64}
@@ -8,14 +8,11 @@ use Rattle.model.specs.declared.Value.{Value}
 use Rattle.model.specs.declared.Value.TheVariants as v
 use Rattle.model.specs.declared.Last.{Last}
 use Rattle.model.specs.declared.Last.TheVariants.{Nothing, Is}
-use Rattle.model.specs.declared.Frame.{Frame}
-use Rattle.model.specs.declared.Tally.{Tally}
 use Rattle.model.specs.Basics.{ascii}
-use Rattle.model.specs.Programs.{Constant, scalar, boolean, reference, Function, Program, main_name}
+use Rattle.model.specs.Programs.{scalar, boolean, reference, Function, Program, main_name}
 use Rattle.model.specs.Trees.{Tree, meaning, list as treeList, none, more, scalar as treeScalar}
-use Rattle.model.specs.Steps.{World}
 use Rattle.model.specs.Heap.{Cell}
-use Rattle.model.specs.Runs.{Machine, Reply, value, fault, entry, Ran, run_of}
+use Rattle.model.specs.Runs.{Reply, value, fault, entry, Ran, run_of}
 use Rattle.model.specs.Examples.{n42, n1, coded, world, loaded, scalar_of}
 use Rattle.model.specs.Basics as basics
 use Rattle.model.specs.Opcodes as opcodes

@@ -1,7 +1,6 @@
 -- [order] Good order, clause by clause, and which clauses each entry judges. A clause speaks of the counts and of the stores that it names.
 use Rattle.std.specs.Prelude.{Bool, true, false, ◌&&◌, ◌||◌, List, [], ◌∷◌, ℕ, zero, suc, ◌+◌, ◌-◌, min, ltb, leb, eqb, length, take, if◌then◌else◌}
 use Rattle.model.specs.declared.Counts.{Counts}
-use Rattle.model.specs.declared.Value.{Value}
 use Rattle.model.specs.declared.Last.{Last}
 use Rattle.model.specs.declared.Last.TheVariants.{Nothing, Is}
 use Rattle.model.specs.declared.Frame.{Frame}

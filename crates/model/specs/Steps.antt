@@ -1,6 +1,6 @@
 -- [step] One step for each carried opcode, in the order of checks:
 -- units, 1, 2, 3, number operands, pops from the top, 7, field number, 14, argument count, zero divisor, 26, comparison units, 12, 11, frames, stack.
-use Rattle.std.specs.Prelude.{Bool, true, false, not, ◌&&◌, ◌||◌, List, [], ◌∷◌, ℕ, zero, suc, ◌+◌, ◌-◌, ◌*◌, ltb, leb, eqb, length, get_or, drop, if◌then◌else◌}
+use Rattle.std.specs.Prelude.{Bool, false, not, ◌&&◌, ◌||◌, List, [], ◌∷◌, ℕ, suc, ◌+◌, ◌-◌, ◌*◌, ltb, leb, eqb, length, get_or, drop, if◌then◌else◌}
 use Rattle.std.proofs.Math.Option.{Option, none, some}
 use Rattle.std.specs.Float.Ieee as Ieee
 use Rattle.model.specs.declared.Arith.{Arith}

@@ -1,5 +1,5 @@
 -- [stores] How a program lies in the stores that a host lends.
-use Rattle.std.specs.Prelude.{Bool, true, false, not, List, [], ◌∷◌, ℕ, zero, suc, ◌+◌, ◌*◌, ◌/◌, ◌%◌, eqb, take, if◌then◌else◌}
+use Rattle.std.specs.Prelude.{Bool, not, List, [], ◌∷◌, ℕ, zero, suc, ◌+◌, ◌*◌, ◌/◌, ◌%◌, eqb, take, if◌then◌else◌}
 use Rattle.model.specs.declared.Counts.{Counts}
 use Rattle.model.specs.Values.{text_at, kind_at, payload_at, values_from}
 use Rattle.model.specs.Programs.{Constant, scalar, boolean, string, reference, Function, Program}

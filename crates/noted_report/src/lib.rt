@@ -1,5 +1,6 @@
 // What the noter prints, as bytes in a lent store.
 #![tactic(auto)]
+
 ghost use Rattle.std.specs.Prelude.{◌≡◌, true};
 ghost use Rattle.model.specs.Stores.{program_in};
 ghost use Rattle.model.specs.Orders.{program_ok};

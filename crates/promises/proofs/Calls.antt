@@ -1,6 +1,6 @@
 -- The parts of a run over calls are its parts by the entries: what is said of a passed program by the entries holds, whatever other calls come in between.
 use mathlib.Core.Path.{◌≡◌, refl, sym, ap, subst, ◌∙◌}
-use Prim.Native.Nat.{ℕ, ◌+◌}
+use Prim.Native.Nat.{ℕ}
 use native.Mathlib.Omega.{arith}
 use Rattle.model.specs.declared.Vm.{Vm}
 use Rattle.model.specs.declared.RunResult.{RunResult}
@@ -10,7 +10,7 @@ use Rattle.model.specs.Stores.{Stores}
 use Rattle.model.specs.Machines.{Lent, Unchanged, RunCall, answer_in, RunPost}
 use Rattle.model.specs.Machines as m
 use Rattle.laws_installed.specs.Installed.{by_entries, UnderWay, begun, continued}
-use Rattle.demands.specs.Host.{Held, ask, Answer, ran, Done, vm_after, RanBy, After}
+use Rattle.demands.specs.Host.{Held, ran, Done, vm_after, RanBy}
 use Rattle.demands.specs.Parts.{Parts}
 use Rattle.demands.specs.Parts as p
 use Rattle.demands.proofs.Went.{stays, refused_so}

@@ -1,5 +1,6 @@
 // What loading, saving, running and listing an image answer, held against texts that say what they should.
 #![tactic(auto)]
+
 ghost use Rattle.std.specs.Prelude.{◌≡◌, take};
 ghost use Rattle.model.specs.Equality.{same_bytes};
 ghost use Rattle.model.specs.Reports.{lister_text, runner_text};

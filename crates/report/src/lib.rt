@@ -1,5 +1,6 @@
 // What the runner and the lister print, as bytes in a lent store.
 #![tactic(auto)]
+
 mod playing; // playing.rt: one run on call frames of its own
 
 ghost use Rattle.std.specs.Prelude.{◌≡◌, true, replicate};

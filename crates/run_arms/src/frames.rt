@@ -1,5 +1,5 @@
 // Calls and returns, as far as the stack goes: the frames themselves are the run's.
-ghost use Rattle.std.specs.Prelude.{◌≡◌, ◌≤◌, min};
+ghost use Rattle.std.specs.Prelude.{◌≤◌};
 ghost use Rattle.model.specs.Values.{vals};
 ghost use Rattle.model.specs.Stores.{Stores};
 ghost use Rattle.model.specs.Steps.{World, enter, call_step, call_callable_step, return_step};

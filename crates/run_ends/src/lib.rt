@@ -1,6 +1,7 @@
 // The two ends of a part of a run, without its loop: judging and copying before it, what it leaves and answers behind it.
 #![tactic(auto)]
-ghost use Rattle.std.specs.Prelude.{◌≡◌, ◌&&◌, ◌||◌, ◌+◌, ◌-◌, ◌*◌, ◌≤◌, ◌<◌, ◌^◌, eqb, ltb, length, take};
+
+ghost use Rattle.std.specs.Prelude.{◌≡◌, ◌&&◌, ◌||◌, ◌+◌, ◌-◌, ◌*◌, ◌≤◌, ◌<◌, ◌^◌, eqb, length, take};
 ghost use Rattle.model.specs.Values.{kind_at, payload_at, value_at, exact_value};
 ghost use Rattle.model.specs.Heap.{heap_of, placed_below};
 ghost use Rattle.model.specs.Emission.{written};

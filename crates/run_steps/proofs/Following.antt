@@ -13,7 +13,7 @@ use Rattle.model.specs.declared.Frame.{Frame}
 use Rattle.model.specs.Values.{kind, payload}
 use Rattle.model.specs.Heap.{Cell, heap_of}
 use Rattle.model.specs.Steps.{World, State, Outcome, went, returned, faulted, short, with_last, code_of, step_of}
-use Rattle.model.specs.Runs.{Progress, stopped, paused, over, end_from, next}
+use Rattle.model.specs.Runs.{Progress, stopped, over, end_from, next}
 use Rattle.cells.proofs.Stands.{length_heap}
 use Rattle.layout.proofs.Parts.{places_same}
 use Rattle.laws_runs.specs.Sane as sane

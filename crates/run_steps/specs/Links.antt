@@ -1,5 +1,5 @@
 -- What the code leans on while a run is under way, and what the steps inside one function ensure.
-use Rattle.std.specs.Prelude.{◌≡◌, true, false, List, [], ◌∷◌, ℕ, suc, ◌+◌, ◌*◌, ◌≤◌, ◌<◌, eqb, length, if◌then◌else◌}
+use Rattle.std.specs.Prelude.{◌≡◌, true, false, List, [], ◌∷◌, ℕ, suc, ◌*◌, ◌≤◌, ◌<◌, eqb, length, if◌then◌else◌}
 use Rattle.model.specs.declared.Last.{Last}
 use Rattle.model.specs.declared.Last.TheVariants.{Nothing}
 use Rattle.model.specs.declared.Frame.{Frame}

@@ -1,5 +1,6 @@
 // A step, and the steps inside one function: the run goes from call to return through `exec`.
 #![tactic(auto)]
+
 ghost use Rattle.std.specs.Prelude.{◌≡◌, true, false, ◌+◌, ◌*◌, ◌≤◌, ◌<◌, length, get_or};
 ghost use Rattle.model.specs.Programs.{word_at};
 ghost use Rattle.model.specs.Steps.{World, exec_of, step_of};

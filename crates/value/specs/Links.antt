@@ -14,7 +14,7 @@ use Rattle.value.specs.declared.pops.Scalars.{Scalars}
 use Rattle.value.specs.declared.pops.Scalars.TheVariants as s
 use Rattle.value.specs.declared.pops.Booleans.{Booleans}
 use Rattle.value.specs.declared.pops.Booleans.TheVariants as b
-use Rattle.model.specs.Values.{value_of, kind, payload, put_words, popping, popping_scalar, popping_boolean}
+use Rattle.model.specs.Values.{value_of, kind, payload, put_words, popping_scalar, popping_boolean}
 use Rattle.model.specs.Heap.{Cell, item, head, put_cell}
 
 -- a value that a store can hold: what the types of the code say

@@ -3,7 +3,6 @@ use mathlib.Core.Path.{refl, subst}
 use Prim.Native.Nat.{ℕ, ◌<◌, ◌-◌}
 use native.Mathlib.Omega.{arith}
 use borrow.Author.Rules.{rules}
-use borrow.Author.Tests.{not-true, not-false}
 use borrow.Fn.PlainCycle.{is}
 use Rattle.cells.proofs.Turns.{rank, inside, room_p, room_q, counts_differ, numbers_differ, turn_start, no_units, room_x, room_y, falls as falls-in, asked, differs, ran_out, again, said_is, finish}
 use Rattle.cells.proofs.+equal.Goals as goal
