@@ -37,20 +37,20 @@ module _ (m : Vm) (image constants structs functions text main main_places other
   abbrev before : Held
   before = held constants structs functions text main main_places other other_places stack cells copy trace words
 
-  pub new-called : {running : Bool} → running ≡ m.run.on → (functions' text' : List ℕ) {x : Started} {fs' : List Frame}
+  pub new_called : {running : Bool} → running ≡ m.run.on → (functions' text' : List ℕ) {x : Started} {fs' : List Frame}
       → ((rest : Stores) → record { answer = x; stores = names_lent rest functions' text'; frames = fs' } ≡ new_machine_of running (names_lent rest functions text) fs)
       → {words' : List ℕ} → words' ≡ all_kept fs' words → {r : Answer} → r ≡ Made x
       → Called m New image fs before r fs' (held constants structs functions' text' main main_places other other_places stack cells copy trace words')
   unfolding Called names_lent
-  new-called on functions' text' e ek er = making (new_machine_of m.run.on before.program fs) before (rw on at (e before.program)) er ek
+  new_called on functions' text' e ek er = making (new_machine_of m.run.on before.program fs) before (rw on at (e before.program)) er ek
 
-  pub load-called : {running : Bool} → running ≡ m.run.on → {constants' structs' functions' text' main' mainPlaces' other' otherPlaces' : List ℕ} {x : Started} {fs' : List Frame}
+  pub load_called : {running : Bool} → running ≡ m.run.on → {constants' structs' functions' text' main' mainPlaces' other' otherPlaces' : List ℕ} {x : Started} {fs' : List Frame}
       → record { answer = x; stores = stores_of constants' structs' functions' text' main' mainPlaces' other' otherPlaces'; frames = fs' }
       ≡ load_machine_of running image (stores_of constants structs functions text main main_places other other_places) fs
       → {words' : List ℕ} → words' ≡ all_kept fs' words → {r : Answer} → r ≡ Made x
       → Called m Load image fs before r fs' (held constants' structs' functions' text' main' mainPlaces' other' otherPlaces' stack cells copy trace words')
   unfolding Called
-  load-called on e ek er = making (load_machine_of m.run.on image before.program fs) before (rw on at e) er ek
+  load_called on e ek er = making (load_machine_of m.run.on image before.program fs) before (rw on at e) er ek
 
   running : (call : RunCall) (stack' cells' : List ℕ) (fs' : List Frame) (copy' trace' : List ℕ) {x : RunResult}
       → RunPost call m (program_lent structs constants functions text main main_places other other_places) (run_lent stack cells fs copy trace) x
@@ -61,41 +61,41 @@ module _ (m : Vm) (image constants structs functions text main main_places other
   running call stack' cells' fs' copy' trace' {x} p ek er = record { result = x; answer = er; post = p; program = refl; words = ek }
 
   -- a beginning is lent no backtrace store: this one is as any other
-  pub begin-called : (fs' : List Frame) (copy' : List ℕ) {x : RunResult}
+  pub begin_called : (fs' : List Frame) (copy' : List ℕ) {x : RunResult}
       → ((backtrace : List ℕ) → RunPost begins m (program_lent structs constants functions text main main_places other other_places) (run_lent stack cells fs copy backtrace) x
       (run_lent stack cells fs' copy' backtrace))
       → {words' : List ℕ} → words' ≡ all_kept fs' words → {r : Answer} → r ≡ Ran x
       → Called m Begin image fs before r fs' (held constants structs functions text main main_places other other_places stack cells copy' trace words')
   unfolding Called
-  begin-called fs' copy' p ek er = running begins stack cells fs' copy' trace (p trace) ek er
+  begin_called fs' copy' p ek er = running begins stack cells fs' copy' trace (p trace) ek er
 
-  pub continue-called : (units : ℕ) (stack' cells' : List ℕ) (fs' : List Frame) (trace' : List ℕ) {x : RunResult}
+  pub continue_called : (units : ℕ) (stack' cells' : List ℕ) (fs' : List Frame) (trace' : List ℕ) {x : RunResult}
       → RunPost (continues units) m (program_lent structs constants functions text main main_places other other_places) (run_lent stack cells fs copy trace) x
       (run_lent stack' cells' fs' copy trace')
       → {words' : List ℕ} → words' ≡ all_kept fs' words → {r : Answer} → r ≡ Ran x
       → Called m (Continue units) image fs before r fs' (held constants structs functions text main main_places other other_places stack' cells' copy trace' words')
   unfolding Called
-  continue-called units stack' cells' fs' trace' p ek er = running (continues units) stack' cells' fs' copy trace' p ek er
+  continue_called units stack' cells' fs' trace' p ek er = running (continues units) stack' cells' fs' copy trace' p ek er
 
-  pub abandon-called : (stack' : List ℕ) (fs' : List Frame) (trace' : List ℕ) {x : RunResult}
+  pub abandon_called : (stack' : List ℕ) (fs' : List Frame) (trace' : List ℕ) {x : RunResult}
       → RunPost abandons m (program_lent structs constants functions text main main_places other other_places) (run_lent stack cells fs copy trace) x
       (run_lent stack' cells fs' copy trace')
       → {words' : List ℕ} → words' ≡ all_kept fs' words → {r : Answer} → r ≡ Ran x
       → Called m Abandon image fs before r fs' (held constants structs functions text main main_places other other_places stack' cells copy trace' words')
   unfolding Called
-  abandon-called stack' fs' trace' p ek er = running abandons stack' cells fs' copy trace' p ek er
+  abandon_called stack' fs' trace' p ek er = running abandons stack' cells fs' copy trace' p ek er
 
-  pub trace-called : {trace' : List ℕ} {x : Told}
+  pub trace_called : {trace' : List ℕ} {x : Told}
       → ((structs' constants' : List ℕ) → record { answer = x; out = trace' } ≡ backtrace_in m
       (program_lent structs' constants' functions text main main_places other other_places) stack fs trace)
       → {r : Answer} → r ≡ Traced x
       → Called m Trace image fs before r fs (held constants structs functions text main main_places other other_places stack cells copy trace' words)
   unfolding Called program_lent
-  trace-called e er = tracing (backtrace_in m before.program stack fs trace) fs before (e structs constants) er
+  trace_called e er = tracing (backtrace_in m before.program stack fs trace) fs before (e structs constants) er
 
   -- no backtrace store is lent: this one is as any other
-  pub strict-called : (b : Bool) {x : Changed}
+  pub strict_called : (b : Bool) {x : Changed}
       → ((backtrace : List ℕ) → x ≡ set_strict b m (program_lent structs constants functions text main main_places other other_places) (run_lent stack cells fs copy backtrace))
       → {r : Answer} → r ≡ Set x → Called m (Strict b) image fs before r fs before
   unfolding Called program_lent run_lent lent_in
-  strict-called b e er = record { answer = er ∙ ap Set (e trace); same = refl; stores = refl }
+  strict_called b e er = record { answer = er ∙ ap Set (e trace); same = refl; stores = refl }
