@@ -27,10 +27,10 @@
 extern "C" {
 #endif
 
-/* The version: the last of the three moves with each change, the one before it where a host has to be changed. */
+/* The version: the last of the three moves with each change, the first where a host has to be changed. */
 #define CHAFFWHEEL_VERSION_MAJOR 0
 #define CHAFFWHEEL_VERSION_MINOR 6
-#define CHAFFWHEEL_VERSION_PATCH 1
+#define CHAFFWHEEL_VERSION_PATCH 0
 #define CHAFFWHEEL_VERSION (CHAFFWHEEL_VERSION_MAJOR * 10000 + CHAFFWHEEL_VERSION_MINOR * 100 + CHAFFWHEEL_VERSION_PATCH)
 
 /* A lent slice: a pointer and a count of elements, as two arguments. The count must be true. `const`: it is only read. */
@@ -92,7 +92,7 @@ enum {
     /* with CHAFFWHEEL_FAULT: the same words */
     CHAFFWHEEL_FAULT_NUMBER = 3, /* 1 to 14, or 26 */
     CHAFFWHEEL_TRACE_LENGTH = 4, /* the entries of its backtrace */
-    CHAFFWHEEL_ANSWER = 5        /* words of an answer: enough for every function but chaffwheel_why */
+    CHAFFWHEEL_ANSWER = 5        /* words of an answer: enough for every function */
 };
 /* The first three end the run. The fourth: its units do not reach, and it is under way; give it more, or abandon it. */
 enum { CHAFFWHEEL_VALUE = 1, CHAFFWHEEL_CONTINUE = 2, CHAFFWHEEL_FAULT = 3, CHAFFWHEEL_PAUSED = 4 };
@@ -105,33 +105,6 @@ enum {
     CHAFFWHEEL_ENTRY_ENTERED = 2,
     CHAFFWHEEL_ENTRY = 3         /* words of an entry */
 };
-
-/* What chaffwheel_why answers, in words. A step is three words: its number, counted from 1, its function, and the offset of its instruction in the code;
- * number 0 is no step. Words behind those that stand at a fault's reason stay as they were. */
-enum {
-    CHAFFWHEEL_WHY_FAULT = 0,    /* the fault's number; 13: its units would be spent; 0: the run has no fault, and nothing more is told */
-    CHAFFWHEEL_WHY_FAILED = 1,   /* the step that failed, or was not paid for */
-    CHAFFWHEEL_WHY_REASON = 4,   /* one of the four below */
-    /* with CHAFFWHEEL_WHY_POPPED: 5, 8 and 26 */
-    CHAFFWHEEL_WHY_ABOVE = 5,    /* how many values lay above it: of two operands 0 is the right one, 1 the left one */
-    CHAFFWHEEL_WHY_KIND = 6,     /* the value; of a list or struct that the run has made, the cells are not kept */
-    CHAFFWHEEL_WHY_PAYLOAD = 7,
-    CHAFFWHEEL_WHY_PUSHED = 8,   /* the step that pushed it; no step: it stood there before the run */
-    CHAFFWHEEL_WHY_FROM = 11,    /* where a GetLocal, a GetUpvalue or a Return had it from: the step that had pushed it there; and so on, */
-    CHAFFWHEEL_WHY_FURTHER = 14, /* three steps back at most */
-    CHAFFWHEEL_WHY_FURTHEST = 17,
-    /* with CHAFFWHEEL_WHY_VALUES: 4. The same words */
-    CHAFFWHEEL_WHY_WANTED = 5,
-    CHAFFWHEEL_WHY_HELD = 6,
-    /* with CHAFFWHEEL_WHY_NUMBER: 6. The same words: the number asked for, and the count that it has to be below */
-    CHAFFWHEEL_WHY_ASKED = 5,
-    CHAFFWHEEL_WHY_BOUND = 6,
-    CHAFFWHEEL_WHY = 20          /* words of its answer */
-};
-/* The first has nothing more to tell than the fault's number. */
-enum { CHAFFWHEEL_WHY_ALONE = 0, CHAFFWHEEL_WHY_POPPED = 1, CHAFFWHEEL_WHY_VALUES = 2, CHAFFWHEEL_WHY_NUMBER = 3 };
-/* What it is lent: words to a place of calls, one for each frame of the frame store; and of origins, one for each value of the stack store. */
-enum { CHAFFWHEEL_CALL = 4, CHAFFWHEEL_ORIGIN = 12 };
 
 /* What the other functions answer, in words: a value that is shown; the header of a list or struct; and in the first word alone how many bytes or
  * entries were written, the number of what was emitted, or of a refusal 20 its offset. */
@@ -325,18 +298,6 @@ uint32_t chaffwheel_continue(
     CHAFFWHEEL_SLICE(const uint8_t, other_code), CHAFFWHEEL_SLICE(const uint32_t, other_places),
     CHAFFWHEEL_SLICE(uint64_t, stack), CHAFFWHEEL_SLICE(uint64_t, cells), CHAFFWHEEL_SLICE(chaffwheel_frame, frames),
     CHAFFWHEEL_SLICE(const uint64_t, copy), CHAFFWHEEL_SLICE(uint64_t, trace), CHAFFWHEEL_SLICE(uint64_t, answer));
-
-/* Why a run of the machine of vm fails that is begun now and given so many units; it is made for the answer, and the machine stays as it is, as asked
- * before the run: after a fault load the rule anew, and ask that machine. It writes copy, calls and origins, and cells that are not taken.
- * answer has CHAFFWHEEL_WHY words. Refused 19: the program or the machine is not in good order. 25: a run is under way. 17: answer is shorter, or copy or
- * origins has fewer places than stack, or calls than frames. */
-uint32_t chaffwheel_why(
-    uint64_t units, CHAFFWHEEL_SLICE(const uint64_t, vm),
-    CHAFFWHEEL_SLICE(const uint64_t, constants), CHAFFWHEEL_SLICE(const uint64_t, structs), CHAFFWHEEL_SLICE(const uint64_t, functions),
-    CHAFFWHEEL_SLICE(const uint8_t, text), CHAFFWHEEL_SLICE(const uint8_t, main_code), CHAFFWHEEL_SLICE(const uint32_t, main_places),
-    CHAFFWHEEL_SLICE(const uint8_t, other_code), CHAFFWHEEL_SLICE(const uint32_t, other_places),
-    CHAFFWHEEL_SLICE(const uint64_t, stack), CHAFFWHEEL_SLICE(uint64_t, cells), CHAFFWHEEL_SLICE(const chaffwheel_frame, frames),
-    CHAFFWHEEL_SLICE(uint64_t, copy), CHAFFWHEEL_SLICE(uint64_t, calls), CHAFFWHEEL_SLICE(uint64_t, origins), CHAFFWHEEL_SLICE(uint64_t, answer));
 
 /* Abandons the run under way: fault 13, with all the units that it was given as spent, the backtrace of one run given as many, and the machine that a
  * fault leaves. Whether it has counted is told by answer[CHAFFWHEEL_RETURNS], as after any fault.

@@ -1,12 +1,11 @@
 /* The stores of a machine in one struct, which the host fills once, and every function of chaffwheel.h over it: cw_X(m, ..) is chaffwheel_X with
  * m's stores lent. Each call is one line that lends; nothing is kept or judged here, and none of it is proved. What a function does and refuses
- * stands at chaffwheel_X. Every cw_ function leaves what it tells in m->answer, cw_why in m->why.
+ * stands at chaffwheel_X. Every cw_ function leaves what it tells in m->answer.
  *
  * cw_stores_from lays the stores into one block of memory of the host's. A host that wants other sizes starts from a struct of zeros, sets each
  * pointer to memory of its own that it has written, and each _len to the count of its elements (words, bytes or frames, not places):
  * docs/EMBEDDING.md, "What the host lends". Then cw_new, cw_load or cw_check makes the machine: they find
- * the record all zeros, as it is to be before its first use. heights is lent to cw_check alone, calls and origins to cw_why: a host that does not call
- * them leaves these as they are. */
+ * the record all zeros, as it is to be before its first use. heights is lent to cw_check alone: a host that does not call it leaves it as it is. */
 #ifndef CHAFFWHEEL_STORES_H
 #define CHAFFWHEEL_STORES_H
 
@@ -18,7 +17,6 @@
 struct chaffwheel_stores {
     uint64_t vm[CHAFFWHEEL_VM];
     uint64_t answer[CHAFFWHEEL_ANSWER];
-    uint64_t why[CHAFFWHEEL_WHY];
     /* the program */
     CHAFFWHEEL_STORE(uint64_t, constants);
     CHAFFWHEEL_STORE(uint64_t, structs); /* two words to a struct, like constants and functions */
@@ -36,9 +34,6 @@ struct chaffwheel_stores {
     CHAFFWHEEL_STORE(uint64_t, trace); /* CHAFFWHEEL_ENTRY words to a frame */
     /* the check: each function's greatest height */
     CHAFFWHEEL_STORE(uint32_t, heights);
-    /* asking why: CHAFFWHEEL_CALL words to a frame, CHAFFWHEEL_ORIGIN words to a value */
-    CHAFFWHEEL_STORE(uint64_t, calls);
-    CHAFFWHEEL_STORE(uint64_t, origins);
 };
 
 /* ---- room for the stores. The runner's sizes, in places; a machine of scale n has n times as many of each. */
@@ -50,8 +45,7 @@ enum {
 /* How many bytes the stores of a machine take; the block is aligned for uint64_t, as calloc's is. */
 static inline size_t cw_stores_size(size_t scale)
 {
-    size_t words = 2 * (CW_CONSTANTS + CW_STRUCTS + CW_FUNCTIONS + 2 * CW_STACK + CW_CELLS) + CHAFFWHEEL_ENTRY * CW_FRAMES
-        + CHAFFWHEEL_CALL * CW_FRAMES + CHAFFWHEEL_ORIGIN * CW_STACK;
+    size_t words = 2 * (CW_CONSTANTS + CW_STRUCTS + CW_FUNCTIONS + 2 * CW_STACK + CW_CELLS) + CHAFFWHEEL_ENTRY * CW_FRAMES;
     size_t places = CW_MAIN_CODE + CW_OTHER_CODE + CW_HEIGHTS;
     size_t bytes = CW_TEXT + CW_MAIN_CODE + CW_OTHER_CODE;
     return scale * (words * sizeof(uint64_t) + CW_FRAMES * sizeof(chaffwheel_frame) + places * sizeof(uint32_t) + bytes);
@@ -67,8 +61,6 @@ static inline void cw_stores_from(struct chaffwheel_stores *m, void *block, size
         m->vm[i] = 0;
     for (i = 0; i < CHAFFWHEEL_ANSWER; i++)
         m->answer[i] = 0;
-    for (i = 0; i < CHAFFWHEEL_WHY; i++)
-        m->why[i] = 0;
 #define CW_TAKE(name, from, count) (m->name = (from), m->name##_len = (count) * scale)
     CW_TAKE(constants, words, 2 * CW_CONSTANTS);
     CW_TAKE(structs, m->constants + m->constants_len, 2 * CW_STRUCTS);
@@ -77,9 +69,7 @@ static inline void cw_stores_from(struct chaffwheel_stores *m, void *block, size
     CW_TAKE(copy, m->stack + m->stack_len, 2 * CW_STACK);
     CW_TAKE(cells, m->copy + m->copy_len, 2 * CW_CELLS);
     CW_TAKE(trace, m->cells + m->cells_len, CHAFFWHEEL_ENTRY * CW_FRAMES);
-    CW_TAKE(calls, m->trace + m->trace_len, CHAFFWHEEL_CALL * CW_FRAMES);
-    CW_TAKE(origins, m->calls + m->calls_len, CHAFFWHEEL_ORIGIN * CW_STACK);
-    CW_TAKE(frames, (chaffwheel_frame *)(void *)(m->origins + m->origins_len), CW_FRAMES);
+    CW_TAKE(frames, (chaffwheel_frame *)(void *)(m->trace + m->trace_len), CW_FRAMES);
     CW_TAKE(main_places, (uint32_t *)(void *)(m->frames + m->frames_len), CW_MAIN_CODE);
     CW_TAKE(other_places, m->main_places + m->main_places_len, CW_OTHER_CODE);
     CW_TAKE(heights, m->other_places + m->other_places_len, CW_HEIGHTS);
@@ -125,12 +115,6 @@ static inline uint32_t cw_begin(struct chaffwheel_stores *m)
 static inline uint32_t cw_continue(struct chaffwheel_stores *m, uint64_t units)
 {
     return chaffwheel_continue(units, CW_VM, CW_PROGRAM, CW_LEND(stack), CW_LEND(cells), CW_LEND(frames), CW_LEND(copy), CW_LEND(trace), CW_ANSWER);
-}
-
-static inline uint32_t cw_why(struct chaffwheel_stores *m, uint64_t units)
-{
-    return chaffwheel_why(units, CW_VM, CW_PROGRAM, CW_LEND(stack), CW_LEND(cells), CW_LEND(frames), CW_LEND(copy), CW_LEND(calls), CW_LEND(origins),
-        m->why, CHAFFWHEEL_WHY);
 }
 
 static inline uint32_t cw_abandon(struct chaffwheel_stores *m)

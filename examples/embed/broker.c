@@ -1,6 +1,5 @@
 /* A broker that runs a rule over a reading, meets a fault behind the rule's Return, and counts the reading once: docs/EMBEDDING.md.
- * The rule is examples/story.rule: it adds 1 to the last result, returns that, then divides by a constant that is 0 by mistake. The broker logs why it
- * failed.
+ * The rule is examples/story.rule: it adds 1 to the last result, returns that, then divides by a constant that is 0 by mistake.
  * It is checked before it is installed, and a rule that is broken is refused there: the one that was installed stays.
  * The mended rule is also run in parts: the broker answers its operator between them, and gives more units or abandons it.
  * Then a rule that jumps over a Return, where the place of the fault would tell a lie and the number of root Returns does not, and one with calls, of
@@ -309,23 +308,6 @@ static void show_answer(const struct journal *j)
     printf(": this run has%s counted\n", counted(j) ? "" : " not");
 }
 
-/* For the journal: which value the rule could not work with, and which instruction pushed it. The machine that faulted stands behind its rule, so the rule
- * is loaded on a machine aside, as the run found it, and that one is asked. Whether the reason is that of the fault `j` tells. */
-static int log_reason(const struct journal *j, const uint8_t *image, size_t len, uint64_t units)
-{
-    struct chaffwheel_stores aside, *m = &aside;
-    machine_init(m, 1);
-    uint32_t refused = cw_load(m, image, len);
-    refused = refused ? refused : cw_why(m, units);
-    const uint64_t *failed = m->why + CHAFFWHEEL_WHY_FAILED, *pushed = m->why + CHAFFWHEEL_WHY_PUSHED;
-    int told = !refused && m->why[CHAFFWHEEL_WHY_FAULT] == j->fault && m->why[CHAFFWHEEL_WHY_REASON] == CHAFFWHEEL_WHY_POPPED;
-    if (told)
-        printf("    why: step %" PRIu64 ", function %" PRIu64 " at byte %" PRIu64 ", could not work with %g, which step %" PRIu64 ", function %" PRIu64
-            " at byte %" PRIu64 ", had pushed\n", failed[0], failed[1], failed[2], scalar_of(m->why[CHAFFWHEEL_WHY_PAYLOAD]), pushed[0], pushed[1], pushed[2]);
-    machine_free(m);
-    return told;
-}
-
 static void show(const char *what, const struct journal *j)
 {
     printf("%s\n", what);
@@ -349,7 +331,6 @@ int main(int argc, char **argv)
     struct journal first = whole_rule(&m, image, len, 41, 1000000);
     printf("the rule is checked and installed: its greatest height is %" PRIu32 "\n", m.heights[0]);
     show("the rule as it was written, from 41", &first);
-    int reason = log_reason(&first, image, len, 1000000);
 
     int by_day = refused_by_day(&m);
 
@@ -388,5 +369,5 @@ int main(int argc, char **argv)
         && counted(&twice) && twice.after == 43 && !counted(&again) && again.after == 41;
     int dealt = counted(&parts) && parts.spent == once.spent && parts.after == 42 && !counted(&given_up) && given_up.fault == 13 && given_up.spent == 4;
     int jump = passed.place == 4 && passed.returns == 0 && !counted(&passed) && jumped.returns == 1 && counted(&jumped) && jumped.after == 1;
-    return !refused && reason && by_day && story && dealt && jump ? 0 : 1;
+    return !refused && by_day && story && dealt && jump ? 0 : 1;
 }

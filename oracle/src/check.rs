@@ -70,9 +70,11 @@ pub fn text(image: &[u8]) -> String {
     }
 }
 
-/// The record of an image and of what the check prints.
+/// The record of an image, in the manner of [`print::record`]: the lengths of
+/// two parts (each u32, low byte first), then the parts: the image, and what
+/// the check prints.
 pub fn record(image: &[u8]) -> Vec<u8> {
-    print::sorted(0, image, text(image).as_bytes())
+    print::in_parts([image, text(image).as_bytes()])
 }
 
 /// Judges a program by the six rules.

@@ -19,8 +19,6 @@ pub enum Command {
     /// The room of the backtrace store.
     Abandon(usize),
     Trace(usize),
-    /// The units, and the room of the store for the origins, in slots.
-    Why(u64, usize),
     Op(u8, Vec<u16>, u32),
     Patch(u16, u16),
     Constant(Constant),
@@ -74,10 +72,9 @@ fn understood(line: &[u8]) -> Option<Command> {
         b"image" => bytes(rest).map(Command::Image),
         b"strict" => numbers(line, 1, [1]).map(|[strict]| Command::Strict(strict == 1)),
         b"start" => room(line, 1).map(Command::Start),
-        b"continue" => with_units(line, Command::Continue),
+        b"continue" => continuing(line),
         b"abandon" => room(line, 1).map(Command::Abandon),
         b"trace" => room(line, 1).map(Command::Trace),
-        b"why" => with_units(line, Command::Why),
         b"op" => numbers(line, 1, [0xFF, PLACE]).map(|[op, place]| code(op, &[], place)),
         b"op1" => numbers(line, 1, [0xFF, WORD, PLACE]).map(|[op, a, place]| code(op, &[a], place)),
         b"op2" => numbers(line, 1, [0xFF, WORD, WORD, PLACE])
@@ -134,10 +131,9 @@ fn room(line: &[u8], k: usize) -> Option<usize> {
     numbers(line, k, [ANY]).map(|[room]| room as usize)
 }
 
-/// Units, and perhaps a room.
-fn with_units(line: &[u8], command: fn(u64, usize) -> Command) -> Option<Command> {
+fn continuing(line: &[u8]) -> Option<Command> {
     let units = decimal(word(line, 1))?;
-    room(line, 2).map(|room| command(units, room))
+    room(line, 2).map(|room| Command::Continue(units, room))
 }
 
 /// `frame I` shows a frame, `frame I FUNCTION POSITION BASE ENTERED` puts one.
@@ -206,8 +202,6 @@ mod tests {
             ("abandon 256", Command::Abandon(256)),
             ("trace", Command::Trace(WHOLE)),
             ("trace 2", Command::Trace(2)),
-            ("why 7", Command::Why(7, WHOLE)),
-            ("why 7 1024", Command::Why(7, 1_024)),
             ("op 37 4294967295", Command::Op(37, vec![], 4_294_967_295)),
             ("op1 255 65535 0", Command::Op(255, vec![65_535], 0)),
             ("op2 0 1 2 3", Command::Op(0, vec![1, 2], 3)),
@@ -280,11 +274,6 @@ mod tests {
             "abandon x",
             "abandon 1 2",
             "trace x",
-            "why",
-            "why x",
-            "why 1 x",
-            "why 1 2 3",
-            "why 18446744073709551616",
             "op 256 0",
             "op 1 4294967296",
             "op1 0 65536 0",

@@ -8,7 +8,6 @@ use crate::readers::{block_header, element, last_result, stack_value, text_bytes
 use crate::run_record::{OfWords, RunRecord};
 use crate::script::{in_hex, lines, SPACE};
 use crate::value::Value;
-use crate::why::{self, words};
 
 /// The console's machine, in the runner's stores.
 #[derive(Clone)]
@@ -136,7 +135,6 @@ impl Console {
             Command::Continue(units, room) => self.go_on(units, room),
             Command::Abandon(room) => self.abandon(room),
             Command::Trace(room) => self.trace(room),
-            Command::Why(units, room) => self.why(units, room),
             Command::Op(op, operands, place) => {
                 self.emit(|machine| machine.emit(op, &operands, place))?;
                 done(0)
@@ -331,17 +329,6 @@ impl Console {
         let said = said_of(&part, machine.stack.len(), machine.frames.len());
         self.left(machine);
         say(said)
-    }
-
-    /// 19, 25, 17: the store for the origins has as many places as the stack
-    /// store. The machine stays as it is.
-    fn why(&self, units: u64, room: usize) -> Said {
-        let machine = self.lent()?;
-        machine.no_run_under_way()?;
-        if room < machine.stores.values {
-            return Err(Refused::ResultStore.into());
-        }
-        say(words::line(&why::why(&machine, units)?))
     }
 
     /// 19, 17, then 16. A backtrace is lent the stack store for its length, and

@@ -23,8 +23,6 @@
 //! [`generate_checked`] makes images for it, and [`checked_runs`] runs those
 //! that pass, to see whether they keep what a pass promises.
 //!
-//! [`why`] tells why a run failed (document 02, Wish 5).
-//!
 //! [`console`] makes a host's calls from a script and prints each answer:
 //! [`script`] and [`command`] read the lines, [`frames`] are the call frames as
 //! a host holds them, [`run_record`] is the run under way likewise, [`readers`]
@@ -55,4 +53,3 @@ pub mod script;
 pub mod source;
 pub mod value;
 pub mod vm;
-pub mod why;

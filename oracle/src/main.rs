@@ -11,7 +11,7 @@ use oracle::published::{self, Count, State};
 use oracle::vm::Bounds;
 use oracle::{
     asm, calls, check, checked_runs, console, damage, dealt, edges, generate, generate_checked,
-    image, script, source, why,
+    image, script, source,
 };
 
 const HELP: &str = "\
@@ -20,9 +20,6 @@ over f64, the plain machine; and document 01's machine, written for itself
 
   oracle run FILE               what the runner prints
   oracle run --strict FILE      what it would print, were its machine strict
-  oracle why FILE               what the runner prints, and why the run failed, with the
-                                decimal of a number
-  oracle why --strict FILE      the same on a strict machine
   oracle list FILE              what the lister prints
   oracle list --notes FILE      what the noter prints
   oracle judge FILE             `ok`, or `refused 20 OFFSET`; also checks that
@@ -89,18 +86,6 @@ over f64, the plain machine; and document 01's machine, written for itself
                                 images on strict machines, each begun by `start`
                                 and given 1,000,000 units
   oracle strict-answers SEED    what the console has to answer
-  oracle whys SEED COUNT        the records of COUNT runs that fail, on standard output:
-                                two parts each, an image and what `why` says
-                                behind the runner's lines; strict or not
-  oracle why-script SEED        a script for the console that asks why, some hundreds
-                                of times, of runs that fail in all ways, on
-                                starting machines of all sorts
-  oracle why-answers SEED       what the console has to answer
-  oracle why-tally SEED COUNT   counts the faults and the chains of links in the answers
-                                of the scripts of COUNT seeds
-  oracle why-images SEED COUNT DIR
-                                writes the images of such scripts DIR/000000.img and
-                                so on
   oracle console [LINE]         plays a script of host calls from standard input
                                 and prints what the console prints for it; LINE
                                 is the number of its first line (1)
@@ -111,9 +96,7 @@ over f64, the plain machine; and document 01's machine, written for itself
 
 A record is the lengths of four parts (each u32, low byte first) and then the
 parts: the image, what `load` prints, what the runner prints, what the lister
-prints. Those of `checks` and `whys` have two parts, and behind their two lengths the
-sort of the second: 0 of `check`, 1 of `why`, 2 of `why --strict`. Records stand
-one behind the other up to the end.
+prints. Records stand one behind the other up to the end.
 
 The console's commands are those at the head of crates/console/stdin (`begin` begins
 a function). Those of a run, with what they are refused, in this order:
@@ -151,17 +134,6 @@ oracle/tests/parts.script has each of these, parts.answers what is answered.
   strict 0, strict 1            makes the machine one that is not strict, or one that
                                 is: 19, as a part of a run; 25. `done`. Loading
                                 and `new` leave one that is not
-  why UNITS, why UNITS ROOM     why a run that is begun now and given UNITS fails: 19, as
-                                a part of a run; 25; 17 if ROOM, the places of the
-                                store for origins, are fewer than the stack
-                                store's. The machine stays as it is. STEP being
-                                a step's number, function and offset, `no
-                                fault`, or `fault N, step STEP` and behind it
-                                for 4 `, wanted N, held N`, for 6 `, asked N,
-                                below N`, for 5, 8 and 26 `, above N, VALUE,
-                                pushed STEP, from STEP, further STEP, furthest
-                                STEP`, 0 0 0 being no step. The oracle's console
-                                alone has this command, the proved one has not
   trace, trace ROOM             the host's own backtrace, in the same lines: 19 of
                                 the frames, nothing being asked of a run; 17, 16
 
@@ -210,19 +182,11 @@ fn main() -> ExitCode {
             read(file).and_then(|bytes| put(print::strict_runner(&bytes).as_bytes()))
         }
         ["run", file] => read(file).and_then(|bytes| put(print::runner(&bytes).as_bytes())),
-        ["why", "--strict", file] => {
-            read(file).and_then(|bytes| put(print::explainer(true, &bytes).as_bytes()))
-        }
-        ["why", file] => {
-            read(file).and_then(|bytes| put(print::explainer(false, &bytes).as_bytes()))
-        }
         ["list", "--notes", file] => read(file).and_then(|bytes| put(&print::noter(&bytes))),
         ["list", file] => read(file).and_then(|bytes| put(&print::lister(&bytes))),
         ["judge", file] => read(file).and_then(|bytes| judge(&bytes)),
         ["rust", file] => read(file).and_then(|bytes| rust(&bytes)),
-        ["generate", seed, count, dir] => {
-            numbers(seed, count).and_then(|(s, c)| write(s, c, dir, generate::case))
-        }
+        ["generate", seed, count, dir] => numbers(seed, count).and_then(|(s, c)| write(s, c, dir)),
         ["sample", seed, count] => numbers(seed, count).and_then(|(s, c)| sample(s, c)),
         ["load", file] => read(file).and_then(|bytes| put(print::loader(&bytes).as_bytes())),
         ["batch", seed, count] => numbers(seed, count)
@@ -244,15 +208,6 @@ fn main() -> ExitCode {
         ["dealt-script", seed] => number(seed).and_then(|s| put(dealt_script(s).script.as_bytes())),
         ["dealt-answers", seed] => {
             number(seed).and_then(|s| put(dealt_script(s).answers.as_bytes()))
-        }
-        ["why-script", seed] => number(seed).and_then(|s| put(why_script(s).script.as_bytes())),
-        ["why-answers", seed] => number(seed).and_then(|s| put(why_script(s).answers.as_bytes())),
-        ["whys", seed, count] => {
-            numbers(seed, count).and_then(|(s, c)| put_all(why::records::failing(s, c)))
-        }
-        ["why-tally", seed, count] => numbers(seed, count).and_then(|(s, c)| why_tally(s, c)),
-        ["why-images", seed, count, dir] => {
-            numbers(seed, count).and_then(|(s, c)| write(s, c, dir, why::images::case))
         }
         ["strict-script", seed] => {
             number(seed).and_then(|s| put(strict_script(s).script.as_bytes()))
@@ -462,11 +417,11 @@ fn console(script: &[u8], first: u64) -> Done {
     played
 }
 
-fn write(seed: u64, count: u64, dir: &str, case: fn(u64, u64) -> Vec<u8>) -> Done {
+fn write(seed: u64, count: u64, dir: &str) -> Done {
     std::fs::create_dir_all(dir).map_err(|e| format!("{dir}: {e}"))?;
     for index in 0..count {
         let path = format!("{dir}/{index:06}.img");
-        std::fs::write(&path, case(seed, index)).map_err(|e| format!("{path}: {e}"))?;
+        std::fs::write(&path, generate::case(seed, index)).map_err(|e| format!("{path}: {e}"))?;
     }
     Ok(())
 }
@@ -586,16 +541,6 @@ fn dealt_script(seed: u64) -> dealt::scripts::Scripted {
 
 fn strict_script(seed: u64) -> dealt::scripts::Scripted {
     dealt::scripts::strict(seed, script::MAX_SCRIPT)
-}
-
-fn why_script(seed: u64) -> dealt::scripts::Scripted {
-    why::scripts::asking(seed, script::MAX_SCRIPT)
-}
-
-fn why_tally(seed: u64, count: u64) -> Done {
-    let counted = why::tally::tally(seed, count);
-    let lines = counted.iter().map(|(what, n)| format!("{n:>9} {what}\n"));
-    put(lines.collect::<String>().as_bytes())
 }
 
 fn dealt(seed: u64, count: u64) -> Done {

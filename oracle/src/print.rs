@@ -1,10 +1,9 @@
 //! What the runner, the lister and the noter print, and the records to compare with.
 
-use crate::image::{Constant, Function, Program};
+use crate::image::{Constant, Program};
 use crate::limits::{self, Answer, Entry, Machine, Refused, Report, Stores};
 use crate::op::Op;
 use crate::value::{shown_bits, Value};
-use crate::why::{self, words};
 
 /// The longest image that the runner and the lister read.
 pub const MAX_IMAGE: usize = 16_384;
@@ -35,17 +34,6 @@ fn run_as(strict: bool, image: &[u8]) -> Result<Ran, Refused> {
     machine.strict = strict;
     let report = machine.run(UNITS);
     Ok(Ran { report, machine })
-}
-
-/// The text of `./chaffwheel why`: the runner's, and why the run failed; nothing
-/// more where the image is refused.
-pub fn explainer(strict: bool, image: &[u8]) -> String {
-    let asked = load(image).and_then(|mut machine| {
-        machine.strict = strict;
-        let why = why::why(&machine, UNITS)?;
-        Ok(words::text_with_decimal(&machine.program, &why))
-    });
-    text_of(run_as(strict, image)) + &asked.unwrap_or_default()
 }
 
 /// The text of the runner, whose machine is not strict.
@@ -100,13 +88,6 @@ pub fn record(image: &[u8]) -> Vec<u8> {
 pub fn in_parts<const N: usize>(parts: [&[u8]; N]) -> Vec<u8> {
     let lengths = parts.map(|part| (part.len() as u32).to_le_bytes());
     [lengths.concat(), parts.concat()].concat()
-}
-
-/// The record of an image and one text of it: the lengths of both and the text's
-/// sort (each u32, low byte first), then both.
-pub fn sorted(sort: u32, image: &[u8], text: &[u8]) -> Vec<u8> {
-    let head = [image.len() as u32, text.len() as u32, sort];
-    [&head.map(u32::to_le_bytes).concat(), image, text].concat()
 }
 
 pub fn refused_text(refused: Refused) -> String {
@@ -217,7 +198,7 @@ fn notes(program: &Program, op: Op, operands: &[u16], end: usize, place: u32) ->
 }
 
 /// A text in a note: 24 bytes at most, those that are no plain letters as dots.
-pub fn shown_text(text: &[u8]) -> String {
+fn shown_text(text: &[u8]) -> String {
     let plain = |&byte: &u8| match byte {
         32..=126 => byte as char,
         _ => '.',
@@ -237,47 +218,27 @@ fn listing_with(
         out.extend_from_slice(b")\n");
         let mut offset = 0;
         while offset < function.code.len() {
-            let (line, end) = line_with(function, offset, &notes)?;
-            out.extend_from_slice(line.as_bytes());
+            let op = Op::from_byte(function.code[offset]).ok_or(Refused::Opcode)?;
+            let end = offset + 1 + 2 * op.operands_read();
+            let operands = function.code.get(offset + 1..end);
+            let operands = operands.ok_or(Refused::CutShort)?;
+            let operands: Vec<u16> = operands
+                .chunks_exact(2)
+                .map(|pair| u16::from_le_bytes([pair[0], pair[1]]))
+                .collect();
+            let shown: Vec<String> = operands.iter().map(u16::to_string).collect();
+            out.extend_from_slice(
+                format!(
+                    "  {:04} {:<13} {}{}\n",
+                    offset,
+                    op.to_string(),
+                    shown.join(" "),
+                    notes(op, &operands, end, function.places[offset])
+                )
+                .as_bytes(),
+            );
             offset = end;
         }
     }
     Ok(out)
-}
-
-/// The line of one instruction with its notes; 1 or 3 where it has none.
-pub fn noted_line(
-    program: &Program,
-    function: &Function,
-    offset: usize,
-) -> Result<String, Refused> {
-    let line = line_with(function, offset, |op, operands, end, place| {
-        notes(program, op, operands, end, place)
-    });
-    line.map(|(line, _)| line)
-}
-
-/// The line, and where the next instruction stands.
-fn line_with(
-    function: &Function,
-    offset: usize,
-    notes: impl Fn(Op, &[u16], usize, u32) -> String,
-) -> Result<(String, usize), Refused> {
-    let op = Op::from_byte(function.code[offset]).ok_or(Refused::Opcode)?;
-    let end = offset + 1 + 2 * op.operands_read();
-    let operands = function.code.get(offset + 1..end);
-    let operands = operands.ok_or(Refused::CutShort)?;
-    let operands: Vec<u16> = operands
-        .chunks_exact(2)
-        .map(|pair| u16::from_le_bytes([pair[0], pair[1]]))
-        .collect();
-    let shown: Vec<String> = operands.iter().map(u16::to_string).collect();
-    let line = format!(
-        "  {:04} {:<13} {}{}\n",
-        offset,
-        op.to_string(),
-        shown.join(" "),
-        notes(op, &operands, end, function.places[offset])
-    );
-    Ok((line, end))
 }

@@ -27,27 +27,24 @@ pub struct Scripted {
     pub runs: u64,
 }
 
-/// The image of a seed and an index.
-type Case = fn(u64, u64) -> Vec<u8>;
 /// What is made of an image.
 type Tell = fn(&[u8], Machine, &mut Rng) -> Scripted;
 
 /// The script of a seed, of at most so many bytes: runs in parts, on machines
 /// that are strict or not.
 pub fn scripted(seed: u64, most: usize) -> Scripted {
-    script_of(seed, most, generate::case, dealt_runs)
+    script_of(seed, most, dealt_runs)
 }
 
 /// The same of whole runs on strict machines, given the runner's units.
 pub fn strict(seed: u64, most: usize) -> Scripted {
-    script_of(seed, most, generate::case, strict_run)
+    script_of(seed, most, strict_run)
 }
 
-/// A script of what is made of the images of a seed, as many as have room.
-pub(crate) fn script_of(seed: u64, most: usize, case: Case, tell: Tell) -> Scripted {
+fn script_of(seed: u64, most: usize, tell: Tell) -> Scripted {
     let mut all = Scripted::default();
     for index in 0.. {
-        let image = case(seed, index);
+        let image = generate::case(seed, index);
         let Ok(machine) = print::load(&image) else {
             continue;
         };
@@ -101,16 +98,15 @@ fn strict_run(image: &[u8], machine: Machine, rng: &mut Rng) -> Scripted {
     told.told
 }
 
-pub(crate) struct Telling<'a> {
-    /// Where runs are dealt out its machine is the one that undivided runs have
-    /// left.
-    pub(crate) console: Console,
-    pub(crate) told: Scripted,
-    pub(crate) rng: &'a mut Rng,
+struct Telling<'a> {
+    /// Its machine is the one that undivided runs have left.
+    console: Console,
+    told: Scripted,
+    rng: &'a mut Rng,
 }
 
 impl<'a> Telling<'a> {
-    pub(crate) fn of(image: &[u8], machine: Machine, rng: &'a mut Rng) -> Telling<'a> {
+    fn of(image: &[u8], machine: Machine, rng: &'a mut Rng) -> Telling<'a> {
         let mut told = Telling {
             console: Console::of(machine),
             told: Scripted::default(),
@@ -126,8 +122,8 @@ impl<'a> Telling<'a> {
         self.told.answers += answer;
     }
 
-    /// A line that the oracle's console answers.
-    pub(crate) fn look(&mut self, line: &str) {
+    /// A line that runs nothing.
+    fn look(&mut self, line: &str) {
         let said = self.console.obey(0, line.as_bytes());
         let said = said.expect("the rules fix what is looked at");
         self.line(line, &String::from_utf8_lossy(&said));
