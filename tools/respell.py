@@ -34,7 +34,9 @@ def read(path):
 
 
 def of_a_function(path):
-    return os.path.basename(path) in ("Proof.antt", "Answers.antt", "Invariants.antt")
+    """Whether a file is of one function's proof, which stands in a folder of its own below proofs/."""
+    name = os.path.basename(path) in ("Proof.antt", "Answers.antt", "Invariants.antt")
+    return name and os.path.basename(os.path.dirname(path)) not in ("specs", "proofs")
 
 
 def snake(name):

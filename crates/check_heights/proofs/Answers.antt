@@ -22,19 +22,19 @@ use Rattle.check_heights.proofs.Halves.{greater_attained}
 
 -- ---- `finish`
 
-pub not-reached : (main : Bool) (top : ℕ) {last : ℕ} → last ≡ 0 → n.Greatest top ≡ finished main top last
+pub not_reached : (main : Bool) (top : ℕ) {last : ℕ} → last ≡ 0 → n.Greatest top ≡ finished main top last
 unfolding finished
-not-reached main top e = rw e
+not_reached main top e = rw e
 
-pub reached-in-main : {main : Bool} (top last : ℕ) → (last ≡ 0 → ⊥) → main ≡ true → {m : ℕ} → m ≡ max top (last - 1) → n.Greatest m ≡ finished main top last
+pub reached_in_main : {main : Bool} (top last : ℕ) → (last ≡ 0 → ⊥) → main ≡ true → {m : ℕ} → m ≡ max top (last - 1) → n.Greatest m ≡ finished main top last
 unfolding finished
-reached-in-main top zero z e q = absurd (z refl)
-reached-in-main top (suc h) z e q = rw (e, q) (ap (λ (x : ℕ). n.Greatest (max top x)) (omega arith))
+reached_in_main top zero z e q = absurd (z refl)
+reached_in_main top (suc h) z e q = rw (e, q) (ap (λ (x : ℕ). n.Greatest (max top x)) (omega arith))
 
-pub reached-elsewhere : {main : Bool} (top last : ℕ) → (last ≡ 0 → ⊥) → main ≡ false → n.Flawed (w.Ends (last - 1)) ≡ finished main top last
+pub reached_elsewhere : {main : Bool} (top last : ℕ) → (last ≡ 0 → ⊥) → main ≡ false → n.Flawed (w.Ends (last - 1)) ≡ finished main top last
 unfolding finished
-reached-elsewhere top zero z e = absurd (z refl)
-reached-elsewhere top (suc h) z e = rw e (ap (λ (x : ℕ). n.Flawed (w.Ends x)) (omega arith))
+reached_elsewhere top zero z e = absurd (z refl)
+reached_elsewhere top (suc h) z e = rw e (ap (λ (x : ℕ). n.Flawed (w.Ends x)) (omega arith))
 
 -- ---- `pass`
 
@@ -46,33 +46,33 @@ module _ (main : Bool) (count : ℕ) (code t₀ : List ℕ) (pre : HeightsPre ma
   all_known (leaps p lt q) = (s.closed lt (all_known p)).jumps q
 
   -- at the end, or below it
-  at-end-or-below : {A : Type 0} {i h : ℕ} → Path main count code i h → (i ≡ length code → A) → (i < length code → A) → A
-  at-end-or-below p a b = ⊎_elim a b (eq-or-lt_of_le (path_within main code pre.whole pre.landing p))
+  at_end_or_below : {A : Type 0} {i h : ℕ} → Path main count code i h → (i ≡ length code → A) → (i < length code → A) → A
+  at_end_or_below p a b = ⊎_elim a b (eq-or-lt_of_le (path_within main code pre.whole pre.landing p))
 
-  has-heights : (main ≡ false → Unknown t (length code)) → Heights main count code
-  has-heights u = record {
+  has_heights : (main ≡ false → Unknown t (length code)) → Heights main count code
+  has_heights u = record {
     one = λ {i} {h} {k} p q. known_one (all_known p) (all_known q);
     enough = λ {i} {h} p lt. (s.closed lt (all_known p)).enough;
-    inside = λ {i} {h} p m. at-end-or-below p (λ e. absurd (known_or_not (all_known p) (rw e (u m)))) (λ lt. lt);
+    inside = λ {i} {h} p m. at_end_or_below p (λ e. absurd (known_or_not (all_known p) (rw e (u m)))) (λ lt. lt);
   }
 
-  ends-unreached : Unknown t (length code) → Heights main count code × Greatest main count code top
-  ends-unreached u = (
-    has-heights (λ m. u),
+  ends_unreached : Unknown t (length code) → Heights main count code × Greatest main count code top
+  ends_unreached u = (
+    has_heights (λ m. u),
     record {
-      most = λ {i} {h} p. at-end-or-below p (λ e. absurd (known_or_not (all_known p) (rw e u))) (λ lt. s.below lt (all_known p));
+      most = λ {i} {h} p. at_end_or_below p (λ e. absurd (known_or_not (all_known p) (rw e u))) (λ lt. s.below lt (all_known p));
       place = s.place;
       path = s.attained;
     },
   )
 
   module _ {x : ℕ} (z : Known t (length code) x) where
-    ends-in-main : main ≡ true → Heights main count code × Greatest main count code (max top x)
-    ends-in-main m =
+    ends_in_main : main ≡ true → Heights main count code × Greatest main count code (max top x)
+    ends_in_main m =
         let most = greater_attained s.attained (s.paths z) in (
-          has-heights (λ w. absurd (not_both m w)),
+          has_heights (λ w. absurd (not_both m w)),
           record {
-            most = λ {i} {h} p. at-end-or-below p
+            most = λ {i} {h} p. at_end_or_below p
                 (λ e. let y = known_one (subst (λ (n : ℕ). Known t n h) e (all_known p)) z in omega arith)
                 (λ lt. let y = s.below lt (all_known p) in omega arith);
             place = most.place;
@@ -80,23 +80,23 @@ module _ (main : Bool) (count : ℕ) (code t₀ : List ℕ) (pre : HeightsPre ma
           },
         )
 
-    ends-elsewhere : main ≡ false → BreaksAt main count code (w.Ends x)
-    ends-elsewhere m = Reaches-end m (s.paths z)
+    ends_elsewhere : main ≡ false → BreaksAt main count code (w.Ends x)
+    ends_elsewhere m = Reaches-end m (s.paths z)
 
   ends : (b : Bool) → main ≡ b → (last : ℕ) → get_or t (length code) 0 ≡ last → PassMeans (finished b top last) main count code
   unfolding finished
-  ends b m zero e = ends-unreached (record { is = e })
-  ends true m (suc x) e = ends-in-main (record { is = omega arith }) m
-  ends false m (suc x) e = ends-elsewhere {x = x} (record { is = omega arith }) m
+  ends b m zero e = ends_unreached (record { is = e })
+  ends true m (suc x) e = ends_in_main (record { is = omega arith }) m
+  ends false m (suc x) e = ends_elsewhere {x = x} (record { is = omega arith }) m
 
 module _ (main : Bool) (count : ℕ) (code t₀ : List ℕ) (pre : HeightsPre main count code t₀) {r : Seen} {t : List ℕ} (p : ScanPost main count code r t) where
-  pub scan-ends : {top : ℕ} → r ≡ n.Greatest top → {f : Seen} → f ≡ finished main top (get_or t (length code) 0) → PassPost main count code f
-  scan-ends {top} e q =
+  pub scan_ends : {top : ℕ} → r ≡ n.Greatest top → {f : Seen} → f ≡ finished main top (get_or t (length code) 0) → PassPost main count code f
+  scan_ends {top} e q =
       let s : Half main count code (length code) top t = subst (λ (x : Seen). ScanMeans x main count code t) e p.means in
       record { means = rw q (ends main count code t₀ pre s main refl _ refl) }
 
-  pub scan-breaks : {x : Flaw} → r ≡ n.Flawed x → PassPost main count code r
-  scan-breaks {x} e = let b : BreaksAt main count code x = subst (λ (y : Seen). ScanMeans y main count code t) e p.means in record { means = rw e b }
+  pub scan_breaks : {x : Flaw} → r ≡ n.Flawed x → PassPost main count code r
+  scan_breaks {x} e = let b : BreaksAt main count code x = subst (λ (y : Seen). ScanMeans y main count code t) e p.means in record { means = rw e b }
 
 -- ---- `heights`
 
@@ -104,8 +104,8 @@ module _ (main : Bool) (count : ℕ) (code t₀ : List ℕ) (pre : HeightsPre ma
 pub part_length : (code t : List ℕ) → length code < length t → length code + 1 ≡ length (take (length code + 1) t)
 part_length code t l = omega (arith, length-take (length code + 1) t)
 
-pub part-ready : {main : Bool} {count : ℕ} {code t : List ℕ} → HeightsPre main count code t → HeightsPre main count code (take (length code + 1) t)
-part-ready {code = code} {t} g = record {
+pub part_ready : {main : Bool} {count : ℕ} {code t : List ℕ} → HeightsPre main count code t → HeightsPre main count code (take (length code + 1) t)
+part_ready {code = code} {t} g = record {
   whole = g.whole;
   landing = g.landing;
   few = g.few;
@@ -130,21 +130,21 @@ module _ {main : Bool} {count : ℕ} {code : List ℕ} {r : Seen} (p : PassPost 
     measured : Heights main count code × Greatest main count code m
     measured = subst (λ (y : Seen). PassMeans y main count code) e p.means
 
-    pub pass-measures : HeightsPost main count code (a.Greatest m)
-    pass-measures = record { means = measured }
+    pub pass_measures : HeightsPost main count code (a.Greatest m)
+    pass_measures = record { means = measured }
 
-    pub no-flaw : FlawPost main count code w.Nothing
-    no-flaw = record { means = measured.0 }
+    pub no_flaw : FlawPost main count code w.Nothing
+    no_flaw = record { means = measured.0 }
 
   module _ {x : Flaw} (e : r ≡ n.Flawed x) where
     flawed : BreaksAt main count code x
     flawed = subst (λ (y : Seen). PassMeans y main count code) e p.means
 
-    pub pass-breaks : HeightsPost main count code a.Broken
-    pass-breaks = record { means = a_flaw_breaks flawed }
+    pub pass_breaks : HeightsPost main count code a.Broken
+    pass_breaks = record { means = a_flaw_breaks flawed }
 
-    pub flaw-told : FlawPost main count code x
-    flaw-told = told_of x flawed
+    pub flaw_told : FlawPost main count code x
+    flaw_told = told_of x flawed
 
 -- ---- no second answer fits
 

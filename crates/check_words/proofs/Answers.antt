@@ -23,27 +23,27 @@ unfolding written
 two_put a q f e g h = rw (h, g, e)
 
 module _ (w a : List ℕ) {x : Checked} where
-  pub told-passed : {k : Counts} {m : Vm} {n : ℕ} {w' a' : List ℕ} → x ≡ c.Passed k → m ≡ fresh k
+  pub told_passed : {k : Counts} {m : Vm} {n : ℕ} {w' a' : List ℕ} → x ≡ c.Passed k → m ≡ fresh k
       → record { number = n; vm = w'; answer = a' } ≡ started_coded (st.Done m) w a → record { number = n; vm = w'; answer = a' } ≡ checked_coded x w a
   unfolding checked_coded started_coded
-  told-passed e f g = g ∙ rw (e, f)
+  told_passed e f g = g ∙ rw (e, f)
 
   pub told_broken : {i n : ℕ} {w' a' : List ℕ} → x ≡ c.Broken i
       → record { number = n; vm = w'; answer = a' } ≡ started_coded (st.Broken i) w a → record { number = n; vm = w'; answer = a' } ≡ checked_coded x w a
   unfolding checked_coded started_coded
   told_broken e g = g ∙ rw e
 
-  pub told-refused : {n : ℕ} → x ≡ c.Refused n → record { number = n; vm = w; answer = a } ≡ checked_coded x w a
+  pub told_refused : {n : ℕ} → x ≡ c.Refused n → record { number = n; vm = w; answer = a } ≡ checked_coded x w a
   unfolding checked_coded
-  told-refused e = rw e
+  told_refused e = rw e
 
-  pub told-breach : {q : Rule} {f : ℕ} {a' : List ℕ} → x ≡ c.Breaks q f → a' ≡ written a 0 (rule_number q ∷ f ∷ []) → record { number = 40; vm = w; answer = a' } ≡ checked_coded x w a
+  pub told_breach : {q : Rule} {f : ℕ} {a' : List ℕ} → x ≡ c.Breaks q f → a' ≡ written a 0 (rule_number q ∷ f ∷ []) → record { number = 40; vm = w; answer = a' } ≡ checked_coded x w a
   unfolding checked_coded
-  told-breach e g = rw (e, g)
+  told_breach e g = rw (e, g)
 
 module _ (frames size : ℕ) where
   pub none_lent : frames ≡ 0 → 0 ≡ (if eqb frames 0 then 0 else size)
   none_lent z = rw (eq-eqb frames 0 z)
 
-  pub all-lent : (frames ≡ 0 → ⊥) → size ≡ (if eqb frames 0 then 0 else size)
-  all-lent z = rw (ne_eqb frames 0 z)
+  pub all_lent : (frames ≡ 0 → ⊥) → size ≡ (if eqb frames 0 then 0 else size)
+  all_lent z = rw (ne_eqb frames 0 z)

@@ -316,11 +316,11 @@ abandon_number true true false c x = refl
 abandon_number true false short c x = refl
 abandon_number false on short c x = refl
 
-pub run_number : (c : RunCall) (h : Held) → refused_run (run_answer c h.vm h.stores h.lent) ≡ first_of (run_checks c h)
+pub run_number_lem : (c : RunCall) (h : Held) → refused_run (run_answer c h.vm h.stores h.lent) ≡ first_of (run_checks c h)
 unfolding run_answer begin_answer continue_answer abandon_answer run_checks
-run_number begins h = begin_number _ _ _ _ _
-run_number (continues u) h = continue_number _ _ _ _ _ _
-run_number abandons h = abandon_number _ _ _ _ _
+run_number_lem begins h = begin_number _ _ _ _ _
+run_number_lem (continues u) h = continue_number _ _ _ _ _ _
+run_number_lem abandons h = abandon_number _ _ _ _ _
 
 was_refused : (x : RunAnswer) (n : ℕ) → refused_run x ≡ some n → x ≡ refused n
 was_refused (ran c x) n e = absurd (let z : ◌≡◌ {A = ℕ} 0 1 = cc in let y : ⊥ = omega arith in y)
@@ -331,7 +331,7 @@ unfolding checks
 run_says {c} {h} p =
     let x = run_answer c h.vm h.stores h.lent in
     record {
-      number = ap refused_by (answers p) ∙ run_number c h;
+      number = ap refused_by (answers p) ∙ run_number_lem c h;
       kept = λ n e. (stays p n (was_refused x n (sym (ap refused_by (answers p)) ∙ e)), rw (answers p) tt);
     }
 

@@ -12,7 +12,7 @@ use Rattle.model.specs.Machines.{machine_in, under_in, world_of}
 use Rattle.model.specs.Machines as m
 use Rattle.laws_runs.specs.Ordered.{CodeBytes}
 use Rattle.laws_meaning.specs.Alike.{Layout, AlikeMachine, AlikeUnder}
-use Rattle.laws_meaning.specs.Answers.{Meant, meantIn}
+use Rattle.laws_meaning.specs.Answers.{Meant, meant_in}
 use Rattle.demands.specs.Host.{Held, Call, run, ask, Answer, ran, emitted, started, changed, told, put, shown, headed, Chain, none, more}
 use Rattle.demands.specs.Kept.{InOrder}
 use Rattle.demands.specs.Jobs.{Job, makes, writes, sets, looks, handed, job_of}
@@ -90,7 +90,7 @@ pub data Said : Type 0 where
 
 -- values are those of the machine that is then held
 unfoldable pub said_in : List ℕ → List Cell → Answer → Said
-said_in t H (ran (m.ran c (ends x))) = ended (meantIn t H x.reply)
+said_in t H (ran (m.ran c (ends x))) = ended (meant_in t H x.reply)
 said_in t H (ran (m.ran c (pauses r))) = paused r.given (tally r.state.spent r.progress)
 said_in t H (ran (m.refused n)) = plain (ran (m.refused n))
 said_in t H (emitted a) = plain (emitted a)

@@ -14,7 +14,7 @@ use Rattle.model.specs.declared.Loaded.{Loaded}
 use Rattle.model.specs.declared.Loaded.TheVariants as l
 use Rattle.model.specs.declared.Started.{Started}
 use Rattle.model.specs.declared.Told.TheVariants as t
-use Rattle.model.specs.Answers.{toldNumber}
+use Rattle.model.specs.Answers.{told_number}
 use Rattle.model.specs.Values.{places}
 use Rattle.model.specs.Stores.{Stores, functions_from}
 use Rattle.model.specs.Emission.{new_of}
@@ -29,7 +29,7 @@ use Rattle.laws_embed.proofs.Says.{Says, late_says, says_itself}
 
 -- none of the numbers that come before a short answer
 abbrev Late : OutRes → Type 0
-Late x = among at_entry (toldNumber x.answer) ≡ false
+Late x = among at_entry (told_number x.answer) ≡ false
 
 traced : (b : Bool) (es : List Entry) (out : List ℕ) → Late (put_trace (if b then trace es else untraced 16) out)
 unfolding put_trace among
@@ -42,12 +42,12 @@ short_first true x out p = refl
 short_first false x out p = p
 
 order_first : (g : Bool) (x : OutRes) (out : List ℕ) → Late x
-    → Says (if g then 0 else 19) (toldNumber (if g then x else record { answer = t.Refused 19; out = out }).answer)
-order_first true x out p = late_says (toldNumber x.answer) p
+    → Says (if g then 0 else 19) (told_number (if g then x else record { answer = t.Refused 19; out = out }).answer)
+order_first true x out p = late_says (told_number x.answer) p
 order_first false x out p = says_itself 19
 
 pub trace_says : (m : Vm) (s : Stores) (stack : List ℕ) (frames : List Frame) (out : List ℕ) (g : Bool) → g ≡ trace_order m s stack frames
-    → Says (if g then 0 else 19) (toldNumber (backtrace_in m s stack frames out).answer)
+    → Says (if g then 0 else 19) (told_number (backtrace_in m s stack frames out).answer)
 unfolding backtrace_in backtrace_of
 trace_says m s stack frames out g e =
     let fs = functions_from m.program.functions 0 s in

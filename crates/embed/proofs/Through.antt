@@ -16,7 +16,7 @@ use Rattle.model.specs.Stores.{Stores}
 use Rattle.model.specs.Machines.{Lent, RunCall, run_answer, RunPost, StartRes, refusal_of}
 use Rattle.embed_words.specs.Coding.{vm_in, record_ok, slices_refusal, out_refusal, at_entry, among, crossed, Coded, run_coded, started_coded, changed_coded, through, unmade}
 use Rattle.embed_words.specs.Coding.{RunThrough, start_through}
-use Rattle.embed_answers.proofs.Answers.{told-refused}
+use Rattle.embed_answers.proofs.Answers.{told_refused}
 use Rattle.laws_embed.proofs.Says.{Says}
 
 -- no number comes before 19
@@ -44,7 +44,7 @@ module _ (call : RunCall) (w a : List ℕ) (s : Stores) (l : Lent) (n : ℕ) (e 
       → k ≡ crossed at_entry n own → RunThrough call w a s l (record { number = k; vm = w; answer = a }) l
   run_refused z m em own y k ek = record {
     result = v.Refused k;
-    coded = told-refused w a refl;
+    coded = told_refused w a refl;
     runs = λ o. absurd (z (e ∙ o));
     refuses = λ o. (ap v.Refused (rw (← e, ← em) (ek ∙ y.crosses n)), refl);
   }

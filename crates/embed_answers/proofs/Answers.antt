@@ -24,7 +24,7 @@ use Rattle.model.specs.declared.Started.TheVariants as st
 use Rattle.model.specs.declared.RunResult.{RunResult}
 use Rattle.model.specs.declared.RunResult.TheVariants as r
 use Rattle.model.specs.Basics.{written}
-use Rattle.model.specs.Answers.{toldNumber, shownNumber, headedNumber}
+use Rattle.model.specs.Answers.{told_number, shown_number, headed_number}
 use Rattle.model.specs.Values.{kind, payload}
 use Rattle.embed_words.specs.Coding.{count_words, vm_words, crossed}
 use Rattle.embed_words.specs.Coding.{Coded, run_words, run_coded, started_coded, changed_coded, unmade, emitted_coded, told_coded, shown_coded, headed_coded, through}
@@ -39,123 +39,123 @@ module _ (firsts : List ℕ) (why : ℕ) (w a : List ℕ) (c : Coded) where
   unfolding through
   held_up z e f = rw (ne_eqb why 0 z, f, e)
 
-pub told-coded : (x : Told) (w a : List ℕ) → toldNumber x ≡ (told_coded x w a).number
+pub told_coded_lem : (x : Told) (w a : List ℕ) → told_number x ≡ (told_coded x w a).number
 unfolding told_coded
-told-coded (t.Number n) w a = refl
-told-coded (t.Refused n) w a = refl
+told_coded_lem (t.Number n) w a = refl
+told_coded_lem (t.Refused n) w a = refl
 
-pub shown-coded : (x : Shown) (w a : List ℕ) → shownNumber x ≡ (shown_coded x w a).number
+pub shown_coded_lem : (x : Shown) (w a : List ℕ) → shown_number x ≡ (shown_coded x w a).number
 unfolding shown_coded
-shown-coded (sh.Value v) w a = refl
-shown-coded (sh.Refused n) w a = refl
+shown_coded_lem (sh.Value v) w a = refl
+shown_coded_lem (sh.Refused n) w a = refl
 
-pub headed-coded : (x : Headed) (w a : List ℕ) → headedNumber x ≡ (headed_coded x w a).number
+pub headed_coded_lem : (x : Headed) (w a : List ℕ) → headed_number x ≡ (headed_coded x w a).number
 unfolding headed_coded
-headed-coded (h.Is y) w a = refl
-headed-coded (h.Refused n) w a = refl
+headed_coded_lem (h.Is y) w a = refl
+headed_coded_lem (h.Refused n) w a = refl
 
 -- ---- answers
 
 module _ (w a : List ℕ) where
   module _ {x : RunResult} where
-    pub told-value : {w' a' : List ℕ} {m : Vm} {v : Value} {n : Tally} {k p : ℕ} → x ≡ r.Value m v n → k ≡ kind v → p ≡ payload v → w' ≡ written w 0 (vm_words m)
+    pub told_value : {w' a' : List ℕ} {m : Vm} {v : Value} {n : Tally} {k p : ℕ} → x ≡ r.Value m v n → k ≡ kind v → p ≡ payload v → w' ≡ written w 0 (vm_words m)
         → a' ≡ written a 0 (1 ∷ n.spent ∷ n.returns ∷ k ∷ p ∷ []) → record { number = 0; vm = w'; answer = a' } ≡ run_coded x w a
     unfolding run_coded run_words
-    told-value e k p f g = rw (e, f, g, k, p)
+    told_value e k p f g = rw (e, f, g, k, p)
 
-    pub told-continue : {w' a' : List ℕ} {m : Vm} {n : Tally} → x ≡ r.Continue m n → w' ≡ written w 0 (vm_words m)
+    pub told_continue : {w' a' : List ℕ} {m : Vm} {n : Tally} → x ≡ r.Continue m n → w' ≡ written w 0 (vm_words m)
         → a' ≡ written a 0 (2 ∷ n.spent ∷ n.returns ∷ 0 ∷ 0 ∷ []) → record { number = 0; vm = w'; answer = a' } ≡ run_coded x w a
     unfolding run_coded run_words
-    told-continue e f g = rw (e, f, g)
+    told_continue e f g = rw (e, f, g)
 
-    pub told-fault : {w' a' : List ℕ} {m : Vm} {k : ℕ} {n : Tally} {j : ℕ} → x ≡ r.Fault m k n j → w' ≡ written w 0 (vm_words m)
+    pub told_fault : {w' a' : List ℕ} {m : Vm} {k : ℕ} {n : Tally} {j : ℕ} → x ≡ r.Fault m k n j → w' ≡ written w 0 (vm_words m)
         → a' ≡ written a 0 (3 ∷ n.spent ∷ n.returns ∷ k ∷ j ∷ []) → record { number = 0; vm = w'; answer = a' } ≡ run_coded x w a
     unfolding run_coded run_words
-    told-fault e f g = rw (e, f, g)
+    told_fault e f g = rw (e, f, g)
 
-    pub told-paused : {w' a' : List ℕ} {m : Vm} → x ≡ r.Paused m → w' ≡ written w 0 (vm_words m)
+    pub told_paused : {w' a' : List ℕ} {m : Vm} → x ≡ r.Paused m → w' ≡ written w 0 (vm_words m)
         → a' ≡ written a 0 (4 ∷ m.run.spent ∷ m.run.returns ∷ 0 ∷ 0 ∷ []) → record { number = 0; vm = w'; answer = a' } ≡ run_coded x w a
     unfolding run_coded run_words
-    told-paused e f g = rw (e, f, g)
+    told_paused e f g = rw (e, f, g)
 
-    pub told-refused : {n : ℕ} → x ≡ r.Refused n → record { number = n; vm = w; answer = a } ≡ run_coded x w a
+    pub told_refused : {n : ℕ} → x ≡ r.Refused n → record { number = n; vm = w; answer = a } ≡ run_coded x w a
     unfolding run_coded
-    told-refused e = rw e
+    told_refused e = rw e
 
   module _ {x : Started} where
-    pub started-done : {w' : List ℕ} {m : Vm} → x ≡ st.Done m → w' ≡ written w 0 (vm_words m) → record { number = 0; vm = w'; answer = a } ≡ started_coded x w a
+    pub started_done : {w' : List ℕ} {m : Vm} → x ≡ st.Done m → w' ≡ written w 0 (vm_words m) → record { number = 0; vm = w'; answer = a } ≡ started_coded x w a
     unfolding started_coded
-    started-done e ew = rw (e, ew)
+    started_done e ew = rw (e, ew)
 
-    pub started-broken : {a' : List ℕ} {n i : ℕ} → x ≡ st.Broken i → n ≡ 20 → a' ≡ set a 0 i → record { number = n; vm = w; answer = a' } ≡ started_coded x w a
+    pub started_broken : {a' : List ℕ} {n i : ℕ} → x ≡ st.Broken i → n ≡ 20 → a' ≡ set a 0 i → record { number = n; vm = w; answer = a' } ≡ started_coded x w a
     unfolding started_coded written
-    started-broken e en ea = rw (e, en, ea)
+    started_broken e en ea = rw (e, en, ea)
 
-    pub started-refused : {n : ℕ} → x ≡ st.Refused n → record { number = n; vm = w; answer = a } ≡ started_coded x w a
+    pub started_refused : {n : ℕ} → x ≡ st.Refused n → record { number = n; vm = w; answer = a } ≡ started_coded x w a
     unfolding started_coded
-    started-refused e = rw e
+    started_refused e = rw e
 
     -- the record refuses
     module _ (why : ℕ) where
-      pub unmade-done : {m : Vm} → x ≡ st.Done m → record { number = why; vm = w; answer = a } ≡ unmade why x w a
+      pub unmade_done : {m : Vm} → x ≡ st.Done m → record { number = why; vm = w; answer = a } ≡ unmade why x w a
       unfolding unmade
-      unmade-done e = rw e
+      unmade_done e = rw e
 
-      pub unmade-refused : {n : ℕ} → x ≡ st.Refused n → record { number = why; vm = w; answer = a } ≡ unmade why x w a
+      pub unmade_refused : {n : ℕ} → x ≡ st.Refused n → record { number = why; vm = w; answer = a } ≡ unmade why x w a
       unfolding unmade
-      unmade-refused e = rw e
+      unmade_refused e = rw e
 
-      pub unmade-broken : why ≡ 17 → {a' : List ℕ} {n i : ℕ} → x ≡ st.Broken i → n ≡ 20 → a' ≡ set a 0 i → record { number = n; vm = w; answer = a' } ≡ unmade why x w a
+      pub unmade_broken : why ≡ 17 → {a' : List ℕ} {n i : ℕ} → x ≡ st.Broken i → n ≡ 20 → a' ≡ set a 0 i → record { number = n; vm = w; answer = a' } ≡ unmade why x w a
       unfolding unmade started_coded written
-      unmade-broken z e en ea = rw (e, en, ea, eq-eqb why 17 z)
+      unmade_broken z e en ea = rw (e, en, ea, eq-eqb why 17 z)
 
-      pub unmade-first : (why ≡ 17 → ⊥) → {i : ℕ} → x ≡ st.Broken i → record { number = why; vm = w; answer = a } ≡ unmade why x w a
+      pub unmade_first : (why ≡ 17 → ⊥) → {i : ℕ} → x ≡ st.Broken i → record { number = why; vm = w; answer = a } ≡ unmade why x w a
       unfolding unmade
-      unmade-first z e = rw (e, ne_eqb why 17 z)
+      unmade_first z e = rw (e, ne_eqb why 17 z)
 
   module _ {x : Changed} where
-    pub changed-done : {w' : List ℕ} {m : Vm} → x ≡ ch.Done m → w' ≡ written w 0 (vm_words m) → record { number = 0; vm = w'; answer = a } ≡ changed_coded x w a
+    pub changed_done : {w' : List ℕ} {m : Vm} → x ≡ ch.Done m → w' ≡ written w 0 (vm_words m) → record { number = 0; vm = w'; answer = a } ≡ changed_coded x w a
     unfolding changed_coded
-    changed-done e ew = rw (e, ew)
+    changed_done e ew = rw (e, ew)
 
-    pub changed-refused : {n : ℕ} → x ≡ ch.Refused n → record { number = n; vm = w; answer = a } ≡ changed_coded x w a
+    pub changed_refused : {n : ℕ} → x ≡ ch.Refused n → record { number = n; vm = w; answer = a } ≡ changed_coded x w a
     unfolding changed_coded
-    changed-refused e = rw e
+    changed_refused e = rw e
 
   module _ {x : Emitted} where
-    pub emitted-done : {w' a' : List ℕ} {c : Counts} {n : ℕ} → x ≡ e.Done c n → w' ≡ written w 0 (count_words c) → a' ≡ set a 0 n → record { number = 0; vm = w'; answer = a' } ≡ emitted_coded x w a
+    pub emitted_done : {w' a' : List ℕ} {c : Counts} {n : ℕ} → x ≡ e.Done c n → w' ≡ written w 0 (count_words c) → a' ≡ set a 0 n → record { number = 0; vm = w'; answer = a' } ≡ emitted_coded x w a
     unfolding emitted_coded written
-    emitted-done e ew ea = rw (e, ew, ea)
+    emitted_done e ew ea = rw (e, ew, ea)
 
-    pub emitted-refused : {n : ℕ} → x ≡ e.Refused n → record { number = n; vm = w; answer = a } ≡ emitted_coded x w a
+    pub emitted_refused : {n : ℕ} → x ≡ e.Refused n → record { number = n; vm = w; answer = a } ≡ emitted_coded x w a
     unfolding emitted_coded
-    emitted-refused e = rw e
+    emitted_refused e = rw e
 
   module _ {x : Told} where
-    pub told-number : {a' : List ℕ} {n : ℕ} → x ≡ t.Number n → a' ≡ set a 0 n → record { number = 0; vm = w; answer = a' } ≡ told_coded x w a
+    pub told_number_lem : {a' : List ℕ} {n : ℕ} → x ≡ t.Number n → a' ≡ set a 0 n → record { number = 0; vm = w; answer = a' } ≡ told_coded x w a
     unfolding told_coded written
-    told-number e ea = rw (e, ea)
+    told_number_lem e ea = rw (e, ea)
 
-    pub told-not : {n : ℕ} → x ≡ t.Refused n → record { number = n; vm = w; answer = a } ≡ told_coded x w a
+    pub told_not : {n : ℕ} → x ≡ t.Refused n → record { number = n; vm = w; answer = a } ≡ told_coded x w a
     unfolding told_coded
-    told-not e = rw e
+    told_not e = rw e
 
   module _ {x : Shown} where
-    pub shown-value : {a1 a2 : List ℕ} {v : Value} {k p : ℕ} → x ≡ sh.Value v → k ≡ kind v → p ≡ payload v → a1 ≡ set a 0 k → a2 ≡ set a1 1 p
+    pub shown_value : {a1 a2 : List ℕ} {v : Value} {k p : ℕ} → x ≡ sh.Value v → k ≡ kind v → p ≡ payload v → a1 ≡ set a 0 k → a2 ≡ set a1 1 p
         → record { number = 0; vm = w; answer = a2 } ≡ shown_coded x w a
     unfolding shown_coded written
-    shown-value e ek ep e1 e2 = rw (e, e2, e1, ek, ep)
+    shown_value e ek ep e1 e2 = rw (e, e2, e1, ek, ep)
 
-    pub shown-not : {n : ℕ} → x ≡ sh.Refused n → record { number = n; vm = w; answer = a } ≡ shown_coded x w a
+    pub shown_not : {n : ℕ} → x ≡ sh.Refused n → record { number = n; vm = w; answer = a } ≡ shown_coded x w a
     unfolding shown_coded
-    shown-not e = rw e
+    shown_not e = rw e
 
   module _ {x : Headed} where
-    pub headed-is : {a1 a2 a3 : List ℕ} {y : Header} → x ≡ h.Is y → a1 ≡ set a 0 y.count → a2 ≡ set a1 1 y.number → a3 ≡ set a2 2 y.depth
+    pub headed_is : {a1 a2 a3 : List ℕ} {y : Header} → x ≡ h.Is y → a1 ≡ set a 0 y.count → a2 ≡ set a1 1 y.number → a3 ≡ set a2 2 y.depth
         → record { number = 0; vm = w; answer = a3 } ≡ headed_coded x w a
     unfolding headed_coded written
-    headed-is e e1 e2 e3 = rw (e, e3, e2, e1)
+    headed_is e e1 e2 e3 = rw (e, e3, e2, e1)
 
-    pub headed-not : {n : ℕ} → x ≡ h.Refused n → record { number = n; vm = w; answer = a } ≡ headed_coded x w a
+    pub headed_not : {n : ℕ} → x ≡ h.Refused n → record { number = n; vm = w; answer = a } ≡ headed_coded x w a
     unfolding headed_coded
-    headed-not e = rw e
+    headed_not e = rw e

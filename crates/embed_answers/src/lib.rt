@@ -3,7 +3,7 @@
 
 ghost use Rattle.std.specs.Prelude.{◌≡◌, List, [], ◌∷◌, ℕ, set};
 ghost use Rattle.model.specs.Basics.{written};
-ghost use Rattle.model.specs.Answers.{toldNumber, shownNumber, headedNumber};
+ghost use Rattle.model.specs.Answers.{told_number, shown_number, headed_number};
 ghost use Rattle.embed_words.specs.Coding.{at_entry, at_listing, run_coded, started_coded, changed_coded, unmade, emitted_coded, told_coded, shown_coded, headed_coded, through};
 
 use embed_refusals::{crossed, crossed_listing};
@@ -137,7 +137,7 @@ pub fn tell(res: Told, answer: &mut [u64]) -> u32
 }
 
 fn told_number(res: Told) -> u8
-    ensures { result ≡ toldNumber res }
+    ensures { result ≡ told_number res }
 {
     match res {
         Told::Number(n) => 0,
@@ -188,7 +188,7 @@ fn tell_shown(res: Shown, answer: &mut [u64]) -> u32
 }
 
 fn shown_number(res: Shown) -> u8
-    ensures { result ≡ shownNumber res }
+    ensures { result ≡ shown_number res }
 {
     match res {
         Shown::Value(v) => 0,
@@ -225,7 +225,7 @@ fn tell_header(res: Headed, answer: &mut [u64]) -> u32
 }
 
 fn headed_number(res: Headed) -> u8
-    ensures { result ≡ headedNumber res }
+    ensures { result ≡ headed_number res }
 {
     match res {
         Headed::Is(h) => 0,

@@ -27,7 +27,7 @@ use Rattle.model.specs.declared.RunResult.{RunResult}
 use Rattle.model.specs.declared.RunResult.TheVariants as r
 use Rattle.model.specs.Basics.{written}
 use Rattle.model.specs.Values.{kind, payload, exact_value, bit}
-use Rattle.model.specs.Answers.{runNumber, startedNumber, emittedNumber, toldNumber, shownNumber, headedNumber}
+use Rattle.model.specs.Answers.{run_number, started_number, emitted_number, told_number, shown_number, headed_number}
 use Rattle.model.specs.Stores.{Stores}
 use Rattle.model.specs.Emission.{Res}
 use Rattle.model.specs.Loading.{OutRes}
@@ -158,17 +158,17 @@ run_words (r.Paused m) = 4 ∷ m.run.spent ∷ m.run.returns ∷ 0 ∷ 0 ∷ []
 run_words (r.Refused n) = []
 
 unfoldable pub run_coded : RunResult → List ℕ → List ℕ → Coded
-run_coded (r.Value m v t) w a = record { number = runNumber (r.Value m v t); vm = written w 0 (vm_words m); answer = written a 0 (run_words (r.Value m v t)) }
-run_coded (r.Continue m t) w a = record { number = runNumber (r.Continue m t); vm = written w 0 (vm_words m); answer = written a 0 (run_words (r.Continue m t)) }
-run_coded (r.Fault m n t j) w a = record { number = runNumber (r.Fault m n t j); vm = written w 0 (vm_words m); answer = written a 0 (run_words (r.Fault m n t j)) }
-run_coded (r.Paused m) w a = record { number = runNumber (r.Paused m); vm = written w 0 (vm_words m); answer = written a 0 (run_words (r.Paused m)) }
-run_coded (r.Refused n) w a = refused (runNumber (r.Refused n)) w a
+run_coded (r.Value m v t) w a = record { number = run_number (r.Value m v t); vm = written w 0 (vm_words m); answer = written a 0 (run_words (r.Value m v t)) }
+run_coded (r.Continue m t) w a = record { number = run_number (r.Continue m t); vm = written w 0 (vm_words m); answer = written a 0 (run_words (r.Continue m t)) }
+run_coded (r.Fault m n t j) w a = record { number = run_number (r.Fault m n t j); vm = written w 0 (vm_words m); answer = written a 0 (run_words (r.Fault m n t j)) }
+run_coded (r.Paused m) w a = record { number = run_number (r.Paused m); vm = written w 0 (vm_words m); answer = written a 0 (run_words (r.Paused m)) }
+run_coded (r.Refused n) w a = refused (run_number (r.Refused n)) w a
 
 -- of refusal 20 the answer is the offset
 unfoldable pub started_coded : Started → List ℕ → List ℕ → Coded
-started_coded (st.Done m) w a = record { number = startedNumber (st.Done m); vm = written w 0 (vm_words m); answer = a }
-started_coded (st.Broken i) w a = record { number = startedNumber (st.Broken i); vm = w; answer = written a 0 (i ∷ []) }
-started_coded (st.Refused n) w a = refused (startedNumber (st.Refused n)) w a
+started_coded (st.Done m) w a = record { number = started_number (st.Done m); vm = written w 0 (vm_words m); answer = a }
+started_coded (st.Broken i) w a = record { number = started_number (st.Broken i); vm = w; answer = written a 0 (i ∷ []) }
+started_coded (st.Refused n) w a = refused (started_number (st.Refused n)) w a
 
 abbrev pub changed_number : Changed → ℕ
 changed_number (ch.Done m) = 0
@@ -181,22 +181,22 @@ changed_coded (ch.Refused n) w a = refused (changed_number (ch.Refused n)) w a
 
 -- the counts to the record, and the number that was told
 unfoldable pub emitted_coded : Emitted → List ℕ → List ℕ → Coded
-emitted_coded (e.Done c n) w a = record { number = emittedNumber (e.Done c n); vm = written w 0 (count_words c); answer = written a 0 (n ∷ []) }
-emitted_coded (e.Refused n) w a = refused (emittedNumber (e.Refused n)) w a
+emitted_coded (e.Done c n) w a = record { number = emitted_number (e.Done c n); vm = written w 0 (count_words c); answer = written a 0 (n ∷ []) }
+emitted_coded (e.Refused n) w a = refused (emitted_number (e.Refused n)) w a
 
 unfoldable pub told_coded : Told → List ℕ → List ℕ → Coded
-told_coded (t.Number n) w a = record { number = toldNumber (t.Number n); vm = w; answer = written a 0 (n ∷ []) }
-told_coded (t.Refused n) w a = refused (toldNumber (t.Refused n)) w a
+told_coded (t.Number n) w a = record { number = told_number (t.Number n); vm = w; answer = written a 0 (n ∷ []) }
+told_coded (t.Refused n) w a = refused (told_number (t.Refused n)) w a
 
 -- the kind and the payload of the value
 unfoldable pub shown_coded : Shown → List ℕ → List ℕ → Coded
-shown_coded (sh.Value v) w a = record { number = shownNumber (sh.Value v); vm = w; answer = written a 0 (kind v ∷ payload v ∷ []) }
-shown_coded (sh.Refused n) w a = refused (shownNumber (sh.Refused n)) w a
+shown_coded (sh.Value v) w a = record { number = shown_number (sh.Value v); vm = w; answer = written a 0 (kind v ∷ payload v ∷ []) }
+shown_coded (sh.Refused n) w a = refused (shown_number (sh.Refused n)) w a
 
 -- the count of elements, the struct number and the depth
 unfoldable pub headed_coded : Headed → List ℕ → List ℕ → Coded
-headed_coded (h.Is x) w a = record { number = headedNumber (h.Is x); vm = w; answer = written a 0 (x.count ∷ x.number ∷ x.depth ∷ []) }
-headed_coded (h.Refused n) w a = refused (headedNumber (h.Refused n)) w a
+headed_coded (h.Is x) w a = record { number = headed_number (h.Is x); vm = w; answer = written a 0 (x.count ∷ x.number ∷ x.depth ∷ []) }
+headed_coded (h.Refused n) w a = refused (headed_number (h.Refused n)) w a
 
 -- ---- the entries: refused by what crosses, or the entry's own rule, with its answer in words. `why` is that refusal, 0 where there is none
 

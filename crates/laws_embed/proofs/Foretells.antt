@@ -11,7 +11,7 @@ use Rattle.model.specs.declared.Counts.{Counts}
 use Rattle.model.specs.declared.Vm.{Vm}
 use Rattle.model.specs.declared.Told.TheVariants as t
 use Rattle.model.specs.Basics.{written}
-use Rattle.model.specs.Answers.{toldNumber}
+use Rattle.model.specs.Answers.{told_number}
 use Rattle.model.specs.declared.Value.{Value}
 use Rattle.model.specs.declared.Value.TheVariants as val
 use Rattle.model.specs.Values.{places, if_string, if_reference, text_at}
@@ -24,7 +24,7 @@ use Rattle.model.specs.Readers.{reads_text, text_shown, text_bytes_of}
 use Rattle.embed_words.specs.Coding.{at_entry, at_listing, among, crossed}
 
 pub record Foretells (firsts : List ℕ) (rule : List ℕ → OutRes) : Type 0 where
-  pub number : (out : List ℕ) (why : ℕ) → crossed firsts why (toldNumber (rule []).answer) ≡ crossed firsts why (toldNumber (rule out).answer)
+  pub number : (out : List ℕ) (why : ℕ) → crossed firsts why (told_number (rule []).answer) ≡ crossed firsts why (told_number (rule out).answer)
   pub nothing : (rule []).out ≡ []
 
 order_foretells : (firsts : List ℕ) (g : Bool) (rule : List ℕ → OutRes) → Foretells firsts rule
@@ -32,8 +32,8 @@ order_foretells : (firsts : List ℕ) (g : Bool) (rule : List ℕ → OutRes) �
 order_foretells firsts true rule p = record { number = p.number; nothing = p.nothing }
 order_foretells firsts false rule p = record { number = λ out why. refl; nothing = refl }
 
-either_why : (firsts : List ℕ) (why : ℕ) (b : Bool) (x y : OutRes) → crossed firsts why (toldNumber x.answer) ≡ why → crossed firsts why (toldNumber y.answer) ≡ why
-    → crossed firsts why (toldNumber (if b then x else y).answer) ≡ why
+either_why : (firsts : List ℕ) (why : ℕ) (b : Bool) (x y : OutRes) → crossed firsts why (told_number x.answer) ≡ why → crossed firsts why (told_number y.answer) ≡ why
+    → crossed firsts why (told_number (if b then x else y).answer) ≡ why
 either_why firsts why true x y p q = p
 either_why firsts why false x y p q = q
 

@@ -14,18 +14,18 @@ use Rattle.model.specs.declared.Value.{Value}
 use Rattle.model.specs.declared.Told.{Told}
 use Rattle.model.specs.declared.Emitted.{Emitted}
 use Rattle.model.specs.declared.Emitted.TheVariants as em
-use Rattle.model.specs.Answers.{emittedNumber, toldNumber}
+use Rattle.model.specs.Answers.{emitted_number, told_number}
 use Rattle.model.specs.Stores.{Stores}
 use Rattle.model.specs.Emission.{Res}
 use Rattle.model.specs.Loading.{OutRes, save_of, list_of}
 use Rattle.model.specs.Readers.{text_bytes_of}
 use Rattle.embed_words.specs.Coding.{vm_in, slices_refusal, at_entry, at_listing, crossed, Coded, emitted_coded, told_coded}
 use Rattle.embed_words.specs.Coding.{out_through, through, emit_through}
-use Rattle.embed_answers.proofs.Answers.{told-coded, goes_through, held_up}
+use Rattle.embed_answers.proofs.Answers.{told_coded_lem, goes_through, held_up}
 use Rattle.laws_embed.proofs.Says.{Says}
 use Rattle.laws_embed.proofs.Foretells.{Foretells, save_foretells, list_foretells, text_foretells}
 
-emitted_coded_lem : (x : Emitted) (w a : List ℕ) → emittedNumber x ≡ (emitted_coded x w a).number
+emitted_coded_lem : (x : Emitted) (w a : List ℕ) → emitted_number x ≡ (emitted_coded x w a).number
 unfolding emitted_coded
 emitted_coded_lem (em.Done c n) w a = refl
 emitted_coded_lem (em.Refused n) w a = refl
@@ -45,7 +45,7 @@ module _ (w a : List ℕ) (n : ℕ) {why : ℕ} (e : n ≡ why) {m : Vm} (em : m
   emits z er ec = rw (← e, ← em, ← er) (goes_through at_entry n w a _ z ec)
 
   -- `own` was judged
-  pub emits_not : (n ≡ 0 → ⊥) → (own : ℕ) → Says own (emittedNumber (rule m)) → {k : ℕ} → k ≡ crossed at_entry n own
+  pub emits_not : (n ≡ 0 → ⊥) → (own : ℕ) → Says own (emitted_number (rule m)) → {k : ℕ} → k ≡ crossed at_entry n own
       → record { number = k; vm = w; answer = a } ≡ through at_entry why w a (emitted_coded (rule (vm_in w)) w a)
   emits_not z own y ek =
       rw (← e, ← em) (held_up at_entry n w a _ z (emitted_coded_lem (rule m) w a) (ek ∙ y.crosses n))
@@ -56,7 +56,7 @@ module _ (w a : List ℕ) (n : ℕ) (e : n ≡ slices_refusal w 1 a) (s : Stores
   unfolding emit_through through
   emit_through_lem z em er ec = rw (← em, ← er, ec, eq-eqb (slices_refusal w 1 a) 0 (sym e ∙ z))
 
-  pub emit_refused : (n ≡ 0 → ⊥) → {m : Vm} → m ≡ vm_in w → (own : ℕ) → Says own (emittedNumber (rule m).answer) → {k : ℕ}
+  pub emit_refused : (n ≡ 0 → ⊥) → {m : Vm} → m ≡ vm_in w → (own : ℕ) → Says own (emitted_number (rule m).answer) → {k : ℕ}
       → k ≡ crossed at_entry n own → record { coded = record { number = k; vm = w; answer = a }; stores = s } ≡ emit_through w a s rule
   unfolding emit_through
   emit_refused z em own y ek =
@@ -71,11 +71,11 @@ module _ (w a out : List ℕ) (rule : Vm → OutRes) (n : ℕ) {why : ℕ} (e : 
   out_through_lem z m em x out' er c ec = rw (← em, ← er, ec, eq-eqb why 0 (sym e ∙ z))
 
   -- `own` was judged
-  pub out_refused : (n ≡ 0 → ⊥) → (m : Vm) → m ≡ vm_in w → (own : ℕ) → Says own (toldNumber (rule m).answer) → (k : ℕ) → k ≡ crossed at_entry n own
+  pub out_refused : (n ≡ 0 → ⊥) → (m : Vm) → m ≡ vm_in w → (own : ℕ) → Says own (told_number (rule m).answer) → (k : ℕ) → k ≡ crossed at_entry n own
       → record { coded = record { number = k; vm = w; answer = a }; out = out } ≡ out_through at_entry why w a out rule
   unfolding out_through
   out_refused z m em own y k ek =
-      let h = held_up at_entry n w a (told_coded (rule m).answer w a) z (told-coded (rule m).answer w a) (ek ∙ y.crosses n) in rw (← e, ← em, ne_eqb n 0 z, ← h)
+      let h = held_up at_entry n w a (told_coded (rule m).answer w a) z (told_coded_lem (rule m).answer w a) (ek ∙ y.crosses n) in rw (← e, ← em, ne_eqb n 0 z, ← h)
 
 at_most : (b : Bool) (size : ℕ) → (if b then size else 0) ≤ size
 at_most true size = omega arith
@@ -104,7 +104,7 @@ module _ (firsts w a out : List ℕ) (rule : Vm → List ℕ → OutRes) {m : Vm
       let told : x ≡ (rule m []).answer = ap (λ (y : OutRes). y.answer) f in
       let empty : out' ≡ [] = ap (λ (y : OutRes). y.out) f ∙ same.nothing in
       let number : crossed firsts n (told_coded x w a).number ≡ crossed firsts n (told_coded (rule m out).answer w a).number
-      = rw (← told-coded x w a, ← told-coded (rule m out).answer w a, told) (same.number out n) in
+      = rw (← told_coded_lem x w a, ← told_coded_lem (rule m out).answer w a, told) (same.number out n) in
       rw (ek, empty, ← em, ec, ne_eqb n 0 z, number)
 
   pub lent_through : {why : ℕ} (n : ℕ) → n ≡ why → k ≡ (if eqb n 0 then length out else 0) → Foretells firsts (rule m) → {c : Coded}

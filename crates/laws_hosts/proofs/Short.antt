@@ -27,7 +27,7 @@ use Rattle.embed_words.specs.Coding.{vm_in, run_in, slices_refusal, value_refusa
 use Rattle.embed_refusals.proofs.Refusals.{answer_short, value_exact}
 use Rattle.demands.specs.Host.{Held, Done, emits, starts, looks, done, Ask, new, load, add_op, add_op1, add_op2, add_op3, patch, add_constant, add_struct, begin_function, end_function, set_strict, current_offset, function_idx, save, disassemble, backtrace, last_result, stack_value, block_header, element, text_bytes, Call, run, ask, Answer, started, told, put, shown, headed}
 use Rattle.demands.specs.Refusals.{refused_by, refused_run, checks}
-use Rattle.demands.proofs.Refusing.{run_number, refuses}
+use Rattle.demands.proofs.Refusing.{run_number_lem, refuses}
 use Rattle.laws_hosts.specs.Hosts.{CHeld, CDone, emitting, making, looking, putting, ask_through, RanThrough, Through}
 use Rattle.laws_hosts.specs.Crossed.{held_in, Taken, way_of, Exact, ExactIf, number_of, own_number, Short}
 use Rattle.laws_hosts.proofs.Typed.{if_all}
@@ -49,7 +49,7 @@ ran_number (not_run n) = refl
 
 run_own : (c : RunCall) (h : Held) → refusal_of (run_answer c h.vm h.stores h.lent) ≡ own_number (run c) h
 unfolding own_number checks
-run_own c h = ran_number (run_answer c h.vm h.stores h.lent) ∙ ap number_of (run_number c h)
+run_own c h = ran_number (run_answer c h.vm h.stores h.lent) ∙ ap number_of (run_number_lem c h)
 
 -- ---- emission, looking
 

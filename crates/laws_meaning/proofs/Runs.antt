@@ -21,7 +21,7 @@ use Rattle.laws_runs.proofs.Paths.{run_by, marked, mark_grows}
 use Rattle.laws_runs.proofs.Keeps.{step_keeps}
 use Rattle.laws_runs.proofs.Runs.{any_units, mark_sane, first_part_sane}
 use Rattle.laws_meaning.specs.Alike.{AlikeValue, AlikeValues, AlikeLast, nothing, is, Layout, laid_out, AlikeConstants, AlikeMachine, AlikeState, AlikeMark, Answers, not_yet, latest, AlikeUnder, AlikeOutcome, goes, returns, faults, runs_short, Both}
-use Rattle.laws_meaning.specs.Answers.{meantIn, meant, AlikeRan, AlikePart, ends, pauses}
+use Rattle.laws_meaning.specs.Answers.{meant_in, meant, AlikeRan, AlikePart, ends, pauses}
 use Rattle.laws_meaning.proofs.Values.{Boths, boths_of, values_on}
 use Rattle.laws_meaning.proofs.Steps.{step_alike}
 
@@ -100,8 +100,8 @@ module _ (w : World) (lay : Layout) (good : SaneWorld w) (beside-good : SaneWorl
 
   -- ---- parts of runs
 
-  answered_alike : {l l' : Last} {H H' : List Cell} (j : Tally) → AlikeLast w.text lay.text H H' l l' → meantIn w.text H (answered l j) ≡ meantIn lay.text H' (answered l' j)
-  unfolding meantIn answered
+  answered_alike : {l l' : Last} {H H' : List Cell} (j : Tally) → AlikeLast w.text lay.text H H' l l' → meant_in w.text H (answered l j) ≡ meant_in lay.text H' (answered l' j)
+  unfolding meant_in answered
   answered_alike j nothing = refl
   answered_alike j (is b) = rw b
 
@@ -127,7 +127,7 @@ module _ (w : World) (lay : Layout) (good : SaneWorld w) (beside-good : SaneWorl
         → AlikeValues w.text lay.text k.heap k'.heap vs vs'
         → AlikeRan w lay (record { reply = fault (fault_number i) (tally t.spent k) (trace_of w.functions (t.frame ∷ t.callers)); machine = recovered w vs k })
         (record { reply = fault (fault_number i') (tally t'.spent k') (trace_of w.functions (t'.frame ∷ t'.callers)); machine = recovered (laid_out lay w) vs' k' })
-    unfolding meant meantIn
+    unfolding meant meant_in
     stopped_alike i i' e b k c = record {
       answer = rw (e, b.spent, k.returns, b.machine.frame, b.machine.callers);
       machine = recovered_alike k c;
@@ -186,7 +186,7 @@ module _ (w : World) (lay : Layout) (good : SaneWorld w) (beside-good : SaneWorl
         (part_alike (given_more u) h.mark h'.mark (record { last = h.marked.last; heap = h.marked.heap }) (record { last = h'.marked.last; heap = h'.marked.heap }) starts (r.given + u))
 
     pub abandon_alike : AlikeRan w lay (abandon_of w r) (abandon_of (laid_out lay w) r')
-    unfolding abandon_of cut_at recovered meant meantIn
+    unfolding abandon_of cut_at recovered meant meant_in
     abandon_alike = record {
       answer = rw (a.given, a.marks.returns, a.state.units, a.state.machine.frame, a.state.machine.callers);
       machine = record { stack = a.start; last = a.marks.last; frame = refl; callers = refl; free = a.marks.free };

@@ -14,14 +14,14 @@ pub data Meant : Type 0 where
   continue : Tally → Meant
   fault : ℕ → Tally → List Entry → Meant
 
-unfoldable pub meantIn : List ℕ → List Cell → Reply → Meant
-meantIn t H (r.value x n) = value (meaning t H x) n
-meantIn t H (r.continue n) = continue n
-meantIn t H (r.fault i n es) = fault i n es
+unfoldable pub meant_in : List ℕ → List Cell → Reply → Meant
+meant_in t H (r.value x n) = value (meaning t H x) n
+meant_in t H (r.continue n) = continue n
+meant_in t H (r.fault i n es) = fault i n es
 
 -- the value is in the cells that the run leaves
 unfoldable pub meant : World → Ran → Meant
-meant w x = meantIn w.text x.machine.heap x.reply
+meant w x = meant_in w.text x.machine.heap x.reply
 
 -- two runs: the same answer by meaning, and they leave machines that mean the same
 pub record AlikeRan (w : World) (o : Layout) (x x' : Ran) : Type 0 where

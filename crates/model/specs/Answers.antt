@@ -15,37 +15,37 @@ use Rattle.model.specs.declared.Shown.TheVariants as w
 use Rattle.model.specs.declared.Headed.{Headed}
 use Rattle.model.specs.declared.Headed.TheVariants as h
 
-abbrev pub emittedNumber : Emitted → ℕ
-emittedNumber (e.Done c n) = 0
-emittedNumber (e.Refused n) = n
+abbrev pub emitted_number : Emitted → ℕ
+emitted_number (e.Done c n) = 0
+emitted_number (e.Refused n) = n
 
 -- an image that breaks a rule is refused 20; the answer holds the offset of the first item that does
-abbrev pub loadedNumber : Loaded → ℕ
-loadedNumber (l.Done c) = 0
-loadedNumber (l.Broken offset) = 20
-loadedNumber (l.Refused n) = n
+abbrev pub loaded_number : Loaded → ℕ
+loaded_number (l.Done c) = 0
+loaded_number (l.Broken offset) = 20
+loaded_number (l.Refused n) = n
 
-abbrev pub startedNumber : Started → ℕ
-startedNumber (st.Done m) = 0
-startedNumber (st.Broken offset) = 20
-startedNumber (st.Refused n) = n
+abbrev pub started_number : Started → ℕ
+started_number (st.Done m) = 0
+started_number (st.Broken offset) = 20
+started_number (st.Refused n) = n
 
 -- a fault is no refusal: its number stands in the answer
-abbrev pub runNumber : RunResult → ℕ
-runNumber (r.Value m v t) = 0
-runNumber (r.Continue m t) = 0
-runNumber (r.Fault m n t j) = 0
-runNumber (r.Paused m) = 0
-runNumber (r.Refused n) = n
+abbrev pub run_number : RunResult → ℕ
+run_number (r.Value m v t) = 0
+run_number (r.Continue m t) = 0
+run_number (r.Fault m n t j) = 0
+run_number (r.Paused m) = 0
+run_number (r.Refused n) = n
 
-abbrev pub toldNumber : Told → ℕ
-toldNumber (t.Number n) = 0
-toldNumber (t.Refused n) = n
+abbrev pub told_number : Told → ℕ
+told_number (t.Number n) = 0
+told_number (t.Refused n) = n
 
-abbrev pub shownNumber : Shown → ℕ
-shownNumber (w.Value v) = 0
-shownNumber (w.Refused n) = n
+abbrev pub shown_number : Shown → ℕ
+shown_number (w.Value v) = 0
+shown_number (w.Refused n) = n
 
-abbrev pub headedNumber : Headed → ℕ
-headedNumber (h.Is x) = 0
-headedNumber (h.Refused n) = n
+abbrev pub headed_number : Headed → ℕ
+headed_number (h.Is x) = 0
+headed_number (h.Refused n) = n

@@ -13,7 +13,7 @@ use Rattle.model.specs.declared.Started.{Started}
 use Rattle.model.specs.declared.Started.TheVariants as st
 use Rattle.model.specs.Basics.{ascii}
 use Rattle.model.specs.Heap.{Cell, head_in}
-use Rattle.model.specs.Answers.{loadedNumber, startedNumber}
+use Rattle.model.specs.Answers.{loaded_number, started_number}
 use Rattle.model.specs.Listings.{Listed, text, unlisted, decimal, listing_of}
 use Rattle.model.specs.Runs.{Machine, root, Entry, Reply, value, continue, fault, Ran, run_of}
 use Rattle.model.specs.Stores.{Stores, program_in}
@@ -88,8 +88,8 @@ empty_lent frames = record { stack = replicate 2048 0; cells = replicate 4096 0;
 
 unfoldable pub started_text : Started → Stores → List Frame → List ℕ
 started_text (st.Done m) s frames = report_of m s (empty_lent frames) 1000000
-started_text (st.Broken i) s frames = refused_line (startedNumber (st.Broken i))
-started_text (st.Refused n) s frames = refused_line (startedNumber (st.Refused n))
+started_text (st.Broken i) s frames = refused_line (started_number (st.Broken i))
+started_text (st.Refused n) s frames = refused_line (started_number (st.Refused n))
 
 unfoldable pub started : StartRes → List ℕ
 started r = started_text r.answer r.stores r.frames
@@ -105,8 +105,8 @@ listed_text (unlisted before n) = refused_line n
 
 unfoldable pub loaded_text : Loaded → Stores → List ℕ
 loaded_text (l.Done c) s = listed_text (listing_of (program_in c s))
-loaded_text (l.Broken i) s = refused_line (loadedNumber (l.Broken i))
-loaded_text (l.Refused n) s = refused_line (loadedNumber (l.Refused n))
+loaded_text (l.Broken i) s = refused_line (loaded_number (l.Broken i))
+loaded_text (l.Refused n) s = refused_line (loaded_number (l.Refused n))
 
 unfoldable pub lister_text : List ℕ → List ℕ
 lister_text image = if ltb 16384 (length image) then refused_line 22 else loaded_text (load_of image empty_stores).answer (load_of image empty_stores).stores

@@ -7,7 +7,7 @@ use Rattle.model.specs.declared.Names.{Names}
 use Rattle.model.specs.declared.Names.TheVariants as n
 use Rattle.model.specs.declared.Told.TheVariants as t
 use Rattle.model.specs.Basics.{ascii}
-use Rattle.model.specs.Answers.{loadedNumber}
+use Rattle.model.specs.Answers.{loaded_number}
 use Rattle.model.specs.Programs.{Constant, scalar, boolean, string, reference, Function, Program, word_at, opcode_in, next_in}
 use Rattle.model.specs.Listings.{decimal, digits_or_more, line_of, header_line, Listed, text, in_front, lines_for, and_listed}
 use Rattle.model.specs.Stores.{Stores, program_in}
@@ -111,8 +111,8 @@ notes_of c s out = if program_ok c s then put_listing (noted_listing (program_in
 
 unfoldable pub loaded_notes : Loaded → Stores → List ℕ
 loaded_notes (l.Done c) s = listed_text (noted_listing (program_in c s))
-loaded_notes (l.Broken i) s = refused_line (loadedNumber (l.Broken i))
-loaded_notes (l.Refused n) s = refused_line (loadedNumber (l.Refused n))
+loaded_notes (l.Broken i) s = refused_line (loaded_number (l.Broken i))
+loaded_notes (l.Refused n) s = refused_line (loaded_number (l.Refused n))
 
 unfoldable pub noter_text : List ℕ → List ℕ
 noter_text image = if ltb 16384 (length image) then refused_line 22 else loaded_notes (load_of image empty_stores).answer (load_of image empty_stores).stores

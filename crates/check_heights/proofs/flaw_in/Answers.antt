@@ -1,5 +1,5 @@
 -- `flaw_in`: what the pass came upon.
-use Rattle.check_heights.proofs.Answers.{part_length, part-ready, no-flaw, flaw-told}
+use Rattle.check_heights.proofs.Answers.{part_length, part_ready, no_flaw, flaw_told}
 use borrow.Author.Rules.{rules}
 use Rattle.check_heights.proofs.flaw_in.Goals as goal
 
@@ -7,10 +7,10 @@ pub slice_bounds-pass-end-2 : goal.slice_bounds-pass-end-2
 slice_bounds-pass-end-2 c = search (rules, part_length)
 
 pub pass-requires : goal.pass-requires
-pass-requires c = search (rules, part-ready)
+pass-requires c = search (rules, part_ready)
 
 pub returns-in-Greatest : goal.returns-in-Greatest
-returns-in-Greatest c = search (rules, no-flaw)
+returns-in-Greatest c = search (rules, no_flaw)
 
 pub returns-in-Flawed : goal.returns-in-Flawed
-returns-in-Flawed c = search (rules, flaw-told)
+returns-in-Flawed c = search (rules, flaw_told)

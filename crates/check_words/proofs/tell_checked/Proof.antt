@@ -1,6 +1,6 @@
 -- `tell_checked`: by the answer.
 use borrow.Author.Rules.{rules}
-use Rattle.check_words.proofs.Answers.{told-passed, told_broken, told-refused, told-breach}
+use Rattle.check_words.proofs.Answers.{told_passed, told_broken, told_refused, told_breach}
 use Rattle.check_words.proofs.tell_checked.Statement.{statement}
 use Rattle.check_words.proofs.tell_checked.Tie as tie
 
@@ -38,7 +38,7 @@ same-length-2 : tie.Need-same-length-2
 same-length-2 c = search rules
 
 returns : tie.Need-returns
-returns c = search told-passed
+returns c = search told_passed
 
 same-length-3 : tie.Need-same-length-3
 same-length-3 c = search rules
@@ -50,13 +50,13 @@ returns-2 : tie.Need-returns-2
 returns-2 c = search told_broken
 
 returns-3 : tie.Need-returns-3
-returns-3 c = search told-refused
+returns-3 c = search told_refused
 
 same-length-5 : tie.Need-same-length-5
 same-length-5 c = search rules
 
 returns-4 : tie.Need-returns-4
-returns-4 c = search told-breach
+returns-4 c = search told_breach
 
 pub tell-checked-spec : {M : Type 1} → statement M
 tell-checked-spec =

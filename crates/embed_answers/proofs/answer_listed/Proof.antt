@@ -1,6 +1,6 @@
 -- `embed_answers::answer_listed` meets its contract.
 use mathlib.Core.Path.{◌∙◌}
-use Rattle.embed_answers.proofs.Answers.{goes_through, held_up, told-coded}
+use Rattle.embed_answers.proofs.Answers.{goes_through, held_up, told_coded_lem}
 use Rattle.embed_answers.proofs.answer_listed.Statement.{statement}
 use Rattle.embed_answers.proofs.answer_listed.Tie as tie
 
@@ -24,7 +24,7 @@ crossed-listing-requires c κs = search
 
 returns-2 : tie.Need-returns-2
 returns-2 c =
-    λ w. held_up _ _ _ _ _ c.before.before.if1.false (c.before.told-number.ensures ∙ told-coded _ _ _)
+    λ w. held_up _ _ _ _ _ c.before.before.if1.false (c.before.told_number_lem.ensures ∙ told_coded_lem _ _ _)
     c.crossed-listing.ensures
 
 pub answer-listed-spec : {M : Type 1} → statement M

@@ -1,6 +1,6 @@
 -- `embed_answers::answer_shown` meets its contract.
 use mathlib.Core.Path.{◌∙◌}
-use Rattle.embed_answers.proofs.Answers.{goes_through, held_up, shown-coded}
+use Rattle.embed_answers.proofs.Answers.{goes_through, held_up, shown_coded_lem}
 use Rattle.embed_answers.proofs.answer_shown.Statement.{statement}
 use Rattle.embed_answers.proofs.answer_shown.Tie as tie
 
@@ -24,7 +24,7 @@ crossed-requires c κs = search
 
 returns-2 : tie.Need-returns-2
 returns-2 c =
-    λ w. held_up _ _ _ _ _ c.before.before.if1.false (c.before.shown-number.ensures ∙ shown-coded _ _ _)
+    λ w. held_up _ _ _ _ _ c.before.before.if1.false (c.before.shown-number.ensures ∙ shown_coded_lem _ _ _)
     c.crossed.ensures
 
 pub answer-shown-spec : {M : Type 1} → statement M

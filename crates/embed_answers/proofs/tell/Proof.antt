@@ -1,6 +1,6 @@
 -- `embed_answers::tell` meets its contract.
 use borrow.Author.Rules.{rules}
-use Rattle.embed_answers.proofs.Answers.{told-not, told-number}
+use Rattle.embed_answers.proofs.Answers.{told_not, told_number_lem}
 use Rattle.embed_answers.proofs.tell.Statement.{statement}
 use Rattle.embed_answers.proofs.tell.Tie as tie
 
@@ -20,10 +20,10 @@ same_length : tie.Need-same-length
 same_length c = search
 
 returns : tie.Need-returns
-returns c = search told-number
+returns c = search told_number_lem
 
 returns-2 : tie.Need-returns-2
-returns-2 c = search told-not
+returns-2 c = search told_not
 
 pub tell-spec : {M : Type 1} → statement M
 tell-spec =

@@ -1,6 +1,6 @@
 -- `embed_answers::tell_changed` meets its contract.
 use borrow.Author.Rules.{rules}
-use Rattle.embed_answers.proofs.Answers.{changed-done, changed-refused}
+use Rattle.embed_answers.proofs.Answers.{changed_done, changed_refused}
 use Rattle.embed_answers.proofs.tell_changed.Statement.{statement}
 use Rattle.embed_answers.proofs.tell_changed.Tie as tie
 
@@ -20,10 +20,10 @@ same_length : tie.Need-same-length
 same_length c = search
 
 returns : tie.Need-returns
-returns c = search changed-done
+returns c = search changed_done
 
 returns-2 : tie.Need-returns-2
-returns-2 c = search changed-refused
+returns-2 c = search changed_refused
 
 pub tell-changed-spec : {M : Type 1} → statement M
 tell-changed-spec =

@@ -1,6 +1,6 @@
 -- `embed_answers::tell_emitted` meets its contract.
 use borrow.Author.Rules.{rules}
-use Rattle.embed_answers.proofs.Answers.{emitted-done, emitted-refused}
+use Rattle.embed_answers.proofs.Answers.{emitted_done, emitted_refused}
 use Rattle.embed_answers.proofs.tell_emitted.Statement.{statement}
 use Rattle.embed_answers.proofs.tell_emitted.Tie as tie
 
@@ -26,10 +26,10 @@ same-length-2 : tie.Need-same-length-2
 same-length-2 c = search
 
 returns : tie.Need-returns
-returns c = search emitted-done
+returns c = search emitted_done
 
 returns-2 : tie.Need-returns-2
-returns-2 c = search emitted-refused
+returns-2 c = search emitted_refused
 
 pub tell-emitted-spec : {M : Type 1} → statement M
 tell-emitted-spec =

@@ -1,6 +1,6 @@
 -- `embed_answers::tell_header` meets its contract.
 use borrow.Author.Rules.{rules}
-use Rattle.embed_answers.proofs.Answers.{headed-is, headed-not}
+use Rattle.embed_answers.proofs.Answers.{headed_is, headed_not}
 use Rattle.embed_answers.proofs.tell_header.Statement.{statement}
 use Rattle.embed_answers.proofs.tell_header.Tie as tie
 
@@ -26,10 +26,10 @@ same_length : tie.Need-same-length
 same_length c = search
 
 returns : tie.Need-returns
-returns c = search headed-is
+returns c = search headed_is
 
 returns-2 : tie.Need-returns-2
-returns-2 c = search headed-not
+returns-2 c = search headed_not
 
 pub tell-header-spec : {M : Type 1} → statement M
 tell-header-spec =

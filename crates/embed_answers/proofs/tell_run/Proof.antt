@@ -1,6 +1,6 @@
 -- `embed_answers::tell_run` meets its contract.
 use borrow.Author.Rules.{rules}
-use Rattle.embed_answers.proofs.Answers.{told-continue, told-fault, told-paused, told-refused, told-value}
+use Rattle.embed_answers.proofs.Answers.{told_continue, told_fault, told_paused, told_refused, told_value}
 use Rattle.embed_answers.proofs.tell_run.Statement.{statement}
 use Rattle.embed_answers.proofs.tell_run.Tie as tie
 
@@ -62,7 +62,7 @@ same-length-2 : tie.Need-same-length-2
 same-length-2 c = search
 
 returns : tie.Need-returns
-returns c = search told-value
+returns c = search told_value
 
 same-length-3 : tie.Need-same-length-3
 same-length-3 c = search
@@ -71,7 +71,7 @@ same-length-4 : tie.Need-same-length-4
 same-length-4 c = search
 
 returns-2 : tie.Need-returns-2
-returns-2 c = search told-continue
+returns-2 c = search told_continue
 
 same-length-5 : tie.Need-same-length-5
 same-length-5 c = search
@@ -80,7 +80,7 @@ same-length-6 : tie.Need-same-length-6
 same-length-6 c = search
 
 returns-3 : tie.Need-returns-3
-returns-3 c = search told-fault
+returns-3 c = search told_fault
 
 same-length-7 : tie.Need-same-length-7
 same-length-7 c = search
@@ -89,10 +89,10 @@ same-length-8 : tie.Need-same-length-8
 same-length-8 c = search
 
 returns-4 : tie.Need-returns-4
-returns-4 c = search told-paused
+returns-4 c = search told_paused
 
 returns-5 : tie.Need-returns-5
-returns-5 c = search told-refused
+returns-5 c = search told_refused
 
 pub tell-run-spec : {M : Type 1} → statement M
 tell-run-spec =

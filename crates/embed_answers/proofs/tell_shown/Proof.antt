@@ -1,6 +1,6 @@
 -- `embed_answers::tell_shown` meets its contract.
 use borrow.Author.Rules.{rules}
-use Rattle.embed_answers.proofs.Answers.{shown-not, shown-value}
+use Rattle.embed_answers.proofs.Answers.{shown_not, shown_value}
 use Rattle.embed_answers.proofs.tell_shown.Statement.{statement}
 use Rattle.embed_answers.proofs.tell_shown.Tie as tie
 
@@ -29,10 +29,10 @@ same_length : tie.Need-same-length
 same_length c = search
 
 returns : tie.Need-returns
-returns c = search shown-value
+returns c = search shown_value
 
 returns-2 : tie.Need-returns-2
-returns-2 c = search shown-not
+returns-2 c = search shown_not
 
 pub tell-shown-spec : {M : Type 1} → statement M
 tell-shown-spec =

@@ -1,6 +1,6 @@
 -- `embed_answers::tell_started` meets its contract.
 use borrow.Author.Rules.{rules}
-use Rattle.embed_answers.proofs.Answers.{started-broken, started-done, started-refused}
+use Rattle.embed_answers.proofs.Answers.{started_broken, started_done, started_refused}
 use Rattle.embed_answers.proofs.tell_started.Statement.{statement}
 use Rattle.embed_answers.proofs.tell_started.Tie as tie
 
@@ -26,16 +26,16 @@ same_length : tie.Need-same-length
 same_length c = search
 
 returns : tie.Need-returns
-returns c = search started-done
+returns c = search started_done
 
 same-length-2 : tie.Need-same-length-2
 same-length-2 c = search
 
 returns-2 : tie.Need-returns-2
-returns-2 c = search started-broken
+returns-2 c = search started_broken
 
 returns-3 : tie.Need-returns-3
-returns-3 c = search started-refused
+returns-3 c = search started_refused
 
 pub tell-started-spec : {M : Type 1} → statement M
 tell-started-spec =
