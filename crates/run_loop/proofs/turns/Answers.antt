@@ -1,8 +1,8 @@
 -- `run_loop::turns` meets its contract: a call writes the frame that it leaves behind the callers, a return reads the innermost one.
-use Rattle.std.proofs.Common.{arith, subst, sym, ◌≡◌, ◌+◌, ◌<◌, length, ℕ}
-use Rattle.run_steps.specs.declared.Event.TheVariants.{Over, Call, Back, Stopped, Paused}
+use Rattle.std.proofs.Common.{arith, subst, sym}
+use Rattle.run_steps.specs.declared.Event.TheVariants.{Call, Back}
 use Rattle.run_loop.specs.declared.Course.{Course}
-use Rattle.run_loop.proofs.Turning.{Ways, weight, over_less, stopped_less, paused_less, a_run_goes_on, gone_none, goes, ends_so, asks, roomy, over_on, stopped_on, paused_on, call_on, back_on, within, some_back, call_less, back_less}
+use Rattle.run_loop.proofs.Turning.{Ways, over_less, stopped_less, paused_less, a_run_goes_on, gone_none, goes, ends_so, asks, roomy, over_on, stopped_on, paused_on, call_on, back_on, within, some_back, call_less, back_less}
 use Rattle.run_loop.proofs.turns.Goals as goal
 
 pub loop-c-init : goal.loop-c-init
