@@ -1,0 +1,11 @@
+-- `run_ends::copy_front` meets its contract.
+use Prim.Native.Nat.{◌*◌, ◌-◌}
+use lib.ListN.{take}
+use Rattle.layout.proofs.Writing.{Writing}
+use Rattle.run_ends.proofs.copy_front.Given as goal
+
+abbrev pub invariant-loop-i : goal.invariant-loop-i
+invariant-loop-i l = Writing l.initial.to 0 (take (2 * l.n) l.from) l.to l.i
+
+abbrev pub decreases-loop-i : goal.decreases-loop-i
+decreases-loop-i l = 2 * l.n - l.i
