@@ -16,9 +16,8 @@ use lib.ListN.{take}
 use Rattle.model.specs.declared.Vm.{Vm}
 use Rattle.model.specs.declared.RunResult.{RunResult}
 use Rattle.model.specs.Basics.{written}
-use Rattle.model.specs.Values.{places}
 use Rattle.model.specs.Runs.{Part, ends, begin_of, continue_of, abandon_of}
-use Rattle.model.specs.Stores.{Stores, world_in}
+use Rattle.model.specs.Stores.{Stores}
 use Rattle.model.specs.Orders.{program_ok}
 use Rattle.model.specs.Machines.{Unchanged, unchanged, Lent, frame_room, machine_in, under_in, world_of, run_order, ran, refused, RunCall, begins, continues, abandons, run_answer, begin_answer, continue_answer, abandon_answer, copied, copy_after, entry_words, trace_of_part, trace_after, no_run, SameRooms, Leaves, Left, RunPost}
 use Rattle.model.specs.Machines as mc

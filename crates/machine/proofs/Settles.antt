@@ -24,7 +24,7 @@ use Rattle.model.specs.declared.Tally.{Tally}
 use Rattle.model.specs.Basics.{written}
 use Rattle.model.specs.Values.{fault_number, vals}
 use Rattle.model.specs.Steps.{World, State, with_units}
-use Rattle.model.specs.Runs.{machine_of, Ended, ended, paused, end_from, answered, fault, ends, part_of, continue_of}
+use Rattle.model.specs.Runs.{machine_of, Ended, ended, paused, end_from, answered, part_of, continue_of}
 use Rattle.model.specs.Stores.{Stores, world_in}
 use Rattle.model.specs.Machines.{Lent, frame_room, innermost, callers_in, machine_in, under_in, world_of, continues, entry_words, trace_of_reply, trace_of_part, SameRooms, Leaves, Left, RunPost}
 use Rattle.cells.proofs.Stands.{exact_cut}

@@ -1,5 +1,5 @@
 -- `machine::abandon` meets its contract: the machine stops before the instruction that it is at.
-use Rattle.std.proofs.Common.{arith, rules, refl, sym, ap, subst, ◌≡◌, ◌∙◌, ◌+◌, ◌-◌, ◌*◌, ◌<◌, ◌≤◌, ℕ, Bool, true, false, List, [], length, get_or}
+use Rattle.std.proofs.Common.{refl}
 use Rattle.model.specs.Machines.{abandons}
 use Rattle.run_ends.specs.Links.{program_lent}
 use Rattle.machine.specs.Links.{run_lent}

@@ -1,5 +1,5 @@
 -- `machine::backtrace` meets its contract: it is judged (19, 17), then the backtrace is written, or 16 comes back.
-use Rattle.std.proofs.Common.{arith, rules, refl, sym, ap, subst, ◌≡◌, ◌∙◌, ◌+◌, ◌-◌, ◌*◌, ◌<◌, ◌≤◌, ℕ, Bool, true, false, List, [], length, get_or}
+use Rattle.std.proofs.Common.{refl, ap, ◌∙◌, Bool, []}
 use Rattle.machine.specs.Links.{trace_refusal}
 use Rattle.machine.proofs.Tracings.{trace_ready, trace_is, trace_refused}
 use Rattle.machine.proofs.backtrace.Goals as goal

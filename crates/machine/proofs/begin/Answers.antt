@@ -1,5 +1,5 @@
 -- `machine::begin` meets its contract: the stack is copied, the frames are unentered.
-use Rattle.std.proofs.Common.{arith, rules, refl, sym, ap, subst, ◌≡◌, ◌∙◌, ◌+◌, ◌-◌, ◌*◌, ◌<◌, ◌≤◌, ℕ, Bool, true, false, List, [], length, get_or}
+use Rattle.std.proofs.Common.{refl, []}
 use Rattle.model.specs.Machines.{begins}
 use Rattle.run_ends.specs.Links.{program_lent}
 use Rattle.machine.specs.Links.{run_lent}

@@ -1,5 +1,5 @@
 -- `machine::load` meets its contract.
-use Rattle.std.proofs.Common.{arith, rules, refl, sym, ap, subst, ◌≡◌, ◌∙◌, ◌+◌, ◌-◌, ◌*◌, ◌<◌, ◌≤◌, ℕ, Bool, true, false, List, [], length, get_or}
+use Rattle.std.proofs.Common.{sym, ◌∙◌}
 use Rattle.model.specs.Stores.{stores_of as lent}
 use Rattle.machine.proofs.Makings.{load_starts, place_there, frame_laid, frame_not}
 use Rattle.machine.proofs.load.Goals as goal

@@ -1,5 +1,5 @@
 -- `machine::new` meets its contract.
-use Rattle.std.proofs.Common.{arith, rules, refl, sym, ap, subst, ◌≡◌, ◌∙◌, ◌+◌, ◌-◌, ◌*◌, ◌<◌, ◌≤◌, ℕ, Bool, true, false, List, [], length, get_or}
+use Rattle.std.proofs.Common.{sym, ◌∙◌}
 use Rattle.layout.specs.Links.{names_lent}
 use Rattle.machine.proofs.Makings.{no_stores, new_starts, place_there, frame_laid, frame_not}
 use Rattle.machine.proofs.new.Goals as goal

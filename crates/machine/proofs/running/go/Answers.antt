@@ -1,9 +1,7 @@
 -- `machine::running::go` meets its contract.
-use Rattle.std.proofs.Common.{arith, rules, refl, sym, ap, subst, ◌≡◌, ◌∙◌, ◌+◌, ◌-◌, ◌*◌, ◌<◌, ◌≤◌, ℕ, Bool, true, false, List, [], length, get_or}
+use Rattle.std.proofs.Common.{arith, refl, sym, ◌∙◌}
 use Rattle.model.specs.Machines.{continues, world_of}
-use Rattle.run_loop.specs.Links.{Under, TurnsPost}
-use Rattle.run_arms.specs.Links.{frame_in}
-use Rattle.run_ends.specs.Links.{program_lent, settled_with}
+use Rattle.run_ends.specs.Links.{program_lent}
 use Rattle.machine.specs.Links.{run_lent}
 use Rattle.machine.proofs.Granted.{lengths_of}
 use Rattle.machine.proofs.Begins.{Begins, run_under}

@@ -1,5 +1,5 @@
 -- `machine::running::order` meets its contract: the machine's good order, its frames', and that of the run under way.
-use Rattle.std.proofs.Common.{arith, rules, refl, sym, ap, subst, ◌≡◌, ◌∙◌, ◌+◌, ◌-◌, ◌*◌, ◌<◌, ◌≤◌, ℕ, Bool, true, false, List, [], length, get_or}
+use Rattle.std.proofs.Common.{refl, sym, ◌∙◌, []}
 use Rattle.machine.proofs.Refusals.{functions_counted, machine_held, frame_there, whole_held, not_held}
 use Rattle.machine.proofs.running.order.Goals as goal
 

@@ -1,5 +1,4 @@
 -- `machine::tracing::put_trace` meets its contract: the innermost frame is read, all frames are judged, and their backtrace is written, or 16 comes back.
-use Rattle.std.proofs.Common.{arith, rules, refl, sym, ap, subst, ◌≡◌, ◌∙◌, ◌+◌, ◌-◌, ◌*◌, ◌<◌, ◌≤◌, ℕ, Bool, true, false, List, [], length, get_or}
 use Rattle.machine.proofs.Tracings.{trace_can, trace_wrote, trace_none}
 use Rattle.machine.proofs.tracing.put_trace.Goals as goal
 

@@ -1,5 +1,5 @@
 -- `machine::tracing::trace_order` meets its contract: the program is judged, then the frames over its functions.
-use Rattle.std.proofs.Common.{arith, rules, refl, sym, ap, subst, ◌≡◌, ◌∙◌, ◌+◌, ◌-◌, ◌*◌, ◌<◌, ◌≤◌, ℕ, Bool, true, false, List, [], length, get_or}
+use Rattle.std.proofs.Common.{refl, ◌∙◌, []}
 use Rattle.machine.proofs.Tracings.{functions_counted, frames_judged}
 use Rattle.machine.proofs.tracing.trace_order.Goals as goal
 
