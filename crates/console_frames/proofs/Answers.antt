@@ -1,5 +1,5 @@
 -- What a call over frames leaves, from what the machine's entry says of it.
-use mathlib.Core.Path.{◌≡◌, refl, ap, sym, ◌∙◌}
+use mathlib.Core.Path.{◌≡◌, refl, ap, ◌∙◌}
 use mathlib.Core.Bool.{Bool}
 use mathlib.Core.List.{List}
 use Prim.Native.Nat.{ℕ}
@@ -20,7 +20,7 @@ use Rattle.console_frames.specs.declared.Call.TheVariants.{New, Load, Begin, Con
 use Rattle.console_frames.specs.declared.Answer.{Answer}
 use Rattle.console_frames.specs.declared.Answer.TheVariants.{Made, Ran, Traced, Set}
 use Rattle.console_frames.specs.Resting.{all_kept}
-use Rattle.console_frames.specs.Calls.{Held, held, made_in, Making, lent_in, Running, traced_in, Tracing, Setting, Called}
+use Rattle.console_frames.specs.Calls.{Held, held, made_in, Making, lent_in, Running, traced_in, Tracing, Called}
 
 making : (w : StartRes) (s : Held) {x : Started} {p : Stores} {fs' : List Frame} → record { answer = x; stores = p; frames = fs' } ≡ w → {r : Answer} → r ≡ Made x
     → {words' : List ℕ} → words' ≡ all_kept fs' s.frames

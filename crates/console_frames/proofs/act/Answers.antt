@@ -1,7 +1,4 @@
 -- `console_frames::act` meets its contract: by the call.
-use Rattle.std.proofs.Common.{arith, sym, ◌∙◌, ap, ◌≡◌, ℕ, List}
-use Rattle.console_frames.specs.Calls.{held, Called}
-use Rattle.console_frames.specs.Resting.{all_laid}
 use Rattle.console_frames.proofs.Answers.{new_called, load_called, begin_called, continue_called, abandon_called, trace_called, strict_called}
 use Rattle.console_frames.proofs.act.Goals as goal
 

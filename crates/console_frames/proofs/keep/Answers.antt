@@ -1,6 +1,5 @@
 -- `console_frames::keep` meets its contract.
-use Rattle.std.proofs.Common.{arith, sym, ◌∙◌, ap, ◌≡◌, ◌<◌, ◌≤◌, length, ℕ}
-use Rattle.console_frames.specs.Resting.{last_of, kept}
+use Rattle.std.proofs.Common.{arith, sym, ◌∙◌, ap, ◌≡◌, length}
 use Rattle.console_frames.proofs.Rests.{left_to_go, last_of_to_go, left_falls, left_below, kept_start, kept_turn, kept_end}
 use Rattle.console_frames.proofs.keep.Goals as goal
 

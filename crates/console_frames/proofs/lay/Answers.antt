@@ -1,6 +1,5 @@
 -- `console_frames::lay` meets its contract.
-use Rattle.std.proofs.Common.{arith, sym, ◌∙◌, ap, ◌≡◌, ◌<◌, ◌≤◌, length, ℕ}
-use Rattle.console_frames.specs.Resting.{last_in, laid}
+use Rattle.std.proofs.Common.{arith, sym, ◌∙◌, ap, ◌≡◌, length}
 use Rattle.console_frames.proofs.Rests.{resting_to_go, last_in_to_go, resting_falls, resting_below, laid_start, laid_turn, laid_end}
 use Rattle.console_frames.proofs.lay.Goals as goal
 
