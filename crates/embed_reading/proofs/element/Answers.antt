@@ -1,0 +1,18 @@
+-- `embed_reading::element` meets its contract.
+use mathlib.Core.Path.{ap, ◌∙◌}
+use Rattle.model.specs.declared.Value.{Value}
+use Rattle.model.specs.declared.Vm.{Vm}
+use Rattle.model.specs.Values.{value_of}
+use Rattle.model.specs.Readers.{element_of}
+use Rattle.embed_words.specs.Coding.{shown_coded}
+use Rattle.laws_embed.proofs.Through.{is_through}
+use Rattle.embed_reading.proofs.element.Goals as goal
+
+pub returns : goal.returns
+returns c =
+    is_through _ _ _ _ c.value_refusal-why.ensures c.vm_of-m.ensures
+    (λ (x : Vm). element_of x (value_of c.args.kind c.args.payload) c.args.i
+    c.args.cells.now) shown_coded
+    (c.element-shown.ensures ∙ ap
+    (λ (v : Value). element_of c.vm_of-m.result v c.args.i c.args.cells.now)
+    c.value_of-v.ensures) (c.answer_shown-n.ensures _)
