@@ -6,10 +6,7 @@ use Prim.Native.Nat.{ℕ, ◌≤◌, ◌<◌, ◌^◌}
 use native.Mathlib.Omega.{arith}
 use lib.Dec.{eqb}
 use lib.ListN.{length, get_or, replicate, length-replicate}
-use denote.Enum.Declared.{tag_of}
-use types.Run.{OneOf, miss}
 use borrow.Author.Tests.{lt-ltb, le-ltb}
-use Rattle.model.specs.contracts.Loaded.{the_type}
 use Rattle.model.specs.declared.Counts.{Counts}
 use Rattle.model.specs.declared.Frame.{Frame}
 use Rattle.model.specs.declared.Vm.{Vm}
@@ -80,15 +77,9 @@ module _ (s : Stores) (out : List ℕ) {r : ℕ} {out' : List ℕ} where
   unfolding started started_text start_with
   refused_run_lem e p = rw e p
 
-  pub broken_run : (a : Loaded) → OneOf (1 ∷ []) (tag_of the_type a) → record { count = r; out = out' } ≡ printed (refused_line 20) out → record {
-    count = r;
-    out
-        = out';
-  } ≡ printed (text_of a s) out
+  pub broken_run : {a : Loaded} {i : ℕ} → a ≡ l.Broken i → record { count = r; out = out' } ≡ printed (refused_line 20) out → record { count = r; out = out' } ≡ printed (text_of a s) out
   unfolding started started_text start_with
-  broken_run (l.Done c) d p = absurd (miss (1 ∷ []) 0 tt d)
-  broken_run (l.Broken i) d p = p
-  broken_run (l.Refused n) d p = absurd (miss (1 ∷ []) 2 tt d)
+  broken_run e p = rw e p
 
 -- ---- the image
 

@@ -8,6 +8,7 @@ use machine::{abandon, begin, continue_run};
 use model::{Frame, RunResult, Vm};
 
 // Whether a call has left a run paused.
+#[tactic(auto, unfolding(crate::specs::Links::is_paused))]
 fn is_paused(r: RunResult) -> bool
     ensures { result ≡ is_paused r }
 {
@@ -18,6 +19,7 @@ fn is_paused(r: RunResult) -> bool
 }
 
 // The machine in which it is paused; m, which was called, where it is not.
+#[tactic(auto, unfolding(crate::specs::Links::paused_in))]
 fn paused_in(m: Vm, r: RunResult) -> Vm
     ensures { result ≡ paused_in m r }
 {

@@ -1,6 +1,5 @@
 -- `print_image`: an image that is too long, or what it is loaded as, run or listed.
-use native.Mathlib.Omega.{arith}
-use borrow.Author.Rules.{rules}
+use Rattle.std.proofs.Common.{arith, rules}
 use Rattle.model.specs.Reports.{empty_stores}
 use Rattle.report.proofs.Lists.{loads_listable, image_listed}
 use Rattle.report.proofs.Runner.{image_run, too_long, is_run, is_listed}
@@ -15,12 +14,7 @@ returns-then-runs c = search (rules, is_run, image_run)
 
 pub list_loaded-requires : goal.list_loaded-requires
 list_loaded-requires c =
-    loads_listable _
-    (λ i. omega (
-      arith,
-      c.shared_slice_known-1.given i,
-    )) _ _ _ _ _ _ _ _ _ _
-    c.load-loaded.ensures
+    loads_listable _ (λ i. omega (arith, c.type_inv.image i)) _ _ _ _ _ _ _ _ _ _ c.load-loaded.ensures
 
 pub returns : goal.returns
 unfolding empty_stores

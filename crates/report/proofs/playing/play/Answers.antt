@@ -1,0 +1,5 @@
+-- `play`: the frames are a local array, lent to `one_run`.
+use Rattle.report.proofs.playing.play.Goals as goal
+
+pub returns : goal.returns
+returns c = record { frames = c.one_run-answer.new.frames; run = c.one_run-answer.ensures }
