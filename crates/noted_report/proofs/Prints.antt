@@ -4,10 +4,7 @@ use mathlib.Core.Bool.{true}
 use mathlib.Core.List.{List, [], ◌∷◌}
 use Prim.Native.Nat.{ℕ, suc, ◌≤◌, ◌<◌}
 use lib.ListN.{length, get_or}
-use denote.Enum.Declared.{tag_of}
-use types.Run.{OneOf, miss}
 use borrow.Author.Tests.{lt-ltb, le-ltb}
-use Rattle.model.specs.contracts.Loaded.{the_type}
 use Rattle.model.specs.declared.Counts.{Counts}
 use Rattle.model.specs.declared.Loaded.{Loaded}
 use Rattle.model.specs.declared.Loaded.TheVariants as l
@@ -72,12 +69,9 @@ module _ (s : Stores) (out : List ℕ) {r : ℕ} {out' : List ℕ} where
   unfolding loaded_notes
   refused_printed e p = rw e p
 
-  pub broken_printed : (a : Loaded) → OneOf (1 ∷ []) (tag_of the_type a) → record { count = r; out = out' } ≡ printed (refused_line 20) out
-      → record { count = r; out = out' } ≡ printed (loaded_notes a s) out
+  pub broken_printed : {a : Loaded} {i : ℕ} → a ≡ l.Broken i → record { count = r; out = out' } ≡ printed (refused_line 20) out → record { count = r; out = out' } ≡ printed (loaded_notes a s) out
   unfolding loaded_notes
-  broken_printed (l.Done c) d p = absurd (miss (1 ∷ []) 0 tt d)
-  broken_printed (l.Broken i) d p = p
-  broken_printed (l.Refused n) d p = absurd (miss (1 ∷ []) 2 tt d)
+  broken_printed e p = rw e p
 
 pub can_note : {a : Loaded} (s : Stores) {c : Counts} → Notable a s → a ≡ l.Done c → program_ok c s ≡ true
 can_note s h e = rw e at h
