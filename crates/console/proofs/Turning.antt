@@ -1,5 +1,5 @@
 -- A line's turn: a call over frames that is lent a part of two stores, or anything else.
-use mathlib.Core.Path.{◌≡◌, refl, ap}
+use mathlib.Core.Path.{◌≡◌}
 use mathlib.Core.Bool.{true, false}
 use mathlib.Core.List.{List, ◌++◌}
 use Prim.Native.Nat.{ℕ, ◌*◌, ◌/◌, min}
@@ -12,7 +12,7 @@ use Rattle.console.specs.declared.commands.Lent.{Lent}
 use Rattle.console.specs.declared.commands.Asked.{Asked}
 use Rattle.console.specs.declared.commands.Asked.TheVariants as q
 use Rattle.console_script.specs.Words.{cut_of, blank, first_line, line_of, next_line}
-use Rattle.console.specs.Asks.{Heard, ask_of}
+use Rattle.console.specs.Asks.{ask_of}
 use Rattle.console.specs.Said.{no_machine, after_answer}
 use Rattle.console_frames.specs.Calls.{Held, held, Bridged}
 use Rattle.console.specs.Lendings.{words_lent, lent_to, back_from, OverFrames}

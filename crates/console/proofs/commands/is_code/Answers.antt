@@ -1,0 +1,13 @@
+use Rattle.model.specs.Basics.{ascii}
+use Rattle.console.specs.Asks.{is_code}
+use Rattle.console.proofs.commands.is_code.Goals as goal
+
+pub returns : goal.returns
+unfolding ascii is_code
+returns c =
+    rw (
+      c.same_bytes.ensures,
+      c.same_bytes-2.ensures,
+      c.same_bytes-3.ensures,
+      c.same_bytes-4.ensures,
+    )

@@ -1,0 +1,14 @@
+use Rattle.model.specs.Basics.{ascii}
+use Rattle.console.specs.Asks.{is_read}
+use Rattle.console.proofs.commands.is_read.Goals as goal
+
+pub returns : goal.returns
+unfolding ascii is_read
+returns c =
+    rw (
+      c.same_bytes.ensures,
+      c.same_bytes-2.ensures,
+      c.same_bytes-3.ensures,
+      c.same_bytes-4.ensures,
+      c.same_bytes-5.ensures,
+    )
