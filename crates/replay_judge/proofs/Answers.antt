@@ -78,13 +78,16 @@ room_of_lem k s e small h =
     omega arith
 
 -- a text that fits a store of k bytes is printed whole
+pub told_into : (k : ℕ) (bytes want store : List ℕ) → length store ≡ k → k < 2 ^ 32 → length bytes ≤ k → {n : ℕ} {out : List ℕ} → record { count = n; out = out } ≡ printed bytes store
+    → (r : Bool) → r ≡ same_bytes (take n out) want → r ≡ same_bytes bytes want
+told_into k bytes want store z small h {n} e r g =
+    let f = e ∙ sym (fits bytes store (room_of_lem k store z small h)) in
+    let c : n ≡ length bytes = ap (λ (x : Printed). x.count) f in
+    same_line {k = k} {l = bytes} {s = store} {n = n} (record { stored = ap (λ (x : Printed). x.out) f; next = omega arith; near = omega arith }) (omega arith) want r g
+
 pub told : (k : ℕ) (bytes want : List ℕ) → k < 2 ^ 32 → length bytes ≤ k → {n : ℕ} {out : List ℕ} → record { count = n; out = out } ≡ printed bytes (replicate k 0)
     → (r : Bool) → r ≡ same_bytes (take n out) want → r ≡ same_bytes bytes want
-told k bytes want small h {n} e r g =
-    let z : length {A = ℕ} (replicate k 0) ≡ k = length-replicate k 0 in
-    let f = e ∙ sym (fits bytes (replicate k 0) (room_of_lem k (replicate k 0) z small h)) in
-    let c : n ≡ length bytes = ap (λ (x : Printed). x.count) f in
-    same_line {k = k} {l = bytes} {s = replicate k 0} {n = n} (record { stored = ap (λ (x : Printed). x.out) f; next = omega arith; near = omega arith }) (omega arith) want r g
+told k bytes want = told_into k bytes want (replicate k 0) (length-replicate k 0)
 
 pub judged : (image loading running listing : List ℕ) {a b ran listed : Bool} {s : Stores} {saved : List ℕ}
     → record { loading = a; saving = b; stores = s; saved = saved } ≡ compare_of image loading

@@ -198,13 +198,20 @@ fn runs(image: &[u8], want: &[u8]) -> bool
     same_front(&out, n, want)
 }
 
+// Whether this is what the lister prints into a store that has room for it.
+fn lists_into(image: &[u8], want: &[u8], out: &mut [u8; 524288]) -> bool
+    ensures { result ≡ same_bytes (lister_text image.now) want.now }
+{
+    let n = list_image(image, out);
+    same_front(out, n, want)
+}
+
 // Whether this is what the lister prints, which always fits.
 fn lists(image: &[u8], want: &[u8]) -> bool
     ensures { result ≡ same_bytes (lister_text image.now) want.now }
 {
     let mut out = [0u8; 524288];
-    let n = list_image(image, &mut out);
-    same_front(&out, n, want)
+    lists_into(image, want, &mut out)
 }
 
 // An image against what loading should answer, and what the runner and the lister should print.
