@@ -156,7 +156,7 @@ fn compare(
     other_places: &mut [u32],
     saved: &mut [u8],
 ) -> Kept
-    ensures { record { loading = result.loading; saving = result.saving; stores = lent constants.new structs.new functions.new text.new main.new main_places.new other.new other_places.new; saved = saved.new } ≡ compare_of image.now loading.entry.now (lent constants.old structs.old functions.old text.old main.old main_places.old other.old other_places.old) saved.old }
+    ensures { record { loading = result.loading; saving = result.saving; stores = lent constants.new structs.new functions.new text.new main.new main_places.new other.new other_places.new; saved = saved.new } ≡ compare_of image.now loading.now (lent constants.old structs.old functions.old text.old main.old main_places.old other.old other_places.old) saved.old }
 {
     let answer = read(
         image,
